@@ -19,7 +19,7 @@ use Rattle.adjoint_rules.specs.Limits.{generator_limit}
 use Rattle.adjoint_rules.specs.Problem.{polynomials, numbers, IsPosed, IsClosed, generators_in}
 use Rattle.adjoint_rules.specs.Parts.{adjoints_in, units_in}
 
--- ---- sums
+-- sums
 sum_le : {X : Type 0} (f g h : X → ℕ) → ((x : X) → f x ≤ g x + h x) → (xs : List X) → sum_by f xs ≤ sum_by g xs + sum_by h xs
 sum_le f g h each [] = omega arith
 sum_le f g h each (x ∷ xs) = omega (arith, each x, sum_le f g h each xs, sum_by-cons f x xs, sum_by-cons g x xs, sum_by-cons h x xs)
@@ -32,7 +32,7 @@ sum_of_ones : {X : Type 0} (xs : List X) → sum_by (λ x. 1) xs ≡ length xs
 sum_of_ones [] = refl
 sum_of_ones (x ∷ xs) = omega (arith, sum_of_ones xs, sum_by-cons (λ y. 1) x xs)
 
--- ---- ascending numbers
+-- ascending numbers
 abbrev Ascends : List ℕ → Type 0
 Ascends [] = Unit {0}
 Ascends (v ∷ vs) = AllByRecursion (λ w. v < w) vs × Ascends vs
@@ -80,7 +80,7 @@ hits_once x (v ∷ vs) up = go (eqb x v) refl (hits_once x vs up.1)
         omega (arith, sum_by-cons (λ w. bit (eqb x w)) v vs, ap bit e, none)
     go false e rest = omega (arith, sum_by-cons (λ w. bit (eqb x w)) v vs, ap bit e, rest)
 
--- ---- the relations of identities
+-- the relations of identities
 module _ (q : Quiver) (starred : Bool) where
   few_each : (a v : ℕ) → length (letter_units q starred v a) ≤ bit (eqb (target q a) v) + bit (eqb (source q a) v)
   few_each a v = go (starred || leb a (star q a)) (eqb (target q a) v) (eqb (source q a) v)

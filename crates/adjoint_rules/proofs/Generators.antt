@@ -27,7 +27,7 @@ along P same [] (p ∷ ps) h k = absurd h
 along P same (r ∷ rs) [] h k = absurd h
 along P same (r ∷ rs) (p ∷ ps) h k = (same r p h.0 k.0, along P same rs ps h.1 k.1)
 
--- ---- signatures
+-- signatures
 typed_same : (q : Quiver) (u v : ℕ) (r p : List (ℤ × List ℕ)) → SamePolynomial r p → IsTyped q u v p → IsTyped q u v r
 typed_same q u v r p same typed = record { at = λ w c. typed.at w (λ e. c (same.at w ∙ e)) }
 
@@ -73,7 +73,7 @@ module _ (p : Parts) (posed : IsPosed p) where
       along (HasSignature q) (signature_same q) (polynomials generators) (generators_in p) closed.same
       (generators_typed q posed_quiver p.starred (numbers p.marked) (polynomials p.assumptions) marked_are_objects assumptions_have_signatures)
 
--- ---- values
+-- values
 module _ {Object Arrow : Type 0} {s : Structure Object Arrow} (laws : PreadditiveLaws s) (q : Quiver) (f : Representation Object Arrow) (rep : Represents s q f) where
   zero_same : (r p : List (ℤ × List ℕ)) → SamePolynomial r p → HasValueZero s q f p → HasValueZero s q f r
   zero_same r p same vanish = record {
@@ -103,7 +103,7 @@ module _ {Object Arrow : Type 0} {s : Structure Object Arrow} (laws : Preadditiv
         (zero_along laws (quiver_of p.quiver) f rep (polynomials generators) (generators_in p) closed.same vanish);
   }
 
--- ---- the generators are fixed
+-- the generators are fixed
 pub generators_are_unique : GeneratorsAreUnique
 generators_are_unique p generators others closed other = go generators others (generators_in p) closed.same other.same
   where

@@ -50,7 +50,7 @@ module _ (q : Quiver) (p r : List Term) (adjoint : SamePolynomial r (adjoint_pol
         false_from_ne_true _ (λ e. not_minus (Same_trans r (adjoint_poly q p) n adjoint (Same_trans (adjoint_poly q p) minus n (poly_eq-true (adjoint_poly q p) minus e) (Same_sym n minus negative)))) in
         subst (AllZip SamePolynomial (r ∷ [])) (ap₂ (λ b c. cond (b || c) [] (adjoint_poly q p ∷ [])) (sym first) (sym second)) (adjoint, tt)
 
--- ---- lists of polynomials
+-- lists of polynomials
 pub AllZip-append : {X Y : Type 0} (R : X → Y → Type 0) (xs us : List X) (ys vs : List Y) → AllZip R xs ys → AllZip R us vs → AllZip R (xs ++ us) (ys ++ vs)
 AllZip-append R [] us [] vs h k = k
 AllZip-append R [] us (y ∷ ys) vs h k = absurd h

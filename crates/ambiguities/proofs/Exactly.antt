@@ -99,7 +99,7 @@ module _ {X : Type 0} (Before : X → X → Type 0) where
         to_list : (x : X) → Image P x → Contains (map f xs) x
         to_list x image = subst (Contains (map f xs)) image.same (contains-map xs image.number ((exact.members image.number).1 image.held))
 
--- ---- the numbers with a property, in turn
+-- the numbers with a property, in turn
 module _ (P : ℕ → Type 0) where
   abbrev pub PassedBy : ℕ → ℕ → Type 0
   PassedBy n s = P s × (s < n)
@@ -128,7 +128,7 @@ module _ (P : ℕ → Type 0) where
   pub passed-all : (n : ℕ) (xs : List ℕ) → ((s : ℕ) → P s → s < n) → ListsExactly (λ (s t : ℕ). s < t) (PassedBy n) xs → ListsExactly (λ (s t : ℕ). s < t) P xs
   passed-all n xs bounded exact = exactly-same (λ (s t : ℕ). s < t) (PassedBy n) P xs (λ s. (λ held. (held, bounded s held), λ passed. passed.0)) exact
 
--- ---- lists that grow
+-- lists that grow
 pub grown-append : (P Q R : Ambiguity → Type 0) (old mid new : List Ambiguity) → IsGrown P old mid → IsGrown Q mid new → ((a b : Ambiguity) → P a → Q b → IsBefore a b) → ((a : Ambiguity) → R a ↔ (P a ⊎ Q a))
     → IsGrown R old new
 grown-append P Q R old mid new first second across both = record {

@@ -32,7 +32,7 @@ joined : (kind : Kind) (i j : ℕ) (p q : List ℕ) (place : ℕ) → MeetsAs ki
 joined Overlap i j p q place meets = overlapped p q place meets
 joined Inclusion i j p q place meets = record { first = record { before = []; after = []; splits = sym (append-nil p); at_place = refl }; second = meets.1 }
 
--- ---- of the rules with the numbers
+-- of the rules with the numbers
 pub lead_at-is : (rules : List Rule) (n : ℕ) (g : Rule) → rule_at rules n ≡ Some g → lead_at rules n ≡ g.lead
 lead_at-is rules n g is = rw is refl
 

@@ -56,7 +56,7 @@ module _ (rules : List Rule) where
       counted a among (inl less) = ((among.is, inr (omega (arith, early less, among.above))), among.first)
       counted a among (inr reached) = ((among.is, inl (omega (arith, reached, among.first))), among.first)
 
-  -- ---- all first rules
+  -- all first rules
   pub record IsUpTo (from high : ℕ) (a : Ambiguity) : Type 0 where
     pub is : IsAmbiguityFrom from rules a
     pub below : a.i < high

@@ -25,7 +25,7 @@ use Rattle.ambiguities.proofs.Joined.{overlap_word-is, first_splits, second_spli
 use Rattle.ambiguities.proofs.Multiples.{leading_coefficient}
 use Rattle.ambiguities.proofs.Bounds.{of_either, coefficient_of-s_polynomial}
 
--- ---- paths
+-- paths
 leads_from_path : (q : Quiver) (u v : ℕ) (w : List ℕ) → is_path q u v w ≡ true → leads q u v w ≡ true
 leads_from_path q u v [] path = absurd (cc)
 leads_from_path q u v (a ∷ w) path = path
@@ -70,7 +70,7 @@ joined_is_path : (q : Quiver) (kind : Kind) (i j : ℕ) (p r : List ℕ) (place 
 joined_is_path q Overlap i j p r place left right meets = overlap_path q p r place left right meets
 joined_is_path q Inclusion i j p r place left right meets = left
 
--- ---- the words of a typed rule between two words
+-- the words of a typed rule between two words
 module _ (q : Quiver) (letters : ℕ) (compare : Compare) (g : Rule) (is_rule : IsRule letters compare g) (typed : IsTypedRule q g) where
   lead_path : IsPath q typed.source typed.target g.lead
   lead_path = typed.typed.at g.lead (λ none. nonzero g.leading is_rule.positive (sym (leading_coefficient compare g.poly.terms (g.leading, g.lead) g.poly.canonical.shaped is_rule.leading) ∙ none))

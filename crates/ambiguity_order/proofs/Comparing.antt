@@ -18,7 +18,7 @@ use Rattle.ambiguity_order.specs.Order.{IsBeforeByWord, ambiguity_cmp}
 abbrev pub by_word_cmp : Compare → List Rule → Ambiguity → Ambiguity → Ordering
 by_word_cmp compare rules = then_cmp (on (overlap_word_of rules) compare) ambiguity_cmp
 
--- ---- one comparison after another
+-- one comparison after another
 then-left : (o p : Ordering) → o ≡ Less → ordering_then o p ≡ Less
 then-left o p less = ap (λ r. ordering_then r p) less
 
@@ -44,7 +44,7 @@ then-equal Greater p e = absurd (unlike e)
     unlike : Greater ≡ Equal → ⊥
     unlike k = cc
 
--- ---- numbers
+-- numbers
 number-less : (m n : ℕ) → nat_cmp m n ≡ Less → m < n
 number-less m n e = ranked m n Less (sym e)
 
@@ -73,7 +73,7 @@ same_kind Overlap Inclusion e = absurd (omega (arith, e))
 same_kind Inclusion Overlap e = absurd (omega (arith, e))
 same_kind Inclusion Inclusion e = refl
 
--- ---- ambiguities
+-- ambiguities
 module _ (a b : Ambiguity) where
   abbrev by_first : Ordering
   by_first = nat_cmp a.i b.i
@@ -143,7 +143,7 @@ ambiguity_not_before_itself a before = unlike (sym (less-ambiguity a a before) �
     unlike : Less ≡ Equal → ⊥
     unlike k = cc
 
--- ---- by their overlap words
+-- by their overlap words
 module _ (compare : Compare) (total : IsTotalOrder compare) (rules : List Rule) where
   abbrev word_of : Ambiguity → List ℕ
   word_of = overlap_word_of rules

@@ -45,7 +45,7 @@ module _ {X : Type 0} (p : X → Bool) (xs : List X) (i : ℕ) (within : i ≤ l
       (filter_all (λ x. not (p x)) (drop i xs) (λ k d inside. ap not (back k d inside)))
       )
 
--- ---- those between two bounds
+-- those between two bounds
 module _ {X : Type 0} (rank : X → ℕ) (n : ℕ) where
   abbrev below : X → Bool
   below x = nat_lt (rank x) (n + 1)

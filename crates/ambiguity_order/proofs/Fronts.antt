@@ -58,7 +58,7 @@ ranks_ascend (f ∷ front) (x ∷ first) (y ∷ second) sorted one other =
         go Equal e = sym e
         go Greater e = let above : n < n = ranked n n Greater e in absurd (omega (arith, above))
 
--- ---- ranks and lengths
+-- ranks and lengths
 rank_of-nil : (w : List ℕ) → rank_of w ≡ 0 → w ≡ []
 rank_of-nil [] e = refl
 rank_of-nil (x ∷ w) e = absurd (omega (arith, e))

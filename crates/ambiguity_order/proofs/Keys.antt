@@ -31,7 +31,7 @@ key_cmp-total =
     then_total (on_total (λ (k : Key). k.measure) nat_cmp_total)
     (then_total (on_total (λ (k : Key). k.word) word_cmp_total) (on_total (λ (k : Key). k.which) ambiguity_cmp-total))
 
--- ---- one comparison after two others
+-- one comparison after two others
 then_assoc : (o p q : Ordering) → ordering_then o (ordering_then p q) ≡ ordering_then (ordering_then o p) q
 then_assoc Less p q = refl
 then_assoc Equal p q = refl
@@ -73,7 +73,7 @@ module _ (compare : Compare) (measure : List ℕ → ℕ) (rules : List Rule) (b
         ∙ ap is_lt (sym (keys_compare x.which y.which) ∙ ap₂ key_cmp (sym (keyed (k + 1) e inside)) (sym (keyed k e (omega (arith, inside)))))
         ∙ sorted k e low inside
 
--- ---- lists without repetitions
+-- lists without repetitions
 tells : (a b : Ambiguity) → Decides (is_eq (ambiguity_cmp a b)) (a ≡ b)
 tells a b = (λ held. ambiguity-equal a b (level (ambiguity_cmp a b) held), λ alike. ap is_eq (ap (ambiguity_cmp a) (sym alike) ∙ tied_itself ambiguity_cmp-total a))
   where

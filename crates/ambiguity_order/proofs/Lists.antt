@@ -21,7 +21,7 @@ use Rattle.ambiguity_order.proofs.Comparing.{not_before_itself, not_before_each_
 use Rattle.ambiguity_order.proofs.Sorted.{Decided, listing}
 use Rattle.ambiguity_order.proofs.Meetings.{meeting_decided}
 
--- ---- an ambiguity is decided
+-- an ambiguity is decided
 none_some : (g : Rule) → ◌≡◌ {A = Option Rule} None (Some g) → ⊥
 none_some g is = cc
 
@@ -41,7 +41,7 @@ module _ (rules : List Rule) where
               let second : is.second ≡ h = same_Some is.second h (sym is.second_numbered ∙ second_at) in
               apart (subst (λ (p : Rule × Rule). MeetsAs a.kind a.i a.j p.0.lead p.1.lead a.place) (λ n. (first n, second n)) is.meets))
 
--- ---- lists with all of them
+-- lists with all of them
 numbers_below : (n k : ℕ) → k < n → Contains (range_with_len 0 n) k
 numbers_below n k below = let first : 0 + k ≡ k = omega arith in (k, omega (arith, length-range_with_len 0 n, below), get_or-range_with_len 0 n k k below ∙ first)
 

@@ -41,7 +41,7 @@ module _ {X : Type 0} (p : X → Bool) where
       ascending = AllPairs-filter Before p xs exact.ascending;
     }
 
--- ---- the first items, and one more
+-- the first items, and one more
 pub contains-more : {X : Type 0} (xs : List X) (n : ℕ) (d x : X) → n < length xs → Contains (take (n + 1) xs) x ↔ (Contains (take n xs) x ⊎ (get_or xs n d ≡ x))
 contains-more xs n d x inside = (
   λ at. Contains-push_cases (take n xs) (get_or xs n d) x (subst (λ ys. Contains ys x) (take_more xs n d inside) at),
@@ -52,7 +52,7 @@ contains-more xs n d x inside = (
     into (inl at) = Contains-append_left (take n xs) (get_or xs n d ∷ []) x at
     into (inr is) = subst (Contains (take n xs ++ get_or xs n d ∷ [])) is (Contains-push (take n xs) (get_or xs n d))
 
--- ---- what is added
+-- what is added
 pub added-append : (P Q R : Ambiguity → Type 0) (old mid new : List Ambiguity) → IsAdded P old mid → IsAdded Q mid new
     → ((a b : Ambiguity) → P a → Q b → a ≢ b) → ((a : Ambiguity) → R a ↔ (P a ⊎ Q a))
     → IsAdded R old new

@@ -6,7 +6,7 @@ use Rattle.std.proofs.lemmas.List.Elements.{All-weaker, All-contains_itself}
 use Rattle.ambiguities.specs.Listed.{ListsExactly}
 use Rattle.ambiguity_order.proofs.Ascending.{contains-cases, contains-first, contains-rest, first-before, rest-pairs}
 
--- ---- what is decided
+-- what is decided
 abbrev pub Decided : Type 0 → Type 0
 Decided P = P ⊎ (P → ⊥)
 
@@ -49,7 +49,7 @@ module _ {X : Type 0} where
             into x x_held (inl is) = absurd (not_held (subst P (sym is) x_held))
             into x x_held (inr at) = rest.into x at x_held
 
-  -- ---- sorted
+  -- sorted
   module _ (Before : X → X → Type 0) (trans : (x y z : X) → Before x y → Before y z → Before x z) (compared : (x y : X) → (x ≡ y) ⊎ (Before x y ⊎ Before y x)) where
     -- the items of a list, each before all later ones
     record Arranged (xs : List X) : Type 0 where

@@ -23,7 +23,7 @@ module _ (table : List Lead) (sorted : AllPairs StandsBefore table) (nonempty : 
   rest-length = omega (arith, inside, length-drop place first.letters)
 
   module _ (end : ℕ) (from : place ≤ end) (longer : List Lead) (walked : ListsExactly StandsBefore (IsLonger table (take (end - place) rest)) longer) where
-    -- ---- one letter
+    -- one letter
     module _ (before_end : end < length first.letters) where
       front-length : length (take (end - place) rest) ≡ end - place
       front-length = length-take-le (end - place) rest (omega (arith, rest-length, before_end, from))
@@ -91,7 +91,7 @@ module _ (table : List Lead) (sorted : AllPairs StandsBefore table) (nonempty : 
           cut_off table sorted nonempty first place inside (end - place) old new (omega (arith, rest-length, before_end, from))
           (subst (ListsExactly StandsBefore (IsLonger table (take (end - place) rest))) none walked) added
 
-    -- ---- at the end
+    -- at the end
     module _ (at : end ≡ length first.letters) (old mid : List Ambiguity) (added : IsAdded (IsIncluded table first place (end - place)) old mid) where
       whole-rest : end - place ≡ length rest
       whole-rest = omega (arith, rest-length, at)

@@ -22,7 +22,7 @@ use Rattle.ambiguity_order.specs.declared.table.Lead.{Lead}
 use Rattle.ambiguity_order.specs.Table.{IsLeadOf, IsTableOf, StandsBefore, rank_at}
 use Rattle.ambiguity_order.proofs.Fronts.{BeginsWith, ranks_ascend}
 
--- ---- by their numbers
+-- by their numbers
 abbrev pub ByNumber : Lead → Lead → Type 0
 ByNumber first second = first.number < second.number
 
@@ -96,7 +96,7 @@ module _ (rules : List Rule) where
       exactly-same ByNumber (IsEarly rules count) (IsLeadOf rules) leads
       (λ l. (λ is. record { of = is; early = omega (arith, past, lead-last l is) }, λ early. early.of)) exact
 
--- ---- sorted
+-- sorted
 numbers_differ : (leads table : List Lead) → AllPairs ByNumber leads → IsPermutation leads table → AllPairs (λ l m. l.number ≢ m.number) table
 numbers_differ leads table ascending moved i j d before inside =
     let j_in : j < length (map number table) = omega (arith, inside, length-map table number) in
@@ -137,7 +137,7 @@ table-sorted rules leads table exact moved sorted = record {
   );
 }
 
--- ---- parts
+-- parts
 pub ranks-ascend : (front : List ℕ) (leads : List Lead) → AllPairs StandsBefore leads → All (λ l. BeginsWith front l.letters) leads
     → IsNonDecreasingBy (λ l. rank_at (length front) l.letters) leads
 ranks-ascend front leads sorted begins i j d before inside = go (cases_lt i j)

@@ -21,7 +21,7 @@ use Rattle.ambiguity_order.specs.Finding.{IsAdded, MayMeet, IsWith, IsOfFirst, I
 use Rattle.ambiguity_order.proofs.Fronts.{BeginsWith, begins-more, begins-itself, begins-shorter, ended-is, rank_at-itself, rank_at-longer, longer-by_rank}
 use Rattle.ambiguity_order.proofs.Picked.{exactly-filter, contains-more, added-append, added-same, added-none, added-one}
 
--- ---- the words of a table that begin with some letters: those that are these, and the longer ones
+-- the words of a table that begin with some letters: those that are these, and the longer ones
 pub record IsGoing (table : List Lead) (front : List ℕ) (l : Lead) : Type 0 where
   pub among : Contains table l
   pub begins : BeginsWith front l.letters
@@ -45,7 +45,7 @@ pub record IsIncluded (table : List Lead) (first : Lead) (place most : ℕ) (a :
   pub short : length second.letters ≤ most
   pub is : ambiguity_at first.number second.number Inclusion place ≡ a
 
--- ---- a rule has one word in the table
+-- a rule has one word in the table
 module _ (table : List Lead) (sorted : AllPairs StandsBefore table) where
   pub same_word : (l m : Lead) → Contains table l → Contains table m → l.number ≡ m.number → l ≡ m
   same_word l m one other number = go (cases_lt one.0 other.0) (cases_lt other.0 one.0)
@@ -60,7 +60,7 @@ module _ (table : List Lead) (sorted : AllPairs StandsBefore table) where
           absurd ((sorted other.0 one.0 l more one.1).1 (ap (λ (x : Lead). x.number) at_other ∙ sym number ∙ sym (ap (λ (x : Lead). x.number) one.2)))
       go (inr p) (inr q) = let level : one.0 ≡ other.0 = omega (arith, p, q) in sym one.2 ∙ ap (λ k. get_or table k l) level ∙ at_other
 
--- ---- those with the words of a part, one word more
+-- those with the words of a part, one word more
 module _ (seconds : List Lead) (sorted : AllPairs StandsBefore seconds) (i : ℕ) (kind : Kind) (place : ℕ) where
   abbrev WithFirst : ℕ → Ambiguity → Type 0
   WithFirst n = IsWith (take n seconds) i kind place
@@ -110,7 +110,7 @@ module _ (seconds : List Lead) (sorted : AllPairs StandsBefore seconds) (i : ℕ
         back a with (inl among) = record { second = with.second; among = among; may_meet = with.may_meet; is = with.is }
         back a with (inr last) = absurd (apart (subst (λ (x : Lead). MayMeet kind i x.number) (sym (sym here ∙ last)) with.may_meet))
 
--- ---- the parts of a table
+-- the parts of a table
 some_rank : (n : ℕ) → Decides (not (nat_eq n 0)) (0 < n)
 some_rank n = go (eqb_tells n 0)
   where
@@ -155,7 +155,7 @@ module _ (table : List Lead) (front : List ℕ) (depth : ℕ) (is_depth : length
         λ both. record { among = both.0.among; begins = both.0.begins; longer = omega (arith, ap (λ n. rank_at n l.letters) is_depth, both.1) },
       )) exact
 
--- ---- from one place of a word on
+-- from one place of a word on
 module _ (table : List Lead) (sorted : AllPairs StandsBefore table) (nonempty : All (λ (l : Lead). 0 < length l.letters) table) where
   pub walk-start : ListsExactly StandsBefore (IsLonger table []) table
   walk-start = record {
@@ -176,7 +176,7 @@ module _ (table : List Lead) (sorted : AllPairs StandsBefore table) (nonempty : 
     rest-length : length rest + place ≡ length first.letters
     rest-length = omega (arith, inside, length-drop place first.letters)
 
-    -- ---- words
+    -- words
     occurs_front : (n : ℕ) → OccursAt first.letters (take n rest) place
     occurs_front n = record {
       before = take place first.letters;
@@ -208,7 +208,7 @@ module _ (table : List Lead) (sorted : AllPairs StandsBefore table) (nonempty : 
       after_letters = omega (arith, longer, length-drop (length rest) w);
     }
 
-    -- ---- one letter more
+    -- one letter more
     module _ (depth : ℕ) (further : depth < length rest) (ended : List Lead)
         (exact : ListsExactly StandsBefore (IsEnded table (take (depth + 1) rest)) ended) where
       front-length : length (take (depth + 1) rest) ≡ depth + 1
@@ -277,7 +277,6 @@ module _ (table : List Lead) (sorted : AllPairs StandsBefore table) (nonempty : 
             is = with.is;
           }
 
-    -- ---- the ambiguities at the place, by their kinds
     -- the words meet at the place as the ambiguity says
     record IsMet (kind : Kind) (a : Ambiguity) : Type 0 where
       second : Lead
@@ -393,7 +392,7 @@ module _ (table : List Lead) (sorted : AllPairs StandsBefore table) (nonempty : 
               is = with.is;
             })
 
--- ---- all places of a word, and all words
+-- all places of a word, and all words
 module _ (table : List Lead) where
   pub included-none : (nonempty : All (λ (l : Lead). 0 < length l.letters) table) (first : Lead) (place : ℕ) (old : List Ambiguity)
       → IsAdded (IsIncluded table first place 0) old old

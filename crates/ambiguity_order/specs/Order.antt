@@ -19,7 +19,6 @@ IsBeforeByWord compare rules a b =
 abbrev pub AreAllInOrder : Compare → List Rule → List Ambiguity → Type 0
 AreAllInOrder compare rules found = ListsExactly (IsBeforeByWord compare rules) (IsAmbiguity rules) found
 
--- ---- as comparisons
 -- by the first rule, then by the second rule, then overlaps before inclusions, then by the place
 abbrev pub ambiguity_cmp : Ambiguity → Ambiguity → Ordering
 ambiguity_cmp = then_cmp (then_cmp (on (λ a. a.i) nat_cmp) (on (λ a. a.j) nat_cmp))

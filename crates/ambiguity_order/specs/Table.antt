@@ -20,7 +20,6 @@ StandsBefore first second = (is_lt (slice_cmp nat_cmp second.letters first.lette
 abbrev pub IsTableOf : List Rule → List Lead → Type 0
 IsTableOf rules table = ListsExactly StandsBefore (IsLeadOf rules) table
 
--- ---- how words begin
 -- one more than the first letter, and 0 of the empty word
 abbrev pub rank_of : List ℕ → ℕ
 rank_of [] = 0

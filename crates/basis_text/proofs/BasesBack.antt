@@ -36,8 +36,6 @@ use Rattle.block_text.proofs.PolynomialsBack.{polynomials_are_read_back}
 use Rattle.basis_text.proofs.Reader.{reader}
 
 module _ (ds : List Declaration) (declared : IsDeclared ds) (known : IsTrue (list_all is_named ds)) where
-  -- ---- a polynomial behind a word
-
   -- it can be written
   record IsWritable (p : Poly) : Type 0 where
     over : IsPolyOver ds p
@@ -67,8 +65,7 @@ module _ (ds : List Declaration) (declared : IsDeclared ds) (known : IsTrue (lis
       text_of_tokens (codes "rest " ++ poly_text ds p.terms) (line_of_rest (read_back p is).tokens) (line_text-append (codes "rest ") (poly_text ds p.terms) (literal (codes "rest ") refl refl) text)
       (ap (λ ts. codes "rest" ∷ ts) (sym (read_back p is).are)) refl
 
-  -- ---- the rules
-
+  -- the rules
   record AreWritten (ps : List Poly) : Type 0 where
     trees : List PolynomialTokens
     text_is : IsTextOf (flat_map (rule_line ds) ps) (map line_of_rule trees)
@@ -92,8 +89,7 @@ module _ (ds : List Declaration) (declared : IsDeclared ds) (known : IsTrue (lis
         say = (line.says, more.say);
       }
 
-  -- ---- the block
-
+  -- the block
   module _ (b : Basis) (writable : IsWritableBasis ds b) where
     claim_small : b.claim < 10 ^ 64
     claim_small = omega (arith, writable.claim)
@@ -154,15 +150,12 @@ module _ (ds : List Declaration) (declared : IsDeclared ds) (known : IsTrue (lis
       says = record { claim = sym claim_back; rules = all_written.say; rest = (read_back b.rest rest_writable).says };
     }
 
--- ---- between other lines
-
+-- between other lines
 pub bases_are_read_back : BasesAreReadBack
 bases_are_read_back ds declared known b before after first last writable whole front end few =
     subst (HasBlocks (basis_kind ds) (before ++ text_of ds b ++ after)) (sym (map-append by_terms first (b ∷ last)))
     (written_between (basis_kind ds) (text_of ds b) (by_terms b) before after (map by_terms first) (map by_terms last) (basis_written ds declared known b writable) whole front end
     (omega (arith, few, length-map first by_terms, length-map last by_terms)))
-
--- ---- texts of several parts
 
 -- the same by terms
 abbrev mapped : Part Basis → Part BasisTerms

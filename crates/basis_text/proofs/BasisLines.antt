@@ -27,8 +27,7 @@ use Rattle.basis_text.proofs.Lines.{KeepsPolynomial, claim_keeps, polynomials_ke
 use Rattle.basis_text.proofs.PolynomialLines.{polynomial_judged}
 
 module _ (K : Bound → Type 0) (ds : List Declaration) where
-  -- ---- polynomials
-
+  -- polynomials
   polynomial_by : (t : PolynomialTokens) (r : Result Poly Flaw) → ((bound : Bound) → K bound → KeepsPolynomial ds bound t) → IsJudged ds t r → Meets flaw_of K (IsPolynomialOf ds t) r
   polynomial_by t r keeps (fine p is kept says) = reads p is says
   polynomial_by t r keeps (fails bound is kept passed) = passes bound is (λ k. passed (keeps bound k))
@@ -39,8 +38,7 @@ module _ (K : Bound → Type 0) (ds : List Declaration) where
   grown_meets : (n : ℕ) (ps : List Poly) (p : Poly) → (K rules → length ps < rule_limit) → Meets flaw_of K (λ s. s ≡ at.Inside n (ps ++ p ∷ [])) (grown n ps p)
   grown_meets n ps p few = unless_meets rules (nat_le rule_limit (length ps)) (Ok (at.Inside n (ps ++ p ∷ []))) (λ kept. lt-leb rule_limit (length ps) (few kept)) (reads _ refl refl)
 
-  -- ---- lines
-
+  -- lines
   abbrev Lines : Stage → List Line → Result BasisTerms Flaw
   Lines stage ls = read_inside (basis_steps ds) stage ls
 
@@ -92,8 +90,7 @@ module _ (K : Bound → Type 0) (ds : List Declaration) where
         is = found.is ∙ ap (λ qs. basis_by n qs found.last) (append_assoc ps (one.0 ∷ []) found.values);
       }))))
 
-  -- ---- a basis
-
+  -- a basis
   claim_meets : (claim : List ℕ) → IsTrue (is_number claim) → (K numbers → digits_value 10 claim ≤ number_limit)
       → Meets flaw_of K (λ s. (n : ℕ) × (number_within number_limit claim ≡ Some n) × (s ≡ at.Inside n [])) (next ds at.Headed (claim_line claim))
   claim_meets claim number within = rw number (then_meets _ (asked_meets K numbers (number_within number_limit claim) (λ kept. number_found number_limit claim (within kept))) (λ n _ n_is. reads _ refl (n, n_is, refl)))

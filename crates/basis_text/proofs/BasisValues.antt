@@ -20,8 +20,7 @@ use Rattle.basis_text.proofs.Lines.{KeepsPolynomial, polynomials_keep}
 use Rattle.basis_text.proofs.PolynomialLines.{IsOverQuiver, polynomial_canonical, polynomial_over}
 use Rattle.basis_text.proofs.Reader.{reader}
 
--- ---- polynomials by their terms
-
+-- polynomials by their terms
 canonical-prop : (p : Terms) → IsProp (IsCanonical p)
 canonical-prop p = Prim.hlevel std.props
 
@@ -65,8 +64,7 @@ bases_with (v ∷ vs) each =
     let more = bases_with vs (All-tail AreCanonical v vs each) in
     (first.0 ∷ more.0, ap₂ (λ w ws. w ∷ ws) first.1 more.1)
 
--- ---- what a tree says
-
+-- what a tree says
 module _ (ds : List Declaration) where
   -- what holds of the terms of a polynomial that keeps all bounds
   module _ (P : Terms → Type 0) (each : (t : PolynomialTokens) (p : Terms) → IsPolynomialTokens t → ((bound : Bound) → KeepsPolynomial ds bound t) → IsPolynomialOf ds t p → P p) where
@@ -102,8 +100,7 @@ module _ (ds : List Declaration) where
   unmapped P f [] each = All-nil (λ x. P (f x))
   unmapped P f (x ∷ xs) each = All-cons (λ y. P (f y)) x xs (All-head P (f x) (map f xs) each) (unmapped P f xs (All-tail P (f x) (map f xs) each))
 
-  -- ---- the bases of a text
-
+  -- the bases of a text
   pub are_canonical : (bytes : List ℕ) (vs : List BasisTerms) → IsBlocks (basis_kind ds) bytes vs → All AreCanonical vs
   are_canonical bytes vs is = values_are (basis_kind ds) (basis_steps ds) (reader ds) AreCanonical tree_canonical bytes vs is
 

@@ -18,8 +18,7 @@ use Rattle.basis_text.specs.BasisBlocks.{BasisTokens}
 use Rattle.basis_text.specs.BasisBounds.{Bound, names, writing, numbers, terms, words, rules, bounds, flaw_of, polynomials, KeepsOne}
 use Rattle.basis_text.specs.Limits.{rule_limit}
 
--- ---- the bounds on a claim, on a polynomial and on the number of rules
-
+-- the bounds on a claim, on a polynomial and on the number of rules
 abbrev pub KeepsClaim : Bound → List ℕ → Type 0
 KeepsClaim names claim = ⊤
 KeepsClaim writing claim = ⊤
@@ -77,8 +76,7 @@ module _ (ds : List Declaration) where
   count_keeps b words keeps = tt
   count_keeps b rules keeps = keeps
 
-  -- ---- the polynomial 0 keeps all bounds
-
+  -- the polynomial 0 keeps all bounds
   nothing_descends : (p : Poly) → IsPolynomialOf ds (tokens.zero []) p → IsDescending p
   nothing_descends [] says = λ i j d less within. absurd (omega (arith, within))
   nothing_descends (t ∷ p) says = absurd says
@@ -90,8 +88,6 @@ module _ (ds : List Declaration) where
   zero_keeps digits terms = record { few = omega arith }
   zero_keeps digits words = record { short = All-nil _ }
   zero_keeps digits rules = tt
-
--- ---- the line of a polynomial
 
 -- the bounds in front of one
 abbrev pub before : Bound → List Bound

@@ -33,8 +33,6 @@ use Rattle.basis_text.proofs.PolynomialLines.{line_judged}
 abbrev pub block_of : List ℕ → List PolynomialTokens → PolynomialTokens → BasisTokens
 block_of claim ts rest = record { claim = claim; rules = ts; rest = rest }
 
--- ---- what stands at each place
-
 -- behind the claim or a rule
 pub record IsInside (ds : List Declaration) (n : ℕ) (ps : List Poly) (front : List Line) : Type 0 where
   pub claim : List ℕ
@@ -53,8 +51,7 @@ IsOpen ds at.Headed front = front ≡ head_line ∷ []
 IsOpen ds (at.Inside n ps) front = IsInside ds n ps front
 IsOpen ds (at.Rested basis) front = IsWhole (basis_kind ds) front basis
 
--- ---- and the blocks that go on with it
-
+-- and the blocks that go on with it
 module _ (ds : List Declaration) where
   abbrev BeginsWithin : List Bound → List Line → Type 0
   BeginsWithin within front = Begins (basis_kind ds) within front
@@ -110,8 +107,7 @@ module _ (ds : List Declaration) where
     keeps = everywhere (λ bound. KeepsOne ds bound here.tree) here.keeps within;
   }
 
--- ---- what the lines say
-
+-- what the lines say
 pub next_headed : (ds : List Declaration) (front : List Line) (line : Line) (n : ℕ) → front ≡ head_line ∷ [] → claim_of line ≡ Ok n → IsInside ds n [] (front ++ line ∷ [])
 next_headed ds front line n headed read =
     let known = number_read (codes "claim") number_limit line n read in
@@ -164,8 +160,6 @@ module _ (ds : List Declaration) (n : ℕ) (ps : List Poly) (front : List Line) 
     says = record { claim = here.value; rules = here.say; rest = says };
   }
 
-  -- ---- blocks that go on with a line that passes a bound
-
   -- with a rule that keeps some bounds
   begin_rule : (t : PolynomialTokens) (within : List Bound) → IsPolynomialTokens t → All (λ bound. KeepsPolynomial ds bound t) within → All (λ bound. KeepsCount bound (length (here.rule_tokens ++ t ∷ []))) within
       → Begins (basis_kind ds) within (front ++ line_of_rule t ∷ [])
@@ -182,8 +176,6 @@ module _ (ds : List Declaration) (n : ℕ) (ps : List Poly) (front : List Line) 
     is_tree = record { claim = here.number; rules = here.are_polynomials; rest = is };
     keeps = λ k d below. block_keeps ds (block_of here.claim here.rule_tokens t) _ (claim_within ds here.claim here.within _) (here.keep _) (keeps k d below) (count_within ds (length here.rule_tokens) here.few _);
   }
-
--- ---- a line that doesn't fit, or with which a block begins that keeps the bounds before one
 
 -- the number of rules counts last
 counts_before : (n : ℕ) (bound : Bound) → All (λ b. KeepsCount b n) (before bound)
@@ -247,8 +239,7 @@ module _ (ds : List Declaration) where
           (λ p p_is made. absurd (cc)))
           (λ no_rest made. misfit (cc)))
 
-  -- ---- a line more
-
+  -- a line more
   module _ (n : ℕ) (ps : List Poly) (front : List Line) (here : IsInside ds n ps front) (word : List ℕ) (line : Line) (s : Stage) where
     abbrev OpenNext : Type 0
     OpenNext = IsOpen ds s (front ++ (word ∷ line) ∷ [])

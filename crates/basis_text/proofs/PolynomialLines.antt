@@ -18,8 +18,7 @@ use Rattle.basis_text.specs.BasisBounds.{Bound, names, writing, numbers, terms, 
 use Rattle.basis_text.proofs.Lines.{KeepsPolynomial, before, IsJudged, fine, fails, IsLineJudged, spells, misfits}
 
 module _ (ds : List Declaration) where
-  -- ---- what comes of reading a line
-
+  -- what comes of reading a line
   kept_by : (line : Line) (p : Poly) (is : IsPolynomialLine ds line p) (bound : Bound) → KeepsPolynomial ds bound is.tokens
   kept_by line p is names = is.known
   kept_by line p is writing = is.written
@@ -55,8 +54,7 @@ module _ (ds : List Declaration) where
   pub polynomial_judged : (t : PolynomialTokens) → IsPolynomialTokens t → IsJudged ds t (polynomial_of ds (polynomial_line t))
   polynomial_judged t is = polynomial_by t (polynomial_of ds (polynomial_line t)) is (line_judged (polynomial_line t))
 
-  -- ---- what its tokens say
-
+  -- what its tokens say
   pub polynomial_unique : (t : PolynomialTokens) (p q : Poly) → IsPolynomialOf ds t p → IsPolynomialOf ds t q → p ≡ q
   polynomial_unique t p q one two = poly_unique ds (terms_in t) p q one two
 

@@ -26,8 +26,7 @@ told : (b : Bound) → bound_of flaw_of bounds (flaw_of b) ≡ Some b
 told names = refl
 told b = refl
 
--- ---- values
-
+-- values
 basis_unique : (ds : List Declaration) (t : BasisTokens) (v w : BasisTerms) → IsBasisOf ds t v → IsBasisOf ds t w → v ≡ w
 basis_unique ds t v w one two =
     let claim : v.claim ≡ w.claim = one.claim ∙ sym two.claim in

@@ -5,8 +5,6 @@ use Rattle.block_text.specs.declared.fault.Flaw.{Flaw}
 use Rattle.block_text.specs.declared.fault.Flaw.TheVariants as flaw
 use Rattle.block_text.specs.Fault.{limit_of}
 
--- ---- the first element that passes a test
-
 -- those in front of it
 abbrev pub until : {A : Type 0} → (A → Bool) → List A → List A
 until p [] = []
@@ -27,8 +25,6 @@ is_found p (y ∷ ys) x found = by_first (p y) refl (λ later. is_found p ys x l
     by_first false is rest =
         let later = rest (let known : find p (y ∷ ys) ≡ find p ys = rw is refl in cc) in
         record { behind = later.behind; splits = rw is (ap (λ zs. y ∷ zs) later.splits) }
-
--- ---- flaws
 
 -- which of the five
 abbrev form_of : Flaw → ℕ

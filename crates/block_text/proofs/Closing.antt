@@ -10,8 +10,6 @@ use Rattle.block_text.specs.Lines.{is, is_close, closed}
 use Rattle.block_text.specs.Tokens.{is_gap, is_sign, is_plain, is_closing, goes_on, tokens_of}
 use Rattle.block_text.proofs.Cuts.{IsRun, run_taken, tokens-gap, tokens-alone, tokens-joined}
 
--- ---- a sign between characters
-
 -- a token of its own, and no gap
 pub record IsSign (s : ℕ) : Type 0 where
   pub sign : is_sign s ≡ true
@@ -65,8 +63,6 @@ tokens_around s [] rest is = sign_alone s rest is
 tokens_around s (c ∷ []) rest is = last_in_front c s rest (is_gap c) (is_sign c) is refl refl
 tokens_around s (c ∷ d ∷ ds) rest is = more_in_front c d s ds rest (is_gap c) (is_sign c) (is_plain d) refl refl refl (tokens_around s (d ∷ ds) rest is)
 
--- ---- characters without a sign
-
 -- it isn't this sign alone
 abbrev IsOther : ℕ → List ℕ → Type 0
 IsOther s token = is (s ∷ []) token ≡ false
@@ -101,8 +97,7 @@ others s (c ∷ cs) all =
     not_true true none = absurd (cc)
     not_true false none = refl
 
--- ---- the first place of a sign
-
+-- the first place of a sign
 abbrev place_of : ℕ → List ℕ → ℕ
 place_of s text = position_or_len (λ c. c == s) text
 
@@ -140,8 +135,7 @@ pub all_without : (s : ℕ) (xs : List ℕ) → length xs ≤ place_of s xs → 
 all_without s [] past = refl
 all_without s (x ∷ xs) past = none_by x s xs (x == s) refl (all_without s xs) past
 
--- ---- brackets
-
+-- brackets
 pub closed_behind : (tokens rest : List (List ℕ)) → AllByRecursion (λ t. is_close t ≡ false) tokens → closed (tokens ++ codes ")" ∷ rest) ≡ Some (tokens, rest)
 closed_behind [] rest each = refl
 closed_behind (token ∷ tokens) rest each = rw (each.0, closed_behind tokens rest each.1) refl

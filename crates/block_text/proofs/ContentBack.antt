@@ -19,8 +19,7 @@ stands line = not (is_skipped line)
 pub content-append : (xs ys : List (List ℕ)) → content (xs ++ ys) ≡ content xs ++ content ys
 content-append xs ys = ap (filter stands) (map-append tokens_of xs ys) ∙ filter-append stands (map tokens_of xs) (map tokens_of ys)
 
--- ---- whole lines
-
+-- whole lines
 pub whole_append : (xs ys : List ℕ) → is_whole xs ≡ true → is_whole ys ≡ true → is_whole (xs ++ ys) ≡ true
 whole_append [] ys left right = right
 whole_append (c ∷ []) [] left right = left

@@ -9,8 +9,6 @@ use Rattle.std.specs.List.{position, position_or_len, prefix_len, onto_first, sl
 use Rattle.std.specs.Str.Lines.{lines, lines_of_parts, strip_carriage_return}
 use Rattle.block_text.specs.Tokens.{is_line_end, is_gap, is_sign, is_plain, goes_on, token_len, tokens_of}
 
--- ---- lines
-
 -- there is a first part
 pub record FirstPart (parts : List (List ℕ)) : Type 0 where
   pub part : List ℕ
@@ -52,8 +50,7 @@ pub last_line : (text : List ℕ) → position is_line_end text ≡ None → 0 <
 last_line [] none some = absurd (omega (arith, some))
 last_line (c ∷ cs) none some = rw (none_passes is_line_end (c ∷ cs) (grind (arith, nat_tests, none)), ne_eqb (length (c ∷ cs)) 0 (λ e. omega (arith, e))) refl
 
--- ---- tokens
-
+-- tokens
 pub tokens-gap : (c : ℕ) (cs : List ℕ) → is_gap c ≡ true → tokens_of (c ∷ cs) ≡ tokens_of cs
 tokens-gap c cs gap = rw gap refl
 

@@ -31,8 +31,7 @@ read_by steps number p [] = refl
 read_by steps number p (line ∷ ls) = bind_same (at_line number (read_tokens steps p (tokens_of line))) _ _ (λ q. read_by steps (number + 1) q ls)
 
 module _ {Begun Value : Type 0} (kind : Kind Value) (steps : Steps Begun Value) (reader : IsReader kind steps) where
-  -- ---- blocks of other kinds
-
+  -- blocks of other kinds
   none_keep : (text : List (Block kind.Tree)) → own_in text ≡ [] → (bound : TextBound kind.Bound) → Keeps kind text bound
   none_keep text none (on_block bound) = rw none (All-nil (kind.Keeps bound))
   none_keep text none on_count = rw none (omega arith)
@@ -41,8 +40,7 @@ module _ {Begun Value : Type 0} (kind : Kind Value) (steps : Steps Begun Value) 
   none_say text none = rw none tt
 
   module _ (bytes : List ℕ) where
-    -- ---- what is read is what the bytes say
-
+    -- what is read is what the bytes say
     first_flaw : (told : Fault) → is_utf8 bytes ≡ true → IsRefused (step_at steps) beginning (lines bytes) 1 told → IsFirstFault kind bytes told
     first_flaw told utf8 refused =
         first.line (length refused.front + 1) refused.flaw utf8 (record {
@@ -93,8 +91,7 @@ module _ {Begun Value : Type 0} (kind : Kind Value) (steps : Steps Begun Value) 
     pub fault_read : (told : Fault) → all_values steps bytes ≡ Err told → IsFirstFault kind bytes told
     fault_read told read = rw read at text_judged
 
-    -- ---- what they say is read
-
+    -- what they say is read
     has_read : (values : List Value) → HasBlocks kind bytes values → values_of steps bytes ≡ Ok values
     has_read values has =
         rw (
@@ -141,8 +138,7 @@ module _ {Begun Value : Type 0} (kind : Kind Value) (steps : Steps Begun Value) 
           is,
         ) refl
 
-    -- ---- the bytes have values or a first fault, in one way
-
+    -- the bytes have values or a first fault, in one way
     pub text_is_read : ((values : List Value) × IsBlocks kind bytes values) ⊎ ((fault : Fault) × IsFirstFault kind bytes fault)
     text_is_read = by_cases (all_values steps bytes) text_judged
       where
@@ -165,8 +161,7 @@ module _ {Begun Value : Type 0} (kind : Kind Value) (steps : Steps Begun Value) 
         let left : all_values steps bytes ≡ Ok values = values_are_read values is in
         let right : all_values steps bytes ≡ Err told = fault_is_read told wrong in absurd (cc)
 
-    -- ---- what a reader returns, as its callers are told
-
+    -- what a reader returns, as its callers are told
     pub fault_told : (e : CertFault) → Explains (all_values steps bytes) e → ExplainsBy (IsFirstFault kind bytes) e
     fault_told (cert_fault.Fault code line limit) told = fault_read (record { code = code; line = line; limit = limit }) told
     fault_told (cert_fault.Memory e) told = tt
@@ -175,8 +170,7 @@ module _ {Begun Value : Type 0} (kind : Kind Value) (steps : Steps Begun Value) 
     values_told (Ok values) read = values_read values read
     values_told (Err e) read = fault_told e read
 
-  -- ---- what holds of each block holds of each value
-
+  -- what holds of each block holds of each value
   each_says : (P : Value → Type 0) → ((t : kind.Tree) (value : Value) → kind.IsTree t → ((bound : kind.Bound) → kind.Keeps bound t) → kind.Says t value → P value)
       → (text : List (Block kind.Tree)) (values : List Value) → All (IsBlock kind.IsTree kind.others) text → ((bound : kind.Bound) → All (kind.Keeps bound) (own_in text)) → AllZip kind.Says (own_in text) values → All P values
   each_says P good [] [] each keeps says = All-nil P

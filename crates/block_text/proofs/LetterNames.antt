@@ -17,8 +17,7 @@ use Rattle.block_text.specs.Letters.{is_name}
 use Rattle.block_text.specs.Back.{is_named}
 use Rattle.block_text.proofs.LettersBack.{Comes}
 
--- ---- the declaration of a letter
-
+-- the declaration of a letter
 record IsPlaced (ds : List Declaration) (a : ℕ) : Type 0 where
   before : List Declaration
   declared : Declaration
@@ -54,8 +53,6 @@ placed_by d ds a false is rest =
 placed : (ds : List Declaration) (a : ℕ) → a < letter_count ds → IsPlaced ds a
 placed [] a within = absurd (omega (arith, within))
 placed (d ∷ ds) a within = placed_by d ds a _ refl (λ behind. placed ds (a - letters_of d) (omega (arith, within, behind)))
-
--- ---- the names of adjoints and identities
 
 -- what the entry of a letter says of its adjoint
 star_by : (before : List Declaration) (d : Declaration) (after : List Declaration) (k : ℕ) → k < letters_of d → (i : ℕ) × (i < letters_of d) × ((letter_at (before ++ d ∷ after) (letter_count before + k)).star ≡ letter_count before + i)
@@ -116,8 +113,7 @@ identity_name ds v within =
     ∙ sym (object_name-split there.before there.name there.after)
     ∙ (λ j. object_name (sym there.whole j) (sym number j))
 
--- ---- the look-up of a name
-
+-- the look-up of a name
 plus_assoc : (n m k : ℕ) → n + m + k ≡ n + (m + k)
 plus_assoc n m k = omega arith
 
@@ -141,8 +137,7 @@ found p v a (e ∷ before) d after others =
     rw other (found (p + 1) (v + objects_of e) (a + letters_of e) before d after others.1
     ∙ (λ j. Some (named_by d (turn d (place j) (plus_assoc v (objects_of e) (object_count before) j) (plus_assoc a (letters_of e) (letter_count before) j)))))
 
--- ---- what a letter comes from
-
+-- what a letter comes from
 abbrev standing : List Declaration → Declaration → Named
 standing before d = named_by d (turn d (0 + length before) (0 + object_count before) (0 + letter_count before))
 

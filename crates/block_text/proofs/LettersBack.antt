@@ -18,8 +18,7 @@ spelling name identity adjoint = record { name = name; identity = identity; adjo
 name_found : (name : List ℕ) → is_name name ≡ true → name_in name ≡ Some name
 name_found name known = rw known refl
 
--- ---- the last character
-
+-- the last character
 last_of : (text : List ℕ) → 0 < length text → drop (length text - 1) text ≡ get_or text (length text - 1) 0 ∷ []
 last_of text some =
     let within : length text - 1 < length text = omega (arith, some) in
@@ -52,8 +51,7 @@ ended_by front last mark =
 pub without_last : (front : List ℕ) (last : ℕ) → take (length (front ++ last ∷ []) - 1) (front ++ last ∷ []) ≡ front
 without_last front last = take_at front (last ∷ []) (length (front ++ last ∷ []) - 1) (omega (arith, length-append front (last ∷ [])))
 
--- ---- the three forms of a letter
-
+-- the three forms of a letter
 bare : (name : List ℕ) (adjoint : Bool) → is_name name ≡ true → IsNameText name → without_brackets adjoint name ≡ Some (spelling name false adjoint)
 bare name adjoint known text = rw (not_begun name 91 text refl, name_found name known) refl
 
@@ -67,8 +65,6 @@ pub spelled_identity : (name : List ℕ) → is_name name ≡ true → spelled_b
 spelled_identity name known =
     let inside : take (length (91 ∷ (name ++ 93 ∷ [])) - 2) (name ++ 93 ∷ []) ≡ name = take_at name (93 ∷ []) (length (91 ∷ (name ++ 93 ∷ [])) - 2) (omega (arith, length-append name (93 ∷ []))) in
     rw (ended_by (91 ∷ name) 93 39, ended_by (91 ∷ name) 93 93, inside, name_found name known) refl
-
--- ---- letters
 
 -- the letter comes from what its name stands for
 abbrev pub Comes : List Declaration → ℕ → Option Named → Type 0

@@ -65,8 +65,7 @@ decimal_within most n within below =
     let value : digits_value 10 (decimal n) ≡ n = (decimal_is_IsNumeral_wide n below).1 in
     rw (value, le-leb n most within) refl
 
--- ---- integers
-
+-- integers
 minus_is_text : is_utf8 (45 ∷ []) ≡ true
 unfolding is_utf8 chars encode
 minus_is_text = refl

@@ -17,8 +17,7 @@ use Rattle.block_text.proofs.Results.{bind_assoc}
 use Rattle.std.proofs.lemmas.List.Elements.{All-head, All-tail}
 use Rattle.std.proofs.lemmas.Option.{cond_some, same_Some}
 
--- ---- a block whose lines are read
-
+-- a block whose lines are read
 module _ {Begun Value : Type 0} (steps : Steps Begun Value) where
   abbrev pub read_inside : Begun → List Line → Result Value Flaw
   read_inside b [] = asked BadLine (steps.finish b)
@@ -35,8 +34,7 @@ module _ {Begun Value : Type 0} (steps : Steps Begun Value) where
       rw (All-head (λ l. is_end l ≡ false) line lines none)
       (bind_assoc (steps.next b line) (λ c. run steps.next c lines) (λ c. asked BadLine (steps.finish c)) (λ c. read_inside c lines) (λ c. read_inside-run c lines (All-tail (λ l. is_end l ≡ false) line lines none)))
 
--- ---- the first lines of a block
-
+-- the first lines of a block
 module _ {Value : Type 0} (kind : Kind Value) where
   -- The lines are the first ones of a block that keeps these bounds.
   pub record Begins (within : List kind.Bound) (front : List Line) : Type 0 where
@@ -93,8 +91,6 @@ module _ {Value : Type 0} {kind : Kind Value} {Begun : Type 0} {steps : Steps Be
 
   pub told_for_none : (b : kind.Bound) (f : Flaw) → bound_of kind.flaw_of kind.bounds f ≡ None → f ≡ kind.flaw_of b → ⊥
   told_for_none b f none same = let found = sym none ∙ ap (bound_of kind.flaw_of kind.bounds) same ∙ reader.told b in absurd (cc)
-
--- ---- a head of two words
 
 -- where a reader that stands there behind the head stands, and no block of another kind begins
 pub begins_by_head : {Begun : Type 0} (others : List (List ℕ)) (IsOpen : Begun → List Line → Type 0) (first second : List ℕ) (b : Begun)

@@ -25,8 +25,6 @@ use Rattle.block_text.proofs.TextLines.{own_in-append}
 use Rattle.block_text.proofs.TextsBack.{ascii}
 use Rattle.block_text.proofs.Zips.{AllZip-append, zip_length}
 
--- ---- comments
-
 -- a run that begins with # is a comment
 comment_by : (cs : List ℕ) (tokens : List (List ℕ)) (alone : Bool) → is_skipped (cond alone ((35 ∷ []) ∷ tokens) (onto_first 35 tokens)) ≡ true
 comment_by cs tokens true = refl
@@ -76,8 +74,6 @@ inside_is_before_end (c ∷ cs) all =
     let parts : (is_inside c ≡ true) × (list_all is_inside cs ≡ true) = and_parts _ _ all in
     rw ((and_parts (is_before_end c) (not (c == 13)) parts.0).0, inside_is_before_end cs parts.1) refl
 
--- ---- blocks of other kinds
-
 -- a line of two tokens or more, or of one other token, is not the line `end`
 pub begins_no_end : (token : List ℕ) (tokens : Line) → is (codes "end") token ≡ false → is_end (token ∷ tokens) ≡ false
 begins_no_end token [] known = known
@@ -117,8 +113,7 @@ body_goes_on ls each =
     (All-map (λ line. is_end line ≡ false) tokens_of ls (All-weaker IsBodyLine (λ line. is_end (tokens_of line) ≡ false) (λ line body. body.goes_on) ls each))
 
 module _ {Value : Type 0} (kind : Kind Value) where
-  -- ---- texts one behind another
-
+  -- texts one behind another
   keeps-append : (xs ys : List (Block kind.Tree)) (bound : TextBound kind.Bound) → Keeps kind xs bound → Keeps kind ys bound → length (own_in xs) + length (own_in ys) ≤ block_limit → Keeps kind (xs ++ ys) bound
   keeps-append xs ys (on_block bound) left right few = subst (All (kind.Keeps bound)) (sym (own_in-append xs ys)) (All-append (kind.Keeps bound) (own_in xs) (own_in ys) left right)
   keeps-append xs ys on_count left right few = omega (arith, few, ap length (own_in-append xs ys), length-append (own_in xs) (own_in ys))
@@ -142,8 +137,7 @@ module _ {Value : Type 0} (kind : Kind Value) where
             (AllZip-append kind.Says (own_in left.blocks) (own_in right.blocks) first last left.says right.says);
       }
 
-  -- ---- texts of one block, and of none
-
+  -- texts of one block, and of none
   none_keeps : (bound : TextBound kind.Bound) → Keeps kind [] bound
   none_keeps (on_block bound) = All-nil (kind.Keeps bound)
   none_keeps on_count = omega arith
@@ -203,8 +197,7 @@ module _ {Value : Type 0} (kind : Kind Value) where
       subst (HasBlocks kind (before ++ text ++ after)) (append_assoc first (value ∷ []) last)
       (joined (before ++ text) after (first ++ value ∷ []) last (whole_append before text whole written.text_is.whole) start right (omega (arith, few, length-append first (value ∷ []))))
 
-  -- ---- parts one after another
-
+  -- parts one after another
   module _ (text_of : Value → List ℕ) (IsGood : Value → Type 0) (written : (value : Value) → IsGood value → IsWritten (text_of value) value) (words : All (λ word. begins_comment word ≡ false) kind.others) where
     abbrev Good : Part Value → Type 0
     Good p = IsPart kind.others IsGood p

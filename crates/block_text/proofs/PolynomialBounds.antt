@@ -40,8 +40,7 @@ pub some_of : {X : Type 0} (o : Option X) → is_some o ≡ true → (x : X) × 
 some_of (Some x) there = (x, refl)
 some_of None there = absurd (cc)
 
--- ---- numbers
-
+-- numbers
 pub within_by : (v most : ℕ) (b : Bool) → nat_le v most ≡ b → is_some (cond b (Some v) None) ≡ true → v ≤ most
 within_by v most true small there = leb-true v most small
 within_by v most false small there = absurd (cc)
@@ -58,8 +57,7 @@ above_one digits known =
 pub above_one_from : (digits : List ℕ) → IsTrue (is_number digits) → 1 < digits_value 10 digits → is_above_one digits ≡ true
 above_one_from digits number above = let known : is_number digits ≡ true = number in rw (known, lt-leb (digits_value 10 digits) 1 above) refl
 
--- ---- letters as they are written
-
+-- letters as they are written
 pub is_same : (word : List ℕ) → is word word ≡ true
 is_same word = (bytes_eq-Decides word word).1 refl
 

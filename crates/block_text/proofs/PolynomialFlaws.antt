@@ -22,8 +22,7 @@ use Rattle.block_text.proofs.PolynomialLaws.{IsKnown, form_is, form_there, known
 use Rattle.block_text.proofs.PolynomialTokens.{terms_back, terms_no_zero, has_terms}
 use Rattle.block_text.proofs.PolynomialWords.{descends_is, descends_there}
 
--- ---- the tokens of a line
-
+-- the tokens of a line
 abbrev tokens_of_list : List TermTokens → PolynomialTokens
 tokens_of_list [] = zero_line []
 tokens_of_list (t ∷ ts) = terms t ts
@@ -49,8 +48,7 @@ module _ (ds : List Declaration) where
   fits_unique : (line : Line) (s t : PolynomialTokens) → Fits line s → Fits line t → s ≡ t
   fits_unique line s t one other = tokens_unique s t one.fit other.fit (one.are ∙ sym other.are)
 
-  -- ---- flaws
-
+  -- flaws
   told_for : (line : Line) (flaw : Flaw) → is_zero line ≡ false → first_flaw ds (terms_of line) ≡ flaw → ((p : Poly) → IsPolynomialLine ds line p → ⊥) → polynomial_of ds line ≡ Err flaw
   told_for line flaw some told none = by_option (poly_behind ds [] (terms_of line)) refl
     where

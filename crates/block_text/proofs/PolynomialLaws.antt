@@ -33,8 +33,7 @@ use Rattle.block_text.proofs.PolynomialWords.{descends_is, descends_there}
 use Rattle.block_text.proofs.Results.{by_test, asked_ok}
 use Rattle.block_text.proofs.Zips.{AllZip-unique, zip_length}
 
--- ---- the tests of a term
-
+-- the tests of a term
 tokens_there : (tokens : Line) → 0 < length tokens → is_some_token tokens ≡ true
 tokens_there [] some = absurd (omega (arith, some))
 tokens_there (token ∷ tokens) some = refl
@@ -130,8 +129,7 @@ module _ (ds : List Declaration) where
   pub within_there : (t : TermTokens) → IsTerm t → factor_value t.factor ≤ integer_limit → passes ds Within t ≡ true
   within_there t is within = passes_there Within t (record { number = number_within_there t.factor is.factor within; letters = always t.letters; some = is.some })
 
--- ---- the number of terms
-
+-- the number of terms
 pub at_most_is : {X : Type 0} (n : ℕ) (xs : List X) → at_most n xs ≡ true → length xs ≤ n
 at_most_is n [] known = omega arith
 at_most_is n (x ∷ xs) known = by_test (n == 0) _ _ true known (λ none e. absurd (cc)) (λ some e. let rest = at_most_is (n - 1) xs e in omega (arith, rest, not_zero n some))
@@ -144,8 +142,7 @@ pub at_most_there : {X : Type 0} (n : ℕ) (xs : List X) → length xs ≤ n →
 at_most_there n [] few = refl
 at_most_there n (x ∷ xs) few = rw (ne_eqb n 0 (λ e. omega (arith, e, few))) (at_most_there (n - 1) xs (omega (arith, few)))
 
--- ---- what terms say
-
+-- what terms say
 module _ {X Y : Type 0} (R : X → Y → Type 0) where
   pub zip_all : (P : X → Type 0) → ((x : X) (y : Y) → R x y → P x) → (xs : List X) (ys : List Y) → AllZip R xs ys → All P xs
   zip_all P each [] [] zipped = All-nil P
@@ -210,8 +207,7 @@ module _ (ds : List Declaration) where
       (zip_with (IsTermOf ds) IsTerm Bounds (MakesTerm ds) (λ t x says is bound. record { is_term = is; written = bound.written; within = bound.within; short = bound.short; says = says }) ts p says fit bounds)
       (recursion_from_IsDescending p descends) (subst (λ n. n ≤ term_limit) (zip_length (IsTermOf ds) ts p says) few)
 
-  -- ---- a line that is read
-
+  -- a line that is read
   pub record IsNought (line : Line) : Type 0 where
     pub digits : List ℕ
     pub is : digits ∷ [] ≡ line
@@ -308,8 +304,7 @@ module _ (ds : List Declaration) where
   pub polynomial_there : (line : Line) (p : Poly) → IsPolynomialLine ds line p → polynomial_of ds line ≡ Ok p
   polynomial_there line p is = subst (λ l. polynomial_of ds l ≡ Ok p) is.are (spelled_there is.tokens p is.fit is.written is.numbers is.few is.short is.says)
 
-  -- ---- a line that isn't read
-
+  -- a line that isn't read
   none_is : (o : Option Poly) (f g : Flaw) → asked f o ≡ Err g → (o ≡ None) × (f ≡ g)
   none_is (Some p) f g read = absurd (cc)
   none_is None f g read = (refl, cc)
@@ -394,8 +389,7 @@ module _ (ds : List Declaration) where
       let told : first_flaw ds (there.first ∷ there.later) ≡ flaw = subst (λ ts. first_flaw ds ts ≡ flaw) there.are refused.1 in
       flaw_by line there.first there.later flaw _ _ _ _ _ some there.are there.spelled none refl refl refl refl refl told)
 
-  -- ---- the polynomial of a line
-
+  -- the polynomial of a line
   signed_nonzero : (negative : Bool) (n : ℕ) → 0 < n → signed negative n ≢ pos 0
   signed_nonzero negative zero some = absurd (omega (arith, some))
   signed_nonzero true (suc n) some = λ e. let same : suc n ≡ 0 = ap unsigned_abs e in omega (arith, same)

@@ -26,8 +26,7 @@ use Rattle.block_text.proofs.Results.{by_test, option_map_some, cond_option}
 pub some_same : {X : Type 0} (x y : X) → ◌≡◌ {A = Option X} (Some x) (Some y) → x ≡ y
 some_same x y same = cc
 
--- ---- words
-
+-- words
 module _ (ds : List Declaration) where
   pub word_count : (letters : Line) (w : List ℕ) → word_of ds letters ≡ Some w → length w ≡ length letters
   word_count [] w says = let same : [] ≡ w = some_same [] w says in ap length (sym same)
@@ -99,8 +98,7 @@ module _ (ds : List Declaration) where
       option_map_word : ℕ → Option (List ℕ) → Option (List ℕ)
       option_map_word a o = option_map (λ v. a ∷ v) o
 
--- ---- numbers
-
+-- numbers
 record HasValue (number : Option (List ℕ)) (n : ℕ) : Type 0 where
   factor : IsFactor number
   is : n ≡ factor_value number
@@ -117,8 +115,7 @@ value_there : (factor : Option (List ℕ)) → IsFactor factor → factor_value 
 value_there None is within = refl
 value_there (Some digits) is within = rw (above_one_from digits is.0 is.1, le-leb (digits_value 10 digits) integer_limit within) refl
 
--- ---- terms
-
+-- terms
 some_word_is : (w word : List ℕ) → some_word w ≡ Some word → (w ≡ word) × (0 < length w)
 some_word_is [] word some = absurd (cc)
 some_word_is (a ∷ w) word some = (some_same (a ∷ w) word some, omega arith)
@@ -159,8 +156,7 @@ module _ (ds : List Declaration) where
       let some = some_word_there term.1 (omega (arith, word_count ds t.letters term.1 makes.says.letters, makes.is_term.some)) in
       rw (value_there t.factor makes.is_term.factor makes.within, made, some) (ap (λ z. Some (z, term.1)) (sym makes.says.coefficient))
 
--- ---- descending terms
-
+-- descending terms
 pub greater_from : (o : Ordering) → is_greater o ≡ true → o ≡ Greater
 greater_from Less known = absurd (cc)
 greater_from Equal known = absurd (cc)
@@ -190,8 +186,7 @@ follows_there [] t more descends = refl
 follows_there (x ∷ []) t more descends = let above : word_cmp x.1 t.1 ≡ Greater = descends.0.0 in rw above refl
 follows_there (x ∷ y ∷ p) t more descends = follows_there (y ∷ p) t more descends.1
 
--- ---- polynomials
-
+-- polynomials
 neither : (a b : Bool) → (a || b) ≡ false → (a ≡ false) × (b ≡ false)
 neither true b none = absurd (cc)
 neither false b none = (refl, none)

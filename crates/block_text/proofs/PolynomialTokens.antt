@@ -19,8 +19,7 @@ use Rattle.block_text.proofs.LettersBack.{not_ended, not_begun}
 use Rattle.block_text.proofs.LineTrees.{is_word}
 use Rattle.block_text.proofs.TextsBack.{are_low, ascii, low_is_ascii}
 
--- ---- a token is a sign, a number or a letter
-
+-- a token is a sign, a number or a letter
 digit_high : (d : ℕ) → is_ascii_digit d ≡ true → d ≤ 57
 digit_high d digit = let parts : (nat_le 48 d ≡ true) × (nat_le d 57 ≡ true) = and_parts _ _ digit in leb-true d 57 parts.1
 
@@ -99,8 +98,7 @@ minus_by token false p minus plus none = minus
 no_minus : (token : List ℕ) → is_term_sign token ≡ false → is_minus token ≡ false
 no_minus token none = minus_by token _ _ refl refl none
 
--- ---- the line of terms
-
+-- the line of terms
 abbrev NoSigns : Line → Type 0
 NoSigns line = AllByRecursion (λ token. is_term_sign token ≡ false) line
 
@@ -170,8 +168,7 @@ terms_back first later is each =
     first_by first.negative (term_line first) (flat_map later_line later) (term_no_signs first is) (some_tokens first.factor first.letters is.some)
     ∙ behind_back first later is (later_back later each)
 
--- ---- the terms of any line spell it
-
+-- the terms of any line spell it
 factor_there : (negative : Bool) (part : Line) → term_line (term_of negative part) ≡ part
 factor_there negative [] = refl
 factor_there negative (token ∷ tokens) = by_number _ refl
@@ -224,8 +221,6 @@ has_terms (token ∷ tokens) = by_minus _ refl
       are = rw minus refl;
       spelled = rw (negative_there false (part_in (token ∷ tokens)), factor_there false (part_in (token ∷ tokens))) (rest_there (token ∷ tokens));
     }
-
--- ---- a number for zero
 
 -- a line that is zero has no terms
 zero_terms : (digits : List ℕ) → is_number digits ≡ true → terms_of (digits ∷ []) ≡ record { negative = false; factor = Some digits; letters = [] } ∷ []

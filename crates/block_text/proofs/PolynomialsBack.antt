@@ -33,8 +33,7 @@ use Rattle.block_text.proofs.PolynomialLaws.{poly_unique, polynomial_there}
 use Rattle.block_text.proofs.TextsBack.{letters_written, word_written}
 use Rattle.block_text.proofs.TokensBack.{token_read, tokens_read, name_token, plain_token}
 
--- ---- the tokens of a polynomial that is written
-
+-- the tokens of a polynomial that is written
 abbrev factor_by : Bool → ℕ → Option (List ℕ)
 factor_by one n = cond one None (Some (decimal n))
 
@@ -49,8 +48,7 @@ module _ (ds : List Declaration) where
   written_tokens [] = zero_line (codes "0")
   written_tokens (t ∷ p) = terms (written_term t) (map written_term p)
 
--- ---- numbers
-
+-- numbers
 value_by : (one : Bool) (n : ℕ) → (n == 1) ≡ one → n < 10 ^ 64 → factor_value (factor_by one n) ≡ n
 value_by true n is below = sym (eqb-true n 1 is)
 value_by false n is below = (decimal_is_IsNumeral_wide n below).1
@@ -78,8 +76,7 @@ abs_some (pos zero) nonzero = absurd (nonzero refl)
 abs_some (pos (suc n)) nonzero = omega arith
 abs_some (negsuc n) nonzero = omega arith
 
--- ---- the tokens of the text
-
+-- the tokens of the text
 factor_tokens : (one : Bool) (n : ℕ) (rest : List ℕ) → n < 10 ^ 64 → tokens_of (cond one [] (decimal n ++ codes " ") ++ rest) ≡ factor_line (factor_by one n) ++ tokens_of rest
 factor_tokens true n rest below = refl
 factor_tokens false n rest below =
@@ -136,8 +133,7 @@ module _ (ds : List Declaration) (declared : IsDeclared ds) (known : IsTrue (lis
   below_of : (t : Term) → IsGood t → unsigned_abs t.0 < 10 ^ 64
   below_of t good = let within : unsigned_abs t.0 < 2 ^ 127 = good.coefficient in omega (arith, within)
 
-  -- ---- what the tokens are
-
+  -- what the tokens are
   letters_plain : (w : List ℕ) → IsOver (letter_count ds) w → All (λ token. IsTrue (is_term_letter token)) (map (letter_text ds) w)
   letters_plain [] over = All-nil (λ token. IsTrue (is_term_letter token))
   letters_plain (a ∷ w) over =
@@ -186,8 +182,7 @@ module _ (ds : List Declaration) (declared : IsDeclared ds) (known : IsTrue (lis
   fits [] good = (refl, refl)
   fits (t ∷ p) good = (term_fits t good.0, each_term IsTerm term_fits p good.1)
 
-  -- ---- the tokens of the text
-
+  -- the tokens of the text
   term_tokens : (t : Term) (rest : List ℕ) → IsGood t → goes_on rest ≡ false → tokens_of (term_text ds t ++ rest) ≡ term_line (written_term ds t) ++ tokens_of rest
   term_tokens t rest good stops =
       let word = word_written ds t.1 (letters_written ds declared known t.1 good.over) in

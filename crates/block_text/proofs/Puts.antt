@@ -11,16 +11,14 @@ four_put (Ok done) before first second third fourth one two three last one_is tw
     ∙ append_assoc before ((first ++ second) ++ third) fourth
 four_put (Err e) before first second third fourth one two three last one_is two_is three_is last_is = tt
 
--- ---- three parts, one behind the other
-
+-- three parts, one behind the other
 pub three_put : {E : Type 0} (r : Result (Unit {0}) E) (before first second third one two last : List ℕ) → one ≡ before ++ first → two ≡ one ++ second → OnOk r (last ≡ two ++ third)
     → OnOk r (last ≡ before ++ ((first ++ second) ++ third))
 three_put (Ok done) before first second third one two last one_is two_is last_is =
     last_is ∙ ap (λ x. x ++ third) (two_is ∙ ap (λ x. x ++ second) one_is ∙ append_assoc before first second) ∙ append_assoc before (first ++ second) third
 three_put (Err e) before first second third one two last one_is two_is last_is = tt
 
--- ---- a part for each of a list
-
+-- a part for each of a list
 pub each_put : {A : Type 0} (part : A → List ℕ) (xs : List A) (place : ℕ) (x : A) (before out now : List ℕ) → place < length xs → x ≡ get_or xs place x
     → out ≡ before ++ flat_map part (take place xs) → now ≡ out ++ part x → now ≡ before ++ flat_map part (take (place + 1) xs)
 each_put part xs place x before out now within is so_far next =

@@ -33,8 +33,7 @@ module _ {Begun Value : Type 0} (kind : Kind Value) (steps : Steps Begun Value) 
   pub stands : (ls : List Line) (p : Progress Begun Value) → run (step_at steps) beginning ls ≡ Ok p → Stands kind steps reader ls p
   stands ls p read = stands_behind beginning p [] ls (stands_first kind steps reader) read
 
-  -- ---- the flaws of bounds
-
+  -- the flaws of bounds
   same_bound : (a b : TextBound kind.Bound) → flaw_of kind a ≡ flaw_of kind b → a ≡ b
   same_bound (on_block a) (on_block b) same = ap on_block (same_told reader a b same)
   same_bound (on_block a) on_count same = absurd (told_for_none reader a (TooMany block_limit) reader.none_told.1 (sym same))
@@ -58,8 +57,6 @@ module _ {Begun Value : Type 0} (kind : Kind Value) (steps : Steps Begun Value) 
       before_it : kind.Bound → List kind.Bound
       before_it bound = before kind.flaw_of kind.bounds bound
   kept_at K all on_count = last_kept K (map on_block kind.bounds) on_count all
-
-  -- ---- a line
 
   -- blocks that go on with a line that is refused pass the bound that it is refused for
   record IsPassed (blocks : List (Block kind.Tree)) (flaw : Flaw) : Type 0 where
@@ -98,8 +95,6 @@ module _ {Begun Value : Type 0} (kind : Kind Value) (steps : Steps Begun Value) 
       by_cases : (r : Result (Progress Begun Value) Flaw) → step steps p.values p.place line ≡ r → step steps p.values p.place line ≡ Err flaw
       by_cases (Ok q) is = absurd (stops flawed (goes_on kind steps reader (front ++ line ∷ []) q (stands_next kind steps reader front p q line (stands front p read) is)))
       by_cases (Err g) is = is ∙ ap Err (one_flaw kind front line g flaw (is_flawed front p line g read is) flawed)
-
-  -- ---- lines
 
   -- lines within all bounds are read
   pub goes_read : (ls : List Line) → GoesOn kind (bounds kind) ls → (p : Progress Begun Value) × (run (step_at steps) beginning ls ≡ Ok p)

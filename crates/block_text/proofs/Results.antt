@@ -46,8 +46,7 @@ else_ok false e s y read use_it = use_it refl read
 pub ok_has : {A F : Type 0} (P : A → Type 0) (x y : A) → ◌≡◌ {A = Result A F} (Ok x) (Ok y) → P x → P y
 ok_has P x y read holds = let same : x ≡ y = cc in subst P same holds
 
--- ---- options
-
+-- options
 pub option_map_some : {A B P : Type 0} (f : A → B) (o : Option A) (y : B) → option_map f o ≡ Some y → ((x : A) → o ≡ Some x → f x ≡ y → P) → P
 option_map_some f (Some x) y read use_it = use_it x refl (cc)
 option_map_some f None y read use_it = absurd (cc)

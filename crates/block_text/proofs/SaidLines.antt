@@ -27,8 +27,6 @@ module _ {T A : Type 0} (tokens : Line → Option T) (value : T → Option A) wh
       → Meets flaw_of K (λ x. value t ≡ Some x) (said tokens value (flaw_of b) line)
   said_meets K b line t is there = rw is (asked_meets K b (value t) there)
 
--- ---- numbers
-
 -- a number that is read has its value, which is within the limit
 pub within_limit : (limit : ℕ) (digits : List ℕ) (n : ℕ) → number_within limit digits ≡ Some n → (digits_value 10 digits ≡ n) × (digits_value 10 digits ≤ limit)
 within_limit limit digits n read =
@@ -40,8 +38,6 @@ pub number_found : (limit : ℕ) (digits : List ℕ) → digits_value 10 digits 
 number_found limit digits within =
     let small : nat_le (digits_value 10 digits) limit ≡ true = grind (arith, nat_tests, within) in
     (digits_value 10 digits, rw small refl)
-
--- ---- a word and a number
 
 -- the line is these
 pub record IsNumberLine (word : List ℕ) (line : Line) : Type 0 where

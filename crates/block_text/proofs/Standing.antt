@@ -81,8 +81,7 @@ module _ {Begun Value : Type 0} (kind : Kind Value) (steps : Steps Begun Value) 
     room = tt;
   }
 
-  -- ---- a block more
-
+  -- a block more
   module _ (text : Text) (done : List Value) (whole : AreWhole text done) where
     count : length (own_in text) ≡ length done
     count = zip_length kind.Says (own_in text) done whole.says
@@ -164,8 +163,7 @@ module _ {Begun Value : Type 0} (kind : Kind Value) (steps : Steps Begun Value) 
       says = subst (λ (ts : List kind.Tree). AllZip kind.Says ts done) (sym (other_push b)) whole.says;
     }
 
-  -- ---- one line more
-
+  -- one line more
   module _ (ls : List Line) (done : List Value) (line : Line) (q : Progress Begun Value) where
     abbrev StandsAt : Place Begun → Type 0
     StandsAt place = Stands ls (progress done place)
@@ -248,8 +246,7 @@ module _ {Begun Value : Type 0} (kind : Kind Value) (steps : Steps Begun Value) 
   pub stands_next : (ls : List Line) (p q : Progress Begun Value) (line : Line) → Stands ls p → step steps p.values p.place line ≡ Ok q → Stands (ls ++ line ∷ []) q
   stands_next ls p q line stands read = next_at ls p.values line q p.place stands read
 
-  -- ---- the lines so far are the first ones of blocks within all bounds
-
+  -- the lines so far are the first ones of blocks within all bounds
   goes_on_at : (ls : List Line) (done : List Value) (place : Place Begun) → Stands ls (progress done place) → GoesOn kind (bounds kind) ls
   goes_on_at ls done at.Outside stands =
       let whole_lines : ls ≡ Lines stands.text = stands.are ∙ ap (λ x. Lines stands.text ++ x) stands.stands_in ∙ append-nil (Lines stands.text) in
@@ -263,8 +260,7 @@ module _ {Begun Value : Type 0} (kind : Kind Value) (steps : Steps Begun Value) 
   pub goes_on : (ls : List Line) (p : Progress Begun Value) → Stands ls p → GoesOn kind (bounds kind) ls
   goes_on ls p stands = goes_on_at ls p.values p.place stands
 
-  -- ---- and so they are with a line that is wrong, but for the bound that it passes
-
+  -- and so they are with a line that is wrong, but for the bound that it passes
   pub record GoesUpTo (ls : List Line) (flaw : Flaw) : Type 0 where
     pub earlier : List (TextBound kind.Bound)
     pub later : List (TextBound kind.Bound)
@@ -332,8 +328,7 @@ module _ {Begun Value : Type 0} (kind : Kind Value) (steps : Steps Begun Value) 
   pub goes_on_before : (ls : List Line) (p : Progress Begun Value) (line : Line) (flaw : Flaw) → Stands ls p → step steps p.values p.place line ≡ Err flaw → (flaw ≡ BadLine) ⊎ GoesUpTo (ls ++ line ∷ []) flaw
   goes_on_before ls p line flaw stands read = stops_at ls p.values line flaw p.place stands read
 
-  -- ---- at the end
-
+  -- at the end
   pub record AreTheirs (ls : List Line) (values : List Value) : Type 0 where
     pub blocks : List (Block kind.Tree)
     pub are_blocks : AreBlocks kind ls blocks

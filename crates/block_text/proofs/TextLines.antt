@@ -32,8 +32,6 @@ module _ {Begun Value : Type 0} (kind : Kind Value) (steps : Steps Begun Value) 
   abbrev At : List Value → Place Begun → Progress Begun Value
   At done place = progress done place
 
-  -- ---- one block
-
   -- what is read of the lines of a block is read up to its end
   inside_read : (done : List Value) (b : Begun) (lines : List Line) (value : Value) → read_inside steps b lines ≡ Ok value
       → run (step_at steps) (At done (at.Inside b)) (lines ++ end_line ∷ []) ≡ Ok (At (done ++ value ∷ []) at.Outside)
@@ -118,8 +116,6 @@ module _ {Begun Value : Type 0} (kind : Kind Value) (steps : Steps Begun Value) 
         by_room true full = passes on_count (crowded done (kind.lines_of t) full (no_bad t met)) (λ kept. let room : nat_le block_limit (length done) ≡ false = lt-leb block_limit (length done) (few kept) in absurd (cc))
         by_room false room = own_by done t (leb-false block_limit (length done) room) met
 
-    -- ---- a block of another kind
-
     -- its head is no head of the kind
     no_head : (line : Line) → is_other_head kind.others line ≡ true → steps.begin line ≡ None
     no_head line is_other = by_cases (steps.begin line) refl
@@ -140,8 +136,7 @@ module _ {Begun Value : Type 0} (kind : Kind Value) (steps : Steps Begun Value) 
         rw (no_head b.head block.head, known, skipped done b.lines block.lines)
         (reads (At done at.Outside) refl (record { values = []; say = tt; is = ap (λ vs. At vs at.Outside) (sym (append-nil done)) }))
 
-    -- ---- blocks
-
+    -- blocks
     abbrev Lines : List (Block kind.Tree) → List Line
     Lines text = flat_map (block_lines kind.lines_of) text
 

@@ -22,8 +22,7 @@ use Rattle.block_text.proofs.NameBytes.{IsNameText, name_text}
 use Rattle.block_text.proofs.NumbersBack.{bytes_inside}
 use Rattle.block_text.proofs.TokensBack.{IsToken, bytes_plain, plain_token}
 
--- ---- text without line ends
-
+-- text without line ends
 pub line_text-append : (xs ys : List ℕ) → IsLineText xs → IsLineText ys → IsLineText (xs ++ ys)
 line_text-append xs ys left right = record {
   utf8 = IsUtf8-append xs ys left.utf8 right.utf8;
@@ -47,8 +46,6 @@ ascii text low = IsUtf8-from_ascii text (low_is_ascii text low)
 
 pub literal : (text : List ℕ) → are_low text ≡ true → list_all is_inside text ≡ true → IsLineText text
 literal text low inside = record { utf8 = ascii text low; inside = inside }
-
--- ---- letters
 
 -- a token that is plain text
 pub record IsPlainText (text : List ℕ) : Type 0 where
@@ -117,8 +114,7 @@ letter_written ds a spelled =
       read = letter_read ds a spelled.name spelled.comes;
     }
 
--- ---- words
-
+-- words
 not_close : (token : List ℕ) → IsToken token → is_close token ≡ false
 not_close token is =
     let apart : nat_eq is.first 41 ≡ false = ne_eqb is.first 41 (λ e. absurd (let plain : is_plain 41 ≡ true = subst (λ (c : ℕ). is_plain c ≡ true) e is.plain in cc)) in

@@ -19,8 +19,6 @@ plain_by c false false gap sign plain = record { gap = gap; sign = sign }
 plain_is : (c : ℕ) → is_plain c ≡ true → IsPlain c
 plain_is c plain = plain_by c _ _ refl refl plain
 
--- ---- one token
-
 -- one or more characters of which each goes on with a run
 pub record IsToken (token : List ℕ) : Type 0 where
   pub first : ℕ
@@ -49,8 +47,7 @@ tokens_read (t ∷ []) rest each stops = token_read t rest each.0 stops
 tokens_read (t ∷ u ∷ us) rest each stops =
     rw (append_assoc t (32 ∷ join_with_byte 32 (u ∷ us)) rest) (token_read t (32 ∷ (join_with_byte 32 (u ∷ us) ++ rest)) each.0 refl ∙ ap (λ ts. t ∷ ts) (tokens_read (u ∷ us) rest each.1 stops))
 
--- ---- names
-
+-- names
 name_byte_plain : (b : ℕ) → is_name_byte b ≡ true → is_plain b ≡ true
 name_byte_plain b byte =
     rw (ne_eqb b 32 (differs b 32 byte refl), ne_eqb b 9 (differs b 9 byte refl), ne_eqb b 40 (differs b 40 byte refl), ne_eqb b 41 (differs b 41 byte refl), ne_eqb b 59 (differs b 59 byte refl), ne_eqb b 61 (differs b 61 byte refl)) refl

@@ -21,8 +21,7 @@ use Rattle.block_text.proofs.LineTrees.{is_word}
 use Rattle.block_text.proofs.PolynomialBounds.{is_same}
 use Rattle.block_text.proofs.Results.{by_test, option_map_some}
 
--- ---- the form of a token that is spelled so
-
+-- the form of a token that is spelled so
 abbrev FormBy : List ℕ → List ℕ → Bool → Bool → Type 0
 FormBy token name true true = ⊤
 FormBy token name true false = is_bracketed name token ≡ true
@@ -59,8 +58,7 @@ has_form token s read =
     (λ marks named. let inner = take (length token - 2) (drop 1 token) in named_read (HasForm token) true false inner s named (rw (marks, is_same inner) refl))
     (λ marks named. named_read (HasForm token) false false token s named (is_same token)))
 
--- ---- the letter
-
+-- the letter
 module _ (ds : List Declaration) (token : List ℕ) where
   -- the letter, if it is written as the token
   abbrev kept : ℕ → Option ℕ

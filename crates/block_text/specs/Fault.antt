@@ -9,8 +9,6 @@ use Rattle.block_text.specs.declared.fault.TextFlaw.TheVariants as text_flaw
 use Rattle.block_text.specs.declared.fault.CertFault.{CertFault}
 use Rattle.block_text.specs.declared.fault.CertFault.TheVariants as cert_fault
 
--- ---- what is wrong with a line
-
 -- the number that is printed for it, and the limit that is passed, 0 where none is
 abbrev pub code_of : Flaw → ℕ
 code_of flaw.BadLine = 2
@@ -25,8 +23,6 @@ limit_of flaw.UnknownName = 0
 limit_of flaw.NotAsWritten = 0
 limit_of flaw.NumberTooLarge = 0
 limit_of (flaw.TooMany limit) = limit
-
--- ---- what is wrong with a text
 
 -- its number, the line, and the limit that is passed; 0 stands for a line or a limit where there is none
 pub record Fault : Type 0 where
@@ -53,8 +49,6 @@ in_text text_flaw.NotUtf8 = not_utf8
 in_text text_flaw.Truncated = truncated
 in_text text_flaw.NoBlock = no_block
 
--- ---- results
-
 -- the value behind another, where neither is wrong
 infixl 10 ◌>>=◌
 abbrev pub ◌>>=◌ : {A B F : Type 0} → Result A F → (A → Result B F) → Result B F
@@ -75,8 +69,6 @@ at_line number (Err f) = Err (in_line number f)
 abbrev pub at_text : {A : Type 0} → Result A TextFlaw → Result A Fault
 at_text (Ok x) = Ok x
 at_text (Err f) = Err (in_text f)
-
--- ---- how the code tells it; want of memory may come at any time
 
 -- it tells of a fault for which this holds
 abbrev pub ExplainsBy : (Fault → Type 0) → CertFault → Type 0

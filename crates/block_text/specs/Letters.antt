@@ -13,8 +13,6 @@ use Rattle.quiver.specs.declared.named.Named.{Named}
 use Rattle.quiver.specs.declared.named.Named.TheVariants.{Object, Map}
 use Rattle.quiver.specs.Declarations.{Declaration, named_in, identity_in, quiver_of}
 
--- ---- names
-
 -- whether a name may start with the character, and whether the text starts with such a one
 abbrev pub starts_name : ℕ → Bool
 starts_name c = is_xid_start c || (c == 95)
@@ -31,8 +29,7 @@ is_name token = nat_le (length token) name_limit && (is_utf8 token && (begins_na
 abbrev pub name_in : List ℕ → Option (List ℕ)
 name_in token = if is_name token then Some token else None
 
--- ---- letters: NAME, [NAME], NAME' or [NAME]'
-
+-- letters: NAME, [NAME], NAME' or [NAME]'
 pub record Spelled : Type 0 where
   pub name : List ℕ
   -- whether the name stands in square brackets
@@ -81,8 +78,6 @@ letter_of ds token =
 abbrev pub word_of : List Declaration → List (List ℕ) → Option (List ℕ)
 word_of ds [] = Some []
 word_of ds (token ∷ tokens) = option_and_then (λ a. option_map (λ w. a ∷ w) (word_of ds tokens)) (letter_of ds token)
-
--- ---- numbers
 
 -- one or more decimal digits
 abbrev pub is_number : List ℕ → Bool

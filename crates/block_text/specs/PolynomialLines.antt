@@ -10,8 +10,6 @@ use Rattle.block_text.specs.Letters.{Spelled, spelled_by, letter_of, word_of, is
 use Rattle.block_text.specs.Lines.{Line, integer_limit}
 use Rattle.block_text.specs.Written.{letter_text}
 
--- ---- the tokens
-
 -- a term behind its sign: a number, where one stands, and letters
 pub record TermTokens : Type 0 where
   pub negative : Bool
@@ -45,8 +43,6 @@ abbrev pub polynomial_line : PolynomialTokens → Line
 polynomial_line (zero digits) = digits ∷ []
 polynomial_line (terms first later) = first_line first ++ flat_map later_line later
 
--- ---- which tokens stand where
-
 -- NAME, NAME' or [NAME]
 abbrev pub is_plain : Option Spelled → Bool
 is_plain None = not true
@@ -71,8 +67,7 @@ abbrev pub IsPolynomialTokens : PolynomialTokens → Type 0
 IsPolynomialTokens (zero digits) = IsTrue (is_number digits) × (digits_value 10 digits ≡ 0)
 IsPolynomialTokens (terms first later) = IsTerm first × All IsTerm later
 
--- ---- what they say
-
+-- what they say
 abbrev pub terms_in : PolynomialTokens → List TermTokens
 terms_in (zero digits) = []
 terms_in (terms first later) = first ∷ later
@@ -92,8 +87,6 @@ pub record IsTermOf (ds : List Declaration) (t : TermTokens) (term : Term) : Typ
 
 abbrev pub IsPolynomialOf : List Declaration → PolynomialTokens → Poly → Type 0
 IsPolynomialOf ds tokens p = AllZip (IsTermOf ds) (terms_in tokens) p
-
--- ---- the bounds, in the order in which they count
 
 -- each letter is one of the quiver
 pub record HasKnownLetters (ds : List Declaration) (tokens : PolynomialTokens) : Type 0 where

@@ -25,8 +25,7 @@ use Rattle.block_text.specs.Lines.{Line, integer_limit, is}
 use Rattle.block_text.specs.PolynomialLines.{TermTokens, is_term_letter}
 use Rattle.block_text.specs.Tokens.{tokens_of}
 
--- ---- the terms of a line
-
+-- the terms of a line
 abbrev pub is_minus : List ℕ → Bool
 is_minus token = is (codes "-") token
 
@@ -66,8 +65,7 @@ is_zero [] = false
 is_zero (token ∷ []) = is_number token && is_some (number_within 0 token)
 is_zero (token ∷ other ∷ tokens) = false
 
--- ---- as the program has them: a term, and those behind it in the line
-
+-- as the program has them: a term, and those behind it in the line
 abbrev pub now_of : Option (Bor (List ℕ)) → Option (List ℕ)
 now_of token = option_map (λ t. t.now) token
 
@@ -80,8 +78,6 @@ terms_from t = term_in t ∷ later_in (tokens_of t.letters.now)
 abbrev pub terms_left : Option TermText → List TermTokens
 terms_left None = []
 terms_left (Some t) = terms_from t
-
--- ---- the polynomial that they say
 
 -- whether the token is the name in square brackets, or before a '
 abbrev pub is_bracketed : List ℕ → List ℕ → Bool
@@ -145,8 +141,7 @@ poly_behind ds p [] = Some p
 poly_behind ds p (t ∷ ts) =
     option_and_then (λ term. if nat_le term_limit (length p) || not (may_follow p term.1) then None else poly_behind ds (p ++ term ∷ []) ts) (term_value ds t)
 
--- ---- what is wrong with them
-
+-- what is wrong with them
 abbrev pub passes_letter : List Declaration → Asked → List ℕ → Bool
 passes_letter ds Form token = is_term_letter token
 passes_letter ds Known token = is_some (letter_of ds token)

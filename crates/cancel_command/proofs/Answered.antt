@@ -25,8 +25,7 @@ use Rattle.cancel_command.specs.Answers.{AnswersCancellations, AnswersCancel}
 use Rattle.cancel_command.specs.Says.{SaysCancelled}
 use Rattle.cancel_command.proofs.Means.{each_means}
 
--- ---- the texts of refusals
-
+-- the texts of refusals
 has_text : (ds : List Declaration) (r : CancelRefusal) → (IsMemory r → ⊥) → (cause : List ℕ) × (refusal_text ds r ≡ Some cause)
 has_text ds (refusal.Common e) h = check.refusal_text ds e h
 has_text ds other h = (_, refl)
@@ -64,8 +63,7 @@ proofs_are_judged problem text =
       other_text = other_text ds;
     }
 
--- ---- what accepted proofs mean
-
+-- what accepted proofs mean
 pub says_cancelled : {Object Arrow : Type 0} {s : Structure Object Arrow} → PreadditiveLaws s → IsCancellationSound s
     → (statement text : List ℕ) (ending : Ending) → AnswersCancel statement text ending → SaysCancelled s statement text ending.report
 says_cancelled {s} laws cancelling statement text ending answers = record {
@@ -76,8 +74,7 @@ says_cancelled {s} laws cancelling statement text ending answers = record {
       (stated_leads statement (AnswersCancellations text) ending problem is answers));
 }
 
--- ---- what is owed
-
+-- what is owed
 pub cancel_owes : (statement text : List ℕ)
     → OwesEnding (AnswersCancel statement text) (λ Object Arrow s ending. SaysCancelled s statement text ending.report)
 cancel_owes statement text = owed_over statement (AnswersCancellations text) (λ Object Arrow s ending. SaysCancelled s statement text ending.report)

@@ -12,8 +12,7 @@ use Rattle.cancel_command.specs.Answers.{AnswersCancellations}
 use Rattle.cancel_command.specs.Laws.{AcceptedAreAnswered, ZeroIsAccepted, ZeroMeans, FaultsAreAnswered, ThreeIsFaulty}
 use Rattle.cancel_command.proofs.Answered.{proofs_are_judged}
 
--- ---- proofs
-
+-- proofs
 pub accepted_are_answered : AcceptedAreAnswered
 accepted_are_answered statement text problem proofs is are all = stated problem is (passing_answered (proofs_are_judged problem text) proofs are all)
 
@@ -36,8 +35,7 @@ zero_means s statement text ending answers says is_zero =
           (all.report ∙ sym (append-nil _));
     }
 
--- ---- statements
-
+-- statements
 pub faults_are_answered : FaultsAreAnswered
 faults_are_answered statement proofs text refused = faulty text refused refl
 

@@ -10,8 +10,6 @@ use Rattle.cancel_rules.specs.declared.cancellation.Cancellation.{Cancellation}
 use Rattle.cancel_rules.specs.declared.refusal.CancelRefusal.{CancelRefusal}
 use Rattle.cancel_rules.specs.declared.refusal.CancelRefusal.TheVariants as refusal
 
--- ---- a proof that is accepted
-
 -- the name of a letter behind a blank
 abbrev pub name_text : List Declaration → Letter → List ℕ
 name_text ds a = codes " " ++ letter_text ds a.0
@@ -32,8 +30,6 @@ letters_text ds monic epic = called_text ds (codes " monic") monic ++ called_tex
 -- what accepting a proof says: its claim, its denominator, and the letters that it calls monic and epic
 abbrev pub accepted_text : List Declaration → Cancellation → List ℕ
 accepted_text ds p = claim_text p.claim p.denominator ++ letters_text ds p.monic p.epic
-
--- ---- a proof that is refused
 
 -- why a proof is refused: what `check` says of certificates, or at which item a letter doesn't come off; want of memory is told by no line
 abbrev pub refusal_text : List Declaration → CancelRefusal → Option (List ℕ)

@@ -24,7 +24,7 @@ short_has_none side.Right a w short h =
     let more = length-append h.rest (a ∷ []) in
     omega arith
 
--- ---- in front
+-- in front
 pub front_has : (a : ℕ) (w : List ℕ) → 2 ≤ length w → get_or w 0 0 ≡ a → HasAtEnd side.Left a w
 front_has a [] long is = absurd (omega arith)
 front_has a (b ∷ []) long is = absurd (omega arith)
@@ -36,7 +36,7 @@ front_none a w other h = other (ap (λ v. get_or v 0 0) h.whole)
 pub front_rest : (w : List ℕ) → take (length w - 1) (drop 1 w) ≡ drop 1 w
 front_rest w = let long = length-drop 1 w in take_all (length w - 1) (drop 1 w) (omega arith)
 
--- ---- behind
+-- behind
 pub behind_has : (a : ℕ) (w : List ℕ) → 2 ≤ length w → get_or w (length w - 1) 0 ≡ a → HasAtEnd side.Right a w
 behind_has a w long is = by (length w - 1) (omega arith) is
   where

@@ -49,7 +49,7 @@ letter_or (x ∷ letters) a = by (cases_eq x.0 a.0) (letter_or letters a)
         split (inl here) = first (Contains-push_cases [] x a here)
         split (inr later) = none later
 
--- ---- an item
+-- an item
 module _ (q : Quiver) (proof : Cancellation) where
   module _ (before : List (List (ℤ × List ℕ))) (rows : ℕ) (letter : Letter) (end : Side) (number : ℕ) where
     abbrev whole : List (ℤ × List ℕ)
@@ -108,12 +108,12 @@ module _ (q : Quiver) (proof : Cancellation) where
         by (inl passes) (inl rest) = inl (passes, rest)
         by (inl passes) (inr later) = inr (later.0, inr (passes, later.1), later.2)
 
--- ---- scales
+-- scales
 of_lemma_or : (P : Lemma → Type 0) → ((l : Lemma) → P l ⊎ (P l → ⊥)) → (i : Item) → OfLemma P i ⊎ (OfLemma P i → ⊥)
 of_lemma_or P test (item.Lemma l) = test l
 of_lemma_or P test (item.Cancel letter end number) = inl tt
 
--- ---- the tests of a proof
+-- the tests of a proof
 module _ (q : Quiver) (claims generators : List (List (ℤ × List ℕ))) (proof : Cancellation) where
   abbrev IsJudged : Type 0
   IsJudged = AcceptsCancellation q claims generators proof ⊎ ((e : CancelRefusal) × RefusesCancellation q claims generators proof e × (IsMemory e → ⊥))

@@ -30,8 +30,7 @@ module _ (problem : Problem) where
   abbrev gs : List (List (ℤ × List ℕ))
   gs = polynomials problem.generators
 
-  -- ---- the letters of readable items
-
+  -- the letters of readable items
   row_over : (rows : List LemmaRow) → AllByRecursion (IsRowOver problem.parts.quiver) rows → AllByRecursion (λ r. (is_over (drawn problem) r.left ≡ true) × (is_over (drawn problem) r.right ≡ true)) rows
   row_over [] all = tt
   row_over (r ∷ rows) all = ((word_over problem r.left all.0.left, word_over problem r.right all.0.right), row_over rows all.1)
@@ -39,8 +38,7 @@ module _ (problem : Problem) where
   lemma_over : (l : Lemma) → IsReadableLemma problem.parts.quiver l → IsLemmaOver (drawn problem) l
   lemma_over l readable = row_over l.rows (recursion_from_All (IsRowOver problem.parts.quiver) l.rows readable.letters)
 
-  -- ---- polynomials whose terms have letters of the quiver
-
+  -- polynomials whose terms have letters of the quiver
   terms_over : (p : List Term) → AllByRecursion (λ t. IsOver (letter_count problem.parts.quiver) t.1) p → AllByRecursion (λ t. is_over (drawn problem) t.1 ≡ true) p
   terms_over [] all = tt
   terms_over (t ∷ p) all = (word_over problem t.1 all.0, terms_over p all.1)
@@ -66,8 +64,7 @@ module _ (problem : Problem) where
       (over_terms (lemma_polynomial gs (polynomials before) l)
       (lemma_lists (drawn problem) gs (generators_stay problem) (polynomials before) l (stay (polynomials before) lists) (lemma_over l readable)))
 
-  -- ---- one item after another
-
+  -- one item after another
   at_number : (ps : List (List Term)) (n : ℕ) → AllByRecursion (Lists (drawn problem)) ps → Lists (drawn problem) (generator_at ps n)
   at_number ps zero all = tt
   at_number [] (suc n) all = tt
@@ -98,8 +95,7 @@ module _ (problem : Problem) where
   item_rest proof before rows (i ∷ items) lemma word got earlier all (inr later) =
       item_rest proof (before ++ item_polynomial gs before i ∷ []) (rows + rows_in i) items lemma word got (with_item before i earlier all.0) all.1 later.1
 
-  -- ---- the words that refusals name
-
+  -- the words that refusals name
   module _ (proof : Cancellation) (readable : IsReadableCancellation problem.parts.quiver proof) where
     all_readable : AllByRecursion (IsReadableItem problem.parts.quiver) proof.items
     all_readable = recursion_from_All (IsReadableItem problem.parts.quiver) proof.items readable.items

@@ -42,7 +42,7 @@ module _ {Object Arrow : Type 0} {s : Structure Object Arrow} (laws : Preadditiv
     in_target : target q a < q.objects
     in_target = quiver.target_is_object a in_a
 
-    -- ---- in front
+    -- in front
     module _ (same : SamePolynomial whole (poly_between (a ∷ []) p [])) where
       front_path : (w : List ℕ) → coefficient_of p w ≢ pos 0 → is_path q has.source has.target (a ∷ w) ≡ true
       front_path w c = has.typed.at (a ∷ w) (λ none. c (sym (coefficient_front a p w) ∙ sym (same.at (a ∷ w)) ∙ none))
@@ -90,7 +90,7 @@ module _ {Object Arrow : Type 0} {s : Structure Object Arrow} (laws : Preadditiv
           between_is_zero laws q f rep u v has.source (source q a) in_u in_v has.source_is_object in_source l r p front_typed
           (value_at-linear laws q f rep has.source (source q a) has.source_is_object in_source p ∙ vanishes)
 
-    -- ---- behind
+    -- behind
     module _ (same : SamePolynomial whole (poly_between [] p (a ∷ []))) where
       behind_path : (w : List ℕ) → coefficient_of p w ≢ pos 0 → is_path q has.source has.target (w ++ (a ∷ [])) ≡ true
       behind_path w c = has.typed.at (w ++ (a ∷ [])) (λ none. c (sym (coefficient_behind a p w) ∙ sym (same.at (w ++ (a ∷ []))) ∙ none))

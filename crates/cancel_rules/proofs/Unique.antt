@@ -34,7 +34,7 @@ use Rattle.cancel_rules.specs.Acceptance.{claim_named, all_items, OfLemma, HasPo
 use Rattle.cancel_rules.specs.Laws.{CancellationRefusalIsUnique}
 use Rattle.cancel_rules.proofs.Short.{short_item, short_items}
 
--- ---- a cancellation
+-- a cancellation
 module _ (q : Quiver) (proof : Cancellation) (before : List (List (ℤ × List ℕ))) (rows : ℕ) (letter : Letter) (end : Side) (number : ℕ) where
   abbrev CancelTest : ℕ → Type 0
   CancelTest zero = IsNumberUpTo (length before) number
@@ -80,7 +80,7 @@ module _ (q : Quiver) (proof : Cancellation) (before : List (List (ℤ × List �
   cancel_once : (e f : CancelRefusal) → RefusesCancel q proof before rows letter end number e → RefusesCancel q proof before rows letter end number f → (IsMemory e → ⊥) → (IsMemory f → ⊥) → e ≡ f
   cancel_once e f h k not not' = told_is_one (cancel_fails e h not) (cancel_fails f k not') (cancel_told e f)
 
--- ---- one item after another
+-- one item after another
 module _ (q : Quiver) (proof : Cancellation) (generators : List (List (ℤ × List ℕ))) where
   item_once : (before : List (List (ℤ × List ℕ))) (rows : ℕ) (i : Item) (e f : CancelRefusal) → RefusesItem q proof generators before rows i e → RefusesItem q proof generators before rows i f
       → (IsMemory e → ⊥) → (IsMemory f → ⊥) → e ≡ f
@@ -97,7 +97,7 @@ module _ (q : Quiver) (proof : Cancellation) (generators : List (List (ℤ × Li
   items_once before rows (i ∷ items) e f (inr h) (inl k) not not' = absurd (not' (short_item q proof generators before rows i h.0 f k))
   items_once before rows (i ∷ items) e f (inr h) (inr k) not not' = items_once (before ++ item_polynomial generators before i ∷ []) (rows + rows_in i) items e f h.1 k.1 not not'
 
--- ---- the first scale that doesn't divide
+-- the first scale that doesn't divide
 module _ (proof : Cancellation) where
   not_tight : (told : ℕ) → IsFirstLooseItem proof.denominator proof.items told → All (OfLemma (IsTight proof.denominator)) proof.items → ⊥
   not_tight told h each =
@@ -122,7 +122,7 @@ module _ (proof : Cancellation) where
   loose_once n m (inr h) (inl k) = absurd (not_tight m k h.items)
   loose_once n m (inr h) (inr k) = h.numbered ∙ sym k.numbered
 
--- ---- the tests of a proof
+-- the tests of a proof
 module _ (q : Quiver) (claims generators : List (List (ℤ × List ℕ))) (proof : Cancellation) where
   abbrev Test : ℕ → Type 0
   Test zero = IsNumberUpTo (length claims) proof.claim

@@ -64,8 +64,7 @@ module _ (end : Side) (a : ℕ) where
   words_left [] all = tt
   words_left (t ∷ p) all = (rest_some t.1 all.0, words_left p all.1)
 
-  -- ---- the order of words
-
+  -- the order of words
   compared : (v w : List ℕ) → word_cmp (with_letter end a v) (with_letter end a w) ≡ word_cmp v w
   compared v w = by end
     where
@@ -86,7 +85,7 @@ module _ (end : Side) (a : ℕ) where
   descends [] all d = tt
   descends (t ∷ p) all d = (all_above t.1 p all.0 all.1 d.0, descends p all.1 d.1)
 
--- ---- what else a polynomial keeps
+-- what else a polynomial keeps
 module _ (end : Side) where
   coefficients : (P : ℤ → Type 0) (p : List Term) → AllByRecursion (λ t. P t.0) p → AllByRecursion (λ t. P t.0) (stripped end p)
   coefficients P [] all = tt

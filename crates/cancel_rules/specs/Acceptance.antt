@@ -37,8 +37,6 @@ claim_named claims proof = generator_at claims proof.claim
 abbrev pub all_items : List Poly → Cancellation → List Poly
 all_items generators proof = item_polynomials generators [] proof.items
 
--- ---- the tests
-
 -- what is asked of the lemmas among items alone
 abbrev pub OfLemma : (Lemma → Type 0) → Item → Type 0
 OfLemma P (item.Lemma l) = P l
@@ -79,8 +77,6 @@ pub record HasItems (q : Quiver) (claims generators : List Poly) (proof : Cancel
 pub record AcceptsCancellation (q : Quiver) (claims generators : List Poly) (proof : Cancellation) : Type 0 where
   pub items : HasItems q claims generators proof
   pub goal : ReachesClaim generators (all_items generators proof) proof.goal (claim_named claims proof)
-
--- ---- the refusals
 
 -- The proof names a claim, and its denominator or a scale is below 1.
 pub record LacksPositive (claims : List Poly) (proof : Cancellation) : Type 0 where
@@ -139,8 +135,6 @@ RefusesCancellation q claims generators proof other = RefusesParts q claims gene
 abbrev pub IsMemory : CancelRefusal → Type 0
 IsMemory e = InCommon certificates.IsMemory e
 
--- ---- over a problem
-
 -- no test of the proof fails
 abbrev pub IsAccepted : Problem → Cancellation → Type 0
 IsAccepted problem proof = AcceptsCancellation (quiver_of problem.parts.quiver) (polynomials problem.parts.claims) (polynomials problem.generators) proof
@@ -154,8 +148,6 @@ abbrev pub ShowsByCancelling : Problem → Cancellation → Type 0
 ShowsByCancelling problem proof =
     IsCancellationOf (quiver_of problem.parts.quiver) (polynomials problem.generators)
     (all_items (polynomials problem.generators) proof) proof (claim_named (polynomials problem.parts.claims) proof)
-
--- ---- what a reader keeps
 
 -- a letter of the quiver
 abbrev pub IsLetterOf : List Declaration → Letter → Type 0

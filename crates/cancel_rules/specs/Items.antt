@@ -19,8 +19,6 @@ use Rattle.cancel_rules.specs.declared.refusal.CancelRefusal.{CancelRefusal}
 use Rattle.cancel_rules.specs.declared.refusal.CancelRefusal.TheVariants as refusal
 use Rattle.cancel_rules.specs.Cancellations.{with_letter, declared_for}
 
--- ---- the polynomials of items
-
 -- a word without its first letter, or without its last one
 abbrev pub word_without : Side → List ℕ → List ℕ
 word_without side.Left w = drop 1 w
@@ -50,8 +48,6 @@ rows_in (item.Cancel letter end number) = 0
 abbrev pub row_total : List Item → ℕ
 row_total [] = 0
 row_total (i ∷ items) = rows_in i + row_total items
-
--- ---- a cancellation
 
 -- The word begins with the letter, or ends with it, and has other letters.
 pub record HasAtEnd (end : Side) (a : ℕ) (w : List ℕ) : Type 0 where
@@ -126,8 +122,6 @@ RefusesCancel q proof before rows letter end number (refusal.Common e) = Refuses
 abbrev pub InCommon : (Refusal → Type 0) → CancelRefusal → Type 0
 InCommon tells (refusal.Common e) = tells e
 InCommon tells other = ⊥
-
--- ---- one item after another
 
 -- each test of the item passes
 abbrev pub ItemPasses : Quiver → Cancellation → List Poly → List Poly → Item → Type 0

@@ -39,8 +39,7 @@ use Rattle.cancellation_text.specs.Written.{called_text, item_text, items_text, 
 use Rattle.cancellation_text.proofs.LinesBack.{IsWrittenMap, map_written, called_is_text, cancel_is_text}
 use Rattle.cancellation_text.proofs.Parts.{rows_of}
 
--- ---- letters that are called monic or epic
-
+-- letters that are called monic or epic
 abbrev called_trees : List Declaration → Side → List Letter → List CalledTokens
 called_trees ds side ls = map (λ a. called_of (letter_text ds a.0) side) ls
 
@@ -77,8 +76,6 @@ module _ (ds : List Declaration) where
   names_called : (side : Side) (ls : List Letter) → All (IsWrittenMap ds) ls → All (λ c. IsKnown ds c.letter) (called_trees ds side ls)
   names_called side ls each =
       All-map (λ c. IsKnown ds c.letter) (λ a. called_of (letter_text ds a.0) side) ls (All-weaker (IsWrittenMap ds) (λ a. IsKnown ds (letter_text ds a.0)) (λ a of_map. (a, of_map.known)) ls each)
-
--- ---- items
 
 -- what is known of an item that is written
 abbrev IsWrittenItem : List Declaration → Item → Type 0
@@ -174,8 +171,7 @@ module _ (ds : List Declaration) where
         count_letters = letters_more i number items (rows_of trees) rest.count_letters;
       }
 
--- ---- the block
-
+-- the block
 head_is_text : IsTextOf (codes "cancellation 1" ++ 10 ∷ []) (head_line ∷ [])
 head_is_text = text_of_tokens (codes "cancellation 1") head_line (literal (codes "cancellation 1") refl refl) refl refl
 

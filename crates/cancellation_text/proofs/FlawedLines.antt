@@ -44,8 +44,7 @@ module _ (ds : List Declaration) (flaw : Flaw) (front : List Line) (line : Line)
   passed : (bound : Bound) (others : List Line) (other : Line) → flaw ≡ flaw_of bound → front ≡ others → line ≡ other → Begins (cancellation_kind ds) (before bound) (others ++ other ∷ []) → Stopped
   passed bound others other told fronts lines begins = passes bound told (begins_as (cancellation_kind ds) (before bound) front others line other fronts lines begins)
 
-  -- ---- the head
-
+  -- the head
   bare_names : (claim denominator : List ℕ) → All (λ bound. KeepsOne ds bound (with_goal (bare ds claim denominator) unit_goal)) (before numbers)
   bare_names claim denominator =
       All-from_recursion (λ bound. KeepsOne ds bound (with_goal (bare ds claim denominator) unit_goal)) (before numbers)
@@ -61,8 +60,7 @@ module _ (ds : List Declaration) (flaw : Flaw) (front : List Line) (line : Line)
       passed numbers (head_line ∷ claim_line claimed.claim ∷ []) (denominator_line found.1.digits) found.0 claimed.are found.1.is
       (begin_bare ds claimed.claim found.1.digits (before numbers) claimed.number found.1.number (bare_names claimed.claim found.1.digits)))
 
-  -- ---- letters that are called monic or epic
-
+  -- letters that are called monic or epic
   stopped_unknown : (o : Opened) (here : IsCalling ds o front) (c : CalledTokens) → called_tokens line ≡ Some c → known_letter ds c.letter ≡ None → flaw ≡ UnknownName → Stopped
   stopped_unknown o here c there none told =
       let line_of = called_is line c there in
@@ -89,8 +87,7 @@ module _ (ds : List Declaration) (flaw : Flaw) (front : List Line) (line : Line)
   stopped_called : (o : Opened) (here : IsCalling ds o front) (c : CalledTokens) → called_tokens line ≡ Some c → called ds o c ≡ Err flaw → Stopped
   stopped_called o here c there read = unknown_by o here c there (known_letter ds c.letter) refl read
 
-  -- ---- items and the goal
-
+  -- items and the goal
   module _ (p : Parts) (o : Opened) (opened : IsOpenedBy ds p o front) where
     count : length p.items ≡ length o.items
     count = zip_length (IsItemOf ds) p.items o.items opened.known.values.items
@@ -137,8 +134,7 @@ module _ (ds : List Declaration) (flaw : Flaw) (front : List Line) (line : Line)
     stopped_lemma read =
         bind_err (lemma_scale_of (length o.items) line) _ flaw read (λ none. stopped_by (cancellation_kind ds) flaw _ (lemma_unread (length o.items) line flaw none) stopped_past) (λ scale scale_is made. absurd (cc))
 
-    -- ---- a cancellation
-
+    -- a cancellation
     module _ (c : CancelTokens) (there : cancel_tokens (length o.items + 1) line ≡ Some c) where
       stopped_by_cancel : (bound : Bound) → flaw ≡ flaw_of bound → All (λ k. KeepsOne ds k (with_goal (more_item p (cancel c)) unit_goal)) (before bound) → Stopped
       stopped_by_cancel bound told keeps =
@@ -188,8 +184,7 @@ module _ (ds : List Declaration) (flaw : Flaw) (front : List Line) (line : Line)
   calling_stops o here (Some c) there read = stopped_called o here c there read
   calling_stops o here None there read = item_stops (parts.calling here.claim here.denominator here.called) o here.opened read
 
-  -- ---- rows
-
+  -- rows
   module _ (o : Opened) (l : Lemma) (lead : Lead) (inside : IsInside ds o l lead front) where
     abbrev rows_before : List RowTokens
     rows_before = rows_of inside.parts.items ++ inside.so_far.tokens.rows
@@ -214,8 +209,7 @@ module _ (ds : List Declaration) (flaw : Flaw) (front : List Line) (line : Line)
       (λ is read_row. bind_err (lemma_row ds o.size l line) _ flaw read_row (stopped_row o l (Some number) inside) (λ grown row_is made. absurd (cc)))
       (λ more. item_stops (more_item inside.parts (lemma_item number inside.so_far.tokens)) (with_item o (item.Lemma l)) (lemma_finished ds o l number front inside))
 
-  -- ---- at each place
-
+  -- at each place
   pub stops_at : (stage : Stage) → IsOpen ds stage front → next ds stage line ≡ Err flaw → Stopped
   stops_at at.Headed here read = bind_err (claim_of line) _ flaw read (stopped_headed here) (λ n n_is made. absurd (cc))
   stops_at (at.Claimed n) here read = bind_err (denominator_of line) _ flaw read (stopped_claimed n here) (λ d d_is made. absurd (cc))

@@ -38,8 +38,7 @@ use Rattle.cancellation_text.proofs.Letters.{AreCalled, AreOnce, called_more, le
 use Rattle.cancellation_text.proofs.Lines.{called_read, cancel_read}
 use Rattle.cancellation_text.proofs.Parts.{rows_of}
 
--- ---- no line of a block is `end`
-
+-- no line of a block is `end`
 abbrev GoesOn : Line → Type 0
 GoesOn line = is_end line ≡ false
 
@@ -57,8 +56,7 @@ called_go_on [] rest more = more
 called_go_on (c ∷ called) rest more = (refl, called_go_on called rest more)
 
 module _ (K : Bound → Type 0) (ds : List Declaration) where
-  -- ---- the head
-
+  -- the head
   claim_meets : (n : List ℕ) → IsTrue (is_number n) → (K bound.numbers → IsWithin number_limit n) → Meets flaw_of K (λ q. (k : ℕ) × (number_within number_limit n ≡ Some k) × (q ≡ at.Claimed k)) (next ds at.Headed (claim_line n))
   claim_meets n number within = rw number (then_meets _ (asked_meets K bound.numbers (number_within number_limit n) within) (λ k _ k_is. reads _ refl (k, k_is, refl)))
 
@@ -66,8 +64,7 @@ module _ (K : Bound → Type 0) (ds : List Declaration) where
       → Meets flaw_of K (λ q. (z : ℤ) × (integer_of d ≡ Ok z) × (q ≡ at.Called (begun k z))) (next ds (at.Claimed k) (denominator_line d))
   denominator_meets k d number within = rw number (then_meets _ (integer_meets K d within) (λ z _ z_is. reads _ refl (z, z_is, refl)))
 
-  -- ---- letters that are called monic or epic
-
+  -- letters that are called monic or epic
   module _ (k : ℕ) (z : ℤ) where
     abbrev called_place : List Letter → List Letter → Opened
     called_place monic epic = record { claim = k; denominator = z; monic = monic; epic = epic; items = []; size = no_rows }
@@ -100,8 +97,6 @@ module _ (K : Bound → Type 0) (ds : List Declaration) where
         rw one.is (subst (λ cs. Meets flaw_of K (CalledAreRead cs) (run (next ds) (at.Called (called_place one.monic one.epic)) (map called_line later))) (sym split)
         (called_meet one.monic one.epic (before ++ c ∷ []) later one.letters (All-tail (λ d. IsTrue (is_map_letter d.letter)) c later maps) (subst (AreOnce ds) split once)
         (λ kept. All-tail (λ d. IsKnown ds d.letter) c later (known kept)))))
-
-  -- ---- items
 
   -- at this place the next item or the goal may begin
   abbrev Waits : Opened → Stage → Type 0
@@ -226,8 +221,7 @@ module _ (K : Bound → Type 0) (ds : List Declaration) where
           is = read.is;
         }))))
 
-    -- ---- the goal
-
+    -- the goal
     record GoalIsRead (items : List Item) (size : Size) (g : ScaledTokens) (q : Stage) : Type 0 where
       goal : Lemma
       is_goal : IsScaledOf ds g goal
@@ -246,8 +240,7 @@ module _ (K : Bound → Type 0) (ds : List Declaration) where
         rw begins.2 (meets-weaker (rows_meet (next ds) K ds (goal_place items begins.0) made size [] g.rows (All-weaker (λ r. IsTrue (is_row r)) _ (takes_in_goal items begins.0) g.rows is.rows) keep) (λ q _ read.
         record { goal = lemma_of begins.0 read.rows; is_goal = record { scale = begins.1; rows = read.are_made }; is = read.is })))
 
-  -- ---- the block
-
+  -- the block
   rows_fit : (b : CancellationTokens) → ((bound : Bound) → K bound → KeepsOne ds bound b) → RowsFit K ds no_rows (rows_in b)
   rows_fit b keeps = record {
     names = λ kept. (keeps bound.names kept).1;

@@ -29,8 +29,7 @@ same_test a b = nat_eq b.0 a.0
 abbrev numbered : ℕ → Letter
 numbered n = record { 0 = n }
 
--- ---- a letter that is none of others
-
+-- a letter that is none of others
 none_is : (a : Letter) (letters : List Letter) → is_called a letters ≡ false → (k : ℕ) (d : Letter) → k < length letters → get_or letters k d ≢ a
 none_is a letters none k d within same =
     let number : nat_eq (get_or letters k d).0 a.0 ≡ true = eq-eqb (get_or letters k d).0 a.0 (ap (λ (b : Letter). b.0) same) in
@@ -47,8 +46,7 @@ none_before a xs ys once = list_any_none (same_test a) xs each
         let letter : get_or xs k d ≡ a = ap numbered same in
         apart (get_or_append_left xs (a ∷ ys) d k within ∙ letter ∙ sym (get_or-append_seam xs a ys d)))
 
--- ---- one letter more
-
+-- one letter more
 module _ (ds : List Declaration) (called : List CalledTokens) where
   pushed : (side : Side) (c : CalledTokens) → called_letters ds side (called ++ c ∷ []) ≡ called_letters ds side called ++ cons_option (called_on ds side c) []
   pushed side c = filter_map-append (called_on ds side) called (c ∷ [])
@@ -103,8 +101,7 @@ pub letter_is_new : (ds : List Declaration) (called later : List CalledTokens) (
     → AreOnce ds (called ++ c ∷ later) → is_called a (letters_on o c.side) ≡ false
 letter_is_new ds called later o c a are known once = is_new ds called o c.letter a are known c.side later once
 
--- ---- a line whose name is unknown calls none
-
+-- a line whose name is unknown calls none
 none_on : (ds : List Declaration) (side own : Side) (letter : List ℕ) → known_letter ds letter ≡ None → called_on ds side (called_of letter own) ≡ None
 none_on ds Left Left letter none = none
 none_on ds Left Right letter none = refl

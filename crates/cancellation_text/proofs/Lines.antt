@@ -28,8 +28,7 @@ two_are (a ∷ line) pair read =
     option_map_some (λ b. (a, b)) (one_token line) pair read (λ b one same.
     subst (λ (p : Pair). a ∷ line ≡ p.0 ∷ p.1 ∷ []) same (ap (λ ts. a ∷ ts) (one_is line b one)))
 
--- ---- sides
-
+-- sides
 called_side_is : (word : List ℕ) (side : Side) → called_side word ≡ Some side → word ≡ called_word side
 called_side_is word side read =
     by_test (is (codes "monic") word) _ _ (Some side) read
@@ -46,8 +45,7 @@ side_is word side read =
     (λ there made. let same : Right ≡ side = cc in subst (λ (s : Side). word ≡ side_word s) same (is_word (codes "right") word there))
     (λ none made. absurd (cc)))
 
--- ---- letters that are called monic or epic
-
+-- letters that are called monic or epic
 pub record IsCalled (line : Line) (c : CalledTokens) : Type 0 where
   pub line_is : line ≡ called_line c
   pub letter : IsTrue (is_map_letter c.letter)
@@ -68,8 +66,7 @@ called_read_by Right letter known = rw known refl
 pub called_read : (c : CalledTokens) → IsTrue (is_map_letter c.letter) → called_tokens (called_line c) ≡ Some c
 called_read c known = called_read_by c.side c.letter known
 
--- ---- cancellations
-
+-- cancellations
 pub record IsCancel (n : ℕ) (line : Line) (c : CancelTokens) : Type 0 where
   pub line_is : line ≡ cancel_line c
   pub is_item : IsItem n (cancel c)

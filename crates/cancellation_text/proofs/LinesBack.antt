@@ -24,8 +24,6 @@ use Rattle.cancellation_text.specs.Blocks.{side_word, called_line, cancel_line, 
 use Rattle.cancellation_text.specs.Reading.{called_of, cancel_by}
 use Rattle.cancellation_text.specs.Written.{called_text, item_text}
 
--- ---- letters of maps
-
 -- what is read of a letter of a map that is written
 pub record IsWrittenMap (ds : List Declaration) (a : Letter) : Type 0 where
   pub written : IsWrittenLetter ds a.0
@@ -47,8 +45,7 @@ map_written ds declared known a of_map =
       known = rw written.read refl;
     }
 
--- ---- one token more
-
+-- one token more
 alone : (token : List ℕ) → IsToken token → tokens_of token ≡ token ∷ []
 alone token is = ap tokens_of (sym (append-nil token)) ∙ token_read token [] is refl
 
@@ -66,8 +63,7 @@ called_is_text ds side a of_map = by_side side
         text_of_tokens (codes "epic " ++ letter_text ds a.0) (called_line (called_of (letter_text ds a.0) Right)) (line_text-append (codes "epic ") (letter_text ds a.0) (literal (codes "epic ") refl refl) of_map.written.text.line)
         (ap (λ ts. codes "epic" ∷ ts) (alone (letter_text ds a.0) of_map.written.token)) refl
 
--- ---- cancellations
-
+-- cancellations
 side_line : (side : Side) → IsLineText (side_word side)
 side_line Left = literal (codes "left") refl refl
 side_line Right = literal (codes "right") refl refl

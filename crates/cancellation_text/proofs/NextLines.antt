@@ -32,8 +32,7 @@ use Rattle.cancellation_text.proofs.Lines.{called_is, cancel_is}
 use Rattle.cancellation_text.proofs.Parts as parts
 use Rattle.cancellation_text.proofs.Parts.{Parts, parts_front, more_item, lemma_item, front-item, front-called, rows_of, rows-item, PartsKeep, ItemKeeps, HasLeadRoom, IsNext, parts-resized, parts-more, IsClaimed, IsOpenedBy, IsCalling, IsInside, IsOpen, bare_is, scale_keeps, lemma_keeps, room_of, begun_keeps}
 
--- ---- the head
-
+-- the head
 pub next_headed : (front : List Line) (line : Line) (n : ℕ) → front ≡ head_line ∷ [] → claim_of line ≡ Ok n → IsClaimed n (front ++ line ∷ [])
 next_headed front line n are read =
     let known = number_said (codes "claim") (number_within number_limit) line n read in
@@ -63,8 +62,7 @@ next_claimed ds front line n d claimed read =
       };
     }
 
--- ---- letters that are called monic or epic
-
+-- letters that are called monic or epic
 called_keeps : (ds : List Declaration) (claim denominator : List ℕ) (before : List CalledTokens) (c : CalledTokens) → IsKnown ds c.letter → (bound : Bound) → PartsKeep ds (parts.calling claim denominator before) bound
     → PartsKeep ds (parts.calling claim denominator (before ++ c ∷ [])) bound
 called_keeps ds claim denominator before c known names keep = (All-push (λ (d : CalledTokens). IsKnown ds d.letter) before c keep.0 known, keep.1)
@@ -121,8 +119,6 @@ next_called ds o front line c t here there read =
             ∙ sym (front-called here.claim here.denominator here.called c);
       };
     })
-
--- ---- items and the goal
 
 -- a cancellation that was read
 record IsCancelRead (ds : List Declaration) (before : ℕ) (c : CancelTokens) (i : Item) : Type 0 where
@@ -214,8 +210,7 @@ module _ (ds : List Declaration) (p : Parts) (o : Opened) (front : List Line) (l
       (λ is read_goal. bind_ok (goal_scale_of line) _ t read_goal (λ scale scale_is made. goal_next scale scale_is (cc)))
       (λ more read_item. cancelled_next _ refl read_item)
 
--- ---- rows
-
+-- rows
 module _ (ds : List Declaration) where
   pub next_row : (o : Opened) (l : Lemma) (lead : Lead) (front : List Line) (line : Line) (next : Size × Lemma) → IsInside ds o l lead front → lemma_row ds o.size l line ≡ Ok next
       → IsInside ds (resized o next.0) next.1 lead (front ++ line ∷ [])

@@ -29,8 +29,7 @@ use Rattle.cancellation_text.specs.Cancellations.{cancellation_kind}
 use Rattle.cancellation_text.specs.Reading.{with_item, resized}
 use Rattle.cancellation_text.proofs.Letters.{AreCalled, AreOnce}
 
--- ---- what stands in front of the goal
-
+-- what stands in front of the goal
 pub record Parts : Type 0 where
   pub claim : List ℕ
   pub denominator : List ℕ
@@ -142,8 +141,6 @@ parts-item ds p i is next = record {
   items = are_items-push 1 (next_number p) p.items i (omega arith) is.items next;
 }
 
--- ---- rows behind them, of a lemma or of the goal
-
 -- the lemma with these rows
 abbrev pub lemma_item : List ℕ → ScaledTokens → ItemTokens
 lemma_item number s = lemma (lemma_tokens number s)
@@ -214,8 +211,6 @@ module _ (ds : List Declaration) (p : Parts) where
   begin_led within (Some number) s is next scaled keeps =
       subst (Begins (cancellation_kind ds) within) (front-item p (lemma_item number s))
       (begin_parts ds (more_item p (lemma_item number s)) within (parts-item ds p (lemma_item number s) is (next, scaled)) keeps)
-
--- ---- what stands at each place
 
 -- what the lines say
 pub record IsPartsOf (ds : List Declaration) (p : Parts) (o : Opened) : Type 0 where
@@ -295,8 +290,7 @@ IsOpen ds (at.Lemma o l) front = (number : List ℕ) × IsInside ds o l (Some nu
 IsOpen ds (at.Cancelled o) front = (p : Parts) × IsOpenedBy ds p o front
 IsOpen ds (at.Goal o goal) front = IsInside ds o goal None front
 
--- ---- and the blocks that go on with it
-
+-- and the blocks that go on with it
 pub scale_keeps : (ds : List Declaration) (s : ScaledTokens) (l : Lemma) → IsScaledOf ds s l → (bound : Bound) → ScaleKeeps s.scale bound
 scale_keeps ds s l says names = tt
 scale_keeps ds s l says numbers = integer_is_within s.scale l.scale says.scale

@@ -37,8 +37,7 @@ use Rattle.cancellation_text.proofs.Parts.{rows_of}
 use Rattle.cancellation_text.proofs.Reader.{reader}
 
 module _ (ds : List Declaration) where
-  -- ---- letters
-
+  -- letters
   known_in_range : (token : List ℕ) (a : Letter) → known_letter ds token ≡ Some a → IsLetterOf ds a
   known_in_range token a read =
       option_map_some (λ n. record { 0 = n }) (letter_of ds token) a read (λ n found same. subst (IsLetterOf ds) same (letter_in_range ds token n found))
@@ -54,8 +53,7 @@ module _ (ds : List Declaration) where
   called_in_range side [] = All-nil (IsLetterOf ds)
   called_in_range side (c ∷ called) = on_in_range side c.side c.letter (called_on ds side c) refl (called_letters ds side called) (called_in_range side called)
 
-  -- ---- items
-
+  -- items
   scaled_readable : (s : ScaledTokens) (l : Lemma) → IsScaledOf ds s l → IsReadableLemma ds l
   scaled_readable s l says =
       let good = scaled_checkable ds s l says in
@@ -83,8 +81,7 @@ module _ (ds : List Declaration) where
       let here : length (item_rows i) ≡ row_total (v ∷ []) = item_count i v zipped.0 in
       omega (arith, length-append (item_rows i) (rows_of items), here, rows_count items found zipped.1)
 
-  -- ---- proofs
-
+  -- proofs
   block_readable : (b : CancellationTokens) (proof : Cancellation) → ((bound : Bound) → KeepsOne ds bound b) → IsCancellationOf ds b proof → IsReadableCancellation ds proof
   block_readable b proof keeps says = record {
     denominator = positive_in_range b.denominator proof.denominator says.denominator;
@@ -105,8 +102,7 @@ module _ (ds : List Declaration) where
   proofs_are_readable bytes proofs is =
       values_are (cancellation_kind ds) (cancellation_steps ds) (reader ds) (IsReadableCancellation ds) (λ b proof block keeps says. block_readable b proof keeps says) bytes proofs is
 
--- ---- and written
-
+-- and written
 lemma_is_over : (ds : List Declaration) (l : Lemma) → IsReadableLemma ds l → IsLemmaOver ds l
 lemma_is_over ds l readable = All-weaker (IsRowOver ds) (IsLemmaRowOver ds) (λ row over. record { left = over.left; right = over.right }) l.rows readable.letters
 

@@ -36,8 +36,7 @@ told : (b : Bound) → bound_of flaw_of bounds (flaw_of b) ≡ Some b
 told names = refl
 told b = refl
 
--- ---- values
-
+-- values
 module _ (ds : List Declaration) where
   same_cancel : (c : CancelTokens) (v w : Item) → IsCancelOf ds c v → IsCancelOf ds c w → v ≡ w
   same_cancel c v w one two =
@@ -61,8 +60,7 @@ module _ (ds : List Declaration) where
       let goal : v.goal ≡ w.goal = same_scaled ds b.goal v.goal w.goal one.goal two.goal in
       λ j. record { claim = claim j; denominator = denominator j; monic = monic j; epic = epic j; items = items j; goal = goal j }
 
-  -- ---- lines
-
+  -- lines
   module _ (front : List Line) (line : Line) (t : Stage) where
     abbrev OpenNext : Type 0
     OpenNext = IsOpen ds t (front ++ line ∷ [])

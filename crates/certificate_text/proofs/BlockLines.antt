@@ -51,8 +51,7 @@ pub lemma_row_takes : {E : Type 0} (ds : List Declaration) (r : RowTokens) → I
 lemma_row_takes ds r row size l place =
     rw (lemma_row_line_read ds r row) (row_steps (row_values ds r) (over_lemma r.lemma) (λ made. grown size made.left made.right) (λ larger made. (larger, lemma_of l.scale (l.rows ++ made ∷ []))) (λ next. place next.0 next.1))
 
--- ---- no line of a certificate is `end`
-
+-- no line of a certificate is `end`
 pub rows_go_on : (rs : List RowTokens) → AllByRecursion (λ line. is_end line ≡ false) (map row_line rs)
 rows_go_on [] = tt
 rows_go_on (r ∷ rs) = (refl, rows_go_on rs)
@@ -66,8 +65,7 @@ lemmas_go_on [] goal = (refl, rows_go_on goal.rows)
 lemmas_go_on (l ∷ ls) goal =
     subst (AllByRecursion (λ line. is_end line ≡ false)) (sym (append_assoc (lemma_lines l) (flat_map lemma_lines ls) (goal_lines goal))) (refl, behind_rows l.scaled.rows (flat_map lemma_lines ls ++ goal_lines goal) (lemmas_go_on ls goal))
 
--- ---- numbers outside of rows
-
+-- numbers outside of rows
 module _ (K : Bound → Type 0) where
   pub integer_meets : (digits : List ℕ) → (K bound.numbers → IsWithin integer_limit digits) → Meets flaw_of K (λ z. integer_of digits ≡ Ok z) (integer_of digits)
   integer_meets digits within =
@@ -82,8 +80,7 @@ module _ (K : Bound → Type 0) where
       → Meets flaw_of K (λ q. (z : ℤ) × (integer_of d ≡ Ok z) × (q ≡ (begun form k z))) (step ds (at.Claimed form k) (denominator_line d))
   denominator_meets ds form k d number within = rw number (then_meets _ (integer_meets d within) (λ z _ z_is. reads _ refl (z, z_is, refl)))
 
-  -- ---- a certificate of format 1
-
+  -- a certificate of format 1
   module _ (ds : List Declaration) where
     -- the block may end here, and says this
     abbrev IsBlockRead : BlockTokens → Stage → Type 0
@@ -122,8 +119,7 @@ module _ (K : Bound → Type 0) where
           },
         )))
 
-    -- ---- a certificate of format 2
-
+    -- a certificate of format 2
     abbrev lemma_made : RowTokens → CertRow → LemmaRow
     lemma_made r row = over_lemma r.lemma row
 
@@ -248,8 +244,7 @@ module _ (K : Bound → Type 0) where
           record { claim = k_is; denominator = z_is; lemmas = lemmas_are.are_lemmas; goal = goal_is.is_goal },
         ))))))
 
-    -- ---- either
-
+    -- either
     rows_fit : (b : BlockTokens) → ((bound : Bound) → K bound → KeepsOne ds bound b) → RowsFit K ds no_rows (rows_in b)
     rows_fit b keeps = record {
       names = λ kept. keeps bound.names kept;

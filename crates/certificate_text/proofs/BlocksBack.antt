@@ -30,8 +30,7 @@ use Rattle.block_text.proofs.NumberLines.{end_is_text}
 use Rattle.certificate_text.proofs.SizesBack.{IsSize, size_written, opening_is_text}
 use Rattle.block_text.proofs.TextsBack.{word_written, letters_written}
 
--- ---- rows
-
+-- rows
 module _ (ds : List Declaration) (declared : IsDeclared ds) (known : IsTrue (list_all is_named ds)) where
   pub lemma_row_written : (row : LemmaRow) → IsWritableLemmaRow ds row → IsWrittenRow ds row
   lemma_row_written row writable = record {
@@ -56,8 +55,7 @@ module _ (ds : List Declaration) (declared : IsDeclared ds) (known : IsTrue (lis
   pub rows_written : (c : Certificate) → IsWritable ds c → All (λ row. IsWrittenRow ds (over_generator row)) c.rows
   rows_written c writable = All-weaker (IsWritableRow ds) (λ row. IsWrittenRow ds (over_generator row)) row_written c.rows writable.rows
 
--- ---- the block
-
+-- the block
 abbrev plain_tree : List Declaration → Certificate → PlainTokens
 plain_tree ds c = record { claim = decimal c.claim; denominator = signed_decimal c.denominator; rows = trees ds over_generator c.rows }
 

@@ -37,8 +37,7 @@ use Rattle.block_text.proofs.EachText.{values_are, read_values_are}
 use Rattle.block_text.proofs.Zips.{zip_length}
 use Rattle.certificate_text.proofs.Reader.{reader}
 
--- ---- numbers
-
+-- numbers
 within_by : (value most n : ℕ) (b : Bool) → nat_le value most ≡ b → ◌≡◌ {A = Option ℕ} (cond b (Some value) None) (Some n) → n ≤ most
 within_by value most n true small read = let same : value ≡ n = cc in subst (λ (k : ℕ). k ≤ most) same (leb-true value most small)
 within_by value most n false small read = absurd (cc)
@@ -61,8 +60,7 @@ positive_in_range digits z read =
     option_map_some pos (number_within integer_limit digits) z (asked_ok NumberTooLarge _ z read)
     (λ n within same. subst IsCoefficient same (signed_in_range false n (number_is_within integer_limit digits n within)))
 
--- ---- rows
-
+-- rows
 record IsGoodRow (ds : List Declaration) (row : CertRow) : Type 0 where
   coefficient : IsCoefficient row.coef
   letters : IsRowOver ds row
@@ -89,8 +87,6 @@ lemma_row_is_good : (ds : List Declaration) (r : RowTokens) (row : LemmaRow) →
 lemma_row_is_good ds r row says =
     let good = values_are_good ds r says.0 says.1 in
     subst (IsGoodLemmaRow ds) (sym says.2) (record { coefficient = good.coefficient; letters = record { left = good.letters.left; right = good.letters.right } })
-
--- ---- what a tree says
 
 -- what holds of what each says holds of all
 pub zip_all : {X Y : Type 0} (R : X → Y → Type 0) (P : Y → Type 0) → ((x : X) (y : Y) → R x y → P y) → (xs : List X) (ys : List Y) → AllZip R xs ys → All P ys

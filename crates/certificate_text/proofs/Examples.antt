@@ -20,8 +20,6 @@ use Rattle.certificate_text.specs.Written.{certificate_text}
 abbrev declared : List Declaration
 declared = object (codes "U") ∷ object (codes "V") ∷ arrow (codes "a") 0 1 false ∷ []
 
--- ---- lines and tokens
-
 -- CR LF, a CR that is not before LF, and a last line that is not ended
 line_ends : lines (codes "a\r\n\rb\n\nc\r") ≡ codes "a" ∷ codes "\rb" ∷ [] ∷ codes "c\r" ∷ []
 line_ends = refl
@@ -29,8 +27,7 @@ line_ends = refl
 tight : tokens_of (codes "row -1(a [U]')\t2()=;") ≡ codes "row" ∷ codes "-1" ∷ codes "(" ∷ codes "a" ∷ codes "[U]'" ∷ codes ")" ∷ codes "2" ∷ codes "(" ∷ codes ")" ∷ codes "=" ∷ codes ";" ∷ []
 tight = refl
 
--- ---- reading
-
+-- reading
 abbrev read_of : Format → List ℕ → Result (List Evidence) Fault
 read_of most text = all_values (certificate_steps most declared) text
 
@@ -80,8 +77,7 @@ none : read_of Plain (codes "model 1\nend\n") ≡ Err no_block
 unfolding is_utf8 chars encode
 none = refl
 
--- ---- writing
-
+-- writing
 word : word_text declared (0 ∷ 2 ∷ 3 ∷ []) ≡ codes "[U] a a'"
 word = refl
 

@@ -36,8 +36,6 @@ use Rattle.certificate_text.proofs.NextLines.{integer_in, lemma_finished, plain_
 pub too_large : (digits : List ℕ) (flaw : Flaw) → integer_of digits ≡ Err flaw → flaw ≡ NumberTooLarge
 too_large digits flaw read = asked_err NumberTooLarge (option_map pos (number_within integer_limit digits)) flaw read
 
--- ---- rows and first lines of lemmas
-
 -- the line is a row, and the rows pass a bound with it
 pub record RowPasses (ds : List Declaration) (before : List RowTokens) (line : Line) (flaw : Flaw) : Type 0 where
   pub row : RowTokens
@@ -104,8 +102,7 @@ module _ (most : Format) (ds : List Declaration) (flaw : Flaw) (front : List Lin
   abbrev Stopped : Type 0
   Stopped = IsStopped (certificate_kind most ds) flaw (front ++ line ∷ [])
 
-  -- ---- the head
-
+  -- the head
   shortest_names : (form : Format) (claim denominator : List ℕ) → All (λ bound. KeepsOne ds bound (shortest form claim denominator)) (before numbers)
   shortest_names Plain claim denominator = All-from_recursion (λ bound. KeepsOne ds bound (shortest Plain claim denominator)) (before numbers) (All-nil (HasNames ds), tt)
   shortest_names Lemmas claim denominator = All-from_recursion (λ bound. KeepsOne ds bound (shortest Lemmas claim denominator)) (before numbers) (All-nil (HasNames ds), tt)
@@ -119,8 +116,6 @@ module _ (most : Format) (ds : List Declaration) (flaw : Flaw) (front : List Lin
   stopped_claimed form n claimed read = stopped_by (certificate_kind most ds) flaw _ (number_unsaid (codes "denominator") integer_in line flaw read) (λ found.
       passes numbers found.0 (begins_as (certificate_kind most ds) (before numbers) front (head_line form ∷ claim_line claimed.claim ∷ []) line (denominator_line found.1.digits) claimed.are found.1.is
       (begin_shortest most ds form claimed.claim found.1.digits (before numbers) claimed.read claimed.claim_number found.1.number (shortest_names form claimed.claim found.1.digits))))
-
-  -- ---- rows
 
   -- the block with the row that passes a bound
   stopped_by_plain : (c : Certificate) (size : Size) (inside : IsInPlain ds c size front) (r : RowTokens) → row_tokens Plain line ≡ Some r → Pass ds flaw (inside.tokens.rows ++ r ∷ []) → Stopped
@@ -174,8 +169,7 @@ module _ (most : Format) (ds : List Declaration) (flaw : Flaw) (front : List Lin
     stopped_row : lemma_row ds o.size l line ≡ Err flaw → Stopped
     stopped_row read = stopped_by (certificate_kind most ds) flaw _ (row_passes ds o.size l rows_before line flaw inside.so_far.have read) (λ found. stopped_by_row found)
 
-  -- ---- lemmas and the goal
-
+  -- lemmas and the goal
   module _ (o : Opened) (opened : IsOpened most ds o front) where
     -- the block with this first line of a lemma or of the goal
     stopped_by_lead : (lead : Lead) (digits : List ℕ) (bound : Bound) → IsNext lead opened.finished → IsTrue (is_number digits) → line ∷ [] ≡ lead_lines lead (record { scale = digits; rows = [] })
@@ -224,8 +218,7 @@ module _ (most : Format) (ds : List Declaration) (flaw : Flaw) (front : List Lin
     stopped_lemma : lemma_scale_of (length o.lemmas) line ≡ Err flaw → Stopped
     stopped_lemma read = stopped_by (certificate_kind most ds) flaw _ (lemma_unread (length o.lemmas) line flaw read) stopped_past
 
--- ---- at each place
-
+-- at each place
 module _ (most : Format) (ds : List Declaration) (flaw : Flaw) (line : Line) where
   abbrev StoppedBehind : List Line → Type 0
   StoppedBehind front = IsStopped (certificate_kind most ds) flaw (front ++ line ∷ [])

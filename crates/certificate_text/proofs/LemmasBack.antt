@@ -33,8 +33,6 @@ use Rattle.certificate_text.proofs.SizesBack.{IsSize, size_written, number_is_va
 use Rattle.block_text.proofs.TextsBack.{line_text-append, literal, plain_name}
 use Rattle.block_text.proofs.TokensBack.{token_read, name_token}
 
--- ---- a lemma, or the goal
-
 -- what is known of a lemma that is written
 pub record IsWrittenLemma (ds : List Declaration) (l : Lemma) : Type 0 where
   pub size : IsSize l.scale
@@ -73,8 +71,7 @@ module _ (ds : List Declaration) (l : Lemma) (written : IsWrittenLemma ds l) whe
 pub goal_is_text : (ds : List Declaration) (l : Lemma) → IsWrittenLemma ds l → IsTextOf (goal_text ds l) (goal_lines (scaled_tree ds l) ++ end_line ∷ [])
 goal_is_text ds l written = text-append _ _ _ _ (scaled_is_text ds l written (codes "goal") (codes "goal" ∷ codes "scale" ∷ []) (literal (codes "goal") refl refl) refl refl) end_is_text
 
--- ---- lemmas one after another
-
+-- lemmas one after another
 abbrev pub lemma_tree : List Declaration → ℕ → Lemma → LemmaTokens
 lemma_tree ds number l = record { number = decimal number; scaled = scaled_tree ds l }
 
@@ -125,8 +122,7 @@ module _ (ds : List Declaration) where
   lemmas_say number [] each = tt
   lemmas_say number (l ∷ ls) each = (says ds l (All-head (IsWrittenLemma ds) l ls each), lemmas_say (suc number) ls (All-tail (IsWrittenLemma ds) l ls each))
 
-  -- ---- how many
-
+  -- how many
   count_lemmas : (number : ℕ) (ls : List Lemma) → length (lemma_trees ds number ls) ≡ length ls
   count_lemmas number [] = refl
   count_lemmas number (l ∷ ls) = omega (arith, count_lemmas (suc number) ls)
@@ -141,8 +137,6 @@ module _ (ds : List Declaration) where
   count_letters number (l ∷ ls) =
       letters_in-append (scaled_tree ds l).rows (rows_of (suc number) ls)
       ∙ rw (letters_in-trees ds (λ (row : LemmaRow). row) l.rows, count_letters (suc number) ls, sum_by-cons (λ (l : Lemma). sum_by (λ (r : LemmaRow). length r.left + length r.right) l.rows) l ls) refl
-
--- ---- the block
 
 -- what is known of a certificate that is written
 pub record AreWritten (ds : List Declaration) (c : LemmaCertificate) : Type 0 where

@@ -11,15 +11,12 @@ use Rattle.certificate_text.specs.Blocks.{origin_tokens, row_line, head_line}
 use Rattle.block_text.proofs.Results.{by_test, cond_option}
 use Rattle.block_text.proofs.LineTrees.{Parts, is_word, pair_is, number_is, bracketed_is}
 
--- ---- words
-
+-- words
 pub plain_head_is : (line : Line) → is_plain_head line ≡ true → line ≡ head_line Plain
 plain_head_is line same = pair_is (codes "certificate") (codes "1") line same
 
 pub lemmas_head_is : (line : Line) → is_lemmas_head line ≡ true → line ≡ head_line Lemmas
 lemmas_head_is line same = pair_is (codes "certificate") (codes "2") line same
-
--- ---- numbers behind words
 
 -- lemma K scale S, with this K
 pub lemma_is : (number : ℕ) (line : Line) (s : List ℕ) → lemma_digits number line ≡ Some s
@@ -40,8 +37,7 @@ goal_is (word ∷ tokens) s read =
     let scale = number_is (codes "scale") tokens s found.1 in
     (ap₂ (λ x y. x ∷ y) (is_word (codes "goal") word found.0) scale.0, scale.1)
 
--- ---- rows
-
+-- rows
 abbrev made : List ℕ → List (List ℕ) → Bool → List ℕ → List (List ℕ) → RowTokens
 made coefficient left lemma number right = record { coefficient = coefficient; left = left; lemma = lemma; number = number; right = right }
 

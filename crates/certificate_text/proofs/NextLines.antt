@@ -33,8 +33,6 @@ use Rattle.certificate_text.proofs.OpenBlocks.{IsHeaded, IsClaimed, IsInPlain, I
 pub behind : (front other : List Line) (line last : Line) → front ≡ other → line ≡ last → front ++ line ∷ [] ≡ other ++ last ∷ []
 behind front other line last same same_line = ap₂ (λ ls l. ls ++ l ∷ []) same same_line
 
--- ---- what the lines say
-
 -- the value of a denominator
 abbrev pub integer_in : List ℕ → Option ℤ
 integer_in digits = option_map pos (number_within integer_limit digits)
@@ -71,8 +69,7 @@ lemma_read before line scale read =
       few = leb-false row_limit before few;
     })))
 
--- ---- the head
-
+-- the head
 pub next_headed : (most form : Format) (front : List Line) (line : Line) (n : ℕ) → IsHeaded most form front → claim_of line ≡ Ok n → IsClaimed most form n (front ++ line ∷ [])
 next_headed most form front line n headed read =
     let known = number_said (codes "claim") (number_within number_limit) line n read in
@@ -120,8 +117,6 @@ next_claimed most ds Lemmas front line n d claimed read =
       have = no_rows_size ds;
       are = behind front (head_line Lemmas ∷ claim_line claimed.claim ∷ []) line (denominator_line digits) claimed.are known.0.is;
     }
-
--- ---- rows
 
 -- the lines of rows with one row more
 pub rows_push : (rs : List RowTokens) (r : RowTokens) → map row_line (rs ++ r ∷ []) ≡ map row_line rs ++ row_line r ∷ []
@@ -210,8 +205,7 @@ led_first ds size digits scale before number value have = record {
   have = subst (HaveSize ds size) (sym (append-nil before)) have;
 }
 
--- ---- lemmas and the goal
-
+-- lemmas and the goal
 module _ (most : Format) (ds : List Declaration) where
   -- another size
   begun_resized : (claim denominator : List ℕ) (finished : List LemmaTokens) (o : Opened) (size : Size) → IsBegun ds claim denominator finished o → IsBegun ds claim denominator finished (resized o size)

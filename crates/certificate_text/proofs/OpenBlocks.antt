@@ -46,8 +46,7 @@ lemmas_block : (most : Format) (b : LemmasTokens) → IsRead most Lemmas → IsL
 lemmas_block Plain b read is_block = read
 lemmas_block Lemmas b read is_block = is_block
 
--- ---- certificates of format 1
-
+-- certificates of format 1
 abbrev pub plain_front : PlainTokens → List Line
 plain_front b = head_line Plain ∷ claim_line b.claim ∷ denominator_line b.denominator ∷ map row_line b.rows
 
@@ -64,8 +63,6 @@ pub record IsInPlain (ds : List Declaration) (c : Certificate) (size : Size) (fr
 
 pub plain_outside : (ds : List Declaration) (b : PlainTokens) (c : Certificate) → IsPlainOf ds b c → HasNumbersOutside (plain b)
 plain_outside ds b c values = ((c.claim, values.claim), integer_is_within b.denominator c.denominator values.denominator)
-
--- ---- certificates of format 2
 
 -- a lemma's number, where the rows are a lemma's, and none where they are the goal's
 abbrev pub Lead : Type 0
@@ -188,8 +185,6 @@ module _ (most : Format) (ds : List Declaration) (claim denominator : List ℕ) 
       keeps_one ds (lemmas (rows_behind claim denominator finished lead s)) (rows_outside lead s head scale) (few_lemmas claim denominator finished lead s few) bound
       (subst (λ rs. RowsWithin ds rs bound) (sym (rows_are claim denominator finished lead s)) keep)
 
--- ---- what stands at each place
-
 -- behind the head
 pub record IsHeaded (most form : Format) (front : List Line) : Type 0 where
   pub read : IsRead most form
@@ -249,8 +244,7 @@ IsOpen most ds (at.Opened o) front = IsOpened most ds o front
 IsOpen most ds (at.Lemma o l) front = (number : List ℕ) × IsInside most ds o l (Some number) front
 IsOpen most ds (at.Goal o goal) front = IsInside most ds o goal None front
 
--- ---- and the blocks that go on with it
-
+-- and the blocks that go on with it
 begin_shorter : (most : Format) (ds : List Declaration) (within : List Bound) (front behind : List Line) → Begins (certificate_kind most ds) within (front ++ behind) → Begins (certificate_kind most ds) within front
 begin_shorter most ds within front behind begin = record {
   tree = begin.tree;
@@ -330,8 +324,7 @@ module _ (most : Format) (ds : List Declaration) where
       subst (Begins (certificate_kind most ds) within) (sym inside.are) (begin_plain most ds within inside.tokens inside.is_block
       (everywhere (λ bound. KeepsOne ds bound (plain inside.tokens)) (plain_keeps c size inside.tokens inside.values inside.have) within))
 
-  -- ---- a goal that ends
-
+  -- a goal that ends
   module _ (o : Opened) (goal : Lemma) (front : List Line) (inside : IsInside most ds o goal None front) where
     abbrev pub goal_block : LemmasTokens
     goal_block = with_goal inside.claim inside.denominator inside.finished inside.finished inside.so_far.tokens

@@ -37,8 +37,6 @@ told : (b : Bound) → bound_of flaw_of bounds (flaw_of b) ≡ Some b
 told names = refl
 told b = refl
 
--- ---- heads
-
 -- a head of format 1, or one of format 2 where that is read
 pub data IsHeadOf (most : Format) (line : Line) (s : Stage) : Type 0 where
   of_plain : line ≡ head_line Plain → s ≡ at.Headed Plain → IsHeadOf most line s

@@ -16,8 +16,7 @@ use Rattle.certificate_text.specs.Blocks.{origin_tokens, row_line, IsPlainRow}
 use Rattle.block_text.proofs.Closing.{closed_behind}
 use Rattle.block_text.proofs.LineTrees.{other_word}
 
--- ---- tokens that are no words
-
+-- tokens that are no words
 no_letter : is_letter (codes ")") ≡ false
 unfolding is_utf8 chars lib.Utf8.encode
 no_letter = rw (is_xid_start-ascii 41 (omega arith)) refl
@@ -28,8 +27,7 @@ letters_are_unclosed (token ∷ tokens) all =
     let parts : (is_letter token ≡ true) × (list_all is_letter tokens ≡ true) = and_parts _ _ all in
     (other_word is_letter (codes ")") token parts.0 no_letter, letters_are_unclosed tokens parts.1)
 
--- ---- the parts of a row
-
+-- the parts of a row
 number_read : (coefficient : List ℕ) (left : List (List ℕ)) (lemma : Bool) (number : List ℕ) (right : List (List ℕ)) → AllByRecursion (λ t. is_close t ≡ false) right
     → number_part coefficient left lemma (number ∷ codes "(" ∷ (right ++ codes ")" ∷ [])) ≡ Some (record { coefficient = coefficient; left = left; lemma = lemma; number = number; right = right })
 number_read coefficient left lemma number right unclosed = rw (closed_behind right [] unclosed) refl
@@ -61,15 +59,12 @@ parts_read r row =
     rw (closed_behind r.left (origin_tokens r ++ (codes "(" ∷ (r.right ++ codes ")" ∷ []))) (letters_are_unclosed r.left is.left))
     (origin_read r.coefficient r.left r.lemma r.number r.right is.number (letters_are_unclosed r.right is.right))
 
--- ---- its values
-
+-- its values
 pub row_line_read : (ds : List Declaration) (r : RowTokens) → IsPlainRow r → row_of ds (row_line r) ≡ row_values ds r
 row_line_read ds r plain = rw (parts_read r plain.row, plain.generator, plain.row) refl
 
 pub lemma_row_line_read : (ds : List Declaration) (r : RowTokens) → IsTrue (is_row r) → lemma_row_of ds (row_line r) ≡ (row_values ds r >>= λ row. Ok (over_lemma r.lemma row))
 lemma_row_line_read ds r row = rw (parts_read r row, row) refl
-
--- ---- the row of a line by its parts
 
 -- the row of the parts, where they are those of a row
 abbrev row_at : List Declaration → RowTokens → Result CertRow Flaw

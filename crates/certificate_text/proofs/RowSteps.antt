@@ -16,8 +16,7 @@ use Rattle.block_text.specs.Fault.{◌>>=◌, ExplainsLine, Reads, IsLineMemory}
 use Rattle.certificate_text.specs.Lines.{row_of, lemma_row_of, grown}
 use Rattle.certificate_text.specs.Reading.{certificate_of, lemma_of, in_rows, lemma_row}
 
--- ---- what a `?` returns
-
+-- what a `?` returns
 pub flaw_told : {X Y : Type 0} (view : X → Y) (r : Result X LineFault) (read : Result Y Flaw) (f : Flaw) → IsErrAnd r (λ e. e ≡ line_fault.Flaw f) → read ≡ Err f → Reads view r read
 flaw_told view (Ok x) read f told is = absurd told
 flaw_told view (Err e) read f told is = subst (λ e. ExplainsLine read e) (sym told) is
@@ -35,8 +34,7 @@ told_on : {X A Y : Type 0} (view : X → Y) (r : Result X LineFault) (read : Res
 told_on view (Ok x) read f e told is = absurd told
 told_on view (Err x) read f e told is = subst (λ y. ExplainsLine (read >>= f) y) (sym told) (explained_on read f e is)
 
--- ---- a row without lemmas
-
+-- a row without lemmas
 abbrev behind_row : Certificate → Size → CertRow → Result Stage Flaw
 behind_row c size row = grown size row.left row.right >>= λ size. Ok (at.Rows (certificate_of c.claim c.denominator (c.rows ++ row ∷ [])) size)
 
@@ -56,8 +54,7 @@ row_added ds c size now line row rows read grows is =
     ∙ ap (λ r. r >>= λ size. Ok (at.Rows (certificate_of c.claim c.denominator (c.rows ++ row ∷ [])) size)) grows
     ∙ ap (λ rs. Ok (at.Rows (certificate_of c.claim c.denominator rs) now)) (sym is)
 
--- ---- a row of a lemma or of the goal
-
+-- a row of a lemma or of the goal
 abbrev behind_lemma_row : Size → Lemma → LemmaRow → Result (Size × Lemma) Flaw
 behind_lemma_row size l row = grown size row.left row.right >>= λ larger. Ok (larger, lemma_of l.scale (l.rows ++ row ∷ []))
 

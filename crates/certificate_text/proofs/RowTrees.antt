@@ -23,8 +23,6 @@ use Rattle.block_text.proofs.Results.{by_test, bind_ok, bind_err, asked_ok, aske
 abbrev pub before : Bound → List Bound
 before bound = listed.before flaw_of bounds bound
 
--- ---- values
-
 -- the value of a number that may not be negative
 pub integer_is_within : (digits : List ℕ) (z : ℤ) → integer_of digits ≡ Ok z → IsWithin integer_limit digits
 integer_is_within digits z read =
@@ -77,8 +75,7 @@ unvalued ds r flaw read =
     bind_err (asked NumberTooLarge (number_within number_limit r.number)) _ flaw read_number
     (λ e. inr (asked_err NumberTooLarge (number_within number_limit r.number) flaw e, known)) (λ number asked_number made. absurd (cc)))))
 
--- ---- sizes
-
+-- sizes
 record IsShort (left right : List ℕ) : Type 0 where
   short_left : length left ≤ word_limit
   short_right : length right ≤ word_limit
@@ -128,8 +125,6 @@ module _ (size : Size) (left right : List ℕ) where
       by_test is_long _ _ (Err flaw) read (λ is e. long (cc)) (λ short read_few.
       by_test (nat_le row_limit size.rows) _ _ (Err flaw) read_few (λ is e. many (cc) (are_short left right short)) (λ few read_fit.
       by_test (nat_lt letter_limit letters_behind) _ _ (Err flaw) read_fit (λ is e. crowded (cc) (are_short left right short) (leb-false row_limit size.rows few)) (λ fit e. absurd (cc))))
-
--- ---- the rows so far
 
 -- the rows keep the bound
 abbrev pub RowsWithin : List Declaration → List RowTokens → Bound → Type 0

@@ -19,8 +19,6 @@ use Rattle.certificate_text.proofs.RowTrees.{word_of-length}
 use Rattle.block_text.proofs.NumberedLines.{run}
 use Rattle.block_text.proofs.Meets.{Meets, reads, then_meets, meets-weaker, asked_meets, unless_meets}
 
--- ---- the values of one row
-
 -- the words are as long as the tokens
 record HasLengths (r : RowTokens) (row : CertRow) : Type 0 where
   left : length row.left ≡ length r.left
@@ -34,8 +32,6 @@ values_meet K ds r names numbers =
     then_meets _ (asked_meets K bound.numbers (number_within number_limit r.number) (λ kept. (numbers kept).number)) (λ number _ number_is.
     reads _ refl (record { left = word_of-length ds r.left left left_is; right = word_of-length ds r.right right right_is })))))
 
--- ---- the size with one row more
-
 -- behind a row of so many letters
 abbrev pub with_letters : Size → ℕ → Size
 with_letters size n = record { rows = size.rows + 1; letters = size.letters + n }
@@ -47,8 +43,6 @@ grown_meets K size left right n count words rows letters =
     (unless_meets bound.rows _ _ (λ kept. lt-leb row_limit size.rows (rows kept))
     (unless_meets bound.letters _ _ (λ kept. le-ltb letter_limit _ (rw (← count) (letters kept)))
     (reads _ refl (rw count refl))))
-
--- ---- rows
 
 -- where K says that a bound is kept, these rows keep it behind rows of this size
 pub record RowsFit (K : Bound → Type 0) (ds : List Declaration) (size : Size) (rs : List RowTokens) : Type 0 where
@@ -74,8 +68,7 @@ rows_fit_on K ds size r rs keep = record {
   letters = λ kept. omega (arith, keep.letters kept);
 }
 
--- ---- rows and the rows behind them
-
+-- rows and the rows behind them
 All-parts : {X : Type 0} (P : X → Type 0) (xs ys : List X) → All P (xs ++ ys) → All P xs × All P ys
 All-parts P [] ys all = (All-nil P, all)
 All-parts P (x ∷ xs) ys all =
@@ -109,8 +102,6 @@ rows_fit_parts K ds size rs more keep = (
     letters = λ kept. omega (arith, letters_in-append rs more, keep.letters kept);
   },
 )
-
--- ---- where rows stand
 
 -- by what a line makes of a place, and the places in the rows
 module _ {Stage : Type 0} (step : Stage → Line → Result Stage Flaw) (K : Bound → Type 0) (ds : List Declaration) {C : Type 0} (here : Size → List C → Stage) (made : RowTokens → CertRow → C) where

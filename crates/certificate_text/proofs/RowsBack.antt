@@ -26,8 +26,7 @@ use Rattle.block_text.proofs.NumbersBack.{IsInteger, decimal_text, decimal_numbe
 use Rattle.block_text.proofs.TextsBack.{line_text-append, literal, IsWrittenWord, plain_name}
 use Rattle.block_text.proofs.TokensBack.{IsToken, token_read, tokens_read, name_token}
 
--- ---- the tokens of a row
-
+-- the tokens of a row
 abbrev is_over_lemma : CertFrom → Bool
 is_over_lemma (Generator n) = false
 is_over_lemma (Lemma n) = true
@@ -53,8 +52,6 @@ pub record IsWrittenRow (ds : List Declaration) (row : LemmaRow) : Type 0 where
   pub right : IsWrittenWord ds row.right
   pub short_left : length row.left ≤ word_limit
   pub short_right : length row.right ≤ word_limit
-
--- ---- its text
 
 -- the text of a row without its LF
 abbrev line_text : List Declaration → LemmaRow → List ℕ
@@ -119,8 +116,7 @@ module _ (ds : List Declaration) (row : LemmaRow) (written : IsWrittenRow ds row
       subst (λ (text : List ℕ). IsTextOf text (row_line (row_tree ds row) ∷ [])) (sym (line_is ds row))
       (text_of_tokens (line_text ds row) (row_line (row_tree ds row)) row_inside tokens_of_row refl)
 
-  -- ---- what it says
-
+  -- what it says
   abbrev values : CertRow
   values = record { coef = row.coef; left = row.left; generator = number_of row.from; right = row.right }
 
@@ -153,8 +149,6 @@ lemma_row_says ds row written = (
   row_says ds row written,
   ap (λ (source : CertFrom). record { coef = row.coef; left = row.left; from = source; right = row.right }) (over_same row.from),
 )
-
--- ---- rows one after another
 
 -- numbers and letters stand at their places, and are within the bounds on rows
 pub record AreRows (ds : List Declaration) (rows : List RowTokens) : Type 0 where

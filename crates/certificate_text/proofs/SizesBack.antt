@@ -20,8 +20,6 @@ use Rattle.block_text.proofs.NumbersBack.{decimal_text, decimal_number, decimal_
 use Rattle.block_text.proofs.TextsBack.{literal}
 use Rattle.block_text.proofs.NumberLines.{text_of_number}
 
--- ---- numbers
-
 -- what is read of an integer that is written and not negative
 pub record IsSize (z : ℤ) : Type 0 where
   pub number : is_number (signed_decimal z) ≡ true
@@ -43,8 +41,7 @@ number_is_value n below =
     let value : digits_value 10 (decimal n) ≡ n = (decimal_is_IsNumeral_wide n below).1 in
     rw (decimal_number n below, value) (eq-eqb n n refl)
 
--- ---- the first lines of a block
-
+-- the first lines of a block
 opening_is : (head end first claim second denominator : List ℕ) → (head ++ (end ++ first)) ++ claim ++ (end ++ second) ++ denominator ++ end ≡ (head ++ end) ++ (((first ++ claim) ++ end) ++ ((second ++ denominator) ++ end))
 opening_is head end first claim second denominator = simp append_assoc refl
 

@@ -32,8 +32,6 @@ use Rattle.command_shape.proofs.BlockTexts.{IsKind, text_answered, text_answered
 use Rattle.command_shape.proofs.Statements.{stated_leads}
 use Rattle.command_shape.proofs.Owed.{OwesEnding, owed_over, zero_or_past}
 
--- ---- the tests of certificates
-
 -- a refusal that has a line is no want of memory
 pub told : (ds : List Declaration) (r : Refusal) (cause : List ℕ) → cause_text ds r ≡ Some cause → IsMemory r → ⊥
 told ds (refusal.Memory failed) cause is memory = absurd cc
@@ -69,16 +67,13 @@ certificates_are_judged problem evidence =
       other_text = other_text;
     }
 
--- ---- what is told of accepted certificates
-
 -- where the report begins with the lines that accept the first certificates of the evidence text, no test of these fails
 pub told_accepted : (statement evidence : List ℕ) (ending : Ending) (problem : Problem) → IsStated statement problem → (first others : List Evidence) (rest : List ℕ)
     → IsEvidence format.Lemmas problem.parts.quiver evidence (first ++ others) → ending.report ≡ accepted_lines 1 first ++ rest → AnswersCheck statement evidence ending → AllByRecursion (IsAccepted problem) first
 told_accepted statement evidence ending problem is first others rest are begins answers =
     first_answered (certificates_are_judged problem evidence) ending first others rest are begins (stated_leads statement (AnswersEvidence evidence) ending problem is answers)
 
--- ---- what accepted certificates mean
-
+-- what accepted certificates mean
 module _ {Object Arrow : Type 0} {s : Structure Object Arrow} (laws : PreadditiveLaws s) (sound : IsSound s) (with_lemmas : IsEvidenceSound s) (problem : Problem) where
   -- evidence that is accepted names a claim
   names : (e : Evidence) → IsAccepted problem e → IsNumberUpTo (length (polynomials problem.parts.claims)) (claim_number e)
@@ -107,8 +102,7 @@ says_checked {s} laws sound with_lemmas statement evidence ending answers = reco
       each (IsAccepted problem) (AcceptedMeans s problem) (accepted_means laws sound with_lemmas problem) first (told_accepted statement evidence ending problem is first others rest evidence_is begins answers);
 }
 
--- ---- what is owed
-
+-- what is owed
 pub check_owes : (statement evidence : List ℕ)
     → OwesEnding (AnswersCheck statement evidence) (λ Object Arrow s ending. SaysChecked s statement evidence ending.report)
 check_owes statement evidence = owed_over statement (AnswersEvidence evidence) (λ Object Arrow s ending. SaysChecked s statement evidence ending.report)

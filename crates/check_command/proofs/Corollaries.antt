@@ -12,8 +12,7 @@ use Rattle.check_command.specs.Laws.{AcceptedAreAnswered, ZeroIsAccepted, ZeroMe
 use Rattle.command_shape.proofs.BlockTexts.{passing_answered, zero_answered, text_status}
 use Rattle.check_command.proofs.Answered.{certificates_are_judged}
 
--- ---- certificates
-
+-- certificates
 pub accepted_are_answered : AcceptedAreAnswered
 accepted_are_answered statement evidence problem certificates is are all = stated problem is (passing_answered (certificates_are_judged problem evidence) certificates are all)
 
@@ -34,8 +33,7 @@ zero_means s statement evidence ending answers says is_zero =
       each = says.each all.problem all.certificates [] [] all.stated (subst (λ (es : List Evidence). IsEvidence format.Lemmas all.problem.parts.quiver evidence es) (sym (append-nil all.certificates)) all.read) (all.report ∙ sym (append-nil _));
     }
 
--- ---- statements
-
+-- statements
 pub faults_are_answered : FaultsAreAnswered
 faults_are_answered statement evidence text refused = faulty text refused refl
 

@@ -25,11 +25,9 @@ use Rattle.adjoint_rules.specs.Problem.{polynomials}
 use Rattle.certificate_text.specs.Evidence.{IsRowOver, IsLemmaRowOver, IsCheckable, IsCheckableLemma, IsCheckableByLemmas, IsCheckableEvidence}
 use Rattle.check_command.specs.Letters.{HasLetters}
 
--- ---- the words that refusals name
-
+-- the words that refusals name
 module _ (problem : Problem) where
-  -- ---- of a certificate of rows over generators alone
-
+  -- of a certificate of rows over generators alone
   rows_over : (rows : List CertRow) → AllByRecursion (IsRowOver problem.parts.quiver) rows → AreOver (drawn problem) (rows_of rows)
   rows_over [] all = tt
   rows_over (r ∷ rows) all = ((word_over problem r.left all.0.left, word_over problem r.right all.0.right), rows_over rows all.1)
@@ -45,8 +43,7 @@ module _ (problem : Problem) where
     certificate_letters (refusal.NotDivisible lemma word got) because = absurd because
     certificate_letters other because = tt
 
-  -- ---- of a certificate with lemmas
-
+  -- of a certificate with lemmas
   lemma_rows_over : (rows : List LemmaRow) → AllByRecursion (IsLemmaRowOver problem.parts.quiver) rows → AllByRecursion (λ r. (is_over (drawn problem) r.left ≡ true) × (is_over (drawn problem) r.right ≡ true)) rows
   lemma_rows_over [] all = tt
   lemma_rows_over (r ∷ rows) all = ((word_over problem r.left all.0.left, word_over problem r.right all.0.right), lemma_rows_over rows all.1)

@@ -4,11 +4,11 @@ use Rattle.std.specs.List.{All, AllByRecursion, AllZip, range_with_len}
 use Rattle.std.proofs.lemmas.List.{take_more, take_more_set, drop_more, drop-set-lt}
 use Rattle.std.proofs.lemmas.List.Elements.{AllZip-push, All-push}
 
--- ---- what holds of each item
+-- what holds of each item
 pub all_push : {X : Type 0} (P : X → Type 0) (xs ys : List X) (x : X) → All P xs → P x → ys ≡ xs ++ x ∷ [] → All P ys
 all_push P xs ys x each last same = subst (All P) (sym same) (All-push P xs x each last)
 
--- ---- an item of a list whose rest is that of another
+-- an item of a list whose rest is that of another
 same_heads : {X : Type 0} (x y : X) (xs ys : List X) → x ∷ xs ≡ y ∷ ys → x ≡ y
 same_heads x y xs ys e = cc
 
@@ -36,7 +36,7 @@ one_more R xs olds i old new below long same before is step =
     subst (λ l. AllZip R l (take (i + 1) (set xs i new))) (sym olds_more)
     (subst (AllZip R (take i olds ++ old ∷ [])) (sym news_more) (AllZip-push R (take i olds) (take i xs) old new before step))
 
--- ---- the next number
+-- the next number
 pub range_with_len-more : (a n : ℕ) → range_with_len a (n + 1) ≡ range_with_len a n ++ (a + n) ∷ []
 range_with_len-more a zero = let same : a ≡ a + 0 = omega arith in ap (λ k. k ∷ []) same
 range_with_len-more a (suc n) =

@@ -30,7 +30,7 @@ use Rattle.traced_completion.specs.PlainRun.{Setting, IsCauseOf}
 use Rattle.claim_decider.specs.declared.outcome.Outcome.{Outcome}
 use Rattle.claim_decider.specs.Outcomes.{halted_at, record_of, IsProved, IsLeft, IsDoneWith, IsDoneBy}
 
--- ---- the order that was made is the one that was asked for
+-- the order that was made is the one that was asked for
 pub same_order : (order : AnyOrder) (asked : OrderSpec) → ((u v : List ℕ) → made_cmp order u v ≡ asked_cmp asked u v) → made_cmp order ≡ asked_cmp asked
 same_order order asked same = λ i u v. same u v i
 
@@ -39,7 +39,7 @@ pub same_reduction : (order : AnyOrder) (asked : OrderSpec) (rules : List Rule) 
 same_reduction order asked rules p q steps same is =
     ap (λ compare. normal_form_of compare rules p steps) (same_order order asked same) ∙ ap (λ x. normal_form_of (asked_cmp asked) rules x steps) (sym is)
 
--- ---- no rules
+-- no rules
 no_choice : (compare : Compare) (p : List Term) → choice_from compare [] None p ≡ None
 no_choice compare [] = refl
 no_choice compare (t ∷ p) = no_choice compare p
@@ -51,12 +51,12 @@ no_step limit (suc steps) compare s none = rw none refl
 pub no_rules : (compare : Compare) (p : List Term) (steps : ℕ) → normal_form_of compare [] p steps ≡ Ok (start_of p)
 no_rules compare p steps = no_step steps steps compare (start_of p) (no_choice compare p)
 
--- ---- what is left
+-- what is left
 pub left : (setting : Setting) (rules : List Rule) (claim rest : List Term) (s : State) → normal_form_of setting.compare rules claim setting.budget.steps ≡ Ok s
     → s.rest ≡ rest → 0 < length rest → IsLeft setting rules claim rest
 left setting rules claim rest s ends is some = record { reduced = s; reduction = ends; rest_is = is; nonzero = some }
 
--- ---- the outcome
+-- the outcome
 pub done_by_fault : (form : Format) (number round : ℕ) (made : List Made) (r : Result State ReduceFault) (e : ReduceFault) (c : Cause)
     → ExplainsHalt r e → IsCauseOf e c → IsDoneBy form number round made r (halted_at (place.Claim round) c)
 done_by_fault form number round made r (fault.Steps limit) c is why =
@@ -73,7 +73,7 @@ done_by_zero form number round made r s o ends zero_rest proved =
     subst (λ x. IsDoneBy form number round made x o) (sym ends)
     (subst (λ rest. IsDoneWith form number round made s rest o) (sym zero_rest) proved)
 
--- ---- the record of a claim
+-- the record of a claim
 among_first : (count : ℕ) (from : Origin) → IsByRule count from → IsAmongFirst count from
 among_first count (origin.Generator n) is = absurd is
 among_first count (origin.Rule n) is = let least : 1 ≤ n = omega (arith, is) in (least, is.1)

@@ -74,7 +74,6 @@ EndsRun step.Went = ⊥
 EndsRun step.Closed = ⊤
 EndsRun (step.Stopped halt) = ⊤
 
--- ---- one claim
 -- nothing has changed, unless the round was made whole
 abbrev pub UnlessWent : Step → Type 0 → Type 0
 UnlessWent step.Went P = ⊤
@@ -141,7 +140,7 @@ module _ (setting : Setting) (form : Format) (number : ℕ) (claim : List Term) 
   late_after st n rounds before s (Open rest) new steps yet stood follows = (open_stood st n rounds before s rest new steps stood follows).late
   late_after st n rounds before s (Settled o) new steps yet stood follows = absurd (yet tt)
 
--- ---- all claims
+-- all claims
 module _ (setting : Setting) (form : Format) (problem : Problem) (c : Completion) (st : Step) (same : setting_of problem c.budget ≡ setting) where
   -- the step in the setting
   pub follows_in : (old new : Case) → Follows form problem c st old new → StandingFollows setting form old.number (claim_at problem old.number) (c.rounds - 1) (state_of c) st old.standing new.standing
@@ -187,7 +186,7 @@ pub step_taken : (setting : Setting) (st : Step) (old new : Completion) → IsRo
     → IsUnchangedAfter st old new → Steps setting st old.rounds new.rounds (state_of old) (state_of new)
 step_taken setting st old new round rounds_are unchanged = record { round = round; rounds_are = rounds_are; unless_went = unless_went st old new unchanged }
 
--- ---- the measure
+-- the measure
 settles : (setting : Setting) (form : Format) (number round : ℕ) (claim : List Term) (s : RunState) (st : Step) (old new : Standing) → EndsRun st → StandingFollows setting form number claim round s st old new → is_open new ≡ false
 settles setting form number round claim s step.Went (Open rest) new ends follows = absurd ends
 settles setting form number round claim s step.Closed (Open rest) new ends follows = ap is_open follows
@@ -241,7 +240,7 @@ pub smaller : (form : Format) (problem : Problem) (c : Completion) (st : Step) (
 smaller form problem c st n pairs olds news zipped yet few rounds_are =
     subst (λ b. left_for news c.rounds pairs < if_any b ((pairs + 2) - n)) (sym (some_open olds yet)) (smaller_after form problem c st n pairs olds news zipped few rounds_are)
 
--- ---- the end
+-- the end
 pub outcomes_of_all : (setting : Setting) (form : Format) (problem : Problem) (rounds : ℕ) (s : RunState) (cases : List Case) (outcomes : List Outcome) → All (IsCase setting form problem rounds s) cases
     → AllZip Gives cases outcomes → AreOutcomesOf setting form problem (case_numbers cases) outcomes
 outcomes_of_all setting form problem rounds s cases outcomes are zipped =

@@ -31,7 +31,7 @@ use Rattle.claim_decider.specs.declared.outcome.Outcome.TheVariants as outcome
 use Rattle.claim_decider.specs.Outcomes.{IsCauseOfExpansion, IsCauseOfGathering, halted_at, IsHalted, record_of, Expands, Gathers, IsProved, IsLeft, IsDoneWith, IsDoneBy, IsDone, IsOpen, IsClosedWith, evidence_of_zero, GetsOutcome, at_once, after_round, by_closing, by_stop}
 use Rattle.claim_decider.specs.OutcomeLaws.{OutcomesAreUnique}
 
--- ---- after one round
+-- after one round
 canonical-prop : (p : List Term) → IsProp (IsCanonical p)
 canonical-prop p = Prim.hlevel std.props
 
@@ -102,7 +102,7 @@ module _ (setting : Setting) (claim : List Term) where
       let terms = sym first.left.rest_is ∙ ap (λ (s : State). s.rest) reduced ∙ second.left.rest_is in
       first.closes ∙ ap outcome.Closed (same_poly first.rest second.rest terms) ∙ sym second.closes
 
-  -- ---- the run
+  -- the run
   open_claim : (n : ℕ) (s : RunState) → IsOpen setting claim n s → 0 < length claim
   open_claim zero s open_yet = open_yet.0
   open_claim (suc n) s open_yet = open_claim n open_yet.before open_yet.is_before

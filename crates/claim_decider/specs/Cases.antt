@@ -26,7 +26,6 @@ pub record IsNumber (problem : Problem) (number : ℕ) : Type 0 where
 abbrev pub IsOfProblem : Problem → Case → Type 0
 IsOfProblem problem case = IsNumber problem case.number
 
--- ---- one step
 -- after a round that was made whole there is one
 abbrev pub HasRounds : Step → ℕ → Type 0
 HasRounds step.Went rounds = 0 < rounds
@@ -55,7 +54,6 @@ pub record Follows (form : Format) (problem : Problem) (c : Completion) (st : St
   pub standing : StandingFollows (setting_of problem c.budget) form old.number (claim_at problem old.number) (c.rounds - 1)
       (state_of c) st old.standing new.standing
 
--- ---- after so many whole rounds
 -- the claim has got its outcome
 pub record HasGot (setting : Setting) (form : Format) (number : ℕ) (claim : List Term) (most : ℕ) (o : Outcome) : Type 0 where
   pub rounds : ℕ

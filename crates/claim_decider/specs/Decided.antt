@@ -12,7 +12,6 @@ use Rattle.traced_completion.specs.PlainRun.{Setting, RunState, IsRunState}
 use Rattle.claim_decider.specs.declared.outcome.Outcome.{Outcome}
 use Rattle.claim_decider.specs.Outcomes.{GetsOutcome, IsOutcomeOf}
 
--- ---- claims by their numbers
 -- the claim of the problem with this number
 abbrev pub claim_at : Problem → ℕ → List Term
 claim_at problem number = generator_at (polynomials problem.parts.claims) number
@@ -25,7 +24,6 @@ claim_numbers problem = range_with_len 1 (length problem.parts.claims)
 abbrev pub AreOutcomesOf : Setting → Format → Problem → List ℕ → List Outcome → Type 0
 AreOutcomesOf setting form problem numbers outcomes = AllZip (λ n o. IsOutcomeOf setting form n (claim_at problem n) o) numbers outcomes
 
--- ---- the last rules
 -- The claim gets its outcome when so many rounds were made whole.
 pub record GetsOutcomeAt (setting : Setting) (form : Format) (problem : Problem) (rounds : ℕ) (number : ℕ) : Type 0 where
   pub state : RunState

@@ -28,7 +28,6 @@ use Rattle.traced_completion.specs.PlainRun.{Setting, RunState, start, went, clo
 use Rattle.claim_decider.specs.declared.outcome.Outcome.{Outcome}
 use Rattle.claim_decider.specs.declared.outcome.Outcome.TheVariants as outcome
 
--- ---- causes
 -- the cause of a fault of expansion; want of memory is none
 abbrev pub IsCauseOfExpansion : ExpandFault → Cause → Type 0
 IsCauseOfExpansion (expand.Overflow o) c = c ≡ cause.Overflow o
@@ -52,7 +51,6 @@ pub record IsHalted (IsCause : Cause → Type 0) (at : Place) (o : Outcome) : Ty
   pub reason_of : IsCause reason
   pub halts : o ≡ halted_at at reason
 
--- ---- evidence
 -- the record of a claim that is reduced to zero: the rows of its reduction add up to the multiplier times the claim
 abbrev pub record_of : State → Made
 record_of s = record { scale = s.multiplier; rows = s.rows }
@@ -82,7 +80,6 @@ evidence_of_zero format.Plain number = evidence.Plain (record { claim = number; 
 evidence_of_zero format.Lemmas number = evidence.Lemmas
     (record { claim = number; denominator = pos 1; lemmas = []; goal = record { scale = pos 1; rows = [] } })
 
--- ---- after a round that was made whole
 -- What is left of the claim by the rules isn't zero.
 pub record IsLeft (setting : Setting) (rules : List Rule) (claim rest : List Term) : Type 0 where
   pub reduced : State
@@ -105,7 +102,6 @@ abbrev pub IsDone : Setting → Format → ℕ → ℕ → RunState → List Ter
 IsDone setting form number round s claim o =
     IsDoneBy form number round s.made (normal_form_of setting.compare s.rules claim setting.budget.steps) o
 
--- ---- the run
 -- the state after the round with this number, which was made whole and leaves a rest of the claim
 pub record IsOpenAfter (setting : Setting) (claim : List Term) (number : ℕ) (Before : RunState → Type 0) (s : RunState) : Type 0 where
   pub before : RunState

@@ -14,7 +14,7 @@ use Rattle.closed_checker.specs.Rests.{order_of, rest_of, MayBeRule}
 use Rattle.closed_checker.specs.Closed.{IsClosedBasis, IsPart, LacksRule, Refuses, IsMemory}
 use Rattle.closed_checker.specs.Laws.{ClosedBasisIsNotRefused}
 
--- ---- results
+-- results
 abbrev Rest : Type 0
 Rest = Result (List Term) ReduceFault
 

@@ -25,7 +25,7 @@ use Rattle.closed_checker.specs.Rests.{order_of, rules_of, claim_of, rest_in, re
 use Rattle.closed_checker.specs.Closed.{IsNumberUpTo, IsPart, Reaches}
 use Rattle.closed_checker.specs.Working.{AreRulesOf, Explains, IsAnswer}
 
--- ---- faults
+-- faults
 pub explains_rest : (r : Result State ReduceFault) (f : ReduceFault) → ExplainsHalt r f → Explains (rest_in r) f
 explains_rest r (halt.Steps limit) is = ap rest_in is
 explains_rest r (halt.Overflow o) is = ap rest_in is
@@ -37,12 +37,12 @@ explains_made compare rules r (fault.Overflow o) is = ap (rest_by compare rules)
 explains_made compare rules r (fault.Size s) is = ap (rest_by compare rules) is
 explains_made compare rules r (fault.Memory e) is = tt
 
--- ---- the rules and their order
+-- the rules and their order
 pub rest_same : (problem : Problem) (b : Basis) (order : AnyOrder) (rules : List Rule) (p : Result (List Term) PolyFault) → AreRulesOf problem b order rules
     → rest_by (made_cmp order) rules p ≡ rest_by (order_of problem) (rules_of problem b) p
 rest_same problem b order rules p are = λ n. rest_by (are.compares n) (are.same n) p
 
--- ---- polynomials by their numbers
+-- polynomials by their numbers
 terms_at : (ps : List Poly) (place : ℕ) (p : Poly) → slice_get ps place ≡ Some p → get_or (polynomials ps) place [] ≡ p.terms
 terms_at [] place p is = absurd (cc)
 terms_at (q ∷ ps) zero p is = ap (λ (x : Poly). x.terms) (same is)
@@ -55,7 +55,7 @@ pub numbered_terms : (ps : List Poly) (number : ℕ) (p : Poly) → 1 ≤ number
 numbered_terms ps zero p least is = absurd (omega (arith, least))
 numbered_terms ps (suc place) p least is = let same : suc place - 1 ≡ place = omega arith in terms_at ps place p (subst (λ k. slice_get ps k ≡ Some p) same is)
 
--- ---- the parts
+-- the parts
 module _ (problem : Problem) (b : Basis) (order : AnyOrder) (rules : List Rule) (are : AreRulesOf problem b order rules) (result : Result Poly ReduceFault) where
   pub generator_answer : (p : Part) (number : ℕ) (g : Poly) → Reaches problem b p → p ≡ part.Generator number → slice_get problem.generators (number - 1) ≡ Some g
       → IsAnswer result (rest_by (made_cmp order) rules (Ok g.terms)) → IsAnswer result (rest_of problem b p)

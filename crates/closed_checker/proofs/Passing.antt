@@ -26,7 +26,7 @@ use Rattle.closed_checker.specs.Rests.{order_of, rules_of, rest_of}
 use Rattle.closed_checker.specs.Closed.{HasRules, IsNumberUpTo, IsPart, ComesBefore, LeavesZero, LeavesNoClaim, Reaches, Refuses}
 use Rattle.closed_checker.specs.Working.{AreRulesOf, Explains, refusal_of, GeneratorsPass, AmbiguitiesPass}
 
--- ---- what is left
+-- what is left
 pub some_left : (p : List Term) → 0 < length p → p ≢ []
 some_left [] some none = omega (arith, some)
 some_left (t ∷ p) some none = cc
@@ -36,7 +36,7 @@ none_left [] few = refl
 none_left (t ∷ p) few = absurd (omega (arith, few))
 
 module _ (problem : Problem) (b : Basis) where
-  -- ---- faults
+  -- faults
   pub fault_refuses : (p : Part) (fault : ReduceFault) → Reaches problem b p → Explains (rest_of problem b p) fault → Refuses problem b (refusal_of p fault)
   fault_refuses p (halt.Steps limit) reached is = record { reached = reached; fault = halt.Steps limit; stopped = is; cause = refl }
   fault_refuses p (halt.Overflow o) reached is = record { reached = reached; fault = halt.Overflow o; stopped = is; cause = refl }
@@ -46,12 +46,12 @@ module _ (problem : Problem) (b : Basis) where
   pub zero_left : (p : Part) (rest : List Term) → rest_of problem b p ≡ Ok rest → length rest ≤ 0 → LeavesZero problem b p
   zero_left p rest is few = subst (λ r. rest_of problem b p ≡ Ok r) (none_left rest few) is
 
-  -- ---- the list of ambiguities
+  -- the list of ambiguities
   pub listed_same : (order : AnyOrder) (rules : List Rule) (found : List Ambiguity) → AreRulesOf problem b order rules → AreAllInOrder (made_cmp order) rules found
       → AreAllInOrder (order_of problem) (rules_of problem b) found
   listed_same order rules found are all = subst (λ (p : Compare × List Rule). AreAllInOrder p.0 p.1 found) (λ n. (are.compares n, are.same n)) all
 
-  -- ---- generators
+  -- generators
   pub no_generators : GeneratorsPass problem b 0
   no_generators = record { at = λ number least most. absurd (omega (arith, least, most)) }
 
@@ -72,7 +72,7 @@ module _ (problem : Problem) (b : Basis) where
         earlier part.Claim is before = absurd before
 
     module _ (pass : GeneratorsPass problem b (length problem.generators)) where
-      -- ---- ambiguities
+      -- ambiguities
       module _ (found : List Ambiguity) (all : AreAllInOrder (order_of problem) (rules_of problem b) found) where
         abbrev Before : Ambiguity → Ambiguity → Type 0
         Before = IsBeforeByWord (order_of problem) (rules_of problem b)
@@ -123,7 +123,7 @@ module _ (problem : Problem) (b : Basis) where
         pub ambiguities_passed : All (λ x. LeavesZero problem b (part.Ambiguity x)) found → AmbiguitiesPass problem b
         ambiguities_passed each = record { at = λ a is. All-contains (λ x. LeavesZero problem b (part.Ambiguity x)) found a each ((all.members a).1 is) }
 
-      -- ---- the claim
+      -- the claim
       pub claim_reached : AmbiguitiesPass problem b → Reaches problem b part.Claim
       claim_reached ambiguities = record { has_rules = has; part = tt; earlier = earlier }
         where

@@ -18,7 +18,7 @@ use Rattle.adjoint_rules.specs.Problem.{polynomials}
 use Rattle.adjoint_rules.proofs.Generators.{claims_have_signatures, generators_have_signatures}
 use Rattle.basis_text.specs.Written.{IsPolyOver}
 
--- ---- paths
+-- paths
 leads_over : (q : Quiver) (u v : ℕ) (w : List ℕ) → leads q u v w ≡ true → AllByRecursion (λ a. a < letters q) w
 leads_over q u v [] path = tt
 leads_over q u v (a ∷ w) path = let first = step q u v a w path in (first.letter, leads_over q u (source q a) w first.rest)
@@ -27,7 +27,7 @@ path_over : (q : Quiver) (u v : ℕ) (w : List ℕ) → is_path q u v w ≡ true
 path_over q u v [] path = All-from_recursion (λ a. a < letters q) [] tt
 path_over q u v (a ∷ w) path = All-from_recursion (λ a. a < letters q) (a ∷ w) (leads_over q u v (a ∷ w) path)
 
--- ---- polynomials with a signature
+-- polynomials with a signature
 module _ (ds : List Declaration) where
   typed_over : (p : Poly) → HasSignature (quiver_of ds) p.terms → IsPolyOver ds p
   typed_over p has =
@@ -40,7 +40,7 @@ module _ (ds : List Declaration) where
   all_over [] each = tt
   all_over (p ∷ ps) each = (typed_over p each.0, all_over ps each.1)
 
--- ---- of a problem
+-- of a problem
 module _ (problem : Problem) where
   pub generators_over : All (IsPolyOver problem.parts.quiver) problem.generators
   generators_over =
@@ -52,7 +52,7 @@ module _ (problem : Problem) where
       All-from_recursion (IsPolyOver problem.parts.quiver) problem.parts.claims
       (all_over problem.parts.quiver problem.parts.claims (claims_have_signatures problem.parts problem.posed))
 
--- ---- more letters
+-- more letters
 pub over_more : (few many : ℕ) (p : List Term) → few ≤ many → All (λ t. IsOver few t.1) p → All (λ t. IsOver many t.1) p
 over_more few many p most each =
     All-weaker (λ (t : Term). IsOver few t.1) (λ (t : Term). IsOver many t.1)

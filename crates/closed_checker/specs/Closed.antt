@@ -26,8 +26,6 @@ pub record IsReadableBasis (ds : List Declaration) (b : Basis) : Type 0 where
   pub few : length b.rules ≤ rule_limit
   pub over : IsBasisOver ds b
 
--- ---- the tests
-
 -- a number from 1 to the count
 pub record IsNumberUpTo (count number : ℕ) : Type 0 where
   pub least : 1 ≤ number
@@ -55,8 +53,6 @@ pub record IsClosedBasis (problem : Problem) (b : Basis) : Type 0 where
   pub claim : rest_of problem b part.Claim ≡ Ok b.rest.terms
   pub nonzero : b.rest.terms ≢ []
 
--- ---- the order of the parts
-
 -- a generator of the problem, an ambiguity of the rules, or the claim
 abbrev pub IsPart : Problem → Basis → Part → Type 0
 IsPart problem b (part.Generator number) = IsNumberUpTo (length problem.generators) number
@@ -78,8 +74,6 @@ pub record Reaches (problem : Problem) (b : Basis) (p : Part) : Type 0 where
   pub has_rules : HasRules problem b
   pub part : IsPart problem b p
   pub earlier : (other : Part) → IsPart problem b other → ComesBefore problem b other p → LeavesZero problem b other
-
--- ---- what fails
 
 -- The basis names a claim, and the polynomial with this number, counted from 1, is the first that may not be a rule.
 pub record LacksRule (problem : Problem) (b : Basis) (number : ℕ) : Type 0 where

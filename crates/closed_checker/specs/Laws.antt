@@ -13,14 +13,10 @@ use Rattle.closed_checker.specs.declared.refusal.ClosedRefusal.{ClosedRefusal}
 use Rattle.closed_checker.specs.Rests.{order_of, rules_of, claim_of}
 use Rattle.closed_checker.specs.Closed.{IsReadableBasis, IsClosedBasis, Refuses, IsMemory}
 
--- ---- what is read
-
 -- The bases of a text can be checked, where their letters are letters of the quiver. Both is ensured of what `read_bases` gives.
 abbrev pub ReadBasesAreReadable : Type 0
 ReadBasesAreReadable = (ds : List Declaration) (bytes : List ℕ) (bases : List Basis) → IsBases ds bytes bases → All (IsBasisOver ds) bases
     → All (IsReadableBasis ds) bases
-
--- ---- one outcome
 
 -- Each basis is closed, or one of its tests is the first that fails.
 abbrev pub EachBasisIsJudged : Type 0
@@ -34,8 +30,6 @@ BasisRefusalIsUnique = (problem : Problem) (b : Basis) (one other : ClosedRefusa
 -- and none where it is closed.
 abbrev pub ClosedBasisIsNotRefused : Type 0
 ClosedBasisIsNotRefused = (problem : Problem) (b : Basis) (refusal : ClosedRefusal) → IsClosedBasis problem b → Refuses problem b refusal → IsMemory refusal
-
--- ---- what a closed basis means
 
 -- Its polynomials are rules that are resolved. Some positive multiple of each generator is a combination of them. No positive multiple of the claim is
 -- one, and so none is a combination of the generators.

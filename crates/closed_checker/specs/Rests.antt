@@ -22,8 +22,6 @@ use Rattle.closed_checker.specs.declared.part.Part.{Part}
 use Rattle.closed_checker.specs.declared.part.Part.TheVariants as part
 use Rattle.closed_checker.specs.Limits.{step_limit}
 
--- ---- rules
-
 -- the order of words that the problem asks for
 abbrev pub order_of : Problem → Compare
 order_of problem = asked_cmp problem.parts.order
@@ -41,8 +39,6 @@ rules_from compare polys = flat_map (λ p. option_to_list (rule_from compare p))
 -- those of the basis, in the order of words that the problem asks for
 abbrev pub rules_of : Problem → Basis → List Rule
 rules_of problem b = rules_from (order_of problem) b.rules
-
--- ---- what they leave
 
 -- the rest of a reduction, or its fault
 abbrev pub rest_in : Result State ReduceFault → Result (List Term) ReduceFault

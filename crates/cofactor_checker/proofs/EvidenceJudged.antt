@@ -38,8 +38,6 @@ use Rattle.cofactor_checker.proofs.Each.{divides_from, not_divides_from}
 use Rattle.cofactor_checker.proofs.LemmaOutcomes.{goal_from_rows, refuses_from_lemmas, refuses_from_goal}
 use Rattle.cofactor_checker.proofs.Blocks.{Stops, BlockJudged, adds_up, stops_at, block_judged}
 
--- ---- tests with two answers
-
 -- the first item of which something doesn't hold
 pub record FirstNot {X : Type 0} (P : X → Type 0) (items : List X) : Type 0 where
   pub before : ℕ
@@ -95,7 +93,7 @@ sized_or p = by (has_long_word p) (nat_lt 20000 (length p))
     by false true = inr (record { letters = false }, refl)
     by false false = inl refl
 
--- ---- the rows of a lemma or of the goal
+-- the rows of a lemma or of the goal
 module _ (gs ls : List (List (ℤ × List ℕ))) (before : ℕ) (rows : List LemmaRow) where
   abbrev plains : List Row
   plains = plain_rows gs ls rows
@@ -153,7 +151,7 @@ module _ (gs ls : List (List (ℤ × List ℕ))) (before : ℕ) (rows : List Lem
         by (adds_up passed same) = sum_is passed same
         by (stops_at r h) = by_stop r h
 
--- ---- the goal
+-- the goal
 module _ (gs ls : List (List (ℤ × List ℕ))) (before : ℕ) (goal : Lemma) (claim : List (ℤ × List ℕ)) where
   abbrev pub GoalOutcome : Type 0
   GoalOutcome = ReachesClaim gs ls goal claim ⊎ ((e : Refusal) × RefusesGoal gs ls before goal claim e × (IsMemory e → ⊥))
@@ -166,7 +164,7 @@ module _ (gs ls : List (List (ℤ × List ℕ))) (before : ℕ) (goal : Lemma) (
   pub goal_outcome : HasScale goal → first_overflow (products goal.scale claim) ≡ None → GoalOutcome
   goal_outcome least fits = by_goal_rows (rows_outcome gs ls before goal.rows claim goal.scale least fits)
 
--- ---- one lemma after another
+-- one lemma after another
 module _ (gs : List (List (ℤ × List ℕ))) where
   lemma_of_rows : (ps : List (List (ℤ × List ℕ))) (before : ℕ) (l : Lemma) (e : Refusal) → RefusesLemmaRows gs ps before l.rows e → RefusesLemma gs ps before l e
   lemma_of_rows ps before l (refusal.NoSuchGenerator row) h = h
@@ -215,7 +213,7 @@ module _ (gs : List (List (ℤ × List ℕ))) where
       by (inl passes) (inl rest) = inl (passes, rest)
       by (inl passes) (inr later) = inr (later.0, inr (passes, later.1), later.2)
 
--- ---- the tests of a certificate with lemmas
+-- the tests of a certificate with lemmas
 module _ (claims gs : List (List (ℤ × List ℕ))) (c : LemmaCertificate) where
   abbrev IsJudged : Type 0
   IsJudged = AcceptsLemmas claims gs c ⊎ ((e : Refusal) × RefusesLemmaCertificate claims gs c e × (IsMemory e → ⊥))

@@ -31,7 +31,7 @@ use Rattle.cofactor_checker.specs.declared.refusal.Refusal.TheVariants as refusa
 use Rattle.cofactor_checker.proofs.Blocks.{Stops, none_some, stops_once, stops_never}
 use Rattle.cofactor_checker.proofs.Short.{no_rest, short_row, short_lemma, short_lemmas, short}
 
--- ---- the rows of a lemma or of the goal
+-- the rows of a lemma or of the goal
 abbrev tell_lacking : CertFrom → ℕ → Refusal
 tell_lacking (cert.Generator n) row = refusal.NoSuchGenerator row
 tell_lacking (cert.Lemma n) row = refusal.NoSuchLemma row
@@ -103,7 +103,7 @@ module _ (gs ls : List (List (ℤ × List ℕ))) (before : ℕ) (rows : List Lem
         let same : h.stop_at ≡ k.stop_at = stops_once (gs ++ ls) claim scale (plain_rows gs ls rows) least fits h.stop_at k.stop_at h.stops k.stops in
         told_once h.stop_at e f h.told (subst (λ r. Told r f) (sym same) k.told)
 
--- ---- the goal
+-- the goal
 module _ (gs ls : List (List (ℤ × List ℕ))) (before : ℕ) (goal : Lemma) (claim : List (ℤ × List ℕ)) where
   goal_stopped : (e : Refusal) → RefusesGoal gs ls before goal claim e → (IsMemory e → ⊥) → Stopped gs ls before goal.rows claim goal.scale e
   goal_stopped (refusal.Differs word want got) h not = record { stop_at = refusal.Differs word want got; stops = (h.rows, h.difference); told = refl }
@@ -113,7 +113,7 @@ module _ (gs ls : List (List (ℤ × List ℕ))) (before : ℕ) (goal : Lemma) (
       → (e f : Refusal) → RefusesGoal gs ls before goal claim e → RefusesGoal gs ls before goal claim f → (IsMemory e → ⊥) → (IsMemory f → ⊥) → e ≡ f
   goal_once least fits e f h k not not' = stopped_once gs ls before goal.rows claim goal.scale least fits e f (goal_stopped e h not) (goal_stopped f k not')
 
--- ---- one lemma
+-- one lemma
 least_once : (s : ℤ) (p : List (ℤ × List ℕ)) (word word' : List ℕ) (got got' : ℤ) → IsLeastIndivisible s p word got → IsLeastIndivisible s p word' got' → ◌≡◌ {A = ℤ × List ℕ} (got, word) (got', word')
 least_once s [] word word' got got' h k = absurd h
 least_once s (t ∷ p) word word' got got' (inl h) (inl k) = least_once s p word word' got got' h k
@@ -183,7 +183,7 @@ module _ (gs : List (List (ℤ × List ℕ))) where
     pub lemma_once : (e f : Refusal) → RefusesLemma gs ps before l e → RefusesLemma gs ps before l f → (IsMemory e → ⊥) → (IsMemory f → ⊥) → e ≡ f
     lemma_once e f h k not not' = told_is_one (lemma_fails e h not) (lemma_fails f k not') (lemma_told e f)
 
-  -- ---- one lemma after another
+  -- one lemma after another
   lemmas_once : (ps : List (List (ℤ × List ℕ))) (before : ℕ) (lemmas : List Lemma) (e f : Refusal) → RefusesLemmas gs ps before lemmas e → RefusesLemmas gs ps before lemmas f → (IsMemory e → ⊥) → (IsMemory f → ⊥) → e ≡ f
   lemmas_once ps before [] e f h k not not' = absurd h
   lemmas_once ps before (l ∷ lemmas) e f (inl h) (inl k) not not' = lemma_once ps before l e f h k not not'
@@ -191,7 +191,7 @@ module _ (gs : List (List (ℤ × List ℕ))) where
   lemmas_once ps before (l ∷ lemmas) e f (inr h) (inl k) not not' = absurd (not' (short_lemma gs ps before l h.0 f k))
   lemmas_once ps before (l ∷ lemmas) e f (inr h) (inr k) not not' = lemmas_once (ps ++ lemma_polynomial gs ps l ∷ []) (before + length l.rows) lemmas e f h.1 k.1 not not'
 
--- ---- the first scale that doesn't divide
+-- the first scale that doesn't divide
 pub among_first : {X : Type 0} (P : X → Type 0) (items : List X) (n i : ℕ) (x : X) → AllByRecursion P (take n items) → i < n → slice_get items i ≡ Some x → P x
 among_first P [] n i x each below there = let within = slice_get_within [] i x there in absurd (omega arith)
 among_first P (y ∷ items) zero i x each below there = absurd (omega arith)
@@ -224,7 +224,7 @@ module _ (c : LemmaCertificate) where
   loose_once n m (inr h) (inl k) = absurd (not_tight m k h.lemmas.each)
   loose_once n m (inr h) (inr k) = h.numbered ∙ sym k.numbered
 
--- ---- the tests of a certificate with lemmas
+-- the tests of a certificate with lemmas
 module _ (claims gs : List (List (ℤ × List ℕ))) (c : LemmaCertificate) where
   -- the rows of the goal pass, and their sum is its scale times the claim
   record GoalPasses : Type 0 where
@@ -322,7 +322,7 @@ module _ (claims gs : List (List (ℤ × List ℕ))) (c : LemmaCertificate) wher
   certificate_once : (e f : Refusal) → RefusesLemmaCertificate claims gs c e → RefusesLemmaCertificate claims gs c f → (IsMemory e → ⊥) → (IsMemory f → ⊥) → e ≡ f
   certificate_once e f h k not not' = told_is_one (fails_first e h not) (fails_first f k not') (told_first e f)
 
--- ---- evidence of either format
+-- evidence of either format
 pub evidence_refusal_is_unique : EvidenceRefusalIsUnique
 evidence_refusal_is_unique claims gs (Plain c) e f h k not not' = refusal_is_unique claims gs c e f h k not not'
 evidence_refusal_is_unique claims gs (Lemmas c) e f h k not not' = certificate_once claims gs c e f h k not not'

@@ -25,8 +25,6 @@ use Rattle.cofactor_checker.specs.declared.refusal.Refusal.{Refusal}
 use Rattle.cofactor_checker.specs.declared.refusal.Refusal.TheVariants as refusal
 use Rattle.cofactor_checker.specs.Laws.{EachCertificateIsJudged}
 
--- ---- where two polynomials differ first
-
 -- the coefficient at a word is zero, or the word is one of the terms'
 at_term : (Q : List ℕ → Type 0) (p : List (ℤ × List ℕ)) (w : List ℕ) → AllByRecursion (λ t. Q t.1) p → (coefficient_of p w ≡ pos 0) ⊎ Q w
 at_term Q [] w all = inl refl
@@ -117,8 +115,7 @@ numbered_or count number = by (cases_lt 0 number) (cases_lt count number)
     by (inl some) (inl past) = inr (λ is. let most = is.most in omega arith)
     by (inl some) (inr within) = inl (record { least = omega arith; most = within })
 
--- ---- the tests one after another
-
+-- the tests one after another
 module _ (claims generators : List (List (ℤ × List ℕ))) (c : Certificate) where
   abbrev IsJudged : Type 0
   IsJudged = Accepts claims generators c ⊎ ((r : Refusal) × Refuses claims generators c r × (IsMemory r → ⊥))

@@ -70,8 +70,6 @@ module _ (q : Quiver) where
   path_over u v [] is = refl
   path_over u v (a ∷ w) is = leads_over u v (a ∷ w) is
 
-  -- ---- what stays over the letters
-
   -- a word with a coefficient is over the letters
   over_where : (p : List (ℤ × List ℕ)) → Stays p → (w : List ℕ) → coefficient_of p w ≢ pos 0 → is_over w ≡ true
   over_where p stays w there = go (is_over w) refl
@@ -113,8 +111,6 @@ module _ (q : Quiver) where
   at_stays ps zero all = λ x past. refl
   at_stays ps (suc n) all = get_stays ps n all
 
-  -- ---- rows
-
   -- the words of each row are over the letters
   abbrev pub AreOver : List Row → Type 0
   AreOver rows = AllByRecursion (λ r. (is_over r.left ≡ true) × (is_over r.right ≡ true)) rows
@@ -134,8 +130,6 @@ module _ (q : Quiver) where
       go : (b : Bool) → is_over word ≡ b → b ≡ true
       go true is = refl
       go false is = absurd (differ (sym wanted ∙ multiple_stays k claim claim_stays word is ∙ sym (stays word is) ∙ found))
-
-  -- ---- lemmas
 
   -- the words of each of its rows are over the letters
   abbrev pub IsLemmaOver : Lemma → Type 0
@@ -193,8 +187,7 @@ module _ (q : Quiver) where
     indivisible_is_over before rows (l ∷ lemmas) lemma word got earlier over (inr later) =
         indivisible_is_over (before ++ lemma_polynomial generators before l ∷ []) _ lemmas lemma word got (with_lemma before l earlier over.0) over.1 later.1
 
--- ---- over a problem
-
+-- over a problem
 module _ (problem : Problem) where
   abbrev pub drawn : Quiver
   drawn = quiver_of problem.parts.quiver

@@ -22,7 +22,7 @@ use Rattle.cofactor_checker.specs.declared.refusal.Refusal.{Refusal}
 use Rattle.cofactor_checker.specs.declared.refusal.Refusal.TheVariants as refusal
 use Rattle.cofactor_checker.proofs.Tests.{Before, Fails, told_is_one}
 
--- ---- the tests of a row
+-- the tests of a row
 abbrev RowTest : List (List (ℤ × List ℕ)) → List Row → ℕ → Row → ℕ → Type 0
 RowTest generators rows i r zero = IsNumberUpTo (length generators) r.generator
 RowTest generators rows i r (suc zero) = first_overflow (row_operations generators rows i r) ≡ None
@@ -97,7 +97,7 @@ module _ (generators : List (List (ℤ × List ℕ))) (rows : List Row) where
           here : Fails (RowTest generators rows h.index h.row) (RowTells generators rows h.index h.row) f
           here = subst₂ (λ i r. Fails (RowTest generators rows i r) (RowTells generators rows i r) f) (sym same) one_row k.failed
 
--- ---- the tests of a certificate
+-- the tests of a certificate
 module _ (claims generators : List (List (ℤ × List ℕ))) (c : Certificate) where
   abbrev Test : ℕ → Type 0
   Test zero = IsNumberUpTo (length claims) c.claim

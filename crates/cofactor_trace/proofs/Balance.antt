@@ -25,7 +25,7 @@ use Rattle.cofactor_trace.proofs.RecordLaws.{primitive_is}
 use Rattle.cofactor_trace.proofs.Between.{between-same, between-multiple}
 use Rattle.cofactor_trace.proofs.Values.{value, value-sum, value-append, value-gathered, value-joined}
 
--- ---- integers
+-- integers
 cancel : (d a b : ℤ) → pos 0 <ℤ d → d *ℤ a ≡ d *ℤ b → a ≡ b
 cancel (pos zero) a b positive e = absurd (omega (arith, ints))
 cancel (negsuc n) a b positive e = absurd (omega (arith, ints))
@@ -45,7 +45,7 @@ regroup a s d x l e =
     ∙ ap (λ z. a *ℤ z) (sym (*ℤ_assoc s d x) ∙ ap (λ z. z *ℤ x) (*ℤ_comm s d ∙ e))
     ∙ sym (*ℤ_assoc a l x) ∙ ap (λ z. z *ℤ x) (*ℤ_comm a l) ∙ *ℤ_assoc l a x
 
--- ---- one record
+-- one record
 module _ (generators rules : List (List (ℤ × List ℕ))) (known : Known) where
   -- what is known of a generator or a rule is a combination of it
   abbrev pub IsKnown : Origin → Type 0

@@ -20,7 +20,7 @@ or_right false b h = h
 pub or_left : (a b : Bool) → a ≡ true → a || b ≡ true
 or_left a b h = ap (λ x. x || b) h
 
--- ---- what rows name
+-- what rows name
 abbrev pub names : ℕ → List Row → Bool
 names n rows = list_any (λ r. is_rule n r.from) rows
 
@@ -39,7 +39,7 @@ named_first count n (r ∷ rows) h e = go (or_cases (is_rule n r.from) (names n 
 pub record_names : (count n : ℕ) (m : Made) → IsRecord count m → names n m.rows ≡ true → (1 ≤ n) × (n ≤ count)
 record_names count n m h e = named_first count n m.rows (recursion_from_All (λ (r : Row). IsAmongFirst count r.from) m.rows h.earlier) e
 
--- ---- records one after another
+-- records one after another
 abbrev pub RecordsFrom : ℕ → List Made → Type 0
 RecordsFrom place [] = Unit {0}
 RecordsFrom place (m ∷ made) = IsRecord place m × RecordsFrom (suc place) made
@@ -132,7 +132,7 @@ module _ (target : Made) where
       go (inl e) = record_names (length made) n target is_record e
       go (inr e) = let range = named_in_range 0 made records n e in (range.0, omega (arith, range.1))
 
-  -- ---- in ascending order
+  -- in ascending order
   abbrev pub Above : ℕ → List Numbered → Type 0
   Above place [] = Unit {0}
   Above place (e ∷ rest) = (place < e.0) × Above e.0 rest

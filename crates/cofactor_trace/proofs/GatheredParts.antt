@@ -88,7 +88,7 @@ module _ (claim : ℕ) (made : List Made) (target : Made) where
   pub lemma_record_each : (P : Made → Type 0) → All P made → AllByRecursion P (lemma_records made target)
   lemma_record_each P h = lemmas_each P (needed_rules made target) (needed_each P 1 made (recursion_from_All P made h))
 
--- ---- sizes
+-- sizes
 below : (limit n : ℕ) → nat_lt limit n ≡ false → n ≤ limit
 below limit n e = grind (arith, nat_tests)
 
@@ -125,7 +125,7 @@ lemmas_have_rows claim made target c rows ends =
     subst (λ (x : LemmaCertificate). All (λ (l : Lemma). 1 ≤ length l.rows) x.lemmas × (length x.lemmas ≤ 200000)) p.is
     (All-from_recursion (λ (l : Lemma). 1 ≤ length l.rows) (lemmas claim made target) each, omega (arith, no_more (lemmas claim made target) each, few, all))
 
--- ---- numbers
+-- numbers
 fits_or : (o : Overflow) (os : List Overflow) → first_overflow (o ∷ os) ≡ None → IsCoefficient (exact_value o) × (first_overflow os ≡ None)
 fits_or o os h = go (is_coefficient (exact_value o)) refl h
   where
@@ -163,7 +163,7 @@ gatherings_are_ranged claim made target c records is_record ends =
     rows_in naming [] h = tt
     rows_in naming (r ∷ rows) h = (signed_in_range (naming r.from).negative r.coef h.0, rows_in naming rows h.1)
 
--- ---- words
+-- words
 pub words_are_kept : WordsAreKept
 words_are_kept test claim made target c rules at_target ends =
     let p = parts claim made target c ends in

@@ -17,7 +17,7 @@ all_append : {X : Type 0} (P : X → Type 0) (xs ys : List X) → AllByRecursion
 all_append P [] ys h k = k
 all_append P (x ∷ xs) ys h k = (h.0, all_append P xs ys h.1 k)
 
--- ---- each multiple
+-- each multiple
 module _ (P : Multiple → Type 0) where
   abbrev pub Each : List CertRow → Type 0
   Each rows = AllByRecursion (λ r. P (multiple_of r)) rows
@@ -45,7 +45,7 @@ module _ (P : Multiple → Type 0) where
   pub each_primitive : (d : ℤ) (rows : List CertRow) → Each rows → Each (primitive d (gathered rows)).rows
   each_primitive d rows h = each_divided (content_of d (gathered rows)) (gathered rows) (each_of rows (multiples_of rows) (each_multiple rows [] tt h))
 
--- ---- sums over multiples
+-- sums over multiples
 module _ (f : Multiple → ℕ) where
   abbrev pub sum_of : List CertRow → ℕ
   sum_of rows = sum_by (λ r. f (multiple_of r)) rows

@@ -120,7 +120,7 @@ module _ (generators rules : List (List (ℤ × List ℕ))) where
         → Traces generators rules m p → AddsUpTo generators (polys done) (lemma_of (naming_of made target) m) p
     adds_up done rest all m p known traced = record { at = λ w. rows_same done rest all w m.rows known ∙ traced.at w }
 
-    -- ---- one lemma after another
+    -- one lemma after another
     lemmas_add_up : (done rest : List Numbered) → done ++ rest ≡ lemma_rules made target
         → AllByRecursion (λ e. (1 ≤ e.0) × (slice_get made (e.0 - 1) ≡ Some e.1) × NamesNeeded made target records is_record e.1) rest
         → AreOfLemmas generators (polys done) (map (lemma_of (naming_of made target)) (map (λ e. e.1) rest)) (polys rest)
@@ -135,7 +135,7 @@ module _ (generators rules : List (List (ℤ × List ℕ))) where
           subst (λ before. AreOfLemmas generators before (map (lemma_of (naming_of made target)) (map (λ (n : Numbered). n.1) rest)) (polys rest)) (map-append (λ (n : Numbered). generator_at rules n.0) done (e ∷ [])) later,
         )
 
--- ---- the scales
+-- the scales
 shares : (d : ℤ) (ls : List Lemma) → AllByRecursion (λ l. pos 0 <ℤ l.scale) ls → AllByRecursion (λ s. unsigned_abs s ∣ unsigned_abs d) (map (λ l. l.scale) ls) → AllByRecursion (IsShareOf d) ls
 shares d [] positive divide = tt
 shares d (l ∷ ls) positive divide = ((positive.0, divide.0), shares d ls positive.1 divide.1)

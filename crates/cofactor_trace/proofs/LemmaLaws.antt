@@ -17,7 +17,7 @@ use Rattle.cofactor_trace.proofs.Closure.{or_cases, or_left, or_right, names, re
 use Rattle.cofactor_trace.proofs.NeededLaws.{records_of}
 use Rattle.cofactor_trace.proofs.LemmaLimits.{limit_of-extended}
 
--- ---- what rows name is needed
+-- what rows name is needed
 module _ (made : List Made) (target : Made) (records : AreRecords made) (is_record : IsRecord (length made) target) where
   -- the rows name needed rules alone
   abbrev pub NamesNeeded : Made → Type 0
@@ -51,7 +51,7 @@ module _ (made : List Made) (target : Made) (records : AreRecords made) (is_reco
   pub lemmas_name : AllByRecursion NamesNeeded (lemma_records made target)
   lemmas_name = lemmas_among (needed_rules made target) needed_name
 
-  -- ---- the table says what stands in place of what they name
+  -- the table says what stands in place of what they name
   module _ (table : List Replacement) (named : NamesRules made target table) where
     found : (es : List Numbered) → AllByRecursion (λ e. named_in table (origin.Rule e.0) ≡ naming_of made target (origin.Rule e.0)) es → (n : ℕ) → is_numbered n es ≡ true
         → named_in table (origin.Rule n) ≡ naming_of made target (origin.Rule n)
@@ -84,7 +84,7 @@ module _ (made : List Made) (target : Made) (records : AreRecords made) (is_reco
     same_lemmas [] h = refl
     same_lemmas (m ∷ ms) h = ap₂ ◌∷◌ (same_lemma m h.0) (same_lemmas ms h.1)
 
-    -- ---- the certificate
+    -- the certificate
     abbrev scales : List Made → List ℤ
     scales = map (λ m. m.scale)
 

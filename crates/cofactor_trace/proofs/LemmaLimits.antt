@@ -46,7 +46,7 @@ module _ (naming : Naming) where
       let more = sum_by-cons (λ (l : Lemma). letters_in l.rows) (lemma_of naming m) (lemmas_of ms) in
       omega (arith, here, rest, more)
 
-  -- ---- the limits
+  -- the limits
   limits : Bool → Bool → Option GatherFault
   limits rows letters = if rows then Some (fault.Rows false) else (if letters then Some (fault.Rows true) else None)
 

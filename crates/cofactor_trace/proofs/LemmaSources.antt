@@ -16,7 +16,6 @@ use Rattle.cofactor_trace.proofs.Closure.{or_cases, or_left, or_right, names, re
 use Rattle.cofactor_trace.proofs.NeededLaws.{AreNumbered, numbered_from}
 use Rattle.cofactor_trace.proofs.LemmaLaws.{NamesNeeded, needed_name}
 
--- ---- direct rules
 -- a generator or its negative, as a record
 pub record IsDirect (m : Made) (x : Replacement) : Type 0 where
   pub generator : ℕ
@@ -76,7 +75,7 @@ direct_is m x h = go (int_eq m.scale (pos 1)) refl h
     go true one e = single_is m.rows x e m (int_is m.scale (pos 1) one) refl
     go false other e = absurd (cc)
 
--- ---- the place of a rule among the lemmas
+-- the place of a rule among the lemmas
 pub number_positive : (n : ℕ) (es : List Numbered) → 1 ≤ lemma_number n es
 number_positive n [] = omega arith
 number_positive n (e ∷ es) = go (nat_eq n e.0)
@@ -95,7 +94,7 @@ number_within n (e ∷ done) rest h = go (nat_eq n e.0) refl (number_within n do
         let there : is_numbered n done ≡ true = sym (ap (λ b. b || is_numbered n done) other) ∙ h in
         omega (arith, later there)
 
--- ---- ascending lists of rules
+-- ascending lists of rules
 module _ (target : Made) where
   above_filtered : (p : Numbered → Bool) (place : ℕ) (es : List Numbered) → Above target place es → Above target place (filter p es)
   above_filtered p place [] above = tt
@@ -119,7 +118,7 @@ module _ (target : Made) where
       go (inr there) later = or_right (nat_eq n d.0) (is_numbered n done) (later there)
 
 module _ (made : List Made) (target : Made) (records : AreRecords made) (is_record : IsRecord (length made) target) where
-  -- ---- what is known of a needed rule
+  -- what is known of a needed rule
   record HasRecord (n : ℕ) (es : List Numbered) : Type 0 where
     m : Made
     positive : 1 ≤ n
@@ -150,7 +149,6 @@ module _ (made : List Made) (target : Made) (records : AreRecords made) (is_reco
           let r = later listed in
           record { m = r.m; positive = r.positive; item = r.item; kept = λ lemma. there (r.kept lemma) (is_lemma e.1) }
 
-  -- ---- the lemmas before one
   -- what a row names is needed, and a lemma that it names stands before
   abbrev pub IsKnown : List Numbered → Origin → Type 0
   IsKnown done o = (n : ℕ) → is_rule n o ≡ true → (is_numbered n (needed_rules made target) ≡ true) × (is_numbered n (lemma_rules made target) ≡ true → is_numbered n done ≡ true)
@@ -204,7 +202,7 @@ module _ (made : List Made) (target : Made) (records : AreRecords made) (is_reco
   pub target_knows : NamesNeeded made target records is_record target → AllByRecursion (λ r. IsKnown (lemma_rules made target) r.from) target.rows
   target_knows needed = each_known (lemma_rules made target) target.rows (λ n named. (needed n named, λ listed. listed))
 
-  -- ---- the records of the lemmas
+  -- the records of the lemmas
   abbrev pub IsEntry : Numbered → Type 0
   IsEntry e = (1 ≤ e.0) × (slice_get made (e.0 - 1) ≡ Some e.1) × NamesNeeded made target records is_record e.1
 

@@ -19,7 +19,7 @@ use Rattle.cofactor_trace.specs.Laws.{IsWithinLimits, ExpansionsFit}
 use Rattle.cofactor_trace.proofs.RecordLaws.{primitive_is}
 use Rattle.cofactor_trace.proofs.Kept.{Each, each_primitive, sum-primitive}
 
--- ---- the limits
+-- the limits
 abbrev IsShort : Multiple → Type 0
 IsShort m = (length m.left ≤ 500) × (length m.right ≤ 500)
 

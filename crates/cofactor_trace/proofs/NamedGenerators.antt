@@ -39,7 +39,7 @@ module _ (count : ℕ) where
       each_append IsOver (joined_rows known common r) (joined known common rows)
       (joined_over (r.coef *ℤ share known common r) r (known r.from).rows h.0) (all_over known common rows h.1)
 
-  -- ---- the list of expansions
+  -- the list of expansions
   abbrev EachOver : Expansions → Type 0
   EachOver expansions = AllByRecursion (λ e. AreOver e.1.rows) expansions
 

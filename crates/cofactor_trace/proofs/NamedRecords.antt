@@ -24,7 +24,7 @@ module _ (xs : List (Bor Made)) (i : ℕ) (x : Bor Made) (inside : i < length xs
   pub records_next : records (drop i xs) ≡ x.now ∷ records (drop (i + 1) xs)
   records_next = ap records (drop_next xs i x inside item)
 
-  -- ---- the common multiple of scales, with one more
+  -- the common multiple of scales, with one more
   module _ (goal : Made) (common : ℤ) where
     abbrev rest : ℕ → List ℤ
     rest k = map (λ m. m.scale) (records (drop k xs) ++ goal ∷ [])

@@ -16,7 +16,7 @@ use Rattle.cofactor_trace.specs.Naming.{named_in, NamesRules}
 use Rattle.cofactor_trace.proofs.NeededLaws.{AreNumbered, numbered_from, among_more}
 use Rattle.cofactor_trace.proofs.Closure.{Above, needed_ascend}
 
--- ---- the place of a rule among others
+-- the place of a rule among others
 abbrev pub AreBelow : ℕ → List Numbered → Type 0
 AreBelow number = AllByRecursion (λ e. (1 ≤ e.0) × (e.0 < number))
 
@@ -51,7 +51,7 @@ fewer p (x ∷ xs) = go (p x) (fewer p xs)
     go true rest = omega (arith, rest)
     go false rest = omega (arith, rest)
 
--- ---- rules in ascending order
+-- rules in ascending order
 module _ (made : List Made) (target : Made) where
   above_first : (place : ℕ) (done : List Numbered) (e : Numbered) (rest : List Numbered) → Above target place (done ++ e ∷ rest) → (place + length done < e.0) × AreBelow e.0 done
   above_first place [] e rest above = (omega (arith, above.0), tt)
@@ -59,7 +59,7 @@ module _ (made : List Made) (target : Made) where
       let later = above_first d.0 done e rest above.1 in
       (omega (arith, above.0, later.0), ((omega (arith, above.0), omega (arith, later.0)), later.1))
 
-  -- ---- the table
+  -- the table
   abbrev pub AreNamed : List Replacement → List Numbered → Type 0
   AreNamed table = AllByRecursion (λ e. named_in table (origin.Rule e.0) ≡ naming_of made target (origin.Rule e.0))
 
@@ -228,7 +228,7 @@ module _ (made : List Made) (target : Made) where
   pub all_found : (numbers : List ℕ) (table : List Replacement) (lemmas : List Made) → numbers ≡ [] → IsUnderWay numbers table lemmas → lemmas ≡ map (λ e. e.1) (lemma_rules made target)
   all_found numbers table lemmas e u = u.lemmas_are ∙ ap (λ l. map (λ (n : Numbered). n.1) (filter (λ (n : Numbered). is_lemma n.1) l)) (finished numbers table lemmas e u)
 
-  -- ---- the lemmas' records
+  -- the lemmas' records
   wider : (few many : ℕ) (m : Made) → few ≤ many → IsRecord few m → IsRecord many m
   wider few many m more h = record {
     positive = h.positive;

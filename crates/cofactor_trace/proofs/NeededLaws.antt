@@ -27,7 +27,6 @@ named_with n target m rest = go (list_any (λ r. is_rule n r.from) target.rows) 
     go false false true = refl
     go false false false = refl
 
--- ---- from the last rule to the first
 -- the needed rules behind a place
 abbrev pub needed_behind : Made → List Made → ℕ → List Numbered
 needed_behind target made place = needed_from target (suc place) (drop place made)
@@ -94,7 +93,6 @@ module _ (made : List Made) (target : Made) where
             found = reverse-append numbers ((place + 1) ∷ []) ∙ ap (λ l. (place + 1) ∷ l) marked.found ∙ ap (map (λ e. e.0)) (sym more);
           }
 
--- ---- from the first rule to the last
 -- each number comes with the record of its rule
 abbrev pub AreNumbered : List Made → List Numbered → Type 0
 AreNumbered made = AllByRecursion (λ e. (1 ≤ e.0) × (slice_get made (e.0 - 1) ≡ Some e.1))

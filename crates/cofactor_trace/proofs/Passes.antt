@@ -26,7 +26,6 @@ use Rattle.cofactor_trace.proofs.Between.{between-nothing}
 use Rattle.cofactor_trace.proofs.Closure.{or_cases, or_left, or_right, names, record_names, records_from, is_numbered, named_is_needed, Above, needed_ascend, numbered_above}
 use Rattle.cofactor_trace.proofs.NeededLaws.{records_of, AreNumbered, numbered_from}
 
--- ---- the list of expansions
 -- whether the rule is listed
 abbrev is_key : ℕ → Expansions → Bool
 is_key n entries = list_any (λ e. is_eq (nat_cmp n e.0)) entries
@@ -73,7 +72,7 @@ module _ (P : ℕ × Cofactors → Type 0) where
       go Equal same listed rest = let number : e.0 ≡ n = sym (ranked n e.0 Equal (sym same)) in subst (λ k. P (k, e.1)) number each.0
       go Greater same listed rest = rest listed
 
--- ---- one expansion after another
+-- one expansion after another
 module _ (generators rules : List (List (ℤ × List ℕ))) (target : Made) (p : List Term) where
   -- an expansion of the rule with the number
   abbrev IsExpansion : ℕ × Cofactors → Type 0

@@ -43,7 +43,7 @@ module _ (known : Known) (m : Made) where
   none_before : (rows : List Row) (common : ℤ) → IsCommon rows common → first_overflow first_products ≡ None
   none_before rows common h = overflow-none first_products (ap (λ l. overflow_in (multiple_products (pos 1) (denominators known l))) (sym h.same_rows) ∙ h.products)
 
-  -- ---- the denominator
+  -- the denominator
   pub at_common : (rows : List Row) (e : ExpandFault) → rows ≡ m.rows → IsFirst (overflow_in (multiple_products (pos 1) (denominators known rows))) e → Explains (record_expansion known m) e
   at_common rows e same h =
       explains-first (overflow_in (denominator_products known m)) _ e
@@ -63,7 +63,6 @@ module _ (known : Known) (m : Made) where
       let fits : IsCoefficient (m.scale *ℤ whole) = subst (λ z. IsCoefficient (m.scale *ℤ z)) (common_is rows common h.found) h.fits in
       ap (option_map fault.Overflow) (first-behind first_products (product_of m.scale whole ∷ []) (none_before rows common h.found) ∙ first-fits (product_of m.scale whole) [] fits)
 
-  -- ---- the limits and the rows
   -- what is said of the rows that are found is said of the record
   here : (rows : List Row) (common : ℤ) → Begins rows common → (P : ℤ → List Row → Type 0) → P common rows → P whole m.rows
   here rows common h P p = subst (λ l. P whole l) h.found.same_rows (subst (λ z. P z rows) (common_is rows common h.found) p)
@@ -90,7 +89,7 @@ module _ (known : Known) (m : Made) where
       (is_first-append (joined_products known whole m.rows) (sums_of_gathering (joined known whole m.rows)) e
       (here rows common h (λ z l. IsFirst (overflow_in (joined_products known z l)) e) stopped))
 
-  -- ---- the end
+  -- the end
   pub record AddsUp (rows : List Row) (common : ℤ) (entries : Entries) : Type 0 where
     pub begins : Begins rows common
     pub short : limit_fault (joined known common rows) ≡ None

@@ -22,7 +22,7 @@ or_later : (a b c : Bool) → (a || b) || c ≡ a || (b || c)
 or_later true b c = refl
 or_later false b c = refl
 
--- ---- what is measured of rows, from any size on
+-- what is measured of rows, from any size on
 long_is : (size : Size) (rows : List CertRow) → (measured_all size rows).long ≡ size.long || has_long_word rows
 long_is size [] = or_nothing size.long
 long_is size (r ∷ rows) = long_is (measured size r) rows ∙ or_later size.long (nat_lt 500 (length r.left) || nat_lt 500 (length r.right)) (has_long_word rows)
@@ -40,7 +40,7 @@ letters_is size (r ∷ rows) h =
     let more : letter_count (r ∷ rows) ≡ (length r.left + length r.right) + letter_count rows = sum_by-cons (λ (x : CertRow). length x.left + length x.right) r rows in
     omega arith
 
--- ---- the limits
+-- the limits
 limits : Bool → Bool → Bool → Option ExpandFault
 limits long rows letters = if long then Some fault.Size else (if rows then Some (fault.Rows false) else (if letters then Some (fault.Rows true) else None))
 

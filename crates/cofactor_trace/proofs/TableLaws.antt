@@ -32,7 +32,7 @@ added-in_range (Ok so_far) c = go (is_coefficient (so_far +ℤ c)) refl
     go true e = grind (arith, nat_tests)
     go false e = tt
 
--- ---- sums
+-- sums
 abbrev pub sum_from : Sum → List ℤ → Sum
 sum_from = fold added
 
@@ -58,7 +58,7 @@ sum_from-running z (c ∷ cs) = go (is_coefficient (z +ℤ c)) (sum_from-running
 abbrev pub sums_at : (Multiple → Sum) → List Multiple → Entries
 sums_at f ms = map (λ m. (m, f m)) ms
 
--- ---- what the entries give
+-- what the entries give
 module _ (coefficients : Multiple → List ℤ) where
   total : Multiple → ℤ
   total m = fold ◌+ℤ◌ (pos 0) (coefficients m)
@@ -80,7 +80,6 @@ module _ (coefficients : Multiple → List ℤ) where
       both None (Some o) z rows = refl
       both None None z rows = refl
 
--- ---- one row more
 -- whether the multiple is one of them
 abbrev pub is_among : List Multiple → Multiple → Bool
 is_among ms m = list_any (is_at (multiple_cmp m)) ms
@@ -113,7 +112,7 @@ sum_in-sums f (k ∷ ks) m = go (multiple_cmp m k) refl (sum_in-sums f ks m)
     go Equal e h = ap f (sym (equal m k e))
     go Greater e h = h
 
--- ---- ascending lists of multiples
+-- ascending lists of multiples
 pub all_inserted : (P : Multiple → Type 0) (ms : List Multiple) (m : Multiple) → AllByRecursion P ms → P m → AllByRecursion P (insert_key multiple_cmp ms m)
 all_inserted P [] m h p = (p, tt)
 all_inserted P (k ∷ ks) m h p = go (multiple_cmp m k) (all_inserted P ks m h.1 p)
@@ -145,7 +144,6 @@ pub sorted-multiples : (rows : List CertRow) → IsStrictlySortedBy multiple_cmp
 unfolding IsStrictlySortedBy
 sorted-multiples rows = sorted_all [] (map multiple_of rows) tt
 
--- ---- an entry more
 -- sums that differ at one multiple alone are the same above it
 same_above : (f g : Multiple → Sum) (m : Multiple) (ms : List Multiple) → ((k : Multiple) → is_eq (multiple_cmp m k) ≡ false → g k ≡ f k) → AllByRecursion (λ q. multiple_cmp m q ≡ Less) ms → sums_at f ms ≡ sums_at g ms
 same_above f g m [] other h = refl
@@ -166,7 +164,7 @@ inserted f g m (k ∷ ks) h other = go (multiple_cmp m k) refl (inserted f g m k
         ap₂ (λ s es. (k, s) ∷ es) (ap g same) (same_above f g m ks other (subst (λ x. AllByRecursion (λ q. multiple_cmp x q ≡ Less) ks) (sym same) h.0))
     go Greater e rest = ap₂ (λ s es. (k, s) ∷ es) (sym (other k (ap is_eq e))) rest
 
--- ---- which multiples are listed
+-- which multiples are listed
 or_swap : (a b c : Bool) → a || (b || c) ≡ b || (a || c)
 or_swap true true c = refl
 or_swap true false c = refl
@@ -214,7 +212,7 @@ none_listed q (r ∷ rows) h = go (is_eq (multiple_cmp q (multiple_of r))) h (no
     go true e later = absurd (cc)
     go false e later = later e
 
--- ---- one row more
+-- one row more
 coefficients_more : (q : Multiple) (done : List CertRow) (r : CertRow) → coefficients_at q (done ++ r ∷ []) ≡ coefficients_at q done ++ cond (is_eq (multiple_cmp q (multiple_of r))) (r.coef ∷ []) []
 coefficients_more q [] r = go (is_eq (multiple_cmp q (multiple_of r)))
   where

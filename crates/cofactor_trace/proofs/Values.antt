@@ -42,7 +42,7 @@ module _ (generators : List (List (ℤ × List ℕ))) (w : List ℕ) where
   value-append [] ys = sym (+ℤ_idl (value ys))
   value-append (r ∷ xs) ys = ap (λ z. r.coef *ℤ weight (multiple_of r) +ℤ z) (value-append xs ys) ∙ sym (+ℤ_assoc (r.coef *ℤ weight (multiple_of r)) (value xs) (value ys))
 
-  -- ---- gathering
+  -- gathering
   value-kept : (c : ℤ) (m : Multiple) → value (kept_row c m) ≡ c *ℤ weight m
   value-kept (pos zero) m = sym (zero-*ℤ (weight m))
   value-kept (pos (suc n)) m = +ℤ_idr (pos (suc n) *ℤ weight m)
@@ -146,7 +146,7 @@ module _ (generators : List (List (ℤ × List ℕ))) (w : List ℕ) where
   pub value-gathered : (rows : List CertRow) → value (gathered rows) ≡ value rows
   value-gathered rows = value-totals rows (multiples_of rows) ∙ totals-all rows (multiples_of rows) (sorted-multiples rows) (all_listed [] rows)
 
-  -- ---- rows between the words of another
+  -- rows between the words of another
   pub value-joined : (k : ℤ) (outer : Row) (inner : List CertRow) → value (map (joined_row k outer) inner) ≡ k *ℤ coefficient_of (poly_between outer.left (row_sum generators (rows_of inner)) outer.right) w
   value-joined k outer [] = sym (*ℤ-zero k)
   value-joined k outer (s ∷ inner) =

@@ -21,7 +21,6 @@ use Rattle.cofactor_trace.specs.Limits.{row_limit, letter_limit}
 abbrev pub Known : Type 0
 Known = Origin → Cofactors
 
--- ---- the denominator
 -- the least common multiple of two integers: x times (y divided by the greatest common divisor)
 abbrev pub lcm_of : ℤ → ℤ → ℤ
 lcm_of x y = x *ℤ int_div y (gcd_of x y)
@@ -46,7 +45,6 @@ common_denominator known rows = common_multiple (pos 1) (denominators known rows
 abbrev pub denominator_products : Known → Made → List Overflow
 denominator_products known m = multiple_products (pos 1) (denominators known m.rows) ++ product_of m.scale (common_denominator known m.rows) ∷ []
 
--- ---- the rows
 -- L divided by the denominator of what the row names
 abbrev pub share : Known → ℤ → Row → ℤ
 share known common r = int_div common (known r.from).denominator
@@ -71,7 +69,6 @@ joined known common rows = flat_map (joined_rows known common) rows
 abbrev pub joined_products : Known → ℤ → List Row → List Overflow
 joined_products known common rows = flat_map (row_products known common) rows
 
--- ---- the limits
 -- whether a word has more than 500 letters
 abbrev pub has_long_word : List CertRow → Bool
 has_long_word rows = list_any (λ r. nat_lt word_limit (length r.left) || nat_lt word_limit (length r.right)) rows
@@ -86,7 +83,6 @@ limit_fault rows = if has_long_word rows then Some fault.Size
     else (if nat_lt row_limit (length rows) then Some (fault.Rows false)
     else (if nat_lt letter_limit (letter_count rows) then Some (fault.Rows true) else None))
 
--- ---- the result
 -- the greatest common divisor of the denominator and the coefficients
 abbrev pub content_of : ℤ → List CertRow → ℤ
 content_of denominator rows = fold gcd_of denominator (map (λ r. r.coef) rows)

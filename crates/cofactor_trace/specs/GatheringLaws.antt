@@ -19,7 +19,6 @@ use Rattle.cofactor_trace.specs.Limits.{row_limit, letter_limit}
 abbrev pub parts_of : LemmaCertificate → List Lemma
 parts_of c = c.lemmas ++ c.goal ∷ []
 
--- ---- sums
 -- the rules of the lemmas, as polynomials
 abbrev pub lemma_polys : List Poly → List Made → Made → List Poly
 lemma_polys rules made target = map (λ e. generator_at rules e.0) (lemma_rules made target)
@@ -31,7 +30,6 @@ GatheringsAddUp = (generators rules : List Poly) (claim : ℕ) (made : List Made
     → AreRecords made → IsRecord (length made) target → AreTraces generators rules made → Traces generators rules target p
     → gathered_of claim made target ≡ Ok c → IsEvidenceOf generators (lemma_polys rules made target) c p
 
--- ---- sizes
 -- There are at most 200,000 rows and 1,000,000 letters.
 abbrev pub GatheringsFit : Type 0
 GatheringsFit = (claim : ℕ) (made : List Made) (target : Made) (c : LemmaCertificate) → gathered_of claim made target ≡ Ok c
@@ -43,7 +41,6 @@ LemmasHaveRows = (claim : ℕ) (made : List Made) (target : Made) (c : LemmaCert
     → gathered_of claim made target ≡ Ok c
     → All (λ l. 1 ≤ length l.rows) c.lemmas × (length c.lemmas ≤ row_limit)
 
--- ---- numbers and words
 -- the scale and the coefficients of all rows are coefficients
 abbrev pub IsRangedLemma : Lemma → Type 0
 IsRangedLemma l = IsCoefficient l.scale × All (λ r. IsCoefficient r.coef) l.rows
@@ -60,7 +57,6 @@ WordsAreKept = (test : List ℕ → Bool) (claim : ℕ) (made : List Made) (targ
     → All (λ m. All (λ r. IsTrue (test r.left) × IsTrue (test r.right)) m.rows) made → All (λ r. IsTrue (test r.left) × IsTrue (test r.right)) target.rows
     → gathered_of claim made target ≡ Ok c → All (λ l. All (λ r. IsTrue (test r.left) × IsTrue (test r.right)) l.rows) (parts_of c)
 
--- ---- names
 -- one of the first generators, or one of the first lemmas, as many as the counts say
 abbrev pub IsWithin : ℕ → ℕ → CertFrom → Type 0
 IsWithin generators lemmas (cert.Generator n) = (1 ≤ n) × (n ≤ generators)

@@ -21,7 +21,6 @@ use Rattle.cofactor_trace.specs.Expansion.{common_multiple, multiple_products, u
 use Rattle.cofactor_trace.specs.Needed.{Numbered, needed_rules}
 use Rattle.cofactor_trace.specs.Limits.{row_limit, letter_limit}
 
--- ---- direct rules
 -- the generator, or its negative, where the integer is 1 or -1
 abbrev pub signed_generator : ℤ → Origin → Option Replacement
 signed_generator coef (origin.Generator n) =
@@ -39,7 +38,6 @@ single_row (r ∷ (s ∷ rows)) = None
 abbrev pub direct_of : Made → Option Replacement
 direct_of m = if int_eq m.scale (pos 1) then single_row m.rows else None
 
--- ---- lemmas
 -- whether the rule with the record is a lemma where it is needed: it isn't direct
 abbrev pub is_lemma : Made → Bool
 is_lemma m = is_none (direct_of m)
@@ -81,7 +79,6 @@ lemma_row naming r = record { coef = signed (naming r.from).negative r.coef; lef
 abbrev pub lemma_of : Naming → Made → Lemma
 lemma_of naming m = record { scale = m.scale; rows = map (lemma_row naming) m.rows }
 
--- ---- the certificate
 -- how many rows and letters the lemmas have
 abbrev pub row_count : List Lemma → ℕ
 row_count lemmas = sum_by (λ l. length l.rows) lemmas

@@ -13,7 +13,6 @@ use Rattle.cofactor_trace.specs.declared.Cofactors.{Cofactors}
 use Rattle.cofactor_trace.specs.declared.fault.ExpandFault.{ExpandFault}
 use Rattle.cofactor_trace.specs.Expansion.{Known, record_expansion}
 
--- ---- what is asked of records
 -- a generator, or one of the first rules, as many as the count says
 abbrev pub IsAmongFirst : ℕ → Origin → Type 0
 IsAmongFirst count (origin.Generator n) = ⊤
@@ -30,7 +29,6 @@ pub record IsRecord (count : ℕ) (m : Made) : Type 0 where
 pub record AreRecords (made : List Made) : Type 0 where
   pub at : (place : ℕ) (m : Made) → slice_get made place ≡ Some m → IsRecord place m
 
--- ---- the needed rules
 -- whether it is the rule with this number
 abbrev pub is_rule : ℕ → Origin → Bool
 is_rule number (origin.Generator n) = false
@@ -55,7 +53,6 @@ needed_from target number (m ∷ made) =
 abbrev pub needed_rules : List Made → Made → List Numbered
 needed_rules made target = needed_from target 1 made
 
--- ---- their expansions
 -- what rules expand to, by their numbers
 abbrev pub Expansions : Type 0
 Expansions = List (ℕ × Cofactors)

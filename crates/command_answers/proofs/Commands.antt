@@ -47,8 +47,7 @@ owed : (call : Call) (contents : List (List ℕ)) → OwesEnding (OverStatement 
     (λ Object Arrow s ending. SaysOver s call (statement_of call contents) (evidence_of contents) ending)
 owed call contents = call_owes call (statement_of call contents) (evidence_of contents)
 
--- ---- what follows for all calls
-
+-- what follows for all calls
 pub answers_once : AnswersOnce
 answers_once call contents ending ending' answer answer' = (owed call contents).no_other ending ending' answer.1 answer'.1
 
@@ -61,8 +60,6 @@ answers_say {s} laws sound with_lemmas cancelling call contents ending answer = 
 
 pub each_call_has_an_ending : EachCallHasAnEnding
 each_call_has_an_ending call contents as_many = let one = (owed call contents).one in (one.0, (as_many, one.1))
-
--- ---- contents within their limits
 
 -- a statement and a text of evidence within their limits
 pub record AreShort (contents : List (List ℕ)) : Type 0 where

@@ -37,8 +37,7 @@ own statement problem report is (of_refute seed answer) = (answer.verdicts, sear
 plus_zero : (n : ℕ) → n ≡ n + 0
 plus_zero n = omega arith
 
--- ---- certificates
-
+-- certificates
 module _ (problem : Problem) where
   -- the first that is refused
   record IsLimited (number : ℕ) (lines : List ℕ) (status : ℕ) : Type 0 where
@@ -107,8 +106,7 @@ module _ (problem : Problem) where
         let judged = subst (λ (l : List Evidence). JudgesFrom (AcceptsCertificate problem) (RefusesCertificate problem) 1 l ending.report ending.status) same judges in
         by_checks (e ∷ es) ending (checked report 1 (e ∷ es) ending.report ending.status answered judged)
 
-    -- ---- models
-
+    -- models
     of_models : (ms : List Model) → IsReadAsModels problem.parts.quiver report ms → All (Refutes problem) ms → AnswersModelText report problem ending → ConfirmsReport ending
     of_models [] read_as refute answers = ConfirmsReport.none (text_answered_once (models_are_judged problem report) ending no_blocks answers (faulty no_block (read_as.none refl) refl))
     of_models (m ∷ ms) read_as refute answers =
@@ -116,8 +114,7 @@ module _ (problem : Problem) where
         (text_answered_once (models_are_judged problem report) ending (record { status = 0; report = confirmed_lines 1 (m ∷ ms) }) answers
         (passing_answered (models_are_judged problem report) (m ∷ ms) (read_as.some (omega arith)) (recursion_from_All (Refutes problem) (m ∷ ms) refute)))
 
--- ---- what is answered
-
+-- what is answered
 pub reports_are_checked : ReportsAreChecked
 reports_are_checked statement problem report ending is made answers =
     let evidence = own statement problem report is made in

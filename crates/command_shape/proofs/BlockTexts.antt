@@ -31,8 +31,7 @@ pub all_first : {A : Type 0} (P : A → Type 0) (first others : List A) → All 
 all_first P [] others all = All-nil P
 all_first P (x ∷ first) others all = All-cons P x first (All-head P x (first ++ others) all) (all_first P first others (All-tail P x (first ++ others) all))
 
--- ---- lists of bytes
-
+-- lists of bytes
 cancel : (xs ys zs : List ℕ) → xs ++ ys ≡ xs ++ zs → ys ≡ zs
 cancel [] ys zs same = same
 cancel (x ∷ xs) ys zs same = let tail : xs ++ ys ≡ xs ++ zs = cc in cancel xs ys zs tail
@@ -70,8 +69,7 @@ module _ {Block Refusal : Type 0} {passes : Block → Type 0} {shows : Block →
   abbrev pub EndsOver : Ending → Type 0
   EndsOver ending = OverEvidence are_blocks is_first_fault (Judges (AcceptsBlock passes shows) (RefusesBlock is_refused told)) ending
 
-  -- ---- one ending
-
+  -- one ending
   not_both : (b : Block) (text cause : List ℕ) → Accepts b text → Refuses b cause → ⊥
   not_both b text cause one other = kind.no_text other.refusal cause other.says (kind.not_refused b other.refusal one.holds other.fails)
 
@@ -113,8 +111,6 @@ module _ {Block Refusal : Type 0} {passes : Block → Type 0} {shows : Block →
   judge_all number [] = (record { status = 0; report = [] }, (refl, refl))
   judge_all number (b ∷ bs) = judge_one number b bs (judge_all (number + 1) bs) (kind.each_block b)
 
-  -- ---- what is told of blocks that pass
-
   -- blocks that all pass are told so
   passing_judged : (number : ℕ) (bs : List Block) → AllByRecursion passes bs → JudgesFrom Accepts Refuses number bs (lines_on shows number bs) 0
   passing_judged number [] all = (refl, refl)
@@ -127,8 +123,6 @@ module _ {Block Refusal : Type 0} {passes : Block → Type 0} {shows : Block →
       let more = zero_passes (number + 1) bs rest status next is_zero in
       ((holds.holds, more.0), is ∙ (λ i. line (block_text number (holds.says i)) ++ more.1 i))
   zero_passes number (b ∷ bs) lines status (refused cause because is is_seven) is_zero = absurd (omega arith)
-
-  -- ---- what the report begins with
 
   -- no line refuses a block and accepts it
   lines_differ : (number : ℕ) (b : Block) (cause more : List ℕ) → line (refused_text number cause) ≡ line (block_text number (shows b)) ++ more → ⊥
@@ -151,8 +145,6 @@ module _ {Block Refusal : Type 0} {passes : Block → Type 0} {shows : Block →
   first_pass number (b ∷ first) others lines status rest (refused cause because is is_seven) begins =
       let l : List ℕ = line (block_text number (shows b)) in
       absurd (lines_differ number b cause (lines_on shows (number + 1) first ++ rest) (sym is ∙ begins ∙ append_assoc l (lines_on shows (number + 1) first) rest))
-
-  -- ---- what a text leads to
 
   -- it has one ending,
   pub text_answered : (ending : Ending) × EndsOver ending

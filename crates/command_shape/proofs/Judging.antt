@@ -6,7 +6,7 @@ use Rattle.command_shape.specs.Blocks.{block_text, refused_text, accepted, refus
 use Rattle.command_shape.proofs.Places.{drop-at, drop-all}
 
 module _ {Block : Type 0} (accepts refuses : Block → List ℕ → Type 0) where
-  -- ---- the blocks one by one
+  -- the blocks one by one
   module _ (bs : List Block) where
     -- the report so far goes on as the rest of the blocks is judged
     abbrev pub GoesOn : ℕ → List ℕ → Type 0
@@ -30,7 +30,7 @@ module _ {Block : Type 0} (accepts refuses : Block → List ℕ → Type 0) wher
         let rest : JudgesFrom accepts refuses (place + 1) (drop place bs) [] 0 = subst (λ (l : List Block). JudgesFrom accepts refuses (place + 1) l [] 0) (sym (drop-all bs place past)) (refl, refl) in
         subst (λ (l : List ℕ). JudgesFrom accepts refuses 1 bs l 0) (append-nil report) (goes [] 0 rest)
 
-  -- ---- the status
+  -- the status
   pub judged_status : (number : ℕ) (bs : List Block) (lines : List ℕ) (status : ℕ) → JudgesFrom accepts refuses number bs lines status → (status ≡ 0) ⊎ (status ≡ 7)
   judged_status number [] lines status judges = inl judges.1
   judged_status number (b ∷ bs) lines status (accepted text holds rest next is) = judged_status (number + 1) bs rest status next

@@ -9,8 +9,6 @@ use Rattle.command_shape.specs.Ending.{Ending}
 use Rattle.command_shape.specs.Statement.{OverStatement, faulty, stated}
 use Rattle.command_shape.proofs.Statements.{statement_ends, statement_once}
 
--- ---- the status
-
 -- no status that the run gives by itself
 pub record IsOwn (status : ℕ) : Type 0 where
   pub not_usage : status ≢ 2
@@ -37,8 +35,6 @@ own_statement : (statement : List ℕ) (next : Problem → Ending → Type 0) (e
     → OverStatement statement next ending → IsOwn ending.status
 own_statement statement next ending each (faulty text refused ends) = own_three ending.status (ap (λ (e : Ending). e.status) ends)
 own_statement statement next ending each (stated problem is leads) = own_status ending.status (each problem leads)
-
--- ---- what is owed
 
 -- what an ending says in a category
 abbrev pub Sentence : Type 1

@@ -12,8 +12,7 @@ use Rattle.adjoint_rules.specs.Problem.{polynomials, IsPosed, IsClosed}
 use Rattle.adjoint_rules.specs.Props.{props}
 use Rattle.signature_typing.specs.Unique.{AreSame}
 
--- ---- facts that types keep have one proof
-
+-- facts that types keep have one proof
 canonical-prop : (p : List Term) → IsProp (IsCanonical p)
 canonical-prop p = Prim.hlevel std.props
 
@@ -29,8 +28,7 @@ few-prop generators = Prim.hlevel std.props
 counted-prop : (count : ℕ) (parts : Parts) → IsProp (count ≡ length (units_in parts))
 counted-prop count parts = Prim.hlevel std.props
 
--- ---- so what has them is what it says
-
+-- so what has them is what it says
 same_polynomial : (p q : Poly) → p.terms ≡ q.terms → p ≡ q
 same_polynomial p q same =
     subst (λ (terms : List Term). (c : IsCanonical terms) → ◌≡◌ {A = Poly} p (record { terms = terms; canonical = c })) same

@@ -67,8 +67,6 @@ over_problem statement next ending (faulty text refused ends) is_zero =
     let three = ap (λ (e : Ending). e.status) ends in absurd (omega (arith, is_zero))
 over_problem statement next ending (stated problem is leads) is_zero = (problem, is, leads)
 
--- ---- it leads to an ending
-
 -- a fault that isn't want of memory has a text
 fault_text : (f : TypeFault) → (IsMemory f → ⊥) → (text : List ℕ) × (typing_text f ≡ Some text)
 fault_text (typing.Fault code at column left right limit) h = (_, refl)

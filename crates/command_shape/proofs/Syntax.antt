@@ -57,8 +57,6 @@ pub tree_once : (bytes : List ℕ) (statements others : List Statement) → IsTr
 tree_once bytes statements others one other =
     one.2 ∙ is_only bytes (file_tokens one.0) (file_tree one.0) one.1.tokens (ran bytes one.0 one.1) other.0 other.1 ∙ sym other.2
 
--- ---- the first misfit
-
 -- the second split is that of the first, or comes after it
 data Split (front : List Token) (t : Token) (front' : List Token) (t' : Token) : Type 0 where
   same : front ≡ front' → t ≡ t' → Split front t front' t'

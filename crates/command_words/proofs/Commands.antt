@@ -46,8 +46,7 @@ named = (
   record { entry = refl; well = refl; found = refl; name_is = refl },
 )
 
--- ---- the commands of a first word and options
-
+-- the commands of a first word and options
 prove_options : IsOptionCommand (leaf prove_command) (codes "file") parser.String prove_spans (codes "no-models" ∷ [])
 unfolding clap_on_literals
 prove_options = record {
@@ -131,8 +130,7 @@ bench_accepted words x n =
       },
     )
 
--- ---- the commands of a statement and a second file
-
+-- the commands of a statement and a second file
 statement_place : (name : Text) → IsPlaceOf (leaf (pair_command name)).rules (codes "statement") 1 parser.String
 statement_place name = record { by_index = refl; by_id = refl; reading = refl }
 
@@ -191,8 +189,7 @@ pair_accepted name words x call is_named n gives =
     let l = pair_level name x n.statement n.evidence in
     accepted_as name (pair_command name) call is_named n.words_are l.1 (gives l.0 l.2)
 
--- ---- each accepted list
-
+-- each accepted list
 pub accepted : (words : List Text) (call : Call) → Names words call → IsTaken words × MatchesGive (subcommand_of command_set words) call
 accepted words (Prove x) n = prove_accepted words x n
 accepted words (Check x) n = pair_accepted (codes "check") words x (Check x) named.1 n (λ rows g. (refl, g))

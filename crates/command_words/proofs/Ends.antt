@@ -18,8 +18,6 @@ use Rattle.command_words.specs.Accepted.{Given, given_id, option_of}
 use Rattle.command_words.proofs.Steps.{held, between, IsPlainWord, given_row, no_such_row, row_added}
 use Rattle.command_words.proofs.Options.{Goes, row_given, or_nothing, has_row_end}
 
--- ---- a word that has to be given, by its place
-
 -- the word at place k
 abbrev pub place : Text → ℕ → ValueParser → Rule
 place id k q = record (with_index k (filled (required_word id))) { parser = Some q }
@@ -58,8 +56,7 @@ pub place_settles_well : (c : List Rule) (id : Text) (k : ℕ) (q : ValueParser)
     → settle_fault c false (held rows (Some (id, v ∷ []))) ≡ []
 place_settles_well c id k q o rows v none passes = rw (o.by_id, none, passes) refl
 
--- ---- defaults
-
+-- defaults
 abbrev pub row_at : Text → List Row → Option Row
 row_at id rows = find (λ r. bytes_eq r.id id) rows
 
@@ -152,8 +149,7 @@ clean_defaults (a ∷ c) rows clean = or_nothing _ _ (go (has_row a.id rows || i
     go true e = refl
     go false e = e
 
--- ---- a whole level
-
+-- a whole level
 pub record Level (s : Shape) (words : List Text) (rows : List Row) : Type 0 where
   pub well : level_fault s [] nothing_held words false [] ≡ []
   pub is : rows_after s.rules [] words ≡ rows
@@ -169,8 +165,7 @@ level s words all k g clean check =
       is = ap (λ l. fold with_default l s.rules) rows;
     }
 
--- ---- what is given
-
+-- what is given
 pub given_at : (id : Text) (given : List Given) → row_at id (map row_given given) ≡ option_map row_given (option_of id given)
 given_at id [] = refl
 given_at id (g ∷ given) = go (bytes_eq (given_id g) id) (given_at id given)

@@ -20,8 +20,6 @@ use Rattle.command_words.proofs.Options.{Goes, IsKnown, AreKnown, row_given, or_
 use Rattle.command_words.proofs.Ends.{IsPlaceOf, Level, AreClean, level, first_placed, first_placed_well, place_settles, place_settles_well, row_at, default_list, row_kept, row_defaulted, given_at}
 use Rattle.command_words.proofs.Numbers.{decimal_word, decimal_value, decimal_passes}
 
--- ---- the command's options
-
 -- the option x, of another name than the first word's
 pub record IsSpanOf (c : List Rule) (first : Text) (x : Span) : Type 0 where
   pub default : Text
@@ -53,8 +51,7 @@ pub span_known : {c : List Rule} {first : Text} {x : Span} (default : Text)
     → x.most < 2 ^ 64 → bytes_eq first x.id ≡ false → IsSpanOf c first x
 span_known default e below other = record { default = default; option = option_known e; below = below; other = other }
 
--- ---- the walk
-
+-- the walk
 known_option : (s : Shape) (first v : Text) (spans : List Span) (flags : List Text) (g : Given) → AllByRecursion (IsSpanOf s.rules first) spans → AllByRecursion (IsFlagOf s.rules first) flags
     → IsAllowed spans flags g → IsKnown s g × (has_row (given_id g) (given_row first v ∷ []) ≡ false)
 known_option s first v [] [] g k f h = absurd h
@@ -76,8 +73,7 @@ known_options s first v spans flags (g ∷ given) k f h =
     let known = known_option s first v spans flags g k f h.0 in
     (known.0, known.1, h.1, known_options s first v spans flags given k f h.2)
 
--- ---- what the rows give
-
+-- what the rows give
 pub not_there : (id : Text) (rows : List Row) → row_at id rows ≡ None → has_row id rows ≡ false
 not_there id [] e = refl
 not_there id (r ∷ rows) e = go (bytes_eq r.id id) (not_there id rows) e

@@ -97,8 +97,7 @@ use_good c a values rows p good e = ⊎_elim (λ set. as_set set.0 set.1 values 
         let most : most_values a ≡ 0 = ap (λ r. r.end_inclusive) range in
         absurd (no_values (length vs) (rw (range, most) at parts.0))
 
--- ---- the parts of a step
-
+-- the parts of a step
 by_id_good : (c : List Rule) (plain_rules : ArePlainRules c c) (met : Option Rule) (id : Text) → arg_by_id c id ≡ met → (values : List Text) (rows : List Row) → AreGoodRows c rows
     → option_map_or (λ a. use_fault false a values rows) met [] ≡ [] → AreGoodRows c (used_by_id met values rows)
 by_id_good c plain_rules None id is values rows good e = good
@@ -116,8 +115,6 @@ reacted_good : (c : List Rule) → ArePlainRules c c → (a : Rule) → IsPlainR
 reacted_good c plain_rules a p values h good e =
     let parts = both_none (settle_fault c false h) (use_fault false a values (settled c h).rows) e in
     use_good c a values (settled c h).rows p (settled_good c plain_rules h.pending h refl good parts.0) parts.1
-
--- ---- a word
 
 -- the walk with nothing met yet
 abbrev pub walk_at : Held → Waiting → ℕ → Bool → Walk

@@ -34,8 +34,7 @@ use Rattle.command_words.proofs.Gives.{not_there}
 use Rattle.command_words.proofs.Top.{leaf}
 use Rattle.command_words.proofs.Rows.{IsGoodRow, AreGoodRows, IsPlainRule, ArePlainRules, GoesOn, both_none, walk_good, settled_good}
 
--- ---- plain rules
-
+-- plain rules
 abbrev manner : List Rule → Rule → Option Rule × Reading × Option ℕ × List ℕ × ArgAction × ValueRange
 manner c a = (arg_by_id c a.id, reading_by a, a.short, a.short_aliases, action_of a, unwrap_or_range a.range)
 
@@ -59,8 +58,7 @@ takes_none {c} {a} e missing = record {
   form = inr (ap (λ t. t.4) e, ap (λ t. t.5) e, missing);
 }
 
--- ---- the rows of a level without a fault
-
+-- the rows of a level without a fault
 pub record GoodLevel (s : Shape) (words : List Text) : Type 0 where
   pub base : List Row
   pub good : AreGoodRows s.rules base
@@ -84,8 +82,7 @@ good_level s p never words e =
       check = c.1;
     }
 
--- ---- what is required
-
+-- what is required
 nothing_missing : (help command negates missing : Bool) → check_kinds help command (not (negates && false) && missing) ≡ [] → missing ≡ false
 nothing_missing true command negates missing e = absurd cc
 nothing_missing false true negates missing e = absurd cc
@@ -111,8 +108,7 @@ none_needed (a ∷ rules) rows e =
 all_given : (s : Shape) (rows : List Row) → check_fault s rows false ≡ [] → AllByRecursion (IsMet rows) s.rules
 all_given s rows e = none_needed s.rules rows (nothing_missing _ _ _ _ e)
 
--- ---- what is read
-
+-- what is read
 accepted_value : (q : ValueParser) (v : Text) → value_kinds false q v ≡ [] → Accepts false q v
 accepted_value q v e = go (accepts false q v) refl
   where
@@ -196,8 +192,6 @@ module _ {s : Shape} {words : List Text} (g : GoodLevel s words) (id : Text) whe
           ⊎_elim (λ yes. inl (v.1 ∙ ap Some yes)) (λ no. inr (v.1 ∙ ap Some no))
           (either v.0 (bytes_eq v.0 (codes "true")) (bytes_eq v.0 (codes "false")) refl refl v.2)
 
--- ---- the commands
-
 -- the words of a command without a fault have what its name says
 abbrev IsRead : Shape → Type 0
 IsRead s = (words : List Text) → level_fault s [] nothing_held words false [] ≡ [] → HasCommand s.name (rows_after s.rules [] words)
@@ -260,8 +254,6 @@ all_read = (
     ),
   ),
 )
-
--- ---- the command that was entered
 
 -- a command was entered, since one is required
 wants_command : (rows : List Row) → check_fault (built command_set).top rows false ≡ [] → ⊥

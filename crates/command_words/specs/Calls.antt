@@ -14,8 +14,6 @@ use Rattle.command_words.specs.declared.call.RefuteCall.{RefuteCall}
 use Rattle.command_words.specs.declared.call.BenchCall.{BenchCall}
 use Rattle.command_words.specs.declared.call.PairCall.{PairCall}
 
--- ---- of clap's matches
-
 -- the number that `u64` reads of the value
 abbrev pub number_of : Text → List Row → Option ℕ
 number_of id rows = option_map (λ text. digits_value 10 (without_leading_plus text)) (one_of id rows)
@@ -60,8 +58,7 @@ abbrev pub MatchesGive : Option (Text × List Row) → Call → Type 0
 MatchesGive None call = ⊥
 MatchesGive (Some m) call = GivesCall m.0 m.1 call
 
--- ---- the ranges
-
+-- the ranges
 abbrev pub IsWithin : ℕ → ℕ → ℕ → Type 0
 IsWithin least most n = (least ≤ n) × (n ≤ most)
 
@@ -77,8 +74,7 @@ IsInRange (Confirm p) = ⊤
 IsInRange (Explain p) = ⊤
 IsInRange (Cancel p) = ⊤
 
--- ---- of an accepted list
-
+-- of an accepted list
 abbrev pub prove_spans : List Span
 prove_spans = record { id = codes "pairs"; least = 1; most = pair_limit }
     ∷ record { id = codes "steps"; least = 1; most = step_limit }

@@ -2,8 +2,6 @@
 use Rattle.std.specs.Prelude.{ℕ, ◌-◌, ◌^◌, List, codes}
 use Rattle.std.specs.Str.Parse.{digits_value}
 
--- ---- the greatest number of an option. The least is 1, and that of a seed 0; that of workers is `worker_limit`
-
 -- the ambiguities that may be treated
 abbrev pub pair_limit : ℕ
 pair_limit = 1000000
@@ -23,7 +21,7 @@ format_limit = 2
 abbrev pub size_limit : ℕ
 size_limit = 60
 
--- ---- the words that stand for absent options
+-- the words that stand for absent options
 abbrev pub default_pairs_word : List ℕ
 default_pairs_word = codes "5000"
 
@@ -39,7 +37,7 @@ default_seed_word = codes "1"
 abbrev pub default_format_word : List ℕ
 default_format_word = codes "2"
 
--- ---- the numbers that they name
+-- the numbers that they name
 abbrev pub default_pairs : ℕ
 default_pairs = digits_value 10 default_pairs_word
 

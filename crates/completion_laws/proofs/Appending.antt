@@ -32,7 +32,7 @@ use Rattle.completion_laws.proofs.MoreAmbiguities.{resolved_more}
 use Rattle.completion_laws.proofs.ReducedSpans.{cancel_nonzero}
 use Rattle.completion_laws.proofs.RowSums.{polynomial-more, traced_sum-more, traced-negated, all_negated}
 
--- ---- the last item of a list
+-- the last item of a list
 slice_get-which : {X : Type 0} (xs : List X) (y x : X) (n : ℕ) → slice_get (xs ++ (y ∷ [])) n ≡ Some x → (slice_get xs n ≡ Some x) ⊎ ((n ≡ length xs) × (x ≡ y))
 slice_get-which [] y x zero is = inr (refl, cc)
 slice_get-which [] y x (suc n) is = absurd (cc)
@@ -60,7 +60,7 @@ rule_at-which rules g h (suc n) is = up (slice_get-which rules g h n is)
     up (inl old) = inl old
     up (inr (last, same)) = inr (ap suc last, same)
 
--- ---- rows over more rules
+-- rows over more rules
 earlier-weaker : (generators rules more : ℕ) → rules ≤ more → (row : Row) → IsEarlier generators rules row.from → IsEarlier generators more row.from
 earlier-weaker generators rules more within row = go row.from
   where
@@ -80,7 +80,7 @@ module _ (letters : ℕ) (compare : Compare) (rank : List ℕ → List ℕ) (law
   pub all_rules : All (IsRule letters compare) (rules ++ (g ∷ []))
   all_rules = All-append (IsRule letters compare) rules (g ∷ []) kept.are_rules (All-cons (IsRule letters compare) g [] is.is_rule (All-nil (IsRule letters compare)))
 
-  -- ---- the leading word is a word of the rest
+  -- the leading word is a word of the rest
   lead_coefficient : coefficient_of g.poly.terms g.lead ≡ g.leading
   lead_coefficient = leading_coefficient compare g.poly.terms (g.leading, g.lead) g.poly.canonical.shaped is.is_rule.leading
 
@@ -107,7 +107,7 @@ module _ (letters : ℕ) (compare : Compare) (rank : List ℕ → List ℕ) (law
       go i n f h less (inr (last, same)) (inl h_old) = absurd (omega (arith, less, last, rule_at-last rules n h h_old))
       go i n f h less (inr (last, same)) (inr (n_last, n_same)) = absurd (omega (arith, less, last, n_last))
 
-  -- ---- the records
+  -- the records
   new_recorded : IsRecorded (length generators) (length rules) m
   new_recorded = record { positive = is.positive; earlier = subst (All (λ row. IsEarlier (length generators) (length rules) row.from)) (sym is.rows_are) (by_sign is.negated) }
     where

@@ -27,7 +27,7 @@ use Rattle.ambiguities.specs.SPolynomials.{first_row, second_row, row_multiple, 
 use Rattle.completion_laws.proofs.ShapeLaws.{normal_forms_are_shaped, s_polynomials_are_shaped}
 use Rattle.nc_polynomial.specs.Limits.{term_limit}
 
--- ---- a value with a property, or a fault that isn't want of memory
+-- a value with a property, or a fault that isn't want of memory
 abbrev pub Makes : {A : Type 0} → (A → Type 0) → Result A PolyFault → Type 0
 Makes P (Ok x) = P x
 Makes P (Err e) = IsMemory e → ⊥
@@ -44,7 +44,7 @@ pub gives_too : {A : Type 0} (P Q : A → Type 0) (r : Result A ReduceFault) →
 gives_too P Q (Ok x) follows gives = follows x refl gives
 gives_too P Q (Err e) follows gives = gives
 
--- ---- polynomials
+-- polynomials
 abbrev IsSized : List Term → Type 0
 IsSized p = sized p ≡ Ok p
 
@@ -72,7 +72,7 @@ then_makes : (P Q : List Term → Type 0) (r : Result (List Term) PolyFault) (ne
 then_makes P Q (Ok p) next makes later = later p makes
 then_makes P Q (Err e) next makes later = makes
 
--- ---- S-polynomials
+-- S-polynomials
 combined_makes : (a : ℤ) (p : List Term) (b : ℤ) (q : List Term) → Makes IsSized (combined a p b q)
 combined_makes a p b q =
     overflow_makes IsSized (first_overflow (products a p ++ (products b q ++ sums (scaled a p) (scaled b q)))) (sized (added (scaled a p) (scaled b q))) (sized_makes (added (scaled a p) (scaled b q)))
@@ -86,7 +86,7 @@ s_polynomial_makes rules a =
     (sized_makes (poly_between (second_row rules a).left (generator_at (polynomials_of rules) a.j) (second_row rules a).right)) (λ q _.
     combined_makes (first_row rules a).coef p (second_row rules a).coef q)))
 
--- ---- reductions
+-- reductions
 module _ (first : List Term) where
   -- It is what there was at first, or within the limits.
   abbrev IsKept : State → Type 0

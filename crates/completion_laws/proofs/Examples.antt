@@ -75,7 +75,7 @@ is_rule = record {
 abbrev generators : List (List Term)
 generators = terms ∷ []
 
--- ---- round 0: no rule reduces the generator, and it is made the rule
+-- round 0: no rule reduces the generator, and it is made the rule
 reduced : IsReduced 1 word_cmp [] terms (start_of terms)
 reduced = normal_forms_are_reduced 1 word_cmp (rank_of 1) [] terms 0 (start_of terms) laws (All-from_recursion (IsRule 1 word_cmp) [] tt) canonical.shaped over refl
 
@@ -97,7 +97,7 @@ letters_below (suc (suc n)) = record { at = λ w some. absurd (some (past n w)) 
 after_round_zero : Kept 1 word_cmp generators (rule ∷ []) (made ∷ []) (1 ∷ []) []
 after_round_zero = generators_are_kept 1 word_cmp (rank_of 1) generators [] [] [] [] 1 (start_of terms) (rule ∷ []) (made ∷ []) laws letters_below (omega arith) (omega arith) (start_is_kept 1 word_cmp generators) reduced appended
 
--- ---- round 1: the one ambiguity, with the overlap word x x x
+-- round 1: the one ambiguity, with the overlap word x x x
 abbrev itself : Ambiguity
 itself = record { i = 1; j = 1; kind = Overlap; place = 1 }
 
@@ -166,7 +166,7 @@ all_done n first last = (zero, omega arith, one n first last)
     one : (n : ℕ) → 1 ≤ n → n ≤ 1 → 1 ≡ n
     one n first last = omega (arith, first, last)
 
--- ---- x is its own normal form, and so it is outside
+-- x is its own normal form, and so it is outside
 abbrev x : List Term
 x = (pos 1, 0 ∷ []) ∷ []
 
@@ -203,6 +203,6 @@ x_is_outside_alone inside = clash (rests_of_ideal_are_zero 1 word_cmp (rank_of 1
         differ : pos 1 ≡ pos 0 → ⊥
         differ e = cc
 
--- ---- with the ambiguity left out nothing can be concluded: it is pending
+-- with the ambiguity left out nothing can be concluded: it is pending
 left_out : NothingPending (rule ∷ []) [] → ⊥
 left_out nothing = nothing itself is_one (λ c. omega (arith, c.1))

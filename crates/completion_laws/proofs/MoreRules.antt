@@ -25,7 +25,7 @@ use Rattle.confluence.proofs.Spans.{Span}
 use Rattle.confluence.proofs.SumRows.{comes_from_span, span_from_comes}
 use Rattle.completion_laws.specs.Kept.{IsReached}
 
--- ---- by number
+-- by number
 slice_get-more : (rules more : List Rule) (n : ℕ) (g : Rule) → slice_get rules n ≡ Some g → slice_get (rules ++ more) n ≡ Some g
 slice_get-more [] more n g is = absurd (cc)
 slice_get-more (f ∷ rules) more zero g is = is
@@ -39,7 +39,7 @@ module _ (letters : ℕ) (compare : Compare) (rank : List ℕ → List ℕ) (law
   abbrev order : Order
   order = order_from_laws letters compare rank laws
 
-  -- ---- words that are at most a word of a polynomial
+  -- words that are at most a word of a polynomial
   pub at_most_from : (p : List Term) (w : Word) → IsAtMostIn order p w → IsAtMostOf letters compare p w
   at_most_from p w most = record { word = most.word; occurs = most.occurs; at_most = go most.at_most }
     where
@@ -50,7 +50,7 @@ module _ (letters : ℕ) (compare : Compare) (rank : List ℕ → List ℕ) (law
   pub in_range : (p : List Term) → HasLettersBelow letters p → InRange order p
   in_range p over = λ w some. over_range letters compare rank laws w (over.at w some)
 
-  -- ---- spans of rows over rules, and what comes from them
+  -- spans of rows over rules, and what comes from them
   module _ (rules : List Rule) (are : All (IsRule letters compare) rules) where
     reached_rows : (p : List Term) (rows : List Multiple) → AllByRecursion (λ r. (w : Word) → coefficient_of (generator_at (polynomials_of rules) r.generator) w ≢ pos 0 → IsAtMostOf letters compare p (r.left ++ (w ++ r.right))) rows
         → AllByRecursion (λ r. (w : Word) → coefficient_of (generator_at (polynomials_of rules) r.generator) w ≢ pos 0 → IsAtMostIn order p (r.left ++ (w ++ r.right))) rows
@@ -87,7 +87,7 @@ module _ (letters : ℕ) (compare : Compare) (rank : List ℕ → List ℕ) (law
           at_most = All-from_recursion (λ (r : Multiple). (w : Word) → coefficient_of (generator_at (polynomials_of rules) r.generator) w ≢ pos 0 → IsAtMostOf letters compare p (r.left ++ (w ++ r.right))) c.rows (found_rows p c.rows c.within);
         }
 
-  -- ---- with more rules
+  -- with more rules
   module _ (rules more : List Rule) (are : All (IsRule letters compare) rules) (all_are : All (IsRule letters compare) (rules ++ more)) where
     pub extends : Extends order (ordered letters compare rank laws rules are) (ordered letters compare rank laws (rules ++ more) all_are)
     extends = record { has = λ n has. longer n (rule_of_number rules n has); same = λ n has. same n (rule_of_number rules n has) }

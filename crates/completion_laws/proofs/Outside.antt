@@ -30,7 +30,7 @@ use Rattle.completion_laws.specs.Conclusions.{AreAllDone, ResolvedWhereClosed, R
 use Rattle.completion_laws.proofs.MoreRules.{reached_span}
 use Rattle.completion_laws.proofs.Inside.{inside_rules}
 
--- ---- whether an ambiguity is listed
+-- whether an ambiguity is listed
 same_kind : (k l : Kind) → (k ≡ l) ⊎ (k ≢ l)
 same_kind Overlap Overlap = inl refl
 same_kind Overlap Inclusion = inr (λ e. cc)
@@ -60,7 +60,7 @@ listed_or_not (b ∷ listed) a = go (same_ambiguity b a) (listed_or_not listed a
         no_place (zero, inside, is) = differ is
         no_place (suc k, inside, is) = n (k, omega (arith, inside), is)
 
--- ---- resolved where nothing is pending
+-- resolved where nothing is pending
 pub resolved_where_closed : ResolvedWhereClosed
 resolved_where_closed letters compare generators rules made done treated kept closed = record { each = λ a is. go a is (listed_or_not treated a) }
   where
@@ -81,7 +81,7 @@ nonzero_is_outside letters compare rank generators rules made done treated p s l
     let rest = rests_of_ideal_are_zero letters compare rank rules p s laws kept.are_rules resolved (inside_rules letters compare generators rules done kept.reached all p inside) over reduced in
     some.occurs (rest.at some.word)
 
--- ---- below a word
+-- below a word
 module _ (letters : ℕ) (compare : Compare) (rank : List ℕ → List ℕ) (laws : IsAdmissible letters compare rank) (generators : List (List Term)) (over : HaveLettersBelow letters generators) (rules : List Rule) (are : All (IsRule letters compare) rules) (done : List ℕ)
     (reached : All (λ n. IsReached letters compare rules (generator_at generators n)) done) (all : AreAllDone generators done) (bound : Word) where
   abbrev order : Order

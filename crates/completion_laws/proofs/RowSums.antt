@@ -24,7 +24,7 @@ use Rattle.confluence.proofs.Integers.{neg_ℤ-*ℤ}
 use Rattle.confluence.proofs.RuleRows.{coefficient_of-bare}
 use Rattle.completion_laws.specs.Rests.{negated_row, negated_rows, generator_rows, rows_less, IsEarlier, AddsUpTo}
 
--- ---- the same rows over more rules
+-- the same rows over more rules
 pub polynomials-append : (rules more : List Rule) → polynomials_of (rules ++ more) ≡ polynomials_of rules ++ polynomials_of more
 polynomials-append [] more = refl
 polynomials-append (g ∷ rules) more = ap (λ ps. g.poly.terms ∷ ps) (polynomials-append rules more)
@@ -68,7 +68,7 @@ module _ (generators : List (List Term)) (rules more : List Rule) where
       go (origin.Generator n) none = absurd none
       go (origin.Rule n) named = (named.0, omega (arith, named.1, length-append rules more))
 
--- ---- sums, multiples and negatives
+-- sums, multiples and negatives
 module _ (generators polys : List (List Term)) where
   abbrev sum_at : List Row → Word → ℤ
   sum_at rows w = coefficient_of (traced_sum generators polys rows) w
@@ -104,7 +104,7 @@ module _ (generators polys : List (List Term)) where
       opposite : (a b : ℤ) → neg_ℤ a +ℤ neg_ℤ b ≡ neg_ℤ (a +ℤ b)
       opposite a b = omega (arith, ints)
 
--- ---- which rows they are over
+-- which rows they are over
 module _ (P : Origin → Type 0) where
   pub over_multiplied : (by : ℤ) (rows : List Row) → AllByRecursion (λ row. P row.from) rows → AllByRecursion (λ row. P row.from) (map (multiplied_row by) rows)
   over_multiplied by [] over = tt
@@ -120,7 +120,6 @@ module _ (P : Origin → Type 0) where
   pub all_negated : (rows : List Row) → All (λ row. P row.from) rows → All (λ row. P row.from) (negated_rows rows)
   all_negated rows over = All-from_recursion (λ row. P row.from) (negated_rows rows) (over_negated rows (recursion_from_All (λ (row : Row). P row.from) rows over))
 
--- ---- of reductions
 -- rows that add up to a polynomial are made rows that add up to what a reduction leaves of it
 pub less_adds_up : (letters : ℕ) (compare : Compare) (generators : List (List Term)) (start more : List Rule) (p : List Term) (rows : List Row) (s : State)
     → AddsUpTo generators (start ++ more) p rows → IsReduced letters compare start p s → AddsUpTo generators (start ++ more) s.rest (rows_less rows s)

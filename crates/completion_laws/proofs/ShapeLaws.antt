@@ -38,7 +38,7 @@ use Rattle.ambiguities.proofs.Multiples.{passed}
 use Rattle.confluence.proofs.WrittenTerms.{shaped_as_written}
 use Rattle.completion_laws.specs.Shapes.{NormalFormsAreShaped, SPolynomialsAreShaped, RestsHaveLettersBelow}
 
--- ---- no overflow
+-- no overflow
 no_error : {A E : Type 0} (x : A) (e : E) → ◌≡◌ {A = Result A E} (Err e) (Ok x) → ⊥
 no_error x e is = cc
 
@@ -66,7 +66,7 @@ none_of os r v ends = go (first_overflow os) refl ends
     go None at e = at
     go (Some x) at e = absurd (no_error v (fault.Overflow x) e)
 
--- ---- S-polynomials
+-- S-polynomials
 combined_shaped : (a : ℤ) (p : List Term) (b : ℤ) (q r : List Term) → IsShaped p → IsShaped q → combined a p b q ≡ Ok r → IsShaped r
 combined_shaped a p b q r p_shaped q_shaped ends =
     let none = none_of (products a p ++ (products b q ++ sums (scaled a p) (scaled b q))) (sized (added (scaled a p) (scaled b q))) r ends in
@@ -103,7 +103,7 @@ s_polynomials_are_shaped rules a p ends =
     (subst IsShaped (sized-value (poly_between two.left (generator_at (polynomials_of rules) a.j) two.right) right.value right.given) (shaped-between two.left two.right _ (rule_shaped rules a.j)))
     right.rest
 
--- ---- normal forms
+-- normal forms
 multiplied-scaled : (p : List Term) (k : ℤ) → multiplied p k ≡ scaled k p
 multiplied-scaled [] k = refl
 multiplied-scaled (t ∷ p) k = ap₂ (λ z rest. keep z t.1 rest) (*ℤ_comm t.0 k) (multiplied-scaled p k)

@@ -40,7 +40,7 @@ made_accounts letters compare rules rest rows g m is = record {
   divided = is.divided;
 }
 
--- ---- rows that add up, with no rules behind
+-- rows that add up, with no rules behind
 generator_adds : (letters : ℕ) (compare : Compare) (generators : List (List Term)) (rules : List Rule) (n : ℕ) (s : State) → 1 ≤ n → n ≤ length generators → IsReduced letters compare rules (generator_at generators n) s → AddsUpTo generators rules s.rest (generator_rows n s)
 generator_adds letters compare generators rules n s first last reduced =
     subst (λ rs. AddsUpTo generators rs s.rest (generator_rows n s)) (append-nil rules) (generator_adds_up letters compare generators rules [] n s first last reduced)
@@ -77,7 +77,7 @@ module _ (letters : ℕ) (compare : Compare) (rank : List ℕ → List ℕ) (law
       reduced_in letters compare rank laws rules later are all_are q p s reduced bounded
       (accounted_span letters compare rank laws (rules ++ later) all_are q s.rest accounted (rest_bounded letters compare rank laws rules are q p s reduced bounded))
 
-  -- ---- a generator
+  -- a generator
   done_kept : (generators : List (List Term)) (rules : List Rule) (made : List Made) (done : List ℕ) (treated : List Ambiguity) (n : ℕ) → Kept letters compare generators rules made done treated → IsReached letters compare rules (generator_at generators n) → Kept letters compare generators rules made (done ++ (n ∷ [])) treated
   done_kept generators rules made done treated n kept reached = record {
     are_rules = kept.are_rules;

@@ -48,7 +48,7 @@ normal_forms_stay_typed q play letters compare rules p steps s are typed shaped 
   in_play = record { at = (letters_are_kept play compare rules p steps s (rules_in_play q play rules typed) shaped p_typed.in_play ends).rest };
 }
 
--- ---- letters in play
+-- letters in play
 parts_in_play : (play : ℕ → Bool) (u v : Word) → IsInPlay play (u ++ v) → IsInPlay play u × IsInPlay play v
 parts_in_play play u v whole = and_parts (list_all play u) (list_all play v) (sym (list_all-append play u v) ∙ whole)
 
@@ -111,7 +111,7 @@ s_polynomials_stay_typed q play letters compare rules a p are typed is ends =
         (between_in_play play is.first (first_row rules a).left (first_row rules a).right (in_play_of a.i is.first is.first_numbered) (subst (IsInPlay play) (first_splits rules a is) whole))
         (between_in_play play is.second (second_row rules a).left (second_row rules a).right (in_play_of a.j is.second is.second_numbered) (subst (IsInPlay play) (second_splits rules a is) whole)) w some
 
--- ---- the rule of a rest
+-- the rule of a rest
 made_typed : (q : Quiver) (play : ℕ → Bool) (letters : ℕ) (compare : Compare) (rest : List Term) (rows : List Row) (g : Rule) (m : Made) → IsTypedInPlay q play rest → IsMadeOf letters compare rest rows g m → IsTypedInPlay q play g.poly.terms
 made_typed q play letters compare rest rows g m typed is = record {
   source = typed.source;

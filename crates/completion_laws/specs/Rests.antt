@@ -14,7 +14,7 @@ use Rattle.rule_reduce.specs.RuleLists.{IsRule, polynomials_of}
 use Rattle.rule_reduce.specs.Steps.{multiplied_row}
 use Rattle.confluence.specs.Reductions.{IsZero}
 
--- ---- rows
+-- rows
 abbrev pub negated_row : Row → Row
 negated_row row = record row { coef = neg_ℤ row.coef }
 
@@ -39,7 +39,6 @@ pub record AddsUpTo (generators : List (List Term)) (rules : List Rule) (p : Lis
   pub over : All (λ row. IsEarlier (length generators) (length rules) row.from) rows
   pub sum : SamePolynomial (traced_sum generators (polynomials_of rules) rows) p
 
--- ---- the rule
 -- the integer, or its negative
 abbrev pub signed : Bool → ℤ → ℤ
 signed negated k = if negated then neg_ℤ k else k

@@ -20,8 +20,7 @@ use Rattle.confirm_command.specs.Answers.{closed_text, AnswersBases, AnswersConf
 use Rattle.confirm_command.specs.Says.{SaysClosed}
 use Rattle.confirm_command.proofs.Means.{bases_are_readable, each_means}
 
--- ---- the texts of refusals
-
+-- the texts of refusals
 has_text : (ds : List Declaration) (r : ClosedRefusal) → (IsMemory r → ⊥) → (cause : List ℕ) × (refusal_text ds r ≡ Some cause)
 has_text ds (refusal.Memory failed) h = absurd (h tt)
 has_text ds other h = (_, refl)
@@ -55,8 +54,7 @@ bases_are_judged problem bases =
       other_text = other_text problem;
     }
 
--- ---- what closed bases mean
-
+-- what closed bases mean
 pub says_closed : (statement bases : List ℕ) (ending : Ending) → AnswersConfirm statement bases ending → SaysClosed statement bases ending.report
 says_closed statement bases ending answers = record {
   each = λ problem first others rest is are begins.
@@ -64,8 +62,7 @@ says_closed statement bases ending answers = record {
       (first_answered (bases_are_judged problem bases) ending first others rest are begins (stated_leads statement (AnswersBases bases) ending problem is answers));
 }
 
--- ---- what is owed
-
+-- what is owed
 pub confirm_owes : (statement bases : List ℕ)
     → OwesEnding (AnswersConfirm statement bases) (λ Object Arrow s ending. SaysClosed statement bases ending.report)
 confirm_owes statement bases = owed_over statement (AnswersBases bases) (λ Object Arrow s ending. SaysClosed statement bases ending.report)

@@ -8,8 +8,7 @@ use Rattle.confirm_command.specs.Laws.{ClosedAreAnswered, ZeroIsClosed, FaultsAr
 use Rattle.confirm_command.proofs.Answered.{bases_are_judged}
 use Rattle.confirm_command.proofs.Means.{bases_are_readable, each_means}
 
--- ---- bases
-
+-- bases
 pub closed_are_answered : ClosedAreAnswered
 closed_are_answered statement text problem bases is are all = stated problem is (passing_answered (bases_are_judged problem text) bases are all)
 
@@ -27,8 +26,7 @@ zero_is_closed statement text ending answers is_zero =
       report = all.says;
     }
 
--- ---- statements
-
+-- statements
 pub faults_are_answered : FaultsAreAnswered
 faults_are_answered statement bases text refused = faulty text refused refl
 

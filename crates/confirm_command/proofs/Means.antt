@@ -58,8 +58,6 @@ basis_means problem b readable closed =
     let means = closed_bases_mean_outside problem b readable closed in
     record { closed = means; sharp = sharp_means problem b means closed }
 
--- ---- the bases of a text
-
 -- they can be checked
 pub bases_are_readable : (ds : List Declaration) (bytes : List ℕ) (bases : List Basis) → IsBases ds bytes bases → All (IsReadableBasis ds) bases
 bases_are_readable ds bytes bases is = read_bases_are_readable ds bytes bases is (are_over ds bytes bases is)

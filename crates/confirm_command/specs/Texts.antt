@@ -14,8 +14,6 @@ use Rattle.closed_checker.specs.declared.part.Part.TheVariants as part
 use Rattle.closed_checker.specs.declared.refusal.ClosedRefusal.{ClosedRefusal}
 use Rattle.closed_checker.specs.declared.refusal.ClosedRefusal.TheVariants as refusal
 
--- ---- a basis that is closed
-
 -- what stands behind a basis that is sharp
 abbrev pub sharp_ending : Bool → List ℕ
 sharp_ending sharp = if sharp then codes " sharp" else []
@@ -24,8 +22,7 @@ sharp_ending sharp = if sharp then codes " sharp" else []
 abbrev pub claim_closed : ℕ → Bool → List ℕ
 claim_closed claim sharp = (codes "closed claim " ++ decimal claim) ++ sharp_ending sharp
 
--- ---- a basis that is refused
-
+-- a basis that is refused
 abbrev pub kind_text : Kind → List ℕ
 kind_text Overlap = codes "overlap"
 kind_text Inclusion = codes "inclusion"

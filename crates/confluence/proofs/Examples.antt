@@ -44,7 +44,7 @@ word = refl
 difference : s_polynomial_of (rule ∷ []) itself ≡ Ok ((pos 1, 1 ∷ 0 ∷ 0 ∷ 1 ∷ 0 ∷ []) ∷ (negsuc 0, 0 ∷ 1 ∷ 0 ∷ 0 ∷ 1 ∷ []) ∷ [])
 difference = refl
 
--- ---- there is no other
+-- there is no other
 only_rule : (n : ℕ) (g : Rule) → rule_at (rule ∷ []) n ≡ Some g → (n ≡ 1) × (g ≡ rule)
 only_rule zero g is = absurd (cc)
 only_rule (suc zero) g is = (refl, same rule g is)

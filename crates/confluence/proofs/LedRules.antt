@@ -27,7 +27,7 @@ pub polys_of-leds : (rules : List Rule) → polys_of (leds_of rules) ≡ polynom
 polys_of-leds [] = refl
 polys_of-leds (g ∷ rules) = ap (λ ps. g.poly.terms ∷ ps) (polys_of-leds rules)
 
--- ---- by number
+-- by number
 same_rule : (g h : Rule) → ◌≡◌ {A = Option Rule} (Some g) (Some h) → g ≡ h
 same_rule g h e = cc
 
@@ -62,7 +62,7 @@ pub rule_of_number : (rules : List Rule) (n : ℕ) → HasLed (leds_of rules) n 
 rule_of_number rules zero has = absurd (omega (arith, has.0))
 rule_of_number rules (suc n) has = slice_some rules n (omega (arith, has.1, length-leds rules))
 
--- ---- with their orders
+-- with their orders
 module _ (letters : ℕ) (compare : Compare) (rank : List ℕ → List ℕ) (laws : IsAdmissible letters compare rank) where
   abbrev order : Order
   order = order_from_laws letters compare rank laws

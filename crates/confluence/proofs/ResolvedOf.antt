@@ -23,7 +23,7 @@ module _ (letters : ℕ) (compare : Compare) (rank : List ℕ → List ℕ) (law
   abbrev order : Order
   order = order_from_laws letters compare rank laws
 
-  -- ---- rows below a word, by the test and in the order
+  -- rows below a word, by the test and in the order
   abbrev Within : List (List Term) → Word → List Row → Type 0
   Within polys bound = AllByRecursion (λ r. (w : Word) → coefficient_of (generator_at polys r.generator) w ≢ pos 0 → order.Less (r.left ++ (w ++ r.right)) bound)
 
@@ -43,7 +43,7 @@ module _ (letters : ℕ) (compare : Compare) (rank : List ℕ → List ℕ) (law
   pub below_from_comes : (polys : List (List Term)) (bound : Word) (p : List Term) → Comes polys (λ w. order.Less w bound) p → ComesBelow letters compare polys bound p
   below_from_comes polys bound p c = record { denominator = c.multiplier; rows = c.rows; combination = record { combination = c.combination; rows_below = tested polys bound c.rows c.within } }
 
-  -- ---- of rules
+  -- of rules
   module _ (rules : List Rule) (are : All (IsRule letters compare) rules) where
     pub resolved_meeting : (a : Ambiguity) → IsResolved letters compare rules a → IsResolvedMeeting order (leds_of rules) a
     resolved_meeting a is = record {

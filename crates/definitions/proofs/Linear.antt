@@ -6,7 +6,7 @@ use Rattle.definitions.specs.Poly.{word_eq, coefficient_of, SamePolynomial, poly
 use Rattle.definitions.proofs.Group.{IsGroup, zero_add, add_left_comm}
 use Rattle.definitions.proofs.Multiples.{times, times_in, times-+ℤ, times-*ℤ, times-none, times-add, additive-none, additive-times}
 
--- ---- words
+-- words
 pub word_eq-same : (w : List ℕ) → word_eq w w ≡ true
 word_eq-same [] = refl
 word_eq-same (a ∷ w) = ap₂ ◌&&◌ (eq-eqb a a refl) (word_eq-same w)
@@ -19,7 +19,7 @@ word_eq-true (a ∷ v) (b ∷ w) e =
     let parts = and_parts (eqb a b) (word_eq v w) e in
     ap₂ ◌∷◌ (eqb-true a b parts.0) (word_eq-true v w parts.1)
 
--- ---- a polynomial without the terms of one word
+-- a polynomial without the terms of one word
 pub without : List ℕ → List (ℤ × List ℕ) → List (ℤ × List ℕ)
 without w [] = []
 without w (t ∷ p) = cond (word_eq t.1 w) (without w p) (t ∷ without w p)
@@ -75,7 +75,7 @@ coefficient_of-without_other w v (t ∷ p) n = go (word_eq t.1 w) refl (coeffici
         ap (λ q. coefficient_of q v) (without_at w t p e) ∙ h ∙ sym (coefficient_other v t p other)
     go false e h = ap (λ q. coefficient_of q v) (without_other w t p e) ∙ ap (λ x. cond (word_eq t.1 v) t.0 (pos 0) +ℤ x) h
 
--- ---- sums
+-- sums
 abbrev pub linear : {A : Type 0} → A → (A → A → A) → (A → A) → (List ℕ → A) → List (ℤ × List ℕ) → A
 linear none add negate f [] = none
 linear none add negate f (t ∷ p) = add (times none add negate t.0 (f t.1)) (linear none add negate f p)

@@ -15,7 +15,7 @@ use Rattle.definitions.proofs.Linear.{linear, linear_agree, linear-none, linear-
 use Rattle.definitions.proofs.Coefficients.{at_word, coefficient_of-append, coefficient_of-multiple}
 use Rattle.definitions.proofs.Paths.{Fits, fits_from_path, path_from_fits}
 
--- ---- a coefficient as a sum over the terms
+-- a coefficient as a sum over the terms
 integers : IsGroup (λ z. Unit {0}) (pos 0) ◌+ℤ◌ neg_ℤ
 integers = record {
   zero_in = tt;
@@ -152,7 +152,7 @@ module _ (q : Quiver) (u v : ℕ) (generators : List (List (ℤ × List ℕ))) (
           nothing (yes h) = h
           nothing (no c) = absurd (true≢false (sym (typed.at x c) ∙ e))
 
--- ---- the law over all quivers, generators and claims
+-- the law over all quivers, generators and claims
 typed-multiple : (q : Quiver) (u v : ℕ) (k : ℤ) (p : List (ℤ × List ℕ)) → IsTyped q u v p → IsTyped q u v (poly_multiple k p)
 typed-multiple q u v k p typed = record { at = λ w c. typed.at w (λ e. c (coefficient_of-multiple k p w ∙ ap (λ x. k *ℤ x) e ∙ *ℤ-zero k)) }
 

@@ -46,7 +46,7 @@ module _ {Object Arrow : Type 0} {s : Structure Object Arrow} (laws : Preadditiv
   before-add o u k (b ∷ r) x y e p p' =
       laws.compose_add_left (f.object u) (f.object k) o x y (path_value s f b r) p p' (path_value_is_arrow laws q f rep u k b r e)
 
-  -- ---- the value of a path in three parts
+  -- the value of a path in three parts
   pub path_value-append : (u k m a b : ℕ) (w r : List ℕ) → leads q k m (a ∷ w) ≡ true → leads q u k (b ∷ r) ≡ true → path_value s f a (w ++ (b ∷ r)) ≡ s.compose (path_value s f a w) (path_value s f b r)
   path_value-append u k m a b [] r e h = refl
   path_value-append u k m a b (c ∷ w) r e h =

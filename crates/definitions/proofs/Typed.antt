@@ -12,7 +12,7 @@ use Rattle.definitions.proofs.Paths.{step}
 use Rattle.definitions.proofs.Adjoints.{typed-adjoint_poly}
 use Rattle.definitions.proofs.StarSound.{all-append}
 
--- ---- the signature of a path
+-- the signature of a path
 some_is : (x y : ℕ × ℕ) → ◌≡◌ {A = Option (ℕ × ℕ)} (Some x) (Some y) → x ≡ y
 some_is x y e = cc
 
@@ -65,7 +65,6 @@ path_from_signature q u v (a ∷ b ∷ w) e = go (ltb a (letters q) && eqb (sour
         let rest : signature_of q (b ∷ w) ≡ Some (u, source q a) = i ∙ ap₂ (λ x y. Some (x, y)) (ap (λ x. x.0) ends) middle in
         and_from _ _ fit.0 (and_from _ _ (eq-eqb (target q a) v (ap (λ x. x.1) ends)) (ih rest))
 
--- ---- typed polynomials
 -- where each term's word is a path of the signature
 pub typed_from_terms : (q : Quiver) (u v : ℕ) (p : List (ℤ × List ℕ)) → AllByRecursion (λ t. is_path q u v t.1 ≡ true) p → IsTyped q u v p
 typed_from_terms q u v [] h = record { at = λ w c. absurd (c refl) }

@@ -11,7 +11,7 @@ use Rattle.definitions.proofs.Group.{IsGroup}
 use Rattle.definitions.proofs.Paths.{step, leads-append}
 use Rattle.definitions.proofs.Values.{word_at, word_at_is_arrow, group_at, value_at-linear, letter_is_arrow}
 
--- ---- a fact of each element
+-- a fact of each element
 pub all-append : {X : Type 0} (P : X → Type 0) (xs ys : List X) → AllByRecursion P xs → AllByRecursion P ys → AllByRecursion P (xs ++ ys)
 all-append P [] ys h k = k
 all-append P (x ∷ xs) ys h k = (h.0, all-append P xs ys h.1 k)
@@ -21,7 +21,7 @@ all-flat_map P g h [] = tt
 all-flat_map P g h (x ∷ xs) = all-append P (g x) (flat_map g xs) (h x) (all-flat_map P g h xs)
 
 module _ {Object Arrow : Type 0} {s : Structure Object Arrow} (laws : PreadditiveLaws s) (q : Quiver) (quiver : IsQuiver q) (f : Representation Object Arrow) (plain : Represents s q f) where
-  -- ---- the relations of the identities
+  -- the relations of the identities
   module _ (u v : ℕ) (in_u : u < q.objects) (in_v : v < q.objects) where
     abbrev group : IsGroup (IsArrow s (f.object u) (f.object v)) (s.zero (f.object u) (f.object v)) s.add s.negate
     group = group_at laws q f plain u v in_u in_v

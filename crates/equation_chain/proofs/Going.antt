@@ -26,8 +26,7 @@ use Rattle.equation_chain.specs.Made.{IsLineBefore, IsLineBehind, StopsLine, Tel
 use Rattle.equation_chain.proofs.Lines.{next_is, letters_more}
 use Rattle.equation_chain.proofs.Outcomes.{one_more}
 
--- ---- letters
-
+-- letters
 pub letters_step : (p : List Term) (i : ℕ) (t : Term) → i < length p → t ≡ get_or p i t → letters_in (take (i + 1) p) ≡ letters_in (take i p) + length t.1
 letters_step p i t within is =
     let both = sum_by-append (λ (x : Term). length x.1) (take i p) (t ∷ []) in
@@ -38,8 +37,7 @@ letters_step p i t within is =
 pub one_line : (problem : Problem) (c : Certificate) → letters_in (line_less problem c []) ≡ letters_before problem c 0
 one_line problem c = let one = sum_by-cons letters_in (line_less problem c []) [] in omega (arith, one)
 
--- ---- how many steps
-
+-- how many steps
 pub count_step : (problem : Problem) (claim : ℕ) (rows : List CertRow) (i : ℕ) (row : CertRow) (before : ℕ) (step : Bool) (after : ℕ) → i < length rows → row ≡ get_or rows i row
     → before ≡ length (steps_in problem claim (take i rows)) → step ≡ is_step problem claim row → after ≡ cond step (before + 1) before
     → after ≡ length (steps_in problem claim (take (i + 1) rows))
@@ -62,8 +60,6 @@ count_few false before after i few is = omega (arith, few, is)
 pub count_all : (problem : Problem) (c : Certificate) (rows : List CertRow) (i count : ℕ) → rows ≡ c.rows → length rows ≤ i → count ≡ length (steps_in problem c.claim (take i rows)) → count ≡ length (steps_in problem c.claim c.rows)
 count_all problem c rows i count same past is = is ∙ ap (λ (rs : List CertRow). length (steps_in problem c.claim rs)) (take_all i rows past ∙ same)
 
--- ---- a step
-
 -- a fault of moving is that of the step
 pub explains_then : (r : Result (List Term) PolyFault) (next : List Term → Result (List Term) PolyFault) (e : PolyFault) → Explains r e → Explains (and_then r next) e
 explains_then r next (poly.Overflow o) is = ap (λ (x : Result (List Term) PolyFault). and_then x next) is
@@ -85,8 +81,7 @@ told_stops line g step number (poly.Overflow o) f is tells = subst (StopsLine li
 told_stops line g step number (poly.Size s) f is tells = subst (StopsLine line g step number) (sym tells) (refl, (s, is))
 told_stops line g step number (poly.Memory e) f is tells = subst (StopsLine line g step number) (sym tells) tt
 
--- ---- the row at a place
-
+-- the row at a place
 pub for_row : (P : CertRow → Type 0) (rows : List CertRow) (i : ℕ) (x : CertRow) → slice_get rows i ≡ Some x → P x → (row : CertRow) → slice_get rows i ≡ Some row → P row
 for_row P rows i x there holds row got = let both : Some x ≡ Some row = sym there ∙ got in let same : x ≡ row = cc in subst P same holds
 

@@ -34,7 +34,7 @@ use Rattle.equation_chain.specs.Made.{IsChainOf, IsWritable}
 use Rattle.equation_chain.proofs.Typed.{all_kept}
 use Rattle.equation_chain.proofs.Vanishing.{all_in_range, all_taken, line_typed, typed_line}
 
--- ---- paths
+-- paths
 leads_over : (q : Quiver) (u v : ℕ) (w : List ℕ) → leads q u v w ≡ true → AllByRecursion (λ a. a < letters q) w
 leads_over q u v [] path = tt
 leads_over q u v (a ∷ w) path = let first = step q u v a w path in (first.letter, leads_over q u (source q a) w first.rest)
@@ -43,7 +43,7 @@ path_over : (q : Quiver) (u v : ℕ) (w : List ℕ) → is_path q u v w ≡ true
 path_over q u v [] path = All-from_recursion (λ a. a < letters q) [] tt
 path_over q u v (a ∷ w) path = All-from_recursion (λ a. a < letters q) (a ∷ w) (leads_over q u v (a ∷ w) path)
 
--- ---- the ends of a claim
+-- the ends of a claim
 objects_at : (ds : List Declaration) (sigs : List Sig) (n : ℕ) → AllByRecursion (HasObjects ds) sigs → n < length sigs
     → ((get_or (map ends_of sigs) n (0, 0)).0 < object_count ds) × ((get_or (map ends_of sigs) n (0, 0)).1 < object_count ds)
 objects_at ds [] n all inside = absurd (omega arith)
@@ -72,7 +72,7 @@ module _ (problem : Problem) (c : Certificate) where
   abbrev ds : List Declaration
   ds = problem.parts.quiver
 
-  -- ---- letters
+  -- letters
   abbrev pub IsLineOver : List Term → Type 0
   IsLineOver p = All (λ (t : Term). IsOver (letter_count ds) t.1) p
 
@@ -114,7 +114,7 @@ module _ (problem : Problem) (c : Certificate) where
   writable_part (Ok chain) is over = chain_over over chain is
   writable_part (Err f) is over = tt
 
-  -- ---- signatures
+  -- signatures
   pub lines_have_signatures : IsAccepted problem c → AllByRecursion (HasSignature (quiver_of ds)) (lines_of problem c)
   lines_have_signatures accepted =
       let ends = ends_are_objects problem c.claim accepted.adds_up.begins.posed.claim in

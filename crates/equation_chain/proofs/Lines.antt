@@ -31,8 +31,6 @@ use Rattle.equation_chain.specs.Lines.{claim_in, line_less, lines_by, letters_in
 use Rattle.equation_chain.specs.Chains.{less_step, next_line, IsLess}
 use Rattle.equation_chain.proofs.Generators.{generator_shaped}
 
--- ---- what a step makes
-
 -- where the generator could be moved, it was
 after_moved : (l : List ℕ) (g : List Term) (r : List ℕ) (next : List Term → Result (List Term) PolyFault) (p : List Term)
     → and_then (moved_result l g r) next ≡ Ok p → next (poly_between l g r) ≡ Ok p
@@ -74,8 +72,7 @@ difference_less line g step w =
     ((SamePolynomial-scaled (neg_ℤ step.coef) m).at w ∙ coefficient_of-multiple (neg_ℤ step.coef) m w ∙ turned step.coef (coefficient_of m w)
     ∙ sym (coefficient_of-multiple (negsuc 0) (poly_multiple step.coef m) w ∙ ap (λ k. negsuc 0 *ℤ k) (coefficient_of-multiple step.coef m w)))
 
--- ---- the lines of a certificate
-
+-- the lines of a certificate
 module _ (problem : Problem) (c : Certificate) where
   abbrev gs : List (List Term)
   gs = polynomials problem.generators
@@ -159,8 +156,6 @@ module _ (problem : Problem) (c : Certificate) where
     where
       none : (k : ℤ) → k ≡ k +ℤ negsuc 0 *ℤ pos 0
       none k = omega (arith, ints)
-
-  -- ---- all lines up to one
 
   -- what stands behind does not count
   firsts : (xs ys : List CertRow) (a n : ℕ) → a + n ≤ length xs + 1

@@ -80,8 +80,6 @@ module _ (problem : Problem) (c : Certificate) where
   pub made_lines : (i : ℕ) → length c.rows ≤ i → (m : Making) → IsMaking problem c i m → polynomials (m.lines ++ m.line.poly ∷ []) ≡ lines_of problem c
   made_lines i past m making = one_poly_more m.lines m.line.poly ∙ making.lines ∙ ap (lines_by problem c) (whole i past)
 
--- ---- what it is worth
-
 -- want of memory can come at any time
 pub memory_is_first : (problem : Problem) (c : Certificate) (f : ChainFault) → IsMemory f → IsFirstFault problem c f
 memory_is_first problem c (fault.Refused (refusal.Memory e)) memory = tt

@@ -30,8 +30,7 @@ use Rattle.equation_chain.specs.Chains.{less_step}
 use Rattle.equation_chain.specs.Faults.{IsAccepted, line_before, letters_before, result_at, StepPasses, StepsPass, IsExplained, Reaches, IsFirstFault, IsMemory}
 use Rattle.equation_chain.specs.Laws.{EachCertificateIsExplained, FirstFaultIsUnique, ExplainedHasNoFault}
 
--- ---- no exact result is want of memory
-
+-- no exact result is want of memory
 abbrev IsNoMemory : Result (List Term) PolyFault → Type 0
 IsNoMemory (Ok p) = Unit {0}
 IsNoMemory (Err e) = IsMemoryFault e → ⊥
@@ -61,8 +60,7 @@ step_no_memory line g step =
     (λ p. finished_no_memory (products (pos 1) line ++ (products (neg_ℤ step.coef) p ++ sums (scaled (pos 1) line) (scaled (neg_ℤ step.coef) p))) (added (scaled (pos 1) line) (scaled (neg_ℤ step.coef) p)))
 
 module _ (problem : Problem) (c : Certificate) where
-  -- ---- each row in turn
-
+  -- each row in turn
   pub one_more : (n : ℕ) → StepsPass problem c n → ((row : CertRow) → slice_get c.rows n ≡ Some row → is_step problem c.claim row ≡ true → StepPasses problem c n row) → StepsPass problem c (n + 1)
   one_more n passed here = record { at = λ i row below got step. by i row (cases_lt i n) below got step }
     where
@@ -117,8 +115,7 @@ module _ (problem : Problem) (c : Certificate) where
         add_one : (n : ℕ) → n + 1 ≡ suc n
         add_one n = omega arith
 
-  -- ---- one fault
-
+  -- one fault
   abbrev Outcome : Type 0
   Outcome = IsExplained problem c ⊎ ((f : ChainFault) × IsFirstFault problem c f × (IsMemory f → ⊥))
 

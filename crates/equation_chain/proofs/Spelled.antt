@@ -19,8 +19,6 @@ use Rattle.block_text.specs.Written.{letter_text, gap_text, word_text, factor_te
 use Rattle.equation_chain.specs.Written.{line_text, use_text, steps_text, lines_text}
 use Rattle.equation_chain.specs.Spelled.{AreTexts, word_by, later_by, poly_by, line_by, use_by, steps_by, lines_spelled, IsStepSpelled, IsLineSpelled}
 
--- ---- letter by letter
-
 -- a part more behind others
 join_behind : (x : List ℕ) (xs : List (List ℕ)) (y : List ℕ) → join_with_byte 32 ((x ∷ xs) ++ y ∷ []) ≡ join_with_byte 32 (x ∷ xs) ++ (32 ∷ []) ++ y
 join_behind x [] y = rw append_assoc refl
@@ -46,8 +44,7 @@ pub letter_put : (texts : List (List ℕ)) (w : List ℕ) (place a : ℕ) (front
 letter_put texts w place a front before with_gap after before_is gap_is after_is within read =
     rw (after_is, gap_is, before_is, word_more texts w place a within read) (simp append_assoc refl)
 
--- ---- the table is that of the quiver
-
+-- the table is that of the quiver
 pub table_more : (ds : List Declaration) (n : ℕ) (texts more : List (List ℕ)) (text : List ℕ) → texts ≡ map (letter_text ds) (range_with_len 0 n) → text ≡ word_text ds (n ∷ []) → more ≡ texts ++ text ∷ []
     → more ≡ map (letter_text ds) (range_with_len 0 (n + 1))
 table_more ds n texts more text is one more_is =
@@ -109,8 +106,7 @@ module _ (ds : List Declaration) (texts : List (List ℕ)) (are : AreTexts ds te
   lines_are steps [] over all = refl
   lines_are steps (l ∷ lines) over all = ap₂ ◌++◌ (line_is_text l all.0) (steps_are steps lines over all.1)
 
--- ---- step by step
-
+-- step by step
 zip_more : (steps : List CertRow) (lines : List Poly) (step : CertRow) (line : Poly) → length steps ≡ length lines → zip (steps ++ step ∷ []) (lines ++ line ∷ []) ≡ zip steps lines ++ (step, line) ∷ []
 zip_more [] [] step line same = refl
 zip_more [] (l ∷ lines) step line same = absurd (omega (arith, same))

@@ -80,8 +80,7 @@ module _ (q : Quiver) (u v : ℕ) (generators : List (List Term)) (row : Row) wh
             (λ typed. sym same ∙ words_are_paths typed (a ∷ w) there)
             (λ lead. fits_is_typed (fits_from_path q u v has.source has.target row.left (a ∷ w) row.right path (same ∙ lead)))
 
--- ---- the rows of a problem
-
+-- the rows of a problem
 module _ (problem : Problem) (claim : ℕ) (row : CertRow) where
   abbrev drawn : Quiver
   drawn = quiver_of problem.parts.quiver
@@ -143,8 +142,7 @@ all_kept P test shows (x ∷ xs) = go (test x) refl (all_kept P test shows xs)
 pub steps_typed : StepsAreTyped
 steps_typed problem c = all_kept (IsTypedStep problem c.claim) (is_step problem c.claim) (step_is_typed problem c.claim) c.rows
 
--- ---- the test of a row
-
+-- the test of a row
 counts_when : (gs : List (List Term)) (row : Row) (t : Term) (rest : List Term) → generator_at gs row.generator ≡ t ∷ rest → row.coefficient ≢ pos 0 → counts gs row ≡ true
 counts_when gs row t rest is nonzero =
     and_from (not (int_eq row.coefficient (pos 0))) (not (is_empty (generator_at gs row.generator))) (unequal (int_eq row.coefficient (pos 0)) (λ e. nonzero ((Decides-int_eq row.coefficient (pos 0)).0 e))) (ap (λ g. not (is_empty g)) is)

@@ -53,8 +53,6 @@ module _ (problem : Problem) (c : Certificate) where
   abbrev gs : List (List Term)
   gs = polynomials problem.generators
 
-  -- ---- signatures
-
   -- a word that is no path of the signature has no coefficient
   abbrev Stays : List Term → Type 0
   Stays p = (x : List ℕ) → is_path q u v x ≡ false → coefficient_of p x ≡ pos 0
@@ -99,8 +97,6 @@ module _ (problem : Problem) (c : Certificate) where
   pub typed_line : (k : ℕ) → IsTyped q u v (line_less problem c (take k (steps_of problem c)))
   typed_line k = line_typed (take k (steps_of problem c)) (all_taken (λ r. is_typed problem c.claim r ≡ true) k (steps_of problem c) typed_steps)
 
-  -- ---- values
-
   -- a line is the sum of the steps that are left
   rest_at : (front back : List CertRow) (w : List ℕ)
       → coefficient_of (row_sum gs (rows_of (front ++ back))) w ≡ coefficient_of (row_sum gs (rows_of front)) w +ℤ coefficient_of (row_sum gs (rows_of back)) w
@@ -141,8 +137,7 @@ module _ (problem : Problem) (c : Certificate) where
       (sound laws).certificate q gs (rows_of (drop k (steps_of problem c))) (pos 1) (line_less problem c (take k (steps_of problem c)))
       (posed_quiver problem.parts problem.posed) (generators_have_signatures problem.parts problem.posed problem.generators problem.closed) (line_combines accepted k)
 
--- ---- the laws
-
+-- the laws
 pub lines_typed : LinesAreTyped
 lines_typed problem c accepted =
     all_in_range (λ line. IsTyped (quiver_of problem.parts.quiver) (claim_ends problem c.claim).0 (claim_ends problem c.claim).1 line) (λ k. line_less problem c (take k (steps_of problem c)))

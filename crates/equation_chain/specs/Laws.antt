@@ -16,8 +16,6 @@ use Rattle.equation_chain.specs.Lines.{claim_in, lines_of}
 use Rattle.equation_chain.specs.Chains.{IsChain}
 use Rattle.equation_chain.specs.Faults.{IsAccepted, IsExplained, IsFirstFault, IsMemory}
 
--- ---- one outcome
-
 -- Each certificate has a chain, or something is the first that is wrong.
 abbrev pub EachCertificateIsExplained : Type 0
 EachCertificateIsExplained = (problem : Problem) (c : Certificate) → IsExplained problem c ⊎ ((f : ChainFault) × IsFirstFault problem c f × (IsMemory f → ⊥))
@@ -30,8 +28,6 @@ FirstFaultIsUnique = (problem : Problem) (c : Certificate) (e f : ChainFault) �
 -- and none where it has a chain.
 abbrev pub ExplainedHasNoFault : Type 0
 ExplainedHasNoFault = (problem : Problem) (c : Certificate) (f : ChainFault) → IsExplained problem c → IsFirstFault problem c f → IsMemory f
-
--- ---- what a chain is
 
 -- All words of each step are paths of the claim's signature.
 abbrev pub StepsAreTyped : Type 0

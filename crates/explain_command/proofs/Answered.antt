@@ -39,8 +39,7 @@ use Rattle.explain_command.specs.Texts.{explained_text}
 use Rattle.explain_command.specs.Answers.{IsExplained, AnswersChains, AnswersExplain, explained_lines}
 use Rattle.explain_command.specs.Says.{ExplainedMeans, BlockMeans, SaysExplained}
 
--- ---- one outcome for each block
-
+-- one outcome for each block
 module _ (problem : Problem) where
   each_block : (e : Evidence) → IsExplained problem e ⊎ ((r : ExplainRefusal) × IsRefused problem e r × (IsMemory r → ⊥))
   each_block (Plain c) = by (outcomes.each_is_explained problem c)
@@ -64,8 +63,7 @@ module _ (problem : Problem) where
   not_refused (Plain c) HasLemmas explained is = absurd is
   not_refused (Lemmas c) r explained is = absurd explained
 
--- ---- the texts of refusals
-
+-- the texts of refusals
 fault_has_text : (ds : List Declaration) (f : ChainFault) → (chain.IsMemory f → ⊥) → (cause : List ℕ) × (fault_text ds f ≡ Some cause)
 fault_has_text ds (fault.Refused refusal) h = check.refusal_text ds refusal h
 fault_has_text ds (fault.Memory failed) h = absurd (h tt)
@@ -113,8 +111,7 @@ blocks_are_judged problem evidence =
       other_text = other_text problem;
     }
 
--- ---- what explained certificates mean
-
+-- what explained certificates mean
 module _ {Object Arrow : Type 0} {s : Structure Object Arrow} (laws : PreadditiveLaws s) (sound : IsSound s) (with_lemmas : IsEvidenceSound s) (problem : Problem) where
   -- lines that have signatures and are zero wherever the generators are
   each_line : (lines : List (List Term)) → AllByRecursion (HasSignature (quiver_of problem.parts.quiver)) lines
@@ -143,8 +140,7 @@ says_explained {s} laws sound with_lemmas statement evidence ending answers = re
       (first_answered (blocks_are_judged problem evidence) ending first others rest are begins (stated_leads statement (AnswersChains evidence) ending problem is answers));
 }
 
--- ---- what is owed
-
+-- what is owed
 pub explain_owes : (statement evidence : List ℕ)
     → OwesEnding (AnswersExplain statement evidence) (λ Object Arrow s ending. SaysExplained s statement evidence ending.report)
 explain_owes statement evidence = owed_over statement (AnswersChains evidence) (λ Object Arrow s ending. SaysExplained s statement evidence ending.report)

@@ -13,8 +13,7 @@ use Rattle.explain_command.specs.Answers.{AnswersChains}
 use Rattle.explain_command.specs.Laws.{ExplainedAreAnswered, ZeroIsExplained, ZeroMeans, FaultsAreAnswered, ThreeIsFaulty}
 use Rattle.explain_command.proofs.Answered.{blocks_are_judged}
 
--- ---- blocks
-
+-- blocks
 pub explained_are_answered : ExplainedAreAnswered
 explained_are_answered statement evidence problem blocks is are all = stated problem is (passing_answered (blocks_are_judged problem evidence) blocks are all)
 
@@ -35,8 +34,7 @@ zero_means s statement evidence ending answers says is_zero =
       each = says.each all.problem all.blocks [] [] all.stated (subst (λ (es : List Evidence). IsEvidence format.Lemmas all.problem.parts.quiver evidence es) (sym (append-nil all.blocks)) all.read) (all.report ∙ sym (append-nil _));
     }
 
--- ---- statements
-
+-- statements
 pub faults_are_answered : FaultsAreAnswered
 faults_are_answered statement evidence text refused = faulty text refused refl
 

@@ -30,7 +30,7 @@ named text column = record { text = text; at = at column }
 names : letter_of declared (named (120 ∷ []) 1) ∷ object_of declared (named (86 ∷ []) 1) ∷ [] ≡ 4 ∷ 1 ∷ []
 names = refl
 
--- ---- signatures: a goes from 0 to 1 and x from 1 to 0
+-- signatures: a goes from 0 to 1 and x from 1 to 0
 abbrev a_at : ℕ → Part
 a_at column = (at column, Some (from_to 0 1))
 
@@ -89,7 +89,7 @@ open_base = refl
 once : marked_signature (at 7) (caret 1 ∷ []) None ≡ Ok None
 once = refl
 
--- ---- polynomials
+-- polynomials
 abbrev three : Option Number
 three = Some (record { value = pos 3; at = at 1 })
 
@@ -120,7 +120,7 @@ multiple = refl
 alternating : total ((true, letter_poly 2) ∷ (false, letter_poly 4) ∷ (true, letter_poly 2) ∷ []) ≡ Ok ((pos 1, 4 ∷ []) ∷ (negsuc 1, 2 ∷ []) ∷ [])
 alternating = refl
 
--- ---- a tree: 3 a x'
+-- a tree: 3 a x'
 abbrev letter : List ℕ → ℕ → List Mark → Factor
 letter text column marks = record { at = at column; primary = Letter (named text column); marks = marks }
 

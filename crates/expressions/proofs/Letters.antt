@@ -40,7 +40,7 @@ letters_by_recursion L p h = go p (recursion_from_All (λ (t : term). All L t.1)
     go [] k = tt
     go (t ∷ p) k = (recursion_from_All L t.1 k.0, go p k.1)
 
--- ---- sums, multiples and products
+-- sums, multiples and products
 module _ (P : List ℕ → Type 0) where
   pub words-signed : (s : Summand) → Words P s.1 → Words P (signed s)
   words-signed (false, p) h = h
@@ -84,7 +84,7 @@ module _ (P : List ℕ → Type 0) where
     words-power_poly (pos zero) p r h e = subst (Words P) (same_value p r e) h
     words-power_poly (negsuc n) p r h e = subst (Words P) (same_value p r e) h
 
--- ---- where a part occurs in the whole
+-- where a part occurs in the whole
 pub left_of : (a b : Bool) → a ≡ true → (a || b) ≡ true
 left_of true b h = refl
 left_of false b h = absurd (cc)
@@ -133,7 +133,7 @@ module _ (ds : List Declaration) (L : ℕ → Type 0) (maps : (name : List ℕ) 
   over-identity (Some (Object v)) name e known ids = ((ids v.0 (is_named ds name (Object v) e).0 (eq-eqb v.0 v.0 refl), tt), tt)
   over-identity (Some (Map a)) name e known ids = absurd (cc)
 
-  -- ---- by induction on the expression
+  -- by induction on the expression
   mutual
     pub over-sum : (s : Sum) → are_names ds s ≡ true → Identities (λ v. has_identity ds v s) → (has_mark s ≡ true → IsClosed) → (r : Poly) → sum_poly ds s ≡ Ok r → Words Over r
     over-sum (Sum' at shape terms) known ids closed r e =

@@ -20,7 +20,7 @@ map_number x y e = let same : x ≡ y = cc in ap (λ l. l.0) same
 not_object : (v : _) (m : Letter) → ◌≡◌ {A = Option Named} (Some (Object v)) (Some (Map m)) → ⊥
 not_object v m e = cc
 
--- ---- where a look-up finds a map
+-- where a look-up finds a map
 module _ (test : List ℕ → Bool) where
   -- the letter is one of those that the declarations take
   taken_from : (p v a : ℕ) (ds : List Declaration) (m : Letter) → lookup test (names_from p v a ds) ≡ Some (Map m) → a ≤ m.0
@@ -75,7 +75,7 @@ module _ (test : List ℕ → Bool) where
       go true k here more = subst (λ n. n ≤ (letter_in table n).star) (map_number _ m k) here
       go false k here more = more k
 
--- ---- where the objects are declared first
+-- where the objects are declared first
 no_objects : (ds : List Declaration) → list_all is_arrow ds ≡ true → object_count ds ≡ 0
 no_objects [] maps = refl
 no_objects (object name ∷ ds) maps = absurd (cc)

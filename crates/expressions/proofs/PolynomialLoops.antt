@@ -32,7 +32,7 @@ summands_of ss = map (λ s. (s.0, s.1.terms)) ss
 abbrev pub polys_of : List code.Poly → List Poly
 polys_of ps = map (λ p. p.terms) ps
 
--- ---- a sum
+-- a sum
 module _ (ds : List Declaration) (s : Sum) (terms : List Term) (whole : terms ≡ (out-Sum s).terms) (i : ℕ) (made : List (Bool × code.Poly))
     (before : (each (summand ds) (drop i terms) >>= λ rest. Ok (summands_of made ++ rest)) ≡ each (summand ds) terms) where
   sum_is : sum_poly ds s ≡ (each (summand ds) terms >>= total)
@@ -55,7 +55,7 @@ module _ (ds : List Declaration) (s : Sum) (terms : List Term) (whole : terms �
         ap (λ m. each (summand ds) (drop (i + 1) terms) >>= λ rest. Ok (m ++ rest)) next
         ∙ made-next (summand ds) terms i (summands_of made) before t inside item (is_negative t, p.terms) (ap (λ r. r >>= λ q. Ok (is_negative t, q)) h)
 
--- ---- a product
+-- a product
 module _ (ds : List Declaration) (t : Term) (factors : List Factor) (whole : factors ≡ (out-Term t).factors) (i : ℕ) (made : List code.Poly)
     (before : (each (factor_poly ds) (drop i factors) >>= λ rest. Ok (polys_of made ++ rest)) ≡ each (factor_poly ds) factors) where
   product_is : term_poly ds t ≡ ((each (factor_poly ds) factors >>= product_poly) >>= scaled_by (out-Term t).literal)
@@ -83,7 +83,7 @@ module _ (ds : List Declaration) (t : Term) (factors : List Factor) (whole : fac
         ap (λ m. each (factor_poly ds) (drop (i + 1) factors) >>= λ rest. Ok (m ++ rest)) next
         ∙ made-next (factor_poly ds) factors i (polys_of made) before f inside item p.terms h
 
--- ---- a factor alone
+-- a factor alone
 module _ (ds : List Declaration) (t : Term) (factors : List Factor) (whole : factors ≡ (out-Term t).factors) (one : length factors ≡ 1) (f : Factor) (item : f ≡ get_or factors 0 f) where
   none : (each (factor_poly ds) (drop 0 factors) >>= λ rest. Ok (polys_of [] ++ rest)) ≡ each (factor_poly ds) factors
   none = made-none (factor_poly ds) factors

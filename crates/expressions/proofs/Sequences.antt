@@ -19,7 +19,7 @@ module _ {A B C E : Type 0} (f : A → Result B E) (k : List B → Result C E) w
     pub each-fault : (e : E) → f x ≡ Err e → (each f (x ∷ xs) >>= k) ≡ Err e
     each-fault e h = ap (λ r. (r >>= λ z. each f xs >>= λ ys. Ok (z ∷ ys)) >>= k) h
 
-  -- ---- in a loop over a list
+  -- in a loop over a list
   module _ (xs : List A) (i : ℕ) (x : A) (inside : i < length xs) (item : x ≡ get_or xs i x) where
     pub loop-next : (y : B) → f x ≡ Ok y → (each f (drop (i + 1) xs) >>= λ ys. k (y ∷ ys)) ≡ (each f (drop i xs) >>= k)
     loop-next y h = sym (each-next x (drop (i + 1) xs) y h) ∙ ap (λ rest. each f rest >>= k) (sym (drop_next xs i x inside item))
@@ -30,7 +30,7 @@ module _ {A B C E : Type 0} (f : A → Result B E) (k : List B → Result C E) w
   pub loop-end : (xs : List A) (i : ℕ) → length xs ≤ i → (each f (drop i xs) >>= k) ≡ k []
   loop-end xs i past = ap (λ rest. each f rest >>= k) (drop_all i xs past)
 
--- ---- what comes before a result
+-- what comes before a result
 pub record Bound {A B E : Type 0} (r : Result A E) (f : A → Result B E) (y : B) : Type 0 where
   pub value : A
   pub is : r ≡ Ok value
@@ -43,7 +43,6 @@ bound (Err e) f y h = absurd (cc)
 pub same_value : {A E : Type 0} (x y : A) → ◌≡◌ {A = Result A E} (Ok x) (Ok y) → x ≡ y
 same_value x y h = cc
 
--- ---- the results so far
 -- none at first
 pub made-none : {A B E : Type 0} (f : A → Result B E) (xs : List A) → (each f xs >>= λ rest. Ok ([] ++ rest)) ≡ each f xs
 made-none f xs = go (each f xs)

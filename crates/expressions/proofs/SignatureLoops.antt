@@ -16,7 +16,7 @@ use Rattle.expressions.proofs.Sequences.{loop-next, loop-fault, loop-end}
 abbrev placed : Spot → Option Sig → Result Part SignatureFault
 placed at s = Ok (at, s)
 
--- ---- a sum
+-- a sum
 module _ (ds : List Declaration) (s : Sum) (terms : List Term) (whole : terms ≡ (out-Sum s).terms) (i : ℕ) (so_far : Result (Option Sig) SignatureFault)
     (rest : (each (term_part ds) (drop i terms) >>= sum_from so_far) ≡ (each (term_part ds) terms >>= sum_from (Ok None))) where
   sum_is : sum_signature ds s ≡ (each (term_part ds) (drop i terms) >>= sum_from so_far)
@@ -35,7 +35,6 @@ module _ (ds : List Declaration) (s : Sum) (terms : List Term) (whole : terms �
         ∙ loop-next (term_part ds) (sum_from so_far) terms i t inside item (term_at t, u) (ap (λ r. r >>= placed (term_at t)) ok)
         ∙ rest
 
--- ---- a product
 -- of several factors none may be open
 several-factors : {A : Type 0} (f : A → Result Part SignatureFault) (xs : List A) → length xs ≢ 1 → (each f xs >>= product_signature) ≡ (each f xs >>= product_from (Ok None))
 several-factors f [] several = refl

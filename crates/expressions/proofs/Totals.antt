@@ -25,7 +25,7 @@ canonical-signed : (s : Summand) → IsCanonical s.1 → IsCanonical (signed s)
 canonical-signed (false, p) h = h
 canonical-signed (true, p) h = canonical-negated p h
 
--- ---- one summand more
+-- one summand more
 from-next : (ss : List Summand) (s : Summand) (sum : Poly) → sum_from sum (ss ++ s ∷ []) ≡ (sum_from sum ss >>= λ p. sum_step p s)
 from-next [] s sum = alone (sum_step sum s)
   where
@@ -47,7 +47,6 @@ total-next [] s =
 total-next (x ∷ ss) s =
     ap (sum_from (signed (x.0, x.1.terms))) (map-append (λ (s : Bool × code.Poly). (s.0, s.1.terms)) ss (s ∷ [])) ∙ from-next (summands_of ss) (s.0, s.1.terms) (signed (x.0, x.1.terms))
 
--- ---- the sum so far
 -- a sum so far is this result, or its fault is explained by it
 abbrev Comes : Result Poly PolyFault → Result Poly PolyFault → Type 0
 Comes r so_far = MatchResult so_far (λ sum. r ≡ Ok sum) (Explains r)

@@ -20,7 +20,7 @@ abbrev pub each : {A B E : Type 0} → (A → Result B E) → List A → Result 
 each f [] = Ok []
 each f (x ∷ xs) = f x >>= λ y. each f xs >>= λ ys. Ok (y ∷ ys)
 
--- ---- one factor and one term
+-- one factor and one term
 abbrev pub are_names_of_factor : List Declaration → Factor → Bool
 are_names_of_factor ds f = are_names_of_primary ds f.primary
 
@@ -39,7 +39,7 @@ term_part ds t = signatures.term_signature ds t >>= λ s. Ok (signatures.term_at
 abbrev pub summand : List Declaration → Term → Result polynomials.Summand PolyFault
 summand ds t = polynomials.term_poly ds t >>= λ p. Ok (polynomials.is_negative t, p)
 
--- ---- sums and terms
+-- sums and terms
 module _ {X : Type 0} where
   -- what is said of the list that a row stands for is said of the list of the sum or the term
   of_sum : (g : List Term → X) (at : _) (shape : _) (terms : _) → g (items-the_row-Term _ terms) ≡ g (out-Sum (Sum' at shape terms)).terms
@@ -48,7 +48,7 @@ module _ {X : Type 0} where
   of_term : (g : List Factor → X) (at : _) (negative : _) (literal : _) (shape : _) (factors : _) → g (items-the_row-Factor _ factors) ≡ g (out-Term (Term' at negative literal shape factors)).factors
   of_term g at negative literal shape factors = ap g (sym (items_shown-the_row-Factor-1 shape factors)) ∙ ap (λ r. g r.factors) (sym (outs-Term' at negative literal shape factors))
 
--- ---- names
+-- names
 names-factors : (ds : List Declaration) (n : _) (k : Row_of-Factor n) → are_names_of_factors ds k ≡ list_all (are_names_of_factor ds) (items-the_row-Factor n k)
 names-factors ds n end_of-Factor = refl
 names-factors ds n (more_of-Factor at primary marks rest) = ap (λ b. are_names_of_primary ds primary && b) (names-factors ds _ rest)
@@ -77,7 +77,7 @@ pub names_of_the_factor : (ds : List Declaration) (t : Term) (factors : List Fac
 names_of_the_factor ds t factors i f known items inside item =
     all_at (are_names_of_factor ds) factors i f (ap (list_all (are_names_of_factor ds)) items ∙ sym (names-term ds t) ∙ known) inside item
 
--- ---- marks
+-- marks
 mark-factors : (n : _) (k : Row_of-Factor n) → has_mark_in_factors k ≡ list_any has_mark_in_factor (items-the_row-Factor n k)
 mark-factors n end_of-Factor = refl
 mark-factors n (more_of-Factor at primary marks rest) = ap (λ b. (has_mark_in_primary primary || list_any is_adjoint marks) || b) (mark-factors _ rest)
@@ -92,7 +92,7 @@ mark-term (Term' at negative literal shape factors) = mark-factors _ factors ∙
 pub mark-sum : (s : Sum) → has_mark s ≡ list_any has_mark_in_term (out-Sum s).terms
 mark-sum (Sum' at shape terms) = mark-terms _ terms ∙ of_sum (list_any has_mark_in_term) at shape terms
 
--- ---- identities
+-- identities
 identity-factors : (ds : List Declaration) (v : ℕ) (n : _) (k : Row_of-Factor n) → has_identity_in_factors ds v k ≡ list_any (has_identity_in_factor ds v) (items-the_row-Factor n k)
 identity-factors ds v n end_of-Factor = refl
 identity-factors ds v n (more_of-Factor at primary marks rest) = ap (λ b. has_identity_in_primary ds v primary || b) (identity-factors ds v _ rest)
@@ -107,7 +107,7 @@ identity-term ds v (Term' at negative literal shape factors) = identity-factors 
 pub identity-sum : (ds : List Declaration) (v : ℕ) (s : Sum) → has_identity ds v s ≡ list_any (has_identity_in_term ds v) (out-Sum s).terms
 identity-sum ds v (Sum' at shape terms) = identity-terms ds v _ terms ∙ of_sum (list_any (has_identity_in_term ds v)) at shape terms
 
--- ---- signatures
+-- signatures
 parts-factors : (ds : List Declaration) (n : _) (k : Row_of-Factor n) → signatures.factors_parts ds k ≡ each (factor_part ds) (items-the_row-Factor n k)
 parts-factors ds n end_of-Factor = refl
 parts-factors ds n (more_of-Factor at primary marks rest) =
@@ -132,7 +132,7 @@ place-term (Term' at negative literal shape factors) = ap (λ r. r.at) (sym (out
 pub place-sum : (s : Sum) → signatures.sum_at s ≡ (out-Sum s).at
 place-sum (Sum' at shape terms) = ap (λ r. r.at) (sym (outs-Sum' at shape terms))
 
--- ---- polynomials
+-- polynomials
 polys-factors : (ds : List Declaration) (n : _) (k : Row_of-Factor n) → polynomials.factor_polys ds k ≡ each (polynomials.factor_poly ds) (items-the_row-Factor n k)
 polys-factors ds n end_of-Factor = refl
 polys-factors ds n (more_of-Factor at primary marks rest) =

@@ -36,7 +36,7 @@ use Rattle.expressions.specs.Polynomials.{mark_poly, marked_poly}
 use Rattle.expressions.specs.Results.{◌>>=◌}
 use Rattle.expressions.proofs.WordRuns.{sized-canonical, bind-assoc}
 
--- ---- the size of what terms add up to
+-- the size of what terms add up to
 length-keep : (z : ℤ) (w : List ℕ) (p : Poly) → length (keep z w p) ≤ length p + 1
 length-keep (pos zero) w p = omega arith
 length-keep (pos (suc n)) w p = omega arith
@@ -80,7 +80,7 @@ ranged-adjoint : (q : Quiver) (p : Poly) → AllByRecursion (λ t. IsCoefficient
 ranged-adjoint q [] h = tt
 ranged-adjoint q (t ∷ p) h = (h.0, ranged-adjoint q p h.1)
 
--- ---- terms with different words add up without a sum
+-- terms with different words add up without a sum
 before_last : (done : List Term) (t : Term) (rest : List Term) → AreDistinct (done ++ t ∷ rest) → AllByRecursion (λ u. word_eq u.1 t.1 ≡ false) done
 before_last [] t rest d = tt
 before_last (u ∷ done) t rest d = (word_eq-turned u.1 t.1 ∙ at done d.0, before_last done t rest d.1)
@@ -96,7 +96,7 @@ additions-fit done (t ∷ rest) d h =
     first-fits (sum_of (coefficient_of done t.1) t.0) (additions (done ++ t ∷ []) rest) (subst IsCoefficient (sym (ap (λ k. k +ℤ t.0) none ∙ +ℤ_idl t.0)) h.0)
     ∙ additions-fit (done ++ t ∷ []) rest (subst AreDistinct (sym (append_assoc done (t ∷ []) rest)) d) h.1
 
--- ---- adjoints
+-- adjoints
 module _ (q : Quiver) (twice : (w : List ℕ) → adjoint_word q (adjoint_word q w) ≡ w) where
   word_eq-adjoint : (v w : List ℕ) → word_eq (adjoint_word q v) w ≡ word_eq v (adjoint_word q w)
   word_eq-adjoint v w = both_ways (word_eq (adjoint_word q v) w) (word_eq v (adjoint_word q w))

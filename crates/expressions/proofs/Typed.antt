@@ -56,7 +56,7 @@ module _ (ds : List Declaration) (declared : IsDeclared ds) (first : ObjectsFirs
   typed-identity (Some (Object v)) name e known = (path-identity v.0 (is_named ds name (Object v) e).0, tt)
   typed-identity (Some (Map a)) name e known = absurd (cc)
 
-  -- ---- by induction on the expression
+  -- by induction on the expression
   mutual
     pub typed-sum : (s : Sum) → are_names ds s ≡ true → (o : Option Sig) → signatures.sum_signature ds s ≡ Ok o → (r : Poly) → polynomials.sum_poly ds s ≡ Ok r → Typed o r
     typed-sum (Sum' at shape terms) known o e r d =
@@ -109,7 +109,7 @@ module _ (ds : List Declaration) (declared : IsDeclared ds) (first : ObjectsFirs
     typed-primary (Identity n) known o e r d = subst (λ s. Typed s r) (same_value _ o e) (subst (λ p. Typed (Some (from_to (object_of ds n) (object_of ds n))) p) (same_value _ r d) (typed-identity (named_in ds n.text) n.text refl known))
     typed-primary (Bracket s) known o e r d = typed-sum s known o e r d
 
-  -- ---- an equation
+  -- an equation
   side-left : (l r : Spot) (s t : Option Sig) (e : Sig) → sides_signature l r s t ≡ Ok e → (w : List ℕ) → IsPathOf q s w → IsPathOf q (Some e) w
   side-left l r None t e h w path = absurd path
   side-left l r (Some s) None e h w path = subst (λ x. IsPathOf q (Some x) w) (same_value s e h) path

@@ -25,13 +25,13 @@ use Rattle.expressions.proofs.Letters.{words-signed, words-sum_step, words-power
 pub no_fault : {A : Type 0} (x : A) (f : SignatureFault) → ◌≡◌ {A = Result A SignatureFault} (Err f) (Ok x) → ⊥
 no_fault x f h = cc
 
--- ---- equal signatures
+-- equal signatures
 pub same_from_ends : (s t : Sig) → same_ends s t ≡ true → s ≡ t
 same_from_ends s t h =
     let both = and_parts (nat_eq s.source.0 t.source.0) (nat_eq s.target.0 t.target.0) h in
     ap₂ from_to (eqb-true s.source.0 t.source.0 both.0) (eqb-true s.target.0 t.target.0 both.1)
 
--- ---- the paths of a signature
+-- the paths of a signature
 module _ (q : Quiver) where
   -- an open expression has no words
   abbrev pub IsPathOf : Option Sig → List ℕ → Type 0
@@ -46,7 +46,7 @@ module _ (q : Quiver) where
   pub path-letter : (a : ℕ) → a < letters q → is_path q (source q a) (target q a) (a ∷ []) ≡ true
   path-letter a h = and_from _ _ (lt-ltb a (letters q) h) (and_from _ _ (eq-eqb (target q a) (target q a) refl) (eq-eqb (source q a) (source q a) refl))
 
-  -- ---- a sum
+  -- a sum
   sum-left : (before : Option Sig) (at : Spot) (next after : Option Sig) → signatures.sum_step (Ok before) at next ≡ Ok after → (w : List ℕ) → IsPathOf before w → IsPathOf after w
   sum-left before at None after h w path = subst (λ s. IsPathOf s w) (same_value before after h) path
   sum-left None at (Some s) after h w path = absurd path
@@ -104,7 +104,7 @@ module _ (q : Quiver) where
   typed-total (p ∷ parts) (s ∷ ss) o r k e d =
       typed-sum_from p.1 (signed s) parts ss o r (words-signed (IsPathOf p.1) s k.0) k.1 (ap (λ x. signatures.sum_from x parts) (sym (first-sum_step p.0 p.1)) ∙ e) d
 
-  -- ---- a product
+  -- a product
   product_from-fault : (f : SignatureFault) (parts : List Part) → signatures.product_from (Err f) parts ≡ Err f
   product_from-fault f [] = refl
   product_from-fault f (p ∷ parts) = product_from-fault f parts
@@ -154,7 +154,7 @@ module _ (q : Quiver) where
       go None rest factor = absurd (no_fault o _ (sym (product_from-fault _ (next ∷ parts)) ∙ rest))
       go (Some s) rest factor = typed-product_from s p (next ∷ parts) ps o r factor k.1 rest d
 
-  -- ---- marks
+  -- marks
   turned-path : IsQuiver q → (s : Option Sig) (w : List ℕ) → IsPathOf s w → IsPathOf (option_map turned s) (adjoint_word q w)
   turned-path quiver None w h = h
   turned-path quiver (Some s) w h = is_path-adjoint_word q quiver s.source.0 s.target.0 w h

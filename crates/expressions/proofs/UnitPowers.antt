@@ -12,7 +12,7 @@ use Rattle.expressions.specs.Repeated.{repeated_word}
 use Rattle.expressions.proofs.RepeatedWords.{length-repeated}
 use Rattle.expressions.proofs.TermPowers.{short-alone, term-too_long, term-next, canonical-next}
 
--- ---- the coefficient
+-- the coefficient
 abbrev pub unit_after : ℤ → ℕ → ℤ
 unit_after u zero = pos 1
 unit_after u (suc n) = unit_after u n *ℤ u
@@ -74,7 +74,7 @@ unit_in u unit n = go (by_turns u unit n)
     go (inl (e, is)) = subst IsCoefficient (sym is) small
     go (inr (e, is)) = subst IsCoefficient (sym is) (subst (λ k. k < 2 ^ 127) (sym unit) small)
 
--- ---- the power
+-- the power
 module _ (t : Term) (canonical : IsCanonical (t ∷ [])) (unit : unsigned_abs t.0 ≡ 1) (n : ℕ) where
   abbrev after : ℕ → Poly
   after i = (unit_after t.0 i, repeated_word i t.1) ∷ []

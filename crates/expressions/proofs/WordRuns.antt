@@ -18,7 +18,7 @@ use Rattle.nc_polynomial.proofs.Products.{canonical_sized}
 use Rattle.nc_polynomial.proofs.RunningSums.{not_long}
 use Rattle.expressions.specs.Results.{◌>>=◌}
 
--- ---- sizes
+-- sizes
 short : (n : ℕ) → nat_lt word_limit n ≡ false → n ≤ word_limit
 short n h = grind (arith, nat_tests)
 
@@ -34,7 +34,7 @@ sized-canonical p canonical =
     by_words p canonical.few
     ∙ ap (λ b. cond b (Err (size_fault true)) (Ok p)) (not_long p (recursion_from_All (λ (t : Term). length t.1 ≤ word_limit) p canonical.short))
 
--- ---- a word behind
+-- a word behind
 abbrev one : List ℕ → Term
 one w = (pos 1, w)
 
@@ -100,7 +100,7 @@ module _ (w : List ℕ) where
       ∙ sym (by_words (times_term y p) (omega (arith, count, canonical.few)))
       ∙ ap sized (times-word w p)
 
--- ---- two words
+-- two words
 between-twice : (u v : List ℕ) (p : List Term) → poly_between [] (poly_between [] p u) v ≡ poly_between [] p (u ++ v)
 between-twice u v [] = refl
 between-twice u v (t ∷ p) = ap₂ (λ x ts. (t.0, x) ∷ ts) (append_assoc t.1 u v) (between-twice u v p)
@@ -162,7 +162,7 @@ no-word p canonical = ap sized (same p) ∙ sized-canonical p canonical
     same [] = refl
     same (t ∷ q) = ap₂ (λ w ts. (t.0, w) ∷ ts) (append-nil t.1) (same q)
 
--- ---- one result after another
+-- one result after another
 pub bind-assoc : {A B C E : Type 0} (r : Result A E) (f : A → Result B E) (g : B → Result C E) → ((r >>= f) >>= g) ≡ (r >>= λ x. f x >>= g)
 bind-assoc (Ok x) f g = refl
 bind-assoc (Err e) f g = refl

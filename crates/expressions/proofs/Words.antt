@@ -65,7 +65,7 @@ pub words-adjoint : (P Q : List ℕ → Type 0) (q : Quiver) → ((w : List ℕ)
 words-adjoint P Q q turned [] h = tt
 words-adjoint P Q q turned (t ∷ p) h = (turned t.1 h.0, words-adjoint P Q q turned p h.1)
 
--- ---- products
+-- products
 module _ (P Q R : List ℕ → Type 0) (joined : (v w : List ℕ) → P v → Q w → R (v ++ w)) where
   words-between : (v : List ℕ) (q : Poly) → P v → Words Q q → Words R (poly_between v q [])
   words-between v [] h k = tt

@@ -32,15 +32,12 @@ use Rattle.library_tests.specs.ShiftSteps.{letter_token, letter_at, number_at, s
 use Rattle.library_tests.specs.ShiftTexts.{HasLetter}
 use Rattle.block_text.proofs.LetterRange.{letter_in_range}
 
--- ---- flaws
-
 -- each has a bound of its own
 told : (b : Bound) → bound_of flaw_of bounds (flaw_of b) ≡ Some b
 told names = refl
 told numbers = refl
 
--- ---- lines
-
+-- lines
 letter_is : (line : Line) (o : Option (List ℕ)) → letter_token line ≡ Some o → (line ≡ letter_line o) × IsTrue (may_be_letter o)
 letter_is [] o read = absurd (cc)
 letter_is (word ∷ []) o read =
@@ -65,8 +62,6 @@ abbrev behind : List Line → Line → List Line
 behind front line = front ++ line ∷ []
 
 module _ (ds : List Declaration) where
-  -- ---- the first lines of a block
-
   -- behind the letter
   record IsLettered (a : Option Letter) (front : List Line) : Type 0 where
     token : Option (List ℕ)
@@ -89,8 +84,7 @@ module _ (ds : List Declaration) where
   kept_by_one token a said = kept token (codes "1") a said (omega arith)
 
   module _ (front : List Line) (line : Line) where
-    -- ---- a line more
-
+    -- a line more
     goes : (s t : Stage) → IsOpen s front → is_end line ≡ false → next ds s line ≡ Ok t → IsOpen t (front ++ line ∷ [])
     goes at.Headed t here more read =
         bind_ok (letter_at ds line) _ t read (λ a a_is made.
@@ -109,8 +103,7 @@ module _ (ds : List Declaration) where
         }))
     goes (at.Whole s) t here more read = absurd (cc)
 
-    -- ---- a line that doesn't fit, or with which a block begins that keeps the bounds before one
-
+    -- a line that doesn't fit, or with which a block begins that keeps the bounds before one
     abbrev Stopped : Flaw → Type 0
     Stopped flaw = IsStopped (shift_kind ds) flaw (front ++ line ∷ [])
 
@@ -171,8 +164,7 @@ module _ (ds : List Declaration) where
   ends (at.Lettered a) front value here read = absurd (cc)
   ends (at.Whole s) front value here read = subst (IsWhole (shift_kind ds) front) (same_Some s value read) here
 
-  -- ---- blocks are read, but for the bounds that they pass
-
+  -- blocks are read, but for the bounds that they pass
   module _ (K : Bound → Type 0) where
     letter_meets : (o : Option (List ℕ)) → IsTrue (may_be_letter o) → (K names → (a : Option Letter) × (letter_said ds o ≡ Some a))
         → Meets flaw_of K (λ s. (a : Option Letter) × (letter_said ds o ≡ Some a) × (s ≡ at.Lettered a)) (next ds at.Headed (letter_line o))
@@ -198,8 +190,7 @@ module _ (ds : List Declaration) where
       (codes "shift") (codes "1") at.Headed (λ line. refl) refl refl (λ s t front line. goes front line s t) goes_on ends (λ s front line flaw. stops front line s flaw)
       shift_meets (λ t v w one two. same_Some v w (sym one ∙ two))
 
-  -- ---- what holds of each shift
-
+  -- what holds of each shift
   letter_known : (o : Option (List ℕ)) (a : Option Letter) → letter_said ds o ≡ Some a → IfSome a (λ b. b.0 < letter_count ds)
   letter_known None a read = subst (λ b. IfSome b (λ c. c.0 < letter_count ds)) (same_Some None a read) tt
   letter_known (Some token) a read =

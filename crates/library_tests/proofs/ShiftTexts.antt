@@ -31,8 +31,7 @@ pub shifts_are_told : (ds : List Declaration) → AreTold (IsShifts ds) (IsFirst
 shifts_are_told ds = are_told (shift_kind ds) (shift_steps ds) (reader ds)
 
 module _ (ds : List Declaration) (declared : IsDeclared ds) (known : IsTrue (list_all is_named ds)) where
-  -- ---- the line of the letter
-
+  -- the line of the letter
   abbrev token_of : Option Letter → Option (List ℕ)
   token_of a = option_map (λ b. letter_text ds b.0) a
 
@@ -55,8 +54,7 @@ module _ (ds : List Declaration) (declared : IsDeclared ds) (known : IsTrue (lis
         said = rw is.read refl;
       }
 
-  -- ---- the block
-
+  -- the block
   keeps : (s : Shift) → letter_said ds (token_of s.letter) ≡ Some s.letter → digits_value 10 (decimal s.by) ≤ number_limit → (bound : Bound) → Keeps ds bound (record { letter = token_of s.letter; by = decimal s.by })
   keeps s said within names = (s.letter, said)
   keeps s said within numbers = within

@@ -14,8 +14,6 @@ use Rattle.block_text.specs.Texts as texts
 use Rattle.block_text.specs.Texts.{HasBlocks, IsBlocks}
 use Rattle.library_tests.specs.declared.shifts.Shift.{Shift}
 
--- ---- the grammar
-
 -- a shift: a letter or none, and a number
 pub record ShiftTokens : Type 0 where
   pub letter : Option (List ℕ)
@@ -47,8 +45,6 @@ pub record IsShiftBlock (t : ShiftTokens) : Type 0 where
   pub letter : IsTrue (may_be_letter t.letter)
   pub by : IsTrue (is_number t.by)
 
--- ---- the value
-
 -- none, or the letter of the quiver that the token spells
 abbrev pub letter_said : List Declaration → Option (List ℕ) → Option (Option Letter)
 letter_said ds None = Some None
@@ -58,8 +54,7 @@ letter_said ds (Some token) = option_map (λ a. Some (record { 0 = a })) (letter
 abbrev pub shift_value : List Declaration → ShiftTokens → Option Shift
 shift_value ds t = option_map (λ a. record { letter = a; by = digits_value 10 t.by }) (letter_said ds t.letter)
 
--- ---- the bounds
-
+-- the bounds
 pub data Bound : Type 0 where
   names : Bound
   numbers : Bound
@@ -77,8 +72,6 @@ flaw_of numbers = NumberTooLarge
 abbrev pub Keeps : List Declaration → Bound → ShiftTokens → Type 0
 Keeps ds names t = (a : Option Letter) × (letter_said ds t.letter ≡ Some a)
 Keeps ds numbers t = digits_value 10 t.by ≤ number_limit
-
--- ---- the kind
 
 -- blocks of these kinds aren't read
 abbrev pub other_words : List (List ℕ)

@@ -18,7 +18,6 @@ pub record IsSolvedTo (m n to : ℕ) (pivots : List (Option (List ℕ))) (prefer
   pub fixed : (place : ℕ) (row : List ℕ) → place < to → get_or pivots place None ≡ Some row
       → (total place (λ k. get_or row k 0 * get_or values k 0) + get_or values place 0) % m ≡ get_or row n 0 % m
 
--- ---- as far as a place
 -- the value at the next place
 solved_more : (m n to : ℕ) (pivots : List (Option (List ℕ))) (prefer values : List ℕ) (value : ℕ) → IsSolvedTo m n to pivots prefer values → value < m
     → (get_or pivots to None ≡ None → value ≡ get_or prefer to 0)
@@ -73,7 +72,6 @@ solved_fixed m n to pivots prefer values row value solved found small left =
     let same : row ≡ other = cc in
     subst (λ x. (total to (λ k. get_or x k 0 * get_or values k 0) + value) % m ≡ get_or x n 0 % m) same left)
 
--- ---- as far as all
 -- a sum whose terms after a place are 0
 total_to : (n place : ℕ) (f : ℕ → ℕ) → place < n → ((k : ℕ) → place < k → k < n → f k ≡ 0) → total n f ≡ total place f + f place
 total_to zero place f within none = absurd (omega arith)

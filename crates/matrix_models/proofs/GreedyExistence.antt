@@ -7,7 +7,7 @@ use Rattle.matrix_models.specs.declared.system.System.{System}
 use Rattle.matrix_models.specs.Systems.{Holds, Solves}
 use Rattle.matrix_models.specs.Greedy.{Extends, CanTake, HasGreedySolution}
 
--- ---- what can be told
+-- what can be told
 all_or_not : {X : Type 0} (P : X → Type 0) → ((x : X) → P x ⊎ (P x → ⊥)) → (xs : List X) → All P xs ⊎ (All P xs → ⊥)
 all_or_not P told [] = inl (All-nil P)
 all_or_not P told (x ∷ xs) = go (told x) (all_or_not P told xs)
@@ -55,7 +55,6 @@ solves_or_not s values =
     go (inl size) (inr below) _ = inr (λ solves. below solves.are_values.below)
     go (inl size) (inl below) (inr holds) = inr (λ solves. holds solves.each_holds)
 
--- ---- one place after the other
 -- what begins a solution and is as long is one
 whole_solves : (s : System) (front : List ℕ) → length front ≡ s.unknowns → Extends s front → Solves s front
 whole_solves s front size extends = go extends.rest extends.solves
@@ -94,7 +93,7 @@ extends_or_not s (suc left) front size =
     go (inl found) = inl (shorter_extends s front found.0 found.1)
     go (inr none) = inr (λ extends. let longer = longer_extends s front (omega (arith, size)) extends in none longer.0 longer.1 longer.2)
 
--- ---- greedy from a place on
+-- greedy from a place on
 record IsGreedyFrom (s : System) (prefer front values : List ℕ) : Type 0 where
   rest : List ℕ
   splits : values ≡ front ++ rest

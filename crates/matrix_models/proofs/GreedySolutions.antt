@@ -22,7 +22,6 @@ can_take_own s values place within solves = record {
   solves = subst (Solves s) (sym (ap (λ x. x ++ drop (place + 1) values) (sym (take_more values place 0 (omega (arith, solves.are_values.one_each, within)))) ∙ take-append-drop (place + 1) values)) solves;
 }
 
--- ---- what the pivots leave
 -- a value that can be taken is the one that the pivot asks for
 taken_is : (s : System) (pivots : List (Option (List ℕ))) (prefer values row : List ℕ) (place value : ℕ) → 0 < s.modulus → ArePivots s.unknowns pivots
     → IsSolvedTo s.modulus s.unknowns s.unknowns pivots prefer values
@@ -99,7 +98,6 @@ greedy-left s pivots prefer values is_system stand solved =
         meets-solution s others (length s.rows) pivots is_system
         (subst (λ xs. StandFor s xs pivots) (sym (take_all (length s.rows) s.rows (omega arith))) stand) solves
 
--- ---- at most one
 -- lists that agree at each place where they agree before it
 pub same_fronts : (values others : List ℕ) (n : ℕ) → n ≤ length values → n ≤ length others
     → ((place : ℕ) → place < n → take place values ≡ take place others → get_or values place 0 ≡ get_or others place 0) → take n values ≡ take n others

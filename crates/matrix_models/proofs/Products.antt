@@ -9,7 +9,7 @@ total-step m n f sum x sum_is last =
     let next : suc n ≡ n + 1 = omega arith in
     ap₂ (λ s y. (s + y) % m) sum_is last ∙ mod-add-mod (total n f) m (f n) ∙ ap (λ k. total k f % m) next
 
--- ---- up to a multiple of m
+-- up to a multiple of m
 pub total-next : (m n : ℕ) (f : ℕ → ℕ) (sum x next : ℕ) → sum % m ≡ total n f % m → x ≡ f n → next % m ≡ (sum + x) % m
     → next % m ≡ total (n + 1) f % m
 total-next m n f sum x next sum_is last next_is =

@@ -11,7 +11,7 @@ use Rattle.matrix_models.specs.declared.system.System.{System}
 use Rattle.matrix_models.specs.Systems.{IsSystem, Holds, Solves}
 use Rattle.matrix_models.specs.Elimination.{Meets, MeetsAll, ArePivots, IsAdded, IsAgainst, row_of, StandFor}
 
--- ---- equations as rows
+-- equations as rows
 meets-row_of : (m n : ℕ) (equation : LinearRow) (values : List ℕ) → length equation.factors ≡ n → Holds m values equation ↔ Meets m n (λ k. get_or values k 0) (row_of equation)
 meets-row_of m n equation values size = (λ holds. ap (λ x. x % m) sum_is ∙ holds ∙ ap (λ x. x % m) (sym right_is), λ meets. ap (λ x. x % m) (sym sum_is) ∙ meets ∙ ap (λ x. x % m) right_is)
   where
@@ -23,7 +23,7 @@ meets-row_of m n equation values size = (λ holds. ap (λ x. x % m) sum_is ∙ h
         total_same n _ _ (λ k l. ap (λ x. x * get_or values k 0) (get_or_append_left equation.factors (equation.right ∷ []) 0 k (omega (arith, size, l))))
         ∙ ap (λ x. total x (λ k. get_or equation.factors k 0 * get_or values k 0)) (sym size)
 
--- ---- one equation more
+-- one equation more
 all_before : {X : Type 0} (P : X → Type 0) (xs : List X) (x : X) → All P (xs ++ x ∷ []) → All P xs
 all_before P xs x each = λ k d l. subst P (get_or_append_left xs (x ∷ []) d k l) (each k d (omega (arith, length_push xs x, l)))
 
@@ -58,7 +58,7 @@ stand_for-more s equations equation old new stand size are_pivots added = record
       );
 }
 
--- ---- what they say of solutions
+-- what they say of solutions
 solution_meets : (s : System) (values : List ℕ) → IsSystem s → Solves s values → All (λ equation. Meets s.modulus s.unknowns (λ k. get_or values k 0) (row_of equation)) s.rows
 solution_meets s values is_system solves = λ k d l.
     (meets-row_of s.modulus s.unknowns (get_or s.rows k d) values (is_system.rows k d l).one_each).0 (solves.each_holds k d l)

@@ -10,7 +10,7 @@ use Rattle.matrix_models.specs.Totals.{total_mod, total_zero, total_add, total_m
 use Rattle.matrix_models.specs.Elimination.{Meets, MeetsAll, IsPivot, ArePivots, IsFree, HasLast, HasNoFactor, MeetsAlike, IsAdded, IsAgainst}
 use Rattle.matrix_models.proofs.Congruences.{add_alike, mul_alike, add_cancel, mul_cancel}
 
--- ---- a multiple of a pivot
+-- a multiple of a pivot
 sum-multiple : (m n t : ℕ) (w : ℕ → ℕ) (row pivot new : List ℕ)
     → ((k : ℕ) → k < n + 1 → get_or new k 0 ≡ (get_or row k 0 + t * get_or pivot k 0) % m)
     → total n (λ k. get_or new k 0 * w k) % m ≡ (total n (λ k. get_or row k 0 * w k) + t * total n (λ k. get_or pivot k 0 * w k)) % m
@@ -60,7 +60,6 @@ gone-multiple m n place row pivot new is_pivot within below gone each k from wit
         ap₂ (λ x y. x + (m - get_or row place 0) * y) (gone k (omega arith) within_k) (is_pivot.last k (omega arith) within_k) ∙ omega arith in
         each k (omega arith) ∙ ap (λ x. x % m) sum ∙ zero-mod m
 
--- ---- a row is multiplied
 -- by what has an inverse: it says the same
 pub meets-scaled : (m n u f : ℕ) (w : ℕ → ℕ) (row new : List ℕ) → (f * u) % m ≡ 1
     → ((k : ℕ) → k < n + 1 → get_or new k 0 ≡ (get_or row k 0 * u) % m)
@@ -92,7 +91,7 @@ pivot-scaled m n place u row new large has size inverse each = record {
   last = λ k after within. each k (omega arith) ∙ ap (λ x. (x * u) % m) (has.last k after within) ∙ ap (λ x. x % m) (zero-mul u) ∙ zero-mod m;
 }
 
--- ---- a pivot is set
+-- a pivot is set
 pub pivots-set : (n place : ℕ) (pivots : List (Option (List ℕ))) (row : List ℕ) → place < length pivots → ArePivots n pivots → IsPivot n place row
     → ArePivots n (set pivots place (Some row))
 pivots-set n place pivots row within pivots_are is_pivot at found found_is = go (cases_eq at place)
@@ -125,7 +124,7 @@ meets-set m n place w pivots row within free = (λ both. forth both.0 both.1, λ
         go (inl here) = let clash : None ≡ Some found = sym free ∙ ap (λ x. get_or pivots x None) (sym here) ∙ found_is in absurd (none-some _ clash)
         go (inr other) = all at found (get_or-set_other pivots place at (Some row) None other ∙ found_is)
 
--- ---- a row with no factor
+-- a row with no factor
 no_factor_sum : (n : ℕ) (w : ℕ → ℕ) (row : List ℕ) → HasNoFactor n row → total n (λ k. get_or row k 0 * w k) ≡ 0
 no_factor_sum n w row none = total_zero n _ (λ k l. ap (λ x. x * w k) (none k l) ∙ zero-mul (w k))
 
@@ -137,7 +136,6 @@ meets-no_factor m n w row none right = ap (λ x. x % m) (no_factor_sum n w row n
 pub right-no_factor : (m n : ℕ) (w : ℕ → ℕ) (row : List ℕ) → HasNoFactor n row → get_or row n 0 < m → Meets m n w row → get_or row n 0 ≡ 0
 right-no_factor m n w row none below holds = sym (mod-eq_of_lt below) ∙ sym holds ∙ ap (λ x. x % m) (no_factor_sum n w row none) ∙ zero-mod m
 
--- ---- what the steps keep
 -- a further step that says the same where the pivots hold
 pub alike_through : (m n : ℕ) (pivots : List (Option (List ℕ))) (start row new : List ℕ) → MeetsAlike m n pivots start row
     → ((w : ℕ → ℕ) → MeetsAll m n w pivots → Meets m n w row ↔ Meets m n w new) → MeetsAlike m n pivots start new

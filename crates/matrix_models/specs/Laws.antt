@@ -223,7 +223,7 @@ module _ (m : ℕ) where
         (q.target ∙ sym r.target) (q.source ∙ sym r.source);
   }
 
-  -- ---- transposes
+  -- transposes
   transpose_is_matrix : (a : Matrix) → IsMatrix m a → IsMatrix m (transpose m a)
   transpose_is_matrix a p = matrix_of_is_matrix m a.columns a.rows (λ i j. entry_at a j i) (columns_object p) (rows_object p)
       (λ i j h k. entry_at_below m a j i p k h)

@@ -34,7 +34,7 @@ total_swap (suc n) p u w v =
     ∙ total_same p _ _ (λ l h. ap (λ y. u l * total n (λ k. v l k * w k) + y) (mul_assoc (u l) (v l n) (w n))
     ∙ sym (mul-add (u l) (total n (λ k. v l k * w k)) (v l n * w n)))
 
--- ---- modulo m
+-- modulo m
 pub add_mod : (m x y : ℕ) → (x % m + y % m) % m ≡ (x + y) % m
 add_mod m x y =
     let flip : x + y % m ≡ y % m + x = omega arith in
@@ -46,7 +46,7 @@ total_mod m zero f g h = refl
 total_mod m (suc n) f g h = sym (add_mod m (total n f) (f n)) ∙ ap₂ (λ x y. (x + y) % m) (total_mod m n f g (λ k l. h k (omega arith)))
     (h n (omega arith)) ∙ add_mod m (total n g) (g n)
 
--- ---- one of the terms
+-- one of the terms
 pub total_pick : (n i : ℕ) (f : ℕ → ℕ) → i < n → total n (λ k. cond (eqb i k) 1 0 * f k) ≡ f i
 total_pick zero i f h = absurd (omega arith)
 total_pick (suc n) i f h = go (cases_eq i n) (total_pick n i f)

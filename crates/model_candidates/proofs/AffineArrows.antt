@@ -23,7 +23,7 @@ use Rattle.model_candidates.proofs.FilledValues.{length-filled, All-filled, fill
 use Rattle.model_candidates.proofs.CandidateModels.{map_at-model_by, model_by_is_model, model_by_has_matrices}
 use Rattle.model_checker.proofs.Arrows.{arrow_of-identity, arrow_of-map, arrow_of-adjoint, adjoint_is_map, represents}
 
--- ---- which maps are solved for
+-- which maps are solved for
 none_passes : {X : Type 0} (p r : X → Bool) → ((x : X) → r x ≡ false → p x ≡ false) → (xs : List X) → list_any r xs ≡ false
     → list_any p xs ≡ false
 none_passes p r weaker [] none = refl
@@ -68,7 +68,7 @@ module _ (q : Quiver) (s : Shape) (solved : List Letter) (drawn : List ℕ) wher
   abbrev pub model_at : List ℕ → Model
   model_at values = model_by q s 0 (all_values values)
 
-  -- ---- values of entries
+  -- values of entries
   abbrev value_in : Entry → List ℕ → ℕ
   value_in x values = value_of_entry q s (all_values values) x
 
@@ -96,7 +96,7 @@ module _ (q : Quiver) (s : Shape) (solved : List Letter) (drawn : List ℕ) wher
       go None = affine_constant m unknowns 0
       go (Some place) = filled_is_affine m (solved_flags q s solved) drawn place
 
-  -- ---- matrices of maps
+  -- matrices of maps
   map-entry_shown : (a row column : ℕ) → (entry_shown q a row column).map ≡ a
   map-entry_shown a row column = go _
     where
@@ -122,7 +122,7 @@ module _ (q : Quiver) (s : Shape) (solved : List Letter) (drawn : List ℕ) wher
       (value_is_affine s.modulus (entry_shown q a i j))
 
   module _ (quiver : IsQuiver q) (shape : IsShape q.objects s) where
-    -- ---- arrows
+    -- arrows
     abbrev arrow_at : ℕ → List ℕ → Matrix
     arrow_at a values = arrow_of q (model_at values) a
 
@@ -186,7 +186,7 @@ module _ (q : Quiver) (s : Shape) (solved : List Letter) (drawn : List ℕ) wher
             ∙ entry_at-matrix_of s.modulus x.columns x.rows (λ row column. entry_at x column row) i j row_of_star column_of_star)
             (matrix_entries b j i column_of_star row_of_star)
 
-    -- ---- for values of the solved entries
+    -- for values of the solved entries
     module _ (count : length drawn ≡ length (entries_of q s)) (drawn_below : All (λ value. value < s.modulus) drawn) where
       -- one for each entry, and below the modulus
       pub count_of_all : (values : List ℕ) → length (all_values values) ≡ length (entries_of q s)

@@ -23,7 +23,7 @@ module _ (m n : ℕ) where
       ap (λ x. x % m) (entry_at-matrix_of m r c a i j (subst (λ k. i < k) (sym rows_is) in_rows)
       (subst (λ k. j < k) (sym columns_is) in_columns))
 
-  -- ---- zero matrices, sums and negatives
+  -- zero matrices, sums and negatives
   pub affine_zero : (rows columns : ℕ) → IsObject m rows → IsObject m columns
       → HasAffineEntries m n rows columns (λ values. zero_matrix m rows columns)
   affine_zero rows columns row_side column_side = record {
@@ -71,7 +71,7 @@ module _ (m n : ℕ) where
           (a.entries i j in_rows in_columns));
     }
 
-    -- ---- multiples
+    -- multiples
     no_multiple : (f : List ℕ → Matrix) → HasAffineEntries m n rows columns f
         → HasAffineEntries m n rows columns (λ values. zero_matrix m (f values).rows (f values).columns)
     no_multiple f a = record {
@@ -101,7 +101,7 @@ module _ (m n : ℕ) where
     affine_matrix_multiple (negsuc k) f a =
         affine_matrix_negative (λ values. natural_multiple (matrices m) (suc k) (f values)) (affine_natural_multiple (suc k) f a)
 
-  -- ---- products
+  -- products
   module _ (rows middle columns : ℕ) (f g : List ℕ → Matrix) (a : HasAffineEntries m n rows middle f)
       (b : HasAffineEntries m n middle columns g) where
     abbrev product_at : List ℕ → Matrix

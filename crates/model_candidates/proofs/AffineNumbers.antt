@@ -12,7 +12,7 @@ abbrev pub ForValues : ℕ → ℕ → (List ℕ → Type 0) → Type 0
 ForValues m n P = (values : List ℕ) → length values ≡ n → All (λ value. value < m) values → P values
 
 module _ (m n : ℕ) where
-  -- ---- the same numbers
+  -- the same numbers
   pub affine_alike : (f g : List ℕ → ℕ) → ForValues m n (λ values. f values % m ≡ g values % m) → IsAffine m n g → IsAffine m n f
   affine_alike f g same a = record {
     constant = a.constant;
@@ -23,7 +23,7 @@ module _ (m n : ℕ) where
   pub affine_equal : (f g : List ℕ → ℕ) → ((values : List ℕ) → f values ≡ g values) → IsAffine m n g → IsAffine m n f
   affine_equal f g same = affine_alike f g (λ values one_each below. ap (λ x. x % m) (same values))
 
-  -- ---- constants, and the values themselves
+  -- constants, and the values themselves
   pub affine_constant : (c : ℕ) → IsAffine m n (λ values. c)
   affine_constant c = record {
     constant = c;
@@ -45,7 +45,7 @@ module _ (m n : ℕ) where
         ap (λ x. x % m) sum;
   }
 
-  -- ---- sums and multiples
+  -- sums and multiples
   pub affine_sum : (f g : List ℕ → ℕ) → IsAffine m n f → IsAffine m n g → IsAffine m n (λ values. f values + g values)
   affine_sum f g a b = record {
     constant = a.constant + b.constant;
@@ -87,7 +87,7 @@ module _ (m n : ℕ) where
       affine_sum (λ values. total count (λ k. f k values)) (f count) (affine_total count f (λ k l. each k (omega arith)))
       (each count (omega arith))
 
-  -- ---- remainders and negatives
+  -- remainders and negatives
   pub affine_remainder : (f : List ℕ → ℕ) → IsAffine m n f → IsAffine m n (λ values. f values % m)
   affine_remainder f = affine_alike (λ values. f values % m) f (λ values one_each below. mod-mod (f values) m)
 

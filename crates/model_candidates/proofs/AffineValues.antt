@@ -53,7 +53,7 @@ module _ (q : Quiver) (s : Shape) (solved : List Letter) (drawn : List ℕ) (qui
   abbrev AreAffine : ℕ → ℕ → (List ℕ → Matrix) → Type 0
   AreAffine u v f = HasAffineEntries s.modulus (unknowns q s solved drawn) (side_in s v) (side_in s u) f
 
-  -- ---- words
+  -- words
   pub count_with : (a : ℕ) (w : List ℕ) → is_solved q solved a ≡ true → solved_count q solved (a ∷ w) ≡ suc (solved_count q solved w)
   count_with a w is = ap (λ b. length (cond b (a ∷ filter (is_solved q solved) w) (filter (is_solved q solved) w))) is
 
@@ -103,7 +103,7 @@ module _ (q : Quiver) (s : Shape) (solved : List Letter) (drawn : List ℕ) (qui
           (letter_is_affine u v a (b ∷ w) path) (rest (omega (arith, count_without a (b ∷ w) is, few)))
           (word_at a [] []) (arrow_unsolved q s solved drawn quiver shape a first.letter is)
 
-  -- ---- polynomials
+  -- polynomials
   module _ (u v : ℕ) (in_u : u < q.objects) (in_v : v < q.objects) where
     abbrev value_of_word : List ℕ → List ℕ → Matrix
     value_of_word w values = word_value (matrices s.modulus) (at values) (zero_matrix s.modulus (side_in s v) (side_in s u)) w

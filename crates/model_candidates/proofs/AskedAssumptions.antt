@@ -25,7 +25,7 @@ use Rattle.model_candidates.specs.Plans.{AreAsked, AreLinearAssumptions, IsAssum
 use Rattle.model_checker.proofs.Places.{all_at, zip_at}
 use Rattle.model_checker.proofs.Values.{zero_from_value}
 
--- ---- lists that are filtered
+-- lists that are filtered
 pub filter_more : {X : Type 0} (keep : X → Bool) (xs : List X) (k : ℕ) (x : X) → slice_get xs k ≡ Some x
     → filter keep (take (k + 1) xs) ≡ filter keep (take k xs) ++ cond (keep x) (x ∷ []) []
 filter_more keep xs k x is =
@@ -46,7 +46,7 @@ kept_more P keep ps k p is before here = subst (λ xs. AllByRecursion P (polynom
         one true h = (h refl, tt)
         one false h = tt
 
--- ---- assumptions
+-- assumptions
 pub letters_within : (q : Quiver) (p : Poly) → HasSignature q p.terms → All (λ t. All (λ letter. letter < letters q) t.1) p.terms
 letters_within q p signed =
     All-from_get_or (λ t. All (λ letter. letter < letters q) t.1) p.terms (pos 0, []) (λ k inside.
@@ -101,7 +101,7 @@ module _ (problem : Problem) where
       (zip_at (IsTypedOf problem.parts.quiver) problem.parts.assumptions problem.parts.sigs k p sig problem.posed.assumptions_typed is at)
       (subst (HasValueZeroAt (matrices m.modulus) q (representation_of q m) sig.source.0 sig.target.0) (terms_there k p is) vanishes)
 
-  -- ---- both kinds
+  -- both kinds
   split : (P : List (ℤ × List ℕ) → Type 0) (ps : List Poly)
       → AllByRecursion P (polynomials (filter (λ p. is_asked q problem.parts.solved true p.terms) ps))
       → AllByRecursion P (polynomials (filter (λ p. is_asked q problem.parts.solved false p.terms) ps))

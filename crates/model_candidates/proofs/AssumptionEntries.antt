@@ -27,7 +27,7 @@ use Rattle.model_candidates.proofs.AffineNumbers.{affine_alike, affine_constant}
 use Rattle.model_candidates.proofs.AffineValues.{few_words, values_are_affine, value_is_matrix}
 use Rattle.model_candidates.proofs.CandidateModels.{side_is_object}
 
--- ---- numbers that are all zero
+-- numbers that are all zero
 abbrev pub AreZero : List ℕ → Type 0
 AreZero xs = (place : ℕ) → get_or xs place 0 ≡ 0
 
@@ -48,7 +48,7 @@ zero_both xs ys front back place = go (cases_lt place (length xs))
     go (inl inside) = get_or_append_left xs ys 0 place inside ∙ front place
     go (inr past) = get_or-append_right xs ys (length xs) place 0 refl past ∙ back (place - length xs)
 
--- ---- matrices
+-- matrices
 zero_entries : (m r c : ℕ) → AreZero (zero_matrix m r c).entries
 zero_entries m r c place = go (cases_lt place (r * c))
   where
@@ -68,7 +68,6 @@ is_zero_matrix m r c x rows columns is is_rows is_columns none =
     none (i * x.columns + j) ∙ sym (entry_at-matrix_of m r c (λ i j. 0) i j (subst (λ n. i < n) is_rows h)
     (subst (λ n. j < n) is_columns k)))
 
--- ---- polynomials that are kept
 -- what holds of all that are kept holds of one
 pub kept_one : (P : List (ℤ × List ℕ) → Type 0) (keep : List (ℤ × List ℕ) → Bool) (ps : List Poly) (place : ℕ) → place < length ps
     → keep (get_or (polynomials ps) place []) ≡ true
@@ -83,7 +82,7 @@ kept_one P keep (p ∷ ps) (suc place) inside kept all = kept_one P keep ps plac
     rest true h = h.1
     rest false h = h
 
--- ---- assumptions
+-- assumptions
 module _ (problem : Problem) (s : Shape) (shape : IsShape (object_count problem.parts.quiver) s) (drawn : List ℕ)
     (count : length drawn ≡ length (entries_of (quiver_of problem.parts.quiver) s))
     (drawn_below : All (λ value. value < s.modulus) drawn) where
@@ -102,7 +101,7 @@ module _ (problem : Problem) (s : Shape) (shape : IsShape (object_count problem.
   pub quiver : IsQuiver q
   quiver = posed_quiver problem.parts problem.posed
 
-  -- ---- one assumption
+  -- one assumption
   module _ (g : LinearAssumption) (is : IsAssumption problem 1 g) where
     abbrev rows : ℕ
     rows = side_in s g.sig.target.0
@@ -155,7 +154,7 @@ module _ (problem : Problem) (s : Shape) (shape : IsShape (object_count problem.
         let x = value_arrow values below in
         is_zero_matrix s.modulus rows columns (value values) rows_object columns_object x.arrow x.target x.source none
 
-  -- ---- all assumptions
+  -- all assumptions
   abbrev pub entries : List LinearAssumption → List ℕ → List ℕ
   entries gs values = entries_in problem s gs (filled flags drawn values)
 

@@ -28,7 +28,7 @@ use Rattle.model_candidates.proofs.AssumptionFactors.{solved_declared, is_quiver
 use Rattle.model_candidates.proofs.TermSums.{terms_sum}
 use Rattle.model_candidates.proofs.WordFactors.{unit_below}
 
--- ---- lists
+-- lists
 map_range_same : {X : Type 0} (f g : ℕ → X) (a n : ℕ) → ((k : ℕ) → a ≤ k → k < a + n → f k ≡ g k) → map f (range_with_len a n) ≡ map g (range_with_len a n)
 map_range_same f g a zero same = refl
 map_range_same f g a (suc n) same =
@@ -49,7 +49,7 @@ map_range_split f a (suc b) =
     ∙ ap (λ xs. map f (range_with_len 0 a) ++ xs) (sym (map-range_with_len_more (λ k. f (a + k)) 0 b b (omega arith))
     ∙ ap (λ n. map (λ k. f (a + k)) (range_with_len 0 n)) more)
 
--- ---- the rows of two lists
+-- the rows of two lists
 module _ (m : ℕ) (xs ys : List ℕ) (front back : ℕ → List ℕ) (n : ℕ) (alike : (k : ℕ) → length (front k) ≡ length xs) where
   abbrev both : List (List ℕ)
   both = map (λ k. front k ++ back k) (range_with_len 0 n)
@@ -78,7 +78,7 @@ module _ (m : ℕ) (xs ys : List ℕ) (front back : ℕ → List ℕ) (n : ℕ) 
       same_row ys back (length xs + place) place (get_or-append-add xs ys place 0)
       (λ k. ap (λ size. get_or (front k ++ back k) (size + place) 0) (sym (alike k)) ∙ get_or-append-add (front k) (back k) place 0)))
 
--- ---- polynomials
+-- polynomials
 terms_canonical : (ps : List Poly) (place : ℕ) → place < length ps → IsCanonical (get_or (polynomials ps) place [])
 terms_canonical [] place inside = absurd (omega (arith, inside))
 terms_canonical (p ∷ ps) zero inside = p.canonical
@@ -91,7 +91,7 @@ assumption_paths problem g is =
     recursion_from_All (λ t. is_path q g.sig.source.0 g.sig.target.0 t.1 ≡ true) (terms_of problem g)
     (words_are_paths q g.sig.source.0 g.sig.target.0 (terms_of problem g) (terms_canonical problem.parts.assumptions g.place is.place) is.typed)
 
--- ---- assumptions
+-- assumptions
 module _ (problem : Problem) (s : Shape) (shape : IsShape (object_count problem.parts.quiver) s) (drawn : List ℕ)
     (count : length drawn ≡ length (entries_of (quiver_of problem.parts.quiver) s))
     (drawn_below : All (λ value. value < s.modulus) drawn) where

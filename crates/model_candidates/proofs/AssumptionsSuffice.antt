@@ -32,7 +32,7 @@ use Rattle.model_candidates.specs.Candidates.{is_linear, is_solved, linear_gener
 use Rattle.model_candidates.specs.Plans.{linear_assumptions}
 use Rattle.model_candidates.proofs.AffineValues.{few_words}
 
--- ---- linear polynomials
+-- linear polynomials
 same_truth : (b c : Bool) → (b ≡ true → c ≡ true) → (c ≡ true → b ≡ true) → b ≡ c
 same_truth true c there back = sym (there refl)
 same_truth false true there back = back refl
@@ -79,7 +79,7 @@ module _ (q : Quiver) (quiver : IsQuiver q) (solved : List Letter) where
       (distinct-descending p.terms (recursion_from_IsDescending p.terms p.canonical.shaped.descending))
       (recursion_from_All (λ t. t.0 ≢ pos 0) p.terms p.canonical.shaped.nonzero) linear)
 
-  -- ---- adjoints
+  -- adjoints
   star_moved : (a b : ℕ) → nat_eq (star q a) b ≡ nat_eq a (star q b)
   star_moved a b = same_truth (nat_eq (star q a) b) (nat_eq a (star q b))
       (λ is. eq-eqb a (star q b) (sym (star_star_each q quiver a) ∙ ap (star q) (eqb-true (star q a) b is)))
@@ -140,7 +140,7 @@ module _ (problem : Problem) (m : Model) where
   abbrev IsZero : List (ℤ × List ℕ) → Type 0
   IsZero p = IsZeroIn problem m p
 
-  -- ---- from the generators
+  -- from the generators
   first_ones : (ps : List Poly) (more : List (List (ℤ × List ℕ))) (gs : List Poly) → AllZip SamePolynomial (polynomials gs) (polynomials ps ++ more)
       → AllByRecursion IsZero (polynomials (filter keep gs)) → AllByRecursion IsZero (polynomials (filter keep ps))
   first_ones [] more gs same zero = tt
@@ -161,7 +161,7 @@ module _ (problem : Problem) (m : Model) where
   pub linear_assumptions_are_zero : AllByRecursion IsZero (polynomials (linear_generators problem)) → AllByRecursion IsZero (linear_assumptions problem)
   linear_assumptions_are_zero = first_ones problem.parts.assumptions _ problem.generators problem.closed.same
 
-  -- ---- from the assumptions
+  -- from the assumptions
   module _ (model : IsModel q' m) (matrices_are : HaveMatrices q' m (letters q')) where
     abbrev f : Representation ℕ Matrix
     f = representation_of q' m

@@ -26,7 +26,7 @@ use Rattle.model_candidates.proofs.DrawnEntries.{drawn_by_flags, drawn_by_entrie
 use Rattle.model_candidates.proofs.FiniteSearch.{Begins, IsGreedyList, greedy_or_none}
 use Rattle.model_candidates.proofs.SystemSolutions.{can_take_own}
 
--- ---- at most one
+-- at most one
 pub greedy_is_unique : (problem : Problem) (s : Shape) (drawn values others : List ℕ) → IsGreedy problem s drawn values
     → IsGreedy problem s drawn others → values ≡ others
 greedy_is_unique problem s drawn values others first second =
@@ -97,7 +97,7 @@ candidate_is_unique problem number s seed k one other first second = go first se
     go (IsCandidate.unsolvable one_way none is) (IsCandidate.drawn other_way values greedy is_other) = absurd (none values greedy.solution)
     go (IsCandidate.unsolvable one_way none is) (IsCandidate.unsolvable other_way none_other is_other) = is ∙ sym is_other
 
--- ---- at least one
+-- at least one
 module _ (problem : Problem) (m : Model) where
   signed_zero_decided : (p : Poly) → HasSignature (quiver_of problem.parts.quiver) p.terms → IsDecided (IsZeroIn problem m p.terms)
   signed_zero_decided p signed =

@@ -19,7 +19,7 @@ use Rattle.model_checker.specs.Models.{map_at, IsModel, IsMap, HaveMatrices}
 use Rattle.model_candidates.specs.Candidates.{Entry, entry, is_same_entry, is_self, side_in, is_declared_map, entries_of, value_at, value_of_entry, entry_shown, matrix_by, place_by, model_by}
 use Rattle.model_candidates.proofs.EntryPlaces.{shown_mirrored, shown_behind}
 
--- ---- the modulus
+-- the modulus
 within : (m : ℕ) → 2 ≤ m → m ≤ 65537 → IsModulus m
 within m least most = record { at_least = least; at_most = omega arith }
 
@@ -31,7 +31,7 @@ each_is_modulus =
     (within 5 (omega arith) (omega arith), (within 7 (omega arith) (omega arith), large)) in
     (within 2 (omega arith) (omega arith), (within 3 (omega arith) (omega arith), middle))
 
--- ---- a map that is its own adjoint shows the same entry at a place and at its mirror image
+-- a map that is its own adjoint shows the same entry at a place and at its mirror image
 shown_either_way : (q : Quiver) (a i j : ℕ) → is_self q a ≡ true → entry_shown q a j i ≡ entry_shown q a i j
 shown_either_way q a i j self = go (cases_order i j)
   where
@@ -40,7 +40,6 @@ shown_either_way q a i j self = go (cases_order i j)
     go (inr (inl less)) = shown_mirrored q a j i self less ∙ sym (shown_behind q a i j (omega (arith, less)))
     go (inr (inr less)) = shown_behind q a j i (omega (arith, less)) ∙ sym (shown_mirrored q a i j self less)
 
--- ---- the matrix of a map
 -- a declared map has the matrix of its entries, whatever the values are
 pub map_at-model_by : (q : Quiver) (s : Shape) (claim : ℕ) (values : List ℕ) (a : ℕ) → IsMap q a
     → map_at (model_by q s claim values) a ≡ Some (matrix_by q s values a)

@@ -16,7 +16,6 @@ use Rattle.model_candidates.proofs.EntryPlaces.{FirstAt, Misses, place_here, hit
 abbrev no_entry : Entry
 no_entry = entry 0 0 0
 
--- ---- lists
 -- each stands first where it stands
 abbrev pub StandFirst : List Entry → Type 0
 StandFirst xs = (k : ℕ) → k < length xs → FirstAt (is_same_entry (get_or xs k no_entry)) xs k
@@ -42,7 +41,7 @@ first-append xs ys in_xs in_ys apart k inside = go (cases_lt k (length xs))
         (miss (is_same_entry (get_or ys (k - length xs) no_entry)) xs ys (k - length xs) (apart (k - length xs) below)
         (in_ys (k - length xs) below)))
 
--- ---- ranges
+-- ranges
 flat_map_next : (g : ℕ → List Entry) (n : ℕ) → flat_map g (range_with_len 0 (suc n)) ≡ flat_map g (range_with_len 0 n) ++ g n
 flat_map_next g n =
     let all : n - 0 ≡ n = omega arith in
@@ -67,7 +66,6 @@ first_in_range g (suc n) each apart =
     (λ i j less below. apart i j less (omega (arith, below)))) (each n (omega arith))
     (λ k inside. misses_range (is_same_entry (get_or (g n) k no_entry)) g n (λ j below. apart n j below (omega arith) k inside)))
 
--- ---- a map
 -- what holds of an entry holds of all of the piece
 of_piece : (P : Entry → Type 0) (a row column : ℕ) (self : Bool) → P (entry a row column) → AllByRecursion P (piece a self row column)
 of_piece P a row column self here = go (is_kept self row column)
@@ -116,7 +114,7 @@ module _ (a : ℕ) (self : Bool) where
       misses_all (is_same_entry x) (piece a self j) (λ c. piece_misses (is_same_entry x) a j c self
       (other_row x.map x.row x.column a j c (λ e. omega (arith, e, row, less)))) (range_with_len 0 columns))
 
--- ---- a shape
+-- a shape
 module _ (q : Quiver) (s : Shape) where
   abbrev rows : ℕ → ℕ
   rows a = side_in s (target q a)

@@ -12,7 +12,7 @@ use Rattle.model_candidates.specs.Candidates.{Entry, entry, side_in, is_declared
 abbrev pub entries_by : ℕ → Bool → ℕ → ℕ → List Entry
 entries_by a self rows columns = flat_map (λ row. map (entry a row) (filter (λ column. not self || nat_le row column) (range_with_len 0 columns))) (range_with_len 0 rows)
 
--- ---- a map
+-- a map
 pub self_count : (a side : ℕ) → side ≤ 6 → length (entries_by a true side side) ≡ side * (side + 1) / 2
 self_count a zero h = refl
 self_count a (suc zero) h = refl
@@ -66,7 +66,7 @@ pub append_nil : (xs : List ℕ) → xs ++ [] ≡ xs
 append_nil [] = refl
 append_nil (x ∷ xs) = ap (λ ys. x ∷ ys) (append_nil xs)
 
--- ---- the maps before a number
+-- the maps before a number
 module _ (q : Quiver) (s : Shape) where
   filter_next : (n : ℕ) → filter (is_declared_map q) (range_with_len 0 (n + 1)) ≡ filter (is_declared_map q) (range_with_len 0 n) ++ cond (is_declared_map q n) (n ∷ []) []
   filter_next n =

@@ -11,7 +11,6 @@ use Rattle.adjoint_rules.proofs.Ranges.{flat_map-range_more}
 use Rattle.model_candidates.specs.Candidates.{Entry, entry, is_same_entry, is_self, side_in, is_declared_map, row_entries, map_entries, entries_of, value_at, value_of_entry, entry_shown}
 use Rattle.model_candidates.specs.EntryPlaces.{entries_before, is_kept, piece, row_pieces, pieces, place_within}
 
--- ---- first places
 -- the first item that passes stands here
 pub record FirstAt {X : Type 0} (p : X → Bool) (xs : List X) (i : ℕ) : Type 0 where
   pub inside : i < length xs
@@ -102,7 +101,7 @@ map_pieces : {X Y : Type 0} (f : X → Y) (xs : List X) → map f xs ≡ flat_ma
 map_pieces f [] = refl
 map_pieces f (x ∷ xs) = ap (λ ys. f x ∷ ys) (map_pieces f xs)
 
--- ---- other entries
+-- other entries
 and_false : (b : Bool) → (b && false) ≡ false
 and_false true = refl
 and_false false = refl
@@ -120,7 +119,7 @@ other_column a row column b r c other =
 pub own_entry : (a row column : ℕ) → is_same_entry (entry a row column) (entry a row column) ≡ true
 own_entry a row column = ap₂ ◌&&◌ (eq-eqb a a refl) (ap₂ ◌&&◌ (eq-eqb row row refl) (eq-eqb column column refl))
 
--- ---- the place of an entry
+-- the place of an entry
 pub piece_misses : (p : Entry → Bool) (a row column : ℕ) (self : Bool) → p (entry a row column) ≡ false → Misses p (piece a self row column)
 piece_misses p a row column self fails = go (is_kept self row column)
   where
@@ -185,7 +184,7 @@ module _ (q : Quiver) (s : Shape) where
   kept_inside a row column letter declared in_rows in_columns kept =
       (position-Some (is_same_entry (entry a row column)) (entries_of q s) _ (entry 0 0 0) (place_of_entry a row column letter declared in_rows in_columns kept)).0
 
--- ---- what is shown
+-- what is shown
 pub shown_mirrored : (q : Quiver) (a row column : ℕ) → is_self q a ≡ true → column < row → entry_shown q a row column ≡ entry a column row
 shown_mirrored q a row column self less = ap (λ b. cond b (entry a column row) (entry a row column)) (ap₂ ◌&&◌ self (lt-ltb column row less))
 
@@ -196,7 +195,7 @@ pub shown_behind : (q : Quiver) (a row column : ℕ) → row ≤ column → entr
 shown_behind q a row column le =
     ap (λ b. cond (is_self q a && b) (entry a column row) (entry a row column)) (lt-leb (suc column) row (omega arith)) ∙ ap (λ b. cond b (entry a column row) (entry a row column)) (and_false (is_self q a))
 
--- ---- how many are before
+-- how many are before
 count_next : (g : ℕ → List Entry) (n : ℕ) → length (flat_map g (range_with_len 0 (n + 1))) ≡ length (flat_map g (range_with_len 0 n)) + length (g n)
 count_next g n =
     let all : n - 0 ≡ n = omega arith in

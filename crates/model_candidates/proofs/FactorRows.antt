@@ -75,7 +75,6 @@ module _ (m : ℕ) (t : SolvedTerm) (i j : ℕ) (start factors : List ℕ) (plac
           ∙ so_far k inside ∙ ap (λ x. x % m) (nothing_added t.coefficient beside (get_or start k 0) sum)
           ∙ ap (λ x. (get_or start k 0 + t.coefficient * (sum + x)) % m) (sym none)
 
--- ---- terms
 -- the sum with one term more
 pub term_added : (m i j k old new index : ℕ) (ts : List SolvedTerm) (t : SolvedTerm) → index < length ts → t ≡ get_or ts index t
     → new % m ≡ (old + term_factor t i j k) % m → old % m ≡ terms_factor (take index ts) i j k % m

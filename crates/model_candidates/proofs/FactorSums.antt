@@ -25,7 +25,7 @@ use Rattle.model_candidates.specs.Factors.{residue}
 use Rattle.model_candidates.proofs.ProductEntries.{multiple_entry}
 use Rattle.model_candidates.proofs.WordFactors.{unknowns, unit, at, unit_below, factor_behind, factor_one, factor_none, factor_zero}
 
--- ---- multiples have the sides of the matrix
+-- multiples have the sides of the matrix
 multiple_rows : (m : ℕ) (k : ℤ) (a : Matrix) → (multiple (matrices m) k a).rows ≡ a.rows
 multiple_rows m (pos zero) a = refl
 multiple_rows m (pos (suc n)) a = refl
@@ -36,7 +36,7 @@ multiple_columns m (pos zero) a = refl
 multiple_columns m (pos (suc n)) a = refl
 multiple_columns m (negsuc n) a = refl
 
--- ---- what a number adds to another
+-- what a number adds to another
 pub added_by : (m x z f : ℕ) → z < m → x % m ≡ (z + f) % m → (x + m - z) % m ≡ f % m
 added_by m x z f small sum =
     let more = (x + m - z) % m in
@@ -85,7 +85,7 @@ module _ (q : Quiver) (s : Shape) (solved : List Letter) (drawn : List ℕ) (qui
       (unit_below q s solved drawn quiver shape count drawn_below declared unknown)) u v w (zero_matrix m (side_in s v) (side_in s u)) path
 
   module _ (i j : ℕ) (in_rows : i < side_in s v) (in_columns : j < side_in s u) where
-    -- ---- one word
+    -- one word
     word_adds : (unknown : ℕ) (w : List ℕ) → is_path q u v w ≡ true → solved_count q solved w ≤ 1
         → entry_at (word_at unknown w) i j % m ≡ (entry_at (word_at n w) i j + factor unknown i j w) % m
     word_adds unknown w path few = go (cases_lt (solved_count q solved w) 1)
@@ -109,7 +109,7 @@ module _ (q : Quiver) (s : Shape) (solved : List Letter) (drawn : List ℕ) (qui
             let sum : factor unknown i j w ≡ entry_at (word_at n w) i j + factor unknown i j w = omega (arith, start) in
             ap (λ y. y % m) here ∙ mod-mod (factor unknown i j w) m ∙ ap (λ y. y % m) sum
 
-    -- ---- one term
+    -- one term
     module _ (k : ℤ) (w : List ℕ) (path : is_path q u v w ≡ true) (few : solved_count q solved w ≤ 1) where
       term_entry : (unknown : ℕ) → entry_at (multiple (matrices m) k (word_at unknown w)) i j ≡ (residue m k * entry_at (word_at unknown w) i j) % m
       term_entry unknown =
@@ -153,7 +153,7 @@ module _ (q : Quiver) (s : Shape) (solved : List Letter) (drawn : List ℕ) (qui
           ∙ ap (λ y. y % m) turned ∙ sym (mod-add-mod (b + z) m (f + g))
           ∙ sym (ap (λ y. (y + (f + g)) % m) (sum_entry n start))
 
-    -- ---- the whole value
+    -- the whole value
     pub value_adds : (unknown : ℕ) (p : List (ℤ × List ℕ)) → HasFew q solved 1 p
         → entry_at (value_of unknown p) i j % m ≡ (entry_at (value_of n p) i j + factor_sum unknown i j p) % m
     value_adds unknown [] few =

@@ -7,7 +7,7 @@ use Rattle.model_candidates.specs.Unknowns.{set_count, filled}
 use Rattle.model_candidates.proofs.Affine.{IsAffine}
 use Rattle.model_candidates.proofs.AffineNumbers.{affine_alike, affine_constant, affine_unknown}
 
--- ---- as a list
+-- as a list
 pub length-filled : (flags : List Bool) (drawn values : List ℕ) → length drawn ≡ length flags
     → length (filled flags drawn values) ≡ length drawn
 length-filled [] [] values same = refl
@@ -30,7 +30,6 @@ All-filled P (true ∷ flags) (d ∷ drawn) (x ∷ values) of_drawn of_values =
     All-cons P x (filled flags drawn values) (All-head P x values of_values)
     (All-filled P flags drawn values (All-tail P d drawn of_drawn) (All-tail P x values of_values))
 
--- ---- at a place
 -- where the flag isn't set, the values count for nothing
 pub filled_unset : (flags : List Bool) (drawn values : List ℕ) (place : ℕ) → get_or flags place false ≡ false
     → get_or (filled flags drawn values) place 0 ≡ get_or (filled flags drawn []) place 0

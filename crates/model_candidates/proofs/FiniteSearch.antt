@@ -8,7 +8,6 @@ use Rattle.std.proofs.Math.Seq.{take-append_seam}
 use Rattle.model_checker.proofs.Decided.{IsDecided, decided_by}
 use Rattle.model_candidates.proofs.EntryCounts.{append_nil}
 
--- ---- numbers below a bound
 -- the least number that passes, or none below the bound does
 pub record LeastOf (Q : ℕ → Type 0) : Type 0 where
   pub number : ℕ
@@ -32,7 +31,7 @@ least_or_none Q decided (suc n) = go (least_or_none Q decided n) (decided n)
         last x below passes (inl same) = not_here (subst Q same passes)
         last x below passes (inr other) = none x (omega (arith, below, other)) passes
 
--- ---- lists
+-- lists
 module _ (size bound : ℕ) (P : List ℕ → Type 0) (decided : (xs : List ℕ) → IsDecided (P xs)) (of_size : (xs : List ℕ) → P xs
     → length xs ≡ size)
     (below : (xs : List ℕ) → P xs → All (λ x. x < bound) xs) where
@@ -79,7 +78,6 @@ module _ (size bound : ℕ) (P : List ℕ → Type 0) (decided : (xs : List ℕ)
       go (inl found) = inl (longer front found.number found.passes)
       go (inr none) = inr (λ begins. let next = next_begins front n left begins in none next.0 next.1 next.2)
 
-  -- ---- greedy ones
   -- The value is the preferred one where that can stand behind the front, and else the least that can.
   pub record IsChoice (front : List ℕ) (preferred value : ℕ) : Type 0 where
     pub preferred_if : Begins (front ++ preferred ∷ []) → value ≡ preferred

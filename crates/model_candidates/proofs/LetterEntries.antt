@@ -67,7 +67,7 @@ module _ (q : Quiver) (quiver : IsQuiver q) (a : ℕ) (in_a : a < letters q) whe
           let later = rest (sym (ap (λ b. b || is_solved q ls a) none) ∙ is) in
           record { map = later.map; is_solved = later_solved l ls later.is_solved }
 
--- ---- the matrix of a letter
+-- the matrix of a letter
 module _ (q : Quiver) (s : Shape) (solved : List Letter) (drawn : List ℕ) (count : length drawn ≡ length (entries_of q s))
     (quiver : IsQuiver q) (shape : IsShape q.objects s) (declared : AllByRecursion (λ l. IsDeclared q l.0) solved) where
   abbrev unit : ℕ → List ℕ

@@ -11,7 +11,7 @@ use Rattle.matrix_models.proofs.Congruences.{add_alike, mul_alike, add_cancel, l
 use Rattle.model_candidates.specs.Unknowns.{unit_values}
 use Rattle.model_candidates.proofs.Affine.{IsAffine}
 
--- ---- units
+-- units
 pub length-unit_values : (n k : ℕ) → length (unit_values n k) ≡ n
 length-unit_values n k = length-map-range_with_len (λ j. cond (eqb j k) 1 0) 0 n
 
@@ -41,7 +41,7 @@ unit_sum n k f inside = total_same n _ _ (λ j l. unit_term n k j (f j) l) ∙ t
 zero_sum : (n : ℕ) (f : ℕ → ℕ) → total n (λ j. f j * get_or (unit_values n n) j 0) ≡ 0
 zero_sum n f = total_zero n _ (λ j l. unit_term n n j (f j) l ∙ ap (λ b. cond b 1 0 * f j) (ne_eqb n j (λ e. omega arith)) ∙ zero-mul (f j))
 
--- ---- the equation
+-- the equation
 module _ (m n : ℕ) (f : List ℕ → ℕ) (affine : IsAffine m n f) (least : 2 ≤ m) where
   at_unit : (k : ℕ) → k < n → f (unit_values n k) % m ≡ (affine.constant + affine.factor k) % m
   at_unit k inside = affine.at (unit_values n k) (length-unit_values n k) (unit_values_below m n k least)

@@ -36,7 +36,6 @@ draws_are_values problem s number seed k positive =
           (λ i inside. mod-lt (word_of_stream seed number (k * count + get_or (range_with_len 0 count) i 0)) positive));
     }
 
--- ---- shapes
 -- and no other
 pub shape_is_one : (problem : Problem) (number : ℕ) (s t : Shape) → IsShapeOf problem number s → IsShapeOf problem number t → s ≡ t
 shape_is_one problem number s t first second =

@@ -11,7 +11,7 @@ use Rattle.matrix_models.proofs.Congruences.{add_cancel}
 use Rattle.model_candidates.specs.Factors.{residue}
 
 module _ (m : ℕ) where
-  -- ---- products
+  -- products
   product_entry : (a b : Matrix) (i j : ℕ) → i < a.rows → j < b.columns
       → entry_at (matrix_product m a b) i j ≡ total a.columns (λ k. entry_at a i k * entry_at b k j) % m
   product_entry a b i j = entry_at-matrix_of m a.rows b.columns (λ row column. total a.columns (λ k. entry_at a row k * entry_at b k column) % m) i j
@@ -33,7 +33,7 @@ module _ (m : ℕ) where
       ∙ mul-mod_second (entry_at left i k) (inner k) m
       ∙ ap (λ x. x % m) (total_mul between.columns (entry_at left i k) (λ l. entry_at between k l * entry_at right l j)))
 
-  -- ---- multiples
+  -- multiples
   natural_entry : (n : ℕ) (a : Matrix) (i j : ℕ) → 0 < m → i < a.rows → j < a.columns
       → entry_at (natural_multiple (matrices m) n a) i j ≡ (n * entry_at a i j) % m
   natural_entry zero a i j positive in_rows in_columns =

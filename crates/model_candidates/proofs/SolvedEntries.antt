@@ -6,7 +6,7 @@ use Rattle.std.proofs.lemmas.List.{take_all, take_more}
 use Rattle.std.proofs.lemmas.List.Elements.{All-nil, All-cons, All-head, All-tail}
 use Rattle.model_candidates.specs.Unknowns.{set_count, filled, picked}
 
--- ---- lists
+-- lists
 pub length-picked : (flags : List Bool) (values : List ℕ) → length values ≡ length flags → length (picked flags values) ≡ set_count flags
 length-picked [] values same = refl
 length-picked (flag ∷ flags) [] same = absurd (omega (arith, same))
@@ -52,7 +52,6 @@ filled_as_drawn (true ∷ flags) (d ∷ drawn) [] (suc place) inside unset = fil
 filled_as_drawn (true ∷ flags) (d ∷ drawn) (x ∷ values) (suc place) inside unset = filled_as_drawn flags drawn values place
     (omega (arith, inside)) unset
 
--- ---- at an entry that is solved for
 -- how many entries are solved for before a place
 abbrev pub before : List Bool → ℕ → ℕ
 before flags place = set_count (take place flags)
@@ -125,7 +124,7 @@ picked-take (true ∷ flags) (d ∷ drawn) (y ∷ values) (suc place) same_drawn
     ap (λ ys. y ∷ ys) (picked-take flags drawn values place (omega (arith, same_drawn)) (omega (arith, same)) (omega (arith, inside))
     set x rest)
 
--- ---- one flag more
+-- one flag more
 set_count-append : (flags more : List Bool) → set_count (flags ++ more) ≡ set_count flags + set_count more
 set_count-append [] more = omega arith
 set_count-append (false ∷ flags) more = set_count-append flags more

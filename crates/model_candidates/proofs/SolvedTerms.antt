@@ -29,7 +29,7 @@ use Rattle.model_candidates.proofs.FilledValues.{length-filled}
 use Rattle.model_candidates.proofs.LetterEntries.{IsDeclared, itself, adjoint, number_below}
 use Rattle.model_candidates.proofs.WordProducts.{FitLetter, fit_letter, product_is_arrow}
 
--- ---- the letters of a path
+-- the letters of a path
 letters_by : (q : Quiver) (u v : ℕ) (w : List ℕ) → leads q u v w ≡ true → AllByRecursion (λ a. a < letters q) w
 letters_by q u v [] path = tt
 letters_by q u v (a ∷ w) path = let first = step q u v a w path in (first.letter, letters_by q u (source q a) w first.rest)
@@ -103,7 +103,7 @@ pub residue_below : (m : ℕ) (k : ℤ) → 0 < m → residue m k < m
 residue_below m (pos n) positive = mod-lt n positive
 residue_below m (negsuc n) positive = mod-lt (m - suc n % m) positive
 
--- ---- terms
+-- terms
 module _ (q : Quiver) (s : Shape) (solved : List Letter) (quiver : IsQuiver q) (shape : IsShape q.objects s)
     (declared : AllByRecursion (λ l. IsDeclared q l.0) solved) (m : Model) (model : IsModel q m) (maps : HaveMatrices q m (letters q))
     (sides : m.sides ≡ s.sides)

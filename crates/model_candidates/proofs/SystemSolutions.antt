@@ -81,7 +81,7 @@ module _ (problem : Problem) (s : Shape) (shape : IsShape (object_count problem.
   unit_below : (k : ℕ) → All (λ value. value < s.modulus) (unit_values n k)
   unit_below k = unit_values_below s.modulus n k least
 
-  -- ---- the equations
+  -- the equations
   abbrev factors : ℕ → List ℕ
   factors place = (row_by s.modulus (unit n) units place).factors
 
@@ -186,7 +186,7 @@ module _ (problem : Problem) (s : Shape) (shape : IsShape (object_count problem.
         (λ k inside. holds_there (get_or (range_with_len 0 (length (unit n))) k 0)
         (none (get_or (range_with_len 0 (length (unit n))) k 0))))
 
-  -- ---- solutions
+  -- solutions
   linear_zero : (values : List ℕ) → IsSolution problem s drawn (filled solved drawn values)
       → AllByRecursion (IsZeroAtSignature problem (model_by q s 0 (filled solved drawn values))) gs
   linear_zero values solution = each gs linear
@@ -241,7 +241,7 @@ module _ (problem : Problem) (s : Shape) (shape : IsShape (object_count problem.
             (linear_zero chosen filled_in));
       }
 
-  -- ---- greedy solutions
+  -- greedy solutions
   module _ (hold : Hold) (values : List ℕ) (greedy : of_system.IsGreedy system (picked solved drawn) values) where
     abbrev all : List ℕ
     all = filled solved drawn values

@@ -31,7 +31,7 @@ use Rattle.model_candidates.proofs.WordEntries.{product_at}
 use Rattle.model_candidates.proofs.WordFactors.{unknowns, unit, unit_below, letter_factor, factor_behind}
 use Rattle.model_candidates.proofs.WordProducts.{product_is_arrow}
 
--- ---- sums over rows and columns
+-- sums over rows and columns
 total_split : (a b : ℕ) (f : ℕ → ℕ) → total (a + b) f ≡ total a f + total b (λ k. f (a + k))
 total_split a zero f =
     let none : a + 0 ≡ a = omega arith in
@@ -79,7 +79,7 @@ module _ (q : Quiver) (s : Shape) (solved : List Letter) (drawn : List ℕ) (qui
       (product_at q s solved drawn quiver shape count drawn_below (target q x) before base)
       (product_at q s solved drawn quiver shape count drawn_below u after base) x k i j
 
-  -- ---- the first solved letter
+  -- the first solved letter
   behind_found : (before w : List ℕ) (place : ℕ) → place < length w → ((l : ℕ) → l < place → is_solved q solved (get_or w l 0) ≡ false)
       → is_solved q solved (get_or w place 0) ≡ true
       → behind before w ≡ around (before ++ take place w) (drop (suc place) w) (get_or w place 0)
@@ -118,7 +118,7 @@ module _ (q : Quiver) (s : Shape) (solved : List Letter) (drawn : List ℕ) (qui
           λ l inside. fails_before_first (is_solved q solved) w l 0 (omega (arith, inside, all)) in
           behind_none [] w none ∙ ap (at_place w) (sym (no_place (is_solved q solved) w (length w) (omega arith) none))
 
-  -- ---- one term
+  -- one term
   module _ (t : ℤ × List ℕ) (path : is_path q u v t.1 ≡ true) where
     abbrev sum_of : Option ℕ → ℕ
     sum_of o = terms_factor (listed (option_map (term_around q s numbers m u t) o)) i j k
@@ -168,7 +168,7 @@ module _ (q : Quiver) (s : Shape) (solved : List Letter) (drawn : List ℕ) (qui
         go (Some place) found =
             ap sum_of found ∙ one_term place found ∙ ap (λ o. residue s.modulus t.0 * at_place t.1 o) (sym found)
 
-  -- ---- all terms
+  -- all terms
   pub terms_sum : (p : List (ℤ × List ℕ)) → AllByRecursion (λ t. is_path q u v t.1 ≡ true) p
       → terms_factor (solved_terms q s solved numbers m u p) i j k
       ≡ factor_sum q s solved drawn quiver shape count drawn_below declared u v in_u in_v k i j p

@@ -17,7 +17,7 @@ use Rattle.model_candidates.proofs.EntryPlaces.{place_of_entry, shown_mirrored, 
 use Rattle.model_candidates.proofs.LinearRows.{length-unit_values, unit_at}
 use Rattle.model_candidates.proofs.SolvedEntries.{before, before_within, filled_set}
 
--- ---- at a place whose flag is set
+-- at a place whose flag is set
 module _ (flags : List Bool) (place : ℕ) (inside : place < length flags) (set : get_or flags place false ≡ true) where
   number_there : get_or (unknown_numbers flags) place 0 ≡ before flags place
   number_there =
@@ -39,7 +39,6 @@ module _ (flags : List Bool) (place : ℕ) (inside : place < length flags) (set 
       ∙ unit_at n unknown (before flags place) (before_within flags place inside set)
       ∙ ap (λ x. cond (eqb x unknown) 1 0) (sym number_there)
 
--- ---- the entries that are shown
 -- an entry that stands among those of the shape
 pub record IsAmong (q : Quiver) (s : Shape) (x : Entry) : Type 0 where
   pub place : ℕ
@@ -74,7 +73,7 @@ shown_among q s quiver a row column letter declared in_rows in_columns = go (is_
         subst (IsAmong q s) (sym (shown_itself q a row column self))
         (among q s a row column letter declared in_rows in_columns (ap (λ b. not b || nat_le row column) self))
 
--- ---- the matrix of a map
+-- the matrix of a map
 module _ (q : Quiver) (s : Shape) (solved : List Letter) (drawn : List ℕ) (count : length drawn ≡ length (entries_of q s)) where
   abbrev flags : List Bool
   flags = solved_flags q s solved

@@ -67,7 +67,6 @@ module _ (q : Quiver) (s : Shape) (solved : List Letter) (drawn : List ℕ) (qui
       ap (λ b. entry_at left i row * (cond b 1 0 * entry_at right column j)) (ne_eqb number unknowns (λ same. absurd (omega (arith, small, same))))
       ∙ ap (λ y. entry_at left i row * y) (zero-mul (entry_at right column j)) ∙ mul-zero (entry_at left i row)))
 
-  -- ---- words
   -- the factor of a word whose letters before these are the first ones
   abbrev pub factor_behind : (u unknown i j : ℕ) → List ℕ → List ℕ → ℕ
   factor_behind u unknown i j before [] = 0

@@ -7,7 +7,7 @@ use Rattle.definitions.proofs.Paths.{step, split}
 use Rattle.definitions.proofs.Values.{letter_is_arrow}
 use Rattle.model_candidates.specs.Factors.{letters_product}
 
--- ---- a letter of a path
+-- a letter of a path
 leads_of_path : (q : Quiver) (u v : ℕ) (w : List ℕ) → is_path q u v w ≡ true → leads q u v w ≡ true
 leads_of_path q u v [] path = absurd (cc)
 leads_of_path q u v (a ∷ w) path = path
@@ -42,7 +42,7 @@ module _ {Object Arrow : Type 0} {s : Structure Object Arrow} (laws : Preadditiv
       laws.compose_is_arrow (f.object u) (f.object (source q a)) (f.object v) (f.arrow a) (letters_product s f u w)
       (letter_is_arrow laws q f rep v a first.letter first.target) (product_is_arrow u (source q a) w in_u first.rest)
 
-  -- ---- the value of a path
+  -- the value of a path
   path_value-product : (u v a : ℕ) (w : List ℕ) → leads q u v (a ∷ w) ≡ true → path_value s f a w ≡ letters_product s f u (a ∷ w)
   path_value-product u v a [] path =
       let first = step q u v a [] path in
@@ -56,7 +56,7 @@ module _ {Object Arrow : Type 0} {s : Structure Object Arrow} (laws : Preadditiv
   word_value-product u v [] none path = absurd (cc)
   word_value-product u v (a ∷ w) none path = path_value-product u v a w path
 
-  -- ---- two words
+  -- two words
   product-append : (u t v : ℕ) (l r : List ℕ) → u < q.objects → t < q.objects → leads q t v l ≡ true → leads q u t r ≡ true
       → letters_product s f u (l ++ r) ≡ s.compose (letters_product s f t l) (letters_product s f u r)
   product-append u t v [] r in_u in_t left right =
@@ -68,7 +68,7 @@ module _ {Object Arrow : Type 0} {s : Structure Object Arrow} (laws : Preadditiv
       (letter_is_arrow laws q f rep v a first.letter first.target) (product_is_arrow t (source q a) l in_t first.rest)
       (product_is_arrow u t r in_u right))
 
-  -- ---- at a letter
+  -- at a letter
   pub word_value-letter : IsQuiver q → (u v : ℕ) (l : List ℕ) (x : ℕ) (r : List ℕ) (none : Arrow) → u < q.objects
       → is_path q u v (l ++ x ∷ r) ≡ true
       → word_value s f none (l ++ x ∷ r) ≡ s.compose (letters_product s f (target q x) l) (s.compose (f.arrow x) (letters_product s f u r))

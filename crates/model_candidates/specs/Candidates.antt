@@ -16,8 +16,6 @@ use Rattle.adjoint_rules.specs.Problem.{polynomials}
 use Rattle.model_checker.specs.Models.{IsZeroIn, Refutes}
 use Rattle.model_candidates.specs.Limits.{exhaustive_limit, drawn_count}
 
--- ---- entries
-
 -- an entry of the matrix of a map, with its row and its column counted from 0
 pub record Entry : Type 0 where
   pub map : ℕ
@@ -58,8 +56,6 @@ map_entries q s a = flat_map (row_entries q s a) (range_with_len 0 (side_in s (t
 abbrev pub entries_of : Quiver → Shape → List Entry
 entries_of q s = flat_map (map_entries q s) (declared_maps q)
 
--- ---- the matrices that values of the entries make
-
 -- the value of the entry, by its place among all entries
 abbrev pub value_at : List ℕ → Option ℕ → ℕ
 value_at values None = 0
@@ -84,8 +80,6 @@ place_by q s values a = if is_declared_map q a then Some (matrix_by q s values a
 abbrev pub model_by : Quiver → Shape → ℕ → List ℕ → Model
 model_by q s claim values = record { claim = claim; modulus = s.modulus; sides = s.sides; maps = map (place_by q s values) (range_with_len 0 (letters q)) }
 
--- ---- how many candidates there are
-
 -- the shape of the problem with this number, counted from 1
 pub record IsShapeOf (problem : Problem) (number : ℕ) (s : Shape) : Type 0 where
   pub before : ℕ
@@ -107,16 +101,12 @@ candidate_count q s = if is_exhaustive q s then value_lists q s else drawn_count
 abbrev pub all_candidate_count : Problem → ℕ
 all_candidate_count problem = sum_by (candidate_count (quiver_of problem.parts.quiver)) problem.parts.shapes
 
--- ---- all lists of values
-
 -- the digit with number j of k in the base of the modulus, the lowest digit first
 abbrev pub digit : ℕ → ℕ → ℕ → ℕ
 digit m k j = k / m ^ j % m
 
 abbrev pub digits : Quiver → Shape → ℕ → List ℕ
 digits q s k = map (digit s.modulus k) (range_with_len 0 (length (entries_of q s)))
-
--- ---- draws
 
 -- the word with this number, from 0, of the stream with this number
 abbrev pub word_of_stream : ℕ → ℕ → ℕ → ℕ
@@ -127,8 +117,6 @@ abbrev pub draws : Quiver → Shape → ℕ → ℕ → ℕ → List ℕ
 draws q s shape seed k =
     let count = length (entries_of q s) in
     map (λ j. word_of_stream seed shape (k * count + j) % s.modulus) (range_with_len 0 count)
-
--- ---- what the drawn entries leave to solve
 
 -- whether the letter is one of these maps or the adjoint of one
 abbrev pub is_solved : Quiver → List Letter → ℕ → Bool
@@ -176,8 +164,6 @@ pub record IsGreedy (problem : Problem) (s : Shape) (drawn values : List ℕ) : 
   pub else_least : (place value : ℕ) → place < length values → ¬ CanTake problem s drawn values place (get_or drawn place 0)
       → CanTake problem s drawn values place value
       → get_or values place 0 ≤ value
-
--- ---- candidates
 
 -- Candidate k of the shape with this number, counted from 1, for a seed, or that it has no model.
 pub data IsCandidate (problem : Problem) (number : ℕ) (s : Shape) (seed k : ℕ) (candidate : Option Model) : Type 0 where

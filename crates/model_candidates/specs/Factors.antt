@@ -29,8 +29,6 @@ abbrev pub letters_product : {Object Arrow : Type 0} → Structure Object Arrow 
 letters_product s f u [] = s.identity (f.object u)
 letters_product s f u (a ∷ w) = s.compose (f.arrow a) (letters_product s f u w)
 
--- ---- terms
-
 -- the coefficient modulo m
 abbrev pub residue : ℕ → ℤ → ℕ
 residue m (pos n) = n % m
@@ -57,8 +55,6 @@ listed (Some t) = t ∷ []
 -- the terms of a polynomial whose words have a solved letter
 abbrev pub solved_terms : Quiver → Shape → List Letter → List ℕ → Model → ℕ → List (ℤ × List ℕ) → List SolvedTerm
 solved_terms q s solved numbers m u p = flat_map (λ t. listed (solved_term q s solved numbers m u t)) p
-
--- ---- factors
 
 -- The matrices are ones modulo m, and the letter between them has an unknown below n in each row and column.
 pub record FitsTerm (m n : ℕ) (t : SolvedTerm) : Type 0 where

@@ -27,7 +27,7 @@ use Rattle.model_checker.proofs.Counterexamples.{Both, both_at, IsPosedOf, claim
 use Rattle.model_checker.proofs.Decided.{IsDecided, decided_by, both_decided, le_decided, lt_decided, matrix_decided, is_matrix_decided}
 use Rattle.model_checker.proofs.Places.{all_at, zip_at, generator_at-suc, inside, one_more}
 
--- ---- declared maps
+-- declared maps
 module _ (q : Quiver) (m : Model) where
   map_decided : (a : ℕ) → IsDecided (IsMap q a)
   map_decided a =
@@ -93,7 +93,7 @@ module _ (q : Quiver) (m : Model) where
       go (inl before) (inl map) = found before map (map_at m n) refl
       go (inl before) (inr none) = inl (longer before (λ map. absurd (none map)))
 
--- ---- values
+-- values
 module _ (problem : Problem) (m : Model) where
   -- at its signature the value can be compared with the zero matrix
   zero_decided : (p : Poly) (s : Sig) → IsPosedOf problem p s → IsDecided (IsZeroIn problem m p.terms)
@@ -150,7 +150,7 @@ module _ (problem : Problem) (m : Model) where
       let is = claim_is problem m m.claim number in
       decided_by (subst (IsZeroIn problem m) (sym is)) (subst (IsZeroIn problem m) is) (zero_decided at.x at.y (claims_are_posed problem m (m.claim - 1) at))
 
-  -- ---- the tests in a row
+  -- the tests in a row
   abbrev Judged : Type 0
   Judged = Refutes problem m ⊎ ((e : ModelRefusal) × RefusesModel problem m e × (IsMemory e → ⊥))
 
@@ -186,7 +186,7 @@ each_model_is_judged problem m =
     judged problem m
     (decided_by (λ h. record { least = h.0; most = h.1 }) (λ is. (is.least, is.most)) (both_decided (le_decided 1 m.claim) (le_decided m.claim (length problem.parts.claims))))
 
--- ---- whether it refutes its claim
+-- whether it refutes its claim
 pub refuting_model_is_not_refused : RefutingModelIsNotRefused
 refuting_model_is_not_refused problem m e refutes refuses = go e refuses
   where

@@ -11,7 +11,7 @@ use Rattle.definitions.proofs.UnitSound.{all-append}
 use Rattle.nc_polynomial.specs.declared.poly.Poly.{Poly}
 use Rattle.adjoint_rules.specs.Problem.{polynomials}
 
--- ---- places
+-- places
 pub item_at : {X : Type 0} (items xs : List X) (k : ℕ) (x : X) → items ≡ xs → k < length items → x ≡ get_or items k x → slice_get xs k ≡ Some x
 item_at items xs k x same below is = ap (λ ys. slice_get ys k) (sym same) ∙ slice_get_read items (length items) k x refl below is
 
@@ -22,7 +22,7 @@ pub zip_at : {X Y : Type 0} (R : X → Y → Type 0) (xs : List X) (ys : List Y)
 zip_at R xs ys k x y all is_x is_y =
     subst (λ o. IsSomeAnd o (R x)) is_y (subst (λ o. MatchOption o (Unit {0}) (λ z. IsSomeAnd (slice_get ys k) (R z))) is_x (AllZip-left R xs ys all k))
 
--- ---- polynomials, numbered from 1
+-- polynomials, numbered from 1
 pub generator_at-suc : (ps : List Poly) (k : ℕ) (p : Poly) → slice_get ps k ≡ Some p → generator_at (polynomials ps) (k + 1) ≡ p.terms
 generator_at-suc ps k p is =
     let next : k + 1 ≡ suc k = omega arith in

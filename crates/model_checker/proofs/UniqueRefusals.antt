@@ -14,7 +14,7 @@ use Rattle.model_checker.specs.Memory.{IsMemory}
 use Rattle.model_checker.specs.Refusals.{IsAtMap, LacksMatrix, HasOtherEnds, IsNotSelfTransposed, RefusesMap, IsFirstNotZero, MakesClaimZero, RefusesModel}
 use Rattle.model_checker.specs.Laws.{ModelRefusalIsUnique}
 
--- ---- declared maps
+-- declared maps
 module _ (q : Quiver) (m : Model) where
   not_both : (a : ℕ) (x : Matrix) → map_at m a ≡ Some x → map_at m a ≡ None → ⊥
   not_both a x some none =
@@ -106,8 +106,6 @@ module _ (q : Quiver) (m : Model) where
   not_all : (e : ModelRefusal) → Wrong e → HaveMatrices q m (letters q) → ⊥
   not_all e w have = let at = fails_at e w in at.1.fails (have.each at.0 at.1.at.map.letter at.1.at.map)
 
--- ---- values
-
 -- of first places the polynomial at each has what all of them have
 taken_has : (P : List (ℤ × List ℕ) → Type 0) (ps : List (List (ℤ × List ℕ))) (k n : ℕ) → k < n → k < length ps → AllByRecursion P (take n ps) → P (generator_at ps (k + 1))
 taken_has P ps k n below inside all =
@@ -141,7 +139,7 @@ module _ (problem : Problem) (m : Model) where
   pub not_all_zero : (a : ℕ) → IsFirstNotZero problem m a → AllByRecursion (IsZeroIn problem m) (assumptions_of problem) → ⊥
   not_all_zero a one all = one.other (subst (λ n. IsZeroIn problem m (generator_at (assumptions_of problem) n)) (sym one.numbered) (all_have (IsZeroIn problem m) (assumptions_of problem) one.before one.inside all))
 
-  -- ---- the tests in their order
+  -- the tests in their order
   data Reason (e : ModelRefusal) : Type 0 where
     no_claim : e ≡ refusal.NoSuchClaim → (IsClaimNumber problem m.claim → ⊥) → Reason e
     map : IsClaimNumber problem m.claim → Wrong (quiver_of problem.parts.quiver) m e → Reason e

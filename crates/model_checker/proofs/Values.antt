@@ -20,7 +20,7 @@ use Rattle.model_checker.specs.Models.{side_of, arrow_of, representation_of, IsM
 use Rattle.model_checker.specs.Listed.{AreOfModel}
 use Rattle.model_checker.proofs.Arrows.{represents, side_object, arrow_of-past}
 
--- ---- one signature tells
+-- one signature tells
 some_is : (x y : ℕ × ℕ) → ◌≡◌ {A = Option (ℕ × ℕ)} (Some x) (Some y) → x ≡ y
 some_is x y e = cc
 
@@ -43,7 +43,7 @@ zero_from_value s q f (t ∷ p) canonical u v typed vanishes = record {
       subst (λ e. HasValueZeroAt s q f e.0 e.1 (t ∷ p)) (one_signature q (t ∷ p) u v x y canonical (λ e. cc) typed other) vanishes;
 }
 
--- ---- the lists
+-- the lists
 any_default : {X : Type 0} (xs : List X) (i : ℕ) (d e : X) → i < length xs → get_or xs i d ≡ get_or xs i e
 any_default xs i d e h = get_or_from_slice_get xs i (get_or xs i e) d (slice_get-get_or xs i e h)
 

@@ -13,8 +13,6 @@ use Rattle.matrix_models.specs.declared.model.Model.{Model}
 use Rattle.adjoint_rules.specs.declared.problem.Problem.{Problem}
 use Rattle.adjoint_rules.specs.Problem.{polynomials}
 
--- ---- the representation
-
 -- the side of the object with this number
 abbrev pub side_of : Model → ℕ → ℕ
 side_of m v = get_or m.sides v 1
@@ -43,8 +41,6 @@ pub record IsModel (q : Quiver) (m : Model) : Type 0 where
   pub side_of_each : length m.sides ≡ q.objects
   pub sides : All IsSide m.sides
   pub place_of_each : length m.maps ≡ letters q
-
--- ---- the tests of a model
 
 -- the number is that of a declared map, and not of the adjoint of one
 pub record IsMap (q : Quiver) (a : ℕ) : Type 0 where

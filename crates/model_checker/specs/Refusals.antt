@@ -13,8 +13,6 @@ use Rattle.model_checker.specs.Models.{map_at, IsMap, HasEnds, IsSelfTransposed,
 use Rattle.model_checker.specs.Models.{claim_polynomial, IsFitting, MakesAssumptionsZero}
 pub use Rattle.model_checker.specs.Memory.{IsMemory}
 
--- ---- declared maps
-
 -- The declared maps before this one have their matrices.
 pub record IsAtMap (q : Quiver) (m : Model) (a : ℕ) : Type 0 where
   pub map : IsMap q a
@@ -50,8 +48,6 @@ RefusesMap q m refusal.NoSuchClaim = ⊥
 RefusesMap q m (refusal.NotZero number) = ⊥
 RefusesMap q m refusal.ClaimZero = ⊥
 
--- ---- values
-
 -- The assumption with this number, counted from 1, is the first that isn't zero.
 pub record IsFirstNotZero (problem : Problem) (m : Model) (number : ℕ) : Type 0 where
   pub before : ℕ
@@ -64,8 +60,6 @@ pub record IsFirstNotZero (problem : Problem) (m : Model) (number : ℕ) : Type 
 pub record MakesClaimZero (problem : Problem) (m : Model) : Type 0 where
   pub assumptions : MakesAssumptionsZero problem m
   pub claim : IsZeroIn problem m (claim_polynomial problem m.claim)
-
--- ---- refusals
 
 -- a claim is named, and its map is refused
 abbrev pub RefusesItsMap : Problem → Model → ModelRefusal → Type 0

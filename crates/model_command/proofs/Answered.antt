@@ -25,8 +25,6 @@ use Rattle.command_shape.proofs.BlockTexts.{IsKind, text_answered, text_answered
 use Rattle.command_shape.proofs.Statements.{stated_leads}
 use Rattle.command_shape.proofs.Owed.{OwesEnding, owed_over, zero_or_past}
 
--- ---- models that are read
-
 -- they are models in the words of the search
 pub readable : (ds : List Declaration) (m : Model) → IsModel ds m → search.IsModel (quiver_of ds) m
 readable ds m is = record { modulus = is.modulus; side_of_each = is.objects; sides = is.sides; place_of_each = is.letters ∙ sym (letters-quiver_of ds) }
@@ -41,8 +39,7 @@ refused_letter problem m (refusal.NotZero number) because = tt
 refused_letter problem m refusal.ClaimZero because = tt
 refused_letter problem m (refusal.Memory failed) because = tt
 
--- ---- the texts of refusals
-
+-- the texts of refusals
 refusal_text : (ds : List Declaration) (e : ModelRefusal) → (IsMemory e → ⊥) → (cause : List ℕ) × (model_cause ds e ≡ Some cause)
 refusal_text ds refusal.NoSuchClaim h = (_, refl)
 refusal_text ds (refusal.MissingMap letter) h = (_, refl)
@@ -84,8 +81,6 @@ models_are_judged problem models =
       other_text = other_text;
     }
 
--- ---- what confirmed models mean
-
 -- a model that refutes the claim that it names has its meaning
 pub each_means : (problem : Problem) (ms : List Model) → All (IsModel problem.parts.quiver) ms → AllByRecursion (Refutes problem) ms → AllByRecursion (ConfirmedMeans problem) ms
 each_means problem [] are refute = tt
@@ -104,8 +99,7 @@ says_confirmed statement models ending answers = record {
       (first_answered (models_are_judged problem models) ending first others rest are begins (stated_leads statement (AnswersModelText models) ending problem is answers));
 }
 
--- ---- what is owed
-
+-- what is owed
 pub model_owes : (statement models : List ℕ)
     → OwesEnding (AnswersModel statement models) (λ Object Arrow s ending. SaysConfirmed statement models ending.report)
 model_owes statement models = owed_over statement (AnswersModelText models) (λ Object Arrow s ending. SaysConfirmed statement models ending.report)

@@ -69,7 +69,6 @@ module _ (problem : Problem) (claim seed number : ℕ) {E : Type 0} where
   block_answer answers first n tells (Some f) is = found_behind f is.after is.before first n
       (subst (AllZip Tells (range_with_len first n)) is.splits tells) (recursion_from_All IsNone is.before is.none)
 
--- ---- going through the answers
 -- what is left stands behind answers that are None
 pub record IsPassed {X E : Type 0} (answers rest : List (Result (Option X) E)) : Type 0 where
   pub before : List (Result (Option X) E)

@@ -17,7 +17,6 @@ use Rattle.model_candidates.proofs.CandidateLaws.{candidate_is_unique}
 use Rattle.model_candidates.proofs.CandidateModels.{modulus_of_shape, model_by_is_model, model_by_has_matrices}
 use Rattle.model_candidates.proofs.NumberedShapes.{shape_is_one, shape_is}
 
--- ---- models of candidates
 -- values below the modulus make the model
 pub record IsGiven (q : Quiver) (s : Shape) (m : Model) : Type 0 where
   pub values : List ℕ
@@ -88,7 +87,7 @@ module _ (problem : Problem) (claim number seed k : ℕ) (s : Shape) (of : IsSha
     pub named_fits : IsClaimNumber problem claim → IsFitting problem (naming claim m)
     named_fits claim_is = record { claim = claim_is; maps = named_matrices }
 
-    -- ---- whether it breaks the claim
+    -- whether it breaks the claim
     pub breaks_where_it_refutes : k < candidate_count q s → Refutes problem (naming claim m)
         → Breaks problem claim seed number k (naming claim m)
     breaks_where_it_refutes in_range refutes = record {

@@ -17,7 +17,6 @@ use Rattle.model_candidates.proofs.CandidateLaws.{each_number_has_a_candidate}
 use Rattle.model_checker.proofs.Decided.{IsDecided}
 use Rattle.model_checker.proofs.Judged.{refutes_decided}
 
--- ---- one at most
 -- of two places one is earlier, or they are one
 either_earlier : (n k n' k' : ℕ) → IsEarlier n k n' k' ⊎ IsEarlier n' k' n k ⊎ ((n ≡ n') × (k ≡ k'))
 either_earlier n k n' k' = shapes (cases_lt n n') (cases_lt n' n)
@@ -49,7 +48,6 @@ least_breaking_is_unique problem claim seed n k n' k' m m' one other = go (eithe
 pub none_breaks_leaves_no_least : NoneBreaksLeavesNoLeast
 none_breaks_leaves_no_least problem claim seed n k m none least = none n k m least.breaks
 
--- ---- one or none
 -- the first number below the end with something, or nothing at any
 pub record First (P : ℕ → Type 0) (Q : ℕ → Type 0) : Type 0 where
   pub place : ℕ
@@ -159,7 +157,7 @@ module _ (problem : Problem) (claim seed : ℕ) where
 pub each_search_has_an_answer : EachSearchHasAnAnswer
 each_search_has_an_answer problem claim seed = answer problem claim seed
 
--- ---- models
+-- models
 pub breaking_candidates_refute : BreakingCandidatesRefute
 breaking_candidates_refute problem claim seed number k m b =
     let q = quiver_of problem.parts.quiver in

@@ -14,7 +14,6 @@ module _ (problem : Problem) (claim seed number : ℕ) where
   abbrev None_at : ℕ → Type 0
   None_at k = NoneBreaksAt problem claim seed number k
 
-  -- ---- blocks
   -- what the search of so many candidates finds
   abbrev pub BlockFinds : ℕ → ℕ → Option Found → Type 0
   BlockFinds first n found = MatchOption found ((k : ℕ) → first ≤ k → k < first + n → None_at k)
@@ -51,7 +50,7 @@ module _ (problem : Problem) (claim seed number : ℕ) where
       → ((k : ℕ) → k < count → None_at k) → (k : ℕ) → None_at k
   none_of_shape count exact none k m b = none k (subst (λ n. k < n) (sym (exact b.shape b.numbered)) b.in_range) m b
 
--- ---- shapes
+-- shapes
 module _ (problem : Problem) (claim seed : ℕ) where
   abbrev None_in : ℕ → ℕ → Type 0
   None_in number k = NoneBreaksAt problem claim seed number k

@@ -11,8 +11,7 @@ use Rattle.block_text.proofs.Results.{by_test}
 use Rattle.model_text.specs.ModelBlocks.{EntryTokens, side, matrix, more_rows, entry_line, is_row, is_row_of, is_entry}
 use Rattle.model_text.specs.Reading.{rows_in, side_tokens, map_tokens, if_entry, entry_tokens}
 
--- ---- rows
-
+-- rows
 rows_cut : (token : List ℕ) (tokens : Line) (b : Bool) → is (codes ";") token ≡ b → tokens ≡ (rows_in tokens).0 ++ more_rows (rows_in tokens).1
     → token ∷ tokens ≡ (rows_in (token ∷ tokens)).0 ++ more_rows (rows_in (token ∷ tokens)).1
 rows_cut token tokens true same rest = rw same (ap₂ (λ t (ts : Line). t ∷ ts) (is_word (codes ";") token same) rest)
@@ -43,8 +42,7 @@ more_read columns (row ∷ rest) each =
     let parts = and_parts (is_row_of columns row) (list_all (is_row_of columns) rest) each in
     rw (row_read row (more_rows rest) rest (row_numbers columns row parts.0) (more_read columns rest parts.1)) refl
 
--- ---- what is read is the tree of the line
-
+-- what is read is the tree of the line
 side_is : (line : Line) (e : EntryTokens) → side_tokens line ≡ Some e → line ≡ entry_line e
 side_is [] e read = absurd (cc)
 side_is (word ∷ []) e read = absurd (cc)
@@ -76,8 +74,7 @@ entry_is line e read =
     (λ there read_side. checked_is line (side_tokens line) e (side_is line) read_side)
     (λ absent read_map. checked_is line (map_tokens line) e (map_is line) read_map)
 
--- ---- and the line of a tree is read as the tree
-
+-- and the line of a tree is read as the tree
 pub entry_read : (e : EntryTokens) → IsTrue (is_entry e) → entry_tokens (entry_line e) ≡ Some e
 entry_read (side name number) kept = rw kept refl
 entry_read (matrix name first rest) kept =

@@ -37,8 +37,7 @@ pub data IsJudged (ds : List Declaration) (m : ℕ) (e : EntryTokens) (r : Resul
   fine : (value : Entry) → r ≡ Ok value → ((bound : Bound) → KeepsEntry ds m bound e) → IsJudged ds m e r
   fails : (bound : Bound) → r ≡ Err (flaw_of bound) → All (λ k. KeepsEntry ds m k e) (before bound) → (KeepsEntry ds m bound e → ⊥) → IsJudged ds m e r
 
--- ---- the numbers of a matrix
-
+-- the numbers of a matrix
 values_there : (m : ℕ) (ts : Line) → 1 ≤ m → All (λ t. value_of t < m) ts → values_below m ts ≡ Some (map value_of ts)
 values_there m [] some below = refl
 values_there m (t ∷ ts) some below =
@@ -63,8 +62,7 @@ module _ (P : List ℕ → Type 0) where
       let parts = all_parts P row (flat_map (λ r. r) rows) each in
       All-cons (λ r. All P r) row rows parts.0 (flat_to rows parts.1)
 
--- ---- the bounds
-
+-- the bounds
 module _ (ds : List Declaration) (m : ℕ) where
   keeps_all : (e : EntryTokens) → HasName ds e → IsBelow m e → IsSmall e → (bound : Bound) → KeepsEntry ds m bound e
   keeps_all e name below small names = name
@@ -113,8 +111,6 @@ module _ (ds : List Declaration) (m : ℕ) where
   pub entry_judged : (e : EntryTokens) → 1 ≤ m → IsJudged ds m e (entry_value ds m e)
   entry_judged (side name number) some = side_judged name number (named_in ds name) (nat_le (value_of number) side_limit) refl refl
   entry_judged (matrix name first rest) some = map_judged some name first rest (named_in ds name) (values_below m (flat_map (λ row. row) (first ∷ rest))) (is_small some name first rest) refl refl refl
-
-  -- ---- the values
 
   -- the line says this
   abbrev pub IsEntryOf : EntryTokens → Entry → Type 0

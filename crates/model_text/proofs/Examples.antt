@@ -15,16 +15,14 @@ use Rattle.model_text.specs.Written.{model_text}
 abbrev declared : List Declaration
 declared = object (codes "U") ∷ object (codes "V") ∷ arrow (codes "a") 0 1 false ∷ arrow (codes "b") 1 0 false ∷ []
 
--- ---- lines
-
+-- lines
 of_a_map : tokens_of (codes "map a=1 0;\t0 07") ≡ entry_line (matrix (codes "a") (codes "1" ∷ codes "0" ∷ []) ((codes "0" ∷ codes "07" ∷ []) ∷ []))
 of_a_map = refl
 
 of_a_side : tokens_of (codes " side U 2") ≡ entry_line (side (codes "U") (codes "2"))
 of_a_side = refl
 
--- ---- reading
-
+-- reading
 abbrev read_of : List ℕ → Result (List Model) Fault
 read_of text = all_values (model_steps declared) text
 
@@ -54,8 +52,7 @@ without_models : read_of (codes "basis 1\nend\n") ≡ Err no_block
 unfolding is_utf8 chars encode
 without_models = refl
 
--- ---- writing
-
+-- writing
 abbrev written : Model
 written = record {
   claim = 1;

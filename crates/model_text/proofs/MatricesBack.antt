@@ -21,8 +21,7 @@ use Rattle.model_text.proofs.Ranges.{range-append}
 pub value_back : (n : ℕ) → n < 10 ^ 64 → value_of (decimal n) ≡ n
 value_back n below = (decimal_is_IsNumeral_wide n below).1
 
--- ---- parts with a sign between them
-
+-- parts with a sign between them
 between_later : (sign : List ℕ) (place : ℕ) → 0 < place → between sign place ≡ sign
 between_later sign place some =
     let other : (place == 0) ≡ false = ne_eqb place 0 (λ e. omega (arith, e, some)) in
@@ -45,8 +44,7 @@ flat_line : (f : ℕ → List ℕ) → ((p : ℕ) → IsLineText (f p)) → (ps 
 flat_line f each [] = literal [] refl refl
 flat_line f each (p ∷ ps) = line_text-append (f p) (flat_map f ps) (each p) (flat_line f each ps)
 
--- ---- the tokens of a matrix
-
+-- the tokens of a matrix
 abbrev pub row_tokens : Matrix → ℕ → Line
 row_tokens x row = map (λ column. decimal (entry_at x row column)) (range_with_len 0 x.columns)
 
@@ -121,8 +119,7 @@ module _ (x : Matrix) (small : (row column : ℕ) → entry_at x row column < 10
       (range_with_len 0 x.columns)))
       (range_with_len 0 x.rows)
 
-  -- ---- its entries
-
+  -- its entries
   abbrev entry : ℕ → ℕ
   entry place = get_or x.entries place 0
 

@@ -27,8 +27,7 @@ use Rattle.block_text.proofs.Meets.{Meets, reads, passes, then_meets, meets-weak
 use Rattle.model_text.proofs.Names.{AreDistinct, distinct_apart}
 
 module _ (K : Bound → Type 0) (ds : List Declaration) where
-  -- ---- lines
-
+  -- lines
   entry_by : (m : ℕ) (e : EntryTokens) → ((bound : Bound) → K bound → KeepsEntry ds m bound e) → IsJudged ds m e (entry_value ds m e) → Meets flaw_of K (λ value. entry_value ds m e ≡ Ok value) (entry_value ds m e)
   entry_by m e keeps (fine value is kept) = reads value is is
   entry_by m e keeps (fails bound is kept passed) = passes bound is (λ k. passed (keeps bound k))
@@ -85,8 +84,7 @@ module _ (K : Bound → Type 0) (ds : List Declaration) where
         is = rest.is ∙ ap₂ (λ ns vs. model_of ds (begun_of b.claim b.modulus ns vs)) (append_assoc b.names (name_of e ∷ []) (map name_of es)) (append_assoc b.entries (one.0 ∷ []) rest.values);
       }))))
 
-  -- ---- a model
-
+  -- a model
   claim_meets : (claim : List ℕ) → IsTrue (is_number claim) → (K numbers → value_of claim ≤ number_limit)
       → Meets flaw_of K (λ s. (n : ℕ) × (number_within number_limit claim ≡ Some n) × (s ≡ at.Claimed n)) (next ds at.Headed (claim_line claim))
   claim_meets claim number within = rw number (then_meets _ (asked_meets K numbers (number_within number_limit claim) (λ kept. number_found number_limit claim (within kept))) (λ n _ n_is. reads _ refl (n, n_is, refl)))

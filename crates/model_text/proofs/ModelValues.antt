@@ -39,8 +39,7 @@ cond_has P true x y one two = one refl
 cond_has P false x y one two = two
 
 module _ (ds : List Declaration) where
-  -- ---- sides
-
+  -- sides
   sides_are : (es : List EntryTokens) → All (λ e. IsTrue (is_entry e)) es → All IsSmall es → (v : ℕ) → IsSide (side_of ds es v)
   sides_are [] each small v = record { positive = omega arith; at_most = omega arith }
   sides_are (side name number ∷ es) each small v =
@@ -54,8 +53,7 @@ module _ (ds : List Declaration) where
   sides_are (matrix name first rest ∷ es) each small v =
       sides_are es (All-tail (λ e. IsTrue (is_entry e)) (matrix name first rest) es each) (All-tail IsSmall (matrix name first rest) es small) v
 
-  -- ---- matrices
-
+  -- matrices
   module _ (m : ℕ) (is_mod : IsModulus m) where
     matrix_is : (name : List ℕ) (first : Line) (rest : List Line) → IsTrue (is_entry (matrix name first rest)) → IsBelow m (matrix name first rest) → IsSmall (matrix name first rest) → IsMatrix m (matrix_value m first rest)
     matrix_is name first rest here below small =
@@ -94,8 +92,7 @@ module _ (ds : List Declaration) where
         ))
         (placed es (All-tail (λ t. IsTrue (is_entry t)) e es each) (All-tail (HasName ds) e es known) (All-tail (IsBelow m) e es below) (All-tail IsSmall e es small) a)
 
-  -- ---- models
-
+  -- models
   value_is_model : (b : ModelTokens) → IsModelBlock b → ((bound : Bound) → KeepsOne ds bound b) → IsModel ds (model_value ds b)
   value_is_model b block keeps =
       let m : ℕ = value_of b.modulus in

@@ -32,8 +32,7 @@ use Rattle.model_text.proofs.Reader.{reader}
 use Rattle.model_text.proofs.NamesApart.{Ascend, ascend_lower, ascending_apart}
 use Rattle.model_text.proofs.ObjectNames.{IsObjectName, object_is_named, IsMapName, map_is_named}
 
--- ---- numbers within their limits
-
+-- numbers within their limits
 sides_at : (sides : List ℕ) (v : ℕ) → All IsSide sides → IsSide (get_or sides v 1)
 sides_at [] v each = record { positive = omega arith; at_most = omega arith }
 sides_at (n ∷ sides) zero each = All-head IsSide n sides each
@@ -44,8 +43,6 @@ entries_at m [] place some each = some
 entries_at m (n ∷ entries) zero some each = All-head (λ entry. entry < m) n entries each
 entries_at m (n ∷ entries) (suc place) some each = entries_at m entries place some (All-tail (λ entry. entry < m) n entries each)
 
--- ---- entries
-
 -- what is known of an entry that is written
 record IsWrittenEntry (ds : List Declaration) (modulus : ℕ) (e : EntryTokens) : Type 0 where
   entry : IsTrue (is_entry e)
@@ -53,8 +50,7 @@ record IsWrittenEntry (ds : List Declaration) (modulus : ℕ) (e : EntryTokens) 
   below : IsBelow modulus e
   small : IsSmall e
 
--- ---- what a model is written as
-
+-- what a model is written as
 abbrev side_tree : List Declaration → List ℕ → ℕ → EntryTokens
 side_tree ds sides v = side (object_name ds v) (decimal (get_or sides v 1))
 
@@ -72,7 +68,7 @@ model_tree ds m = record {
   entries = map (side_tree ds m.sides) (range_with_len 0 (object_count ds)) ++ flat_map (trees_at ds m.maps) (range_with_len 0 (letter_count ds));
 }
 
--- ---- a matrix
+-- a matrix
 module _ (modulus : ℕ) (x : Matrix) (is : IsMatrix modulus x) where
   entry_below : (row column : ℕ) → entry_at x row column < modulus
   entry_below row column = entries_at modulus x.entries (row * x.columns + column) (omega (arith, is.is_modulus.at_least)) is.entries_below
@@ -132,7 +128,7 @@ module _ (modulus : ℕ) (x : Matrix) (is : IsMatrix modulus x) where
       ∙ ap (λ ts. name ∷ codes "=" ∷ ts) (matrix_read x entry_small wide high)) in
       rw (here.named, eq-eqb a a refl) (text_of_tokens (codes "map " ++ name ++ codes " = " ++ rows_text x) (entry_line (matrix name (row_tokens x 0) (later_rows x))) line tokens refl)
 
--- ---- the model
+-- the model
 module _ (ds : List Declaration) (declared : IsDeclared ds) (known : IsTrue (list_all is_named ds)) (m : Model) (writable : IsWritableModel ds m) where
   abbrev Written : EntryTokens → Type 0
   Written e = IsWrittenEntry ds m.modulus e
@@ -168,8 +164,7 @@ module _ (ds : List Declaration) (declared : IsDeclared ds) (known : IsTrue (lis
       ap (λ ts. codes "side" ∷ ts) (ap tokens_of (append_assoc name (codes " ") number) ∙ token_read name (codes " " ++ number) (name_token name text) refl) in
       text_of_number (codes "side " ++ name ++ codes " ") (codes "side" ∷ name ∷ []) number line (decimal_text (get_or m.sides v 1) (side_small v)) split refl
 
-  -- ---- the lines of the sides
-
+  -- the lines of the sides
   object_at : (a n : ℕ) → a + suc n ≤ object_count ds → IsObjectName ds a
   object_at a n within = object_is_named ds a declared known (omega (arith, within))
 
@@ -184,8 +179,7 @@ module _ (ds : List Declaration) (declared : IsDeclared ds) (known : IsTrue (lis
   sides_are_text a (suc n) within =
       text-append _ _ (entry_line (side_tree ds m.sides a) ∷ []) (map entry_line (map (side_tree ds m.sides) (range_with_len (a + 1) n))) (side_is_text a (object_at a n within)) (sides_are_text (a + 1) n (omega (arith, within)))
 
-  -- ---- the lines of the maps
-
+  -- the lines of the maps
   trees_written : (a : ℕ) (o : Option Matrix) → IsPlaced ds m.modulus a o → All Written (map_trees ds a o)
   trees_written a None placed = All-nil Written
   trees_written a (Some x) placed = All-cons Written _ [] (matrix_written m.modulus x placed.1 ds a (named_map a placed.0)) (All-nil Written)
@@ -210,8 +204,7 @@ module _ (ds : List Declaration) (declared : IsDeclared ds) (known : IsTrue (lis
       subst (IsTextOf (flat_map (λ b. map_text ds b (get_or m.maps b None)) (range_with_len a (suc n)))) (sym (map-append entry_line (trees_at ds m.maps a) more))
       (text-append _ _ _ (map entry_line more) (trees_are_text a (get_or m.maps a None) (placed_at a n within)) (maps_are_text (a + 1) n (omega (arith, within))))
 
-  -- ---- the names
-
+  -- the names
   tree_names_ascend : (a : ℕ) (o : Option Matrix) (more_names : List (List ℕ)) → IsPlaced ds m.modulus a o → Ascend ds (object_count ds + (a + 1)) more_names → Ascend ds (object_count ds + a) (map name_of (map_trees ds a o) ++ more_names)
   tree_names_ascend a None more_names placed each = ascend_lower ds (object_count ds + a) (object_count ds + (a + 1)) more_names (omega arith) each
   tree_names_ascend a (Some x) more_names placed each =
@@ -230,8 +223,7 @@ module _ (ds : List Declaration) (declared : IsDeclared ds) (known : IsTrue (lis
   side_names_ascend a (suc n) more_names all each =
       rw (object_at a n (omega (arith, all))).named (omega arith, side_names_ascend (a + 1) n more_names (omega (arith, all)) each)
 
-  -- ---- what is read of the sides
-
+  -- what is read of the sides
   abbrev sides_from : ℕ → ℕ → List EntryTokens
   sides_from a n = map (side_tree ds m.sides) (range_with_len a n)
 
@@ -252,8 +244,7 @@ module _ (ds : List Declaration) (declared : IsDeclared ds) (known : IsTrue (lis
   sides_back v a (suc n) rest low high within =
       side_by v a (sides_from (a + 1) n ++ rest) (nat_eq a v) refl (object_at a n within) low (λ behind. sides_back v (a + 1) n rest behind (omega (arith, high)) (omega (arith, within)))
 
-  -- ---- what is read of the maps
-
+  -- what is read of the maps
   no_sides : (a : ℕ) (vs : List ℕ) (rest : List EntryTokens) → matrix_of ds m.modulus (map (side_tree ds m.sides) vs ++ rest) a ≡ matrix_of ds m.modulus rest a
   no_sides a [] rest = refl
   no_sides a (v ∷ vs) rest = no_sides a vs rest
@@ -289,8 +280,7 @@ module _ (ds : List Declaration) (declared : IsDeclared ds) (known : IsTrue (lis
   maps_back a b (suc n) low high within =
       map_by a b n (nat_eq b a) refl low within (λ behind. maps_back a (b + 1) n behind (omega (arith, high)) (omega (arith, within)))
 
-  -- ---- the block
-
+  -- the block
   claim_small : m.claim < 10 ^ 64
   claim_small = omega (arith, writable.claim)
 
@@ -339,8 +329,7 @@ module _ (ds : List Declaration) (declared : IsDeclared ds) (known : IsTrue (lis
       }
   keeps sizes = All-weaker Written IsSmall (λ e written. written.small) (model_tree ds m).entries entries_written
 
-  -- ---- the text
-
+  -- the text
   head_is_text : IsTextOf (head_text m) (head_line ∷ claim_line (decimal m.claim) ∷ modulus_line (decimal m.modulus) ∷ [])
   head_is_text =
       let first = text_of_tokens (codes "model 1") head_line (literal (codes "model 1") refl refl) refl refl in
@@ -368,8 +357,7 @@ module _ (ds : List Declaration) (declared : IsDeclared ds) (known : IsTrue (lis
   pub model_has : HasModels ds (model_text ds m) (m ∷ [])
   model_has = text_of_block (model_kind ds) (model_text ds m) m model_written
 
--- ---- between other lines
-
+-- between other lines
 pub models_are_read_back : ModelsAreReadBack
 models_are_read_back ds declared known =
     (are_read_back (model_kind ds) (model_text ds) (IsWritableModel ds) (reader ds).words (λ m writable. model_written ds declared known m writable)).between

@@ -9,8 +9,6 @@ use Rattle.block_text.specs.Back.{is_named}
 use Rattle.block_text.proofs.LetterNames.{object_placed, apart, found, named_between, letter_is_spelled}
 use Rattle.model_text.specs.Models.{HasMap}
 
--- ---- objects
-
 -- the name of an object is a name, and stands for it
 pub record IsObjectName (ds : List Declaration) (v : ℕ) : Type 0 where
   pub name : is_name (object_name ds v) ≡ true
@@ -37,8 +35,6 @@ object_is_named ds v declared names within =
     (named_by_place there.before there.name there.after
     (subst (λ (es : List Declaration). AllPairs (λ x y. x ≢ y) (map name_of es)) there.whole declared.distinct)
     (subst (λ (es : List Declaration). IsTrue (list_all is_named es)) there.whole names)))
-
--- ---- declared maps
 
 -- the name of a letter is a name, and stands for it
 pub record IsMapName (ds : List Declaration) (a : ℕ) : Type 0 where

@@ -32,8 +32,6 @@ use Rattle.model_text.proofs.EntryLines.{entry_is}
 use Rattle.model_text.proofs.EntryValues.{before, KeepsEntry, IsJudged, fine, fails, entry_judged, IsEntryOf}
 use Rattle.model_text.proofs.Names.{distinct_push}
 
--- ---- what stands at each place
-
 -- behind the claim
 pub record IsClaimed (n : ℕ) (front : List Line) : Type 0 where
   pub claim : List ℕ
@@ -58,8 +56,6 @@ abbrev pub IsOpen : List Declaration → Stage → List Line → Type 0
 IsOpen ds at.Headed front = front ≡ head_line ∷ []
 IsOpen ds (at.Claimed n) front = IsClaimed n front
 IsOpen ds (at.Inside b) front = IsInside ds b front
-
--- ---- and the blocks that go on with it
 
 -- a model without lines
 abbrev pub shortest : List ℕ → List ℕ → ModelTokens
@@ -120,8 +116,7 @@ module _ (ds : List Declaration) where
     keeps = everywhere (λ bound. KeepsOne ds bound inside.tokens) inside.keeps within;
   })
 
--- ---- what the lines say
-
+-- what the lines say
 abbrev pub behind : List Line → Line → List Line
 behind front line = front ++ line ∷ []
 
@@ -216,8 +211,7 @@ module _ (ds : List Declaration) where
       let same : begun_of b.claim b.modulus (b.names ++ name_of e ∷ []) (b.entries ++ value ∷ []) ≡ next = cc in
       subst (λ n. IsInside ds n (front ++ line ∷ [])) same (next_by b front inside e fresh known.1 line value known.0 value_is (entry_judged ds b.modulus e inside.some))))
 
-  -- ---- a line that doesn't fit, or with which a block begins that keeps the bounds before one
-
+  -- a line that doesn't fit, or with which a block begins that keeps the bounds before one
   abbrev pub Stopped : Flaw → List Line → Type 0
   Stopped flaw front = IsStopped (model_kind ds) flaw front
 

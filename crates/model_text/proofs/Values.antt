@@ -18,8 +18,6 @@ use Rattle.model_text.specs.ModelBlocks.{is_row, is_row_of}
 use Rattle.model_text.specs.ModelBounds.{value_of}
 use Rattle.model_text.specs.Reading.{AreRows, after, values_below, values_in}
 
--- ---- values
-
 -- these are the values of the numbers, and all are below the modulus
 pub record AreValues (m : ℕ) (numbers : Line) (values : List ℕ) : Type 0 where
   pub are : map value_of numbers ≡ values
@@ -63,8 +61,7 @@ pub values_joined : (m : ℕ) (front rest : Line) → values_below m (front ++ r
 values_joined m [] rest = no_values (values_below m rest)
 values_joined m (number ∷ front) rest = rw (values_joined m front rest) (with_first (number_within (m - 1) number) (values_below m front) (values_below m rest))
 
--- ---- rows
-
+-- rows
 more_numbers : (columns : ℕ) (rest : List Line) → list_all (is_row_of columns) rest ≡ true
     → (list_all is_number (flat_map (λ row. row) rest) ≡ true) × (length (flat_map (λ row. row) rest) ≡ length rest * columns)
 more_numbers columns [] rows = (refl, omega arith)
@@ -87,8 +84,7 @@ pub rows_have_length : (first : Line) (rest : List Line) → AreRows first rest 
 rows_have_length first rest rows =
     rw (length-append first (flat_map (λ r. r) rest), (more_numbers (length first) rest rows.more).1) (omega arith)
 
--- ---- one by one
-
+-- one by one
 pub first_number : (tokens : Line) (number : List ℕ) (more : Line) → tokens ≡ number ∷ more → list_all is_number tokens ≡ true → (is_number number ≡ true) × (list_all is_number more ≡ true)
 first_number tokens number more is all = and_parts (is_number number) (list_all is_number more) (subst (λ (ts : Line). list_all is_number ts ≡ true) is all)
 
@@ -128,8 +124,7 @@ rows_of_numbers first rest rows =
     let numbers = and_parts _ (list_all is_number first) rows.first_row in
     rw (numbers.1, rows_are_numbers (length first) rest rows.more) refl
 
--- ---- shapes
-
+-- shapes
 row_has_some : (first : Line) → is_row first ≡ true → 1 ≤ length first
 row_has_some first row =
     let parts = and_parts (nat_lt 0 (length first)) (list_all is_number first) row in

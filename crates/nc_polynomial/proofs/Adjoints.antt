@@ -26,7 +26,7 @@ use Rattle.nc_polynomial.proofs.Distinct.{none_listed, distinct-descending, coef
 abbrev pub adjoint_terms : List ℕ → List Term → List Term
 adjoint_terms stars p = map (λ t. (t.0, reversed_star stars t.1)) p
 
--- ---- in a quiver with these adjoints
+-- in a quiver with these adjoints
 word-quiver : (q : Quiver) (w : List ℕ) → reversed_star q.stars w ≡ adjoint_word q w
 word-quiver q [] = refl
 word-quiver q (a ∷ w) = ap (λ x. x ++ star_in q.stars a ∷ []) (word-quiver q w)
@@ -38,7 +38,7 @@ terms-quiver q (t ∷ p) = ap₂ (λ w (rest : List Term). (t.0, w) ∷ rest) (w
 pub adjoint_in : (stars : List ℕ) (p r : List Term) → ((w : List ℕ) → coefficient_of r w ≡ coefficient_of (adjoint_terms stars p) w) → IsAdjoint stars p r
 adjoint_in stars p r same q e = record { at = λ w. same w ∙ ap (λ x. coefficient_of x w) (ap (λ s. adjoint_terms s p) (sym e) ∙ terms-quiver q p) }
 
--- ---- words
+-- words
 reversed_star-append : (stars v w : List ℕ) → reversed_star stars (v ++ w) ≡ reversed_star stars w ++ reversed_star stars v
 reversed_star-append stars [] w = sym (append-nil (reversed_star stars w))
 reversed_star-append stars (a ∷ v) w =
@@ -79,7 +79,7 @@ module _ (stars : List ℕ) (involution : IsInvolution stars) where
   pub new_word : (p : List Term) (t : Term) → AllByRecursion (λ u. word_eq u.1 t.1 ≡ false) p → coefficient_of (adjoint_terms stars p) (reversed_star stars t.1) ≡ pos 0
   new_word p t apart = coefficient_of-adjoint_terms p (reversed_star stars t.1) ∙ ap (coefficient_of p) (twice t.1) ∙ none_listed t.1 p apart
 
-  -- ---- the table of the adjoints
+  -- the table of the adjoints
   pub in_range-adjoint : (p : List Term) → Descends p → AllByRecursion (λ t. IsCoefficient t.0) p → (w : List ℕ) → IsCoefficient (coefficient_of (adjoint_terms stars p) w)
   in_range-adjoint p d h w = subst IsCoefficient (sym (coefficient_of-adjoint_terms p w)) (coefficient-ranged p (distinct-descending p d) h (reversed_star stars w))
 

@@ -28,8 +28,7 @@ quotient_times a d h =
     ∙ sym (+ℤ_idr (int_div a d *ℤ d)) ∙ ap (λ r. int_div a d *ℤ d +ℤ r) (sym (no_remainder a d h))
     ∙ quot-rem a d
 
--- ---- the content
-
+-- the content
 each_part : (d : ℕ) (p : List Term) (t : Term) → AllByRecursion (λ u. d ∣ unsigned_abs u.0) (p ++ t ∷ []) → AllByRecursion (λ u. d ∣ unsigned_abs u.0) p × (d ∣ unsigned_abs t.0)
 each_part d [] t h = (tt, h.0)
 each_part d (u ∷ p) t h = let parts = each_part d p t h.1 in ((h.0, parts.0), parts.1)
@@ -54,7 +53,7 @@ pub content-zero : (p : List Term) (g : ℤ) → AllByRecursion (λ t. t.0 ≢ p
 content-zero [] g nonzero content = (λ e. refl, λ e. abs_zero g (eq-zero_of_zero-dvd (content.greatest 0 (λ i x h. absurd (omega arith)))))
 content-zero (t ∷ p) g nonzero content = (λ e. absurd (nonzero.0 (abs_zero t.0 (eq-zero_of_zero-dvd (subst (λ n. n ∣ unsigned_abs t.0) (ap unsigned_abs e) (content.divides 0 t (omega arith)))))), λ e. cc)
 
--- ---- the quotient
+-- the quotient
 pub abs_positive : (k : ℤ) → k ≢ pos 0 → 0 < unsigned_abs k
 abs_positive (pos zero) h = absurd (h refl)
 abs_positive (pos (suc n)) h = omega arith

@@ -29,7 +29,7 @@ use Rattle.nc_polynomial.proofs.RunningSums.{not_long, few_enough, sum_alone_siz
 use Rattle.nc_polynomial.proofs.Shapes.{Descends, IsDescending-from_recursion, recursion_from_IsDescending}
 use Rattle.nc_polynomial.proofs.TableSums.{first-sums_with, added_is}
 
--- ---- one term on the left
+-- one term on the left
 and_no_more : (r : Result (List Term) PolyFault) → and_then r (λ next. Ok next) ≡ r
 and_no_more (Ok p) = refl
 and_no_more (Err e) = refl
@@ -41,7 +41,6 @@ one-left t q v shaped step = and_no_more (product_step [] t q) ∙ step ∙ sum_
 pub one-left_fault : (t : Term) (q : List Term) (e : PolyFault) → Explains (product_step [] t q) e → Explains (product_result (t ∷ []) q) e
 one-left_fault t q e why = subst (λ r. Explains r e) (sym (and_no_more (product_step [] t q))) why
 
--- ---- a term behind a list
 -- all words of the list are above the word
 abbrev pub AreOver : List ℕ → List Term → Type 0
 AreOver w p = AllByRecursion (λ u. word_cmp u.1 w ≡ Greater) p
@@ -97,7 +96,6 @@ module _ (sum : List Term) (m : Term) (canonical : IsCanonical sum) (fits : IsCo
   pub canonical-behind : IsCanonical (sum ++ m ∷ [])
   canonical-behind = canonical_sum sum (m ∷ []) (sum ++ m ∷ []) canonical.shaped shaped_one sum-behind
 
--- ---- one term on the right
 -- a step that fails ends the product
 pub from-step_fault : (sum : List Term) (t : Term) (more q : List Term) (e : PolyFault) → Explains (product_step sum t q) e → Explains (product_from sum (t ∷ more) q) e
 from-step_fault sum t more q (fault.Overflow o) why = ap (λ r. and_then r (λ next. product_from next more q)) why

@@ -22,7 +22,7 @@ use Rattle.nc_polynomial.proofs.CoefficientLaws.{coefficient_of-added, coefficie
 use Rattle.nc_polynomial.proofs.Shapes.{all-scaled, shaped-scaled, shaped-added}
 use Rattle.nc_polynomial.proofs.Units.{one-*ℤ, once_fits}
 
--- ---- one step
+-- one step
 pub scaled-between : (k : ℤ) (l : List ℕ) (p : List Term) (r : List ℕ) → scaled k (poly_between l p r) ≡ shifted k l p r
 scaled-between k l [] r = refl
 scaled-between k l (t ∷ p) r = ap (keep (k *ℤ t.0) (l ++ (t.1 ++ r))) (scaled-between k l p r)
@@ -51,7 +51,7 @@ pub step_is : (sum : List Term) (k : ℤ) (w : List ℕ) (q : List Term) → IsS
     → product_step sum (k, w) q ≡ finished (products k q ++ sums sum (shifted k w q [])) (added sum (shifted k w q []))
 step_is sum k w q h within = ap (λ r. and_then r (λ moved. combined (pos 1) sum k moved)) within ∙ combined-one sum k w q h
 
--- ---- limits
+-- limits
 short_words : (p : List Term) → has_long_word p ≡ false → AllByRecursion (λ t. length t.1 ≤ 500) p
 short_words [] e = tt
 short_words (t ∷ p) e = go (nat_lt 500 (length t.1)) refl e (short_words p)
@@ -112,7 +112,7 @@ pub step_refuses : (sum : List Term) (k : ℤ) (w : List ℕ) (q : List Term) (e
 step_refuses sum k w q e limits =
     explains-itself (product_step sum (k, w) q) e (ap (λ r. and_then r (λ moved. combined (pos 1) sum k moved)) limits)
 
--- ---- what a product is
+-- what a product is
 moved-row : (t : Term) (q : List Term) → map (λ u. (t.0 *ℤ u.0, t.1 ++ u.1)) q ≡ poly_multiple t.0 (poly_between t.1 q [])
 moved-row t [] = refl
 moved-row t (u ∷ q) = ap₂ (λ v (rest : List Term). (t.0 *ℤ u.0, t.1 ++ v) ∷ rest) (sym (append-nil u.1)) (moved-row t q)

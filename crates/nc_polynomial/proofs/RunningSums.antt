@@ -51,7 +51,7 @@ module _ (table : BTreeMap (List ℕ) ℤ) (sorted : IsOrdered word_cmp table) (
       ∙ ap Ok (added_is p q (terms_in new) (descending-table table sorted) down_q (descending-table new sorted_new) (nonzero-table new sorted_new)
       (λ w. coefficient_of-table new sorted_new w ∙ same w ∙ ap (λ k. k +ℤ coefficient_of q w) (sym (coefficient_of-table table sorted w))))
 
--- ---- limits
+-- limits
 pub not_long : (p : List Term) → AllByRecursion (λ t. length t.1 ≤ 500) p → has_long_word p ≡ false
 not_long [] h = refl
 not_long (t ∷ p) h = ap₂ ◌||◌ (within (length t.1) h.0) (not_long p h.1)
@@ -82,7 +82,7 @@ module _ (p q v : List Term) (short_p : All (λ t. length t.1 ≤ 500) p) (short
       within : (n : ℕ) → n ≤ 20000 → nat_lt 20000 n ≡ false
       within n k = grind (arith, nat_tests)
 
--- ---- a sum that begins with zero
+-- a sum that begins with zero
 fits-alone : (q : List Term) → AllByRecursion (λ t. IsCoefficient t.0) q → first_overflow (sums [] q) ≡ None
 fits-alone [] h = refl
 fits-alone (y ∷ q) h = first-fits (sum_of (pos 0) y.0) (sums [] q) (subst IsCoefficient (sym (+ℤ_idl y.0)) h.0) ∙ fits-alone q h.1

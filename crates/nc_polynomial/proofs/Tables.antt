@@ -97,7 +97,7 @@ lookup-coefficient w (e ∷ entries) up = go (is_eq (word_cmp w e.0)) (word_eq-c
     go true same rest = sym (ap (coefficient_of (map term_of (e ∷ entries))) (word_eq-true w e.0 same) ∙ first_coefficient (term_of e) (map term_of entries) (apart e.0 entries up.0))
     go false other rest = rest ∙ sym (coefficient_other w (term_of e) (map term_of entries) (word_eq-turned e.0 w ∙ other))
 
--- ---- the whole table
+-- the whole table
 module _ (table : BTreeMap (List ℕ) ℤ) (sorted : IsOrdered word_cmp table) where
   up_table : Ascends table.entries
   up_table = ascends table.entries sorted
@@ -135,7 +135,6 @@ length-reversed (e ∷ entries) later =
     let first = length-keep e.1 e.0 later in
     omega arith
 
--- ---- a table without zeros
 -- a word below all listed ones isn't listed
 lookup-below : (v : List ℕ) (entries : List Entry) → AllByRecursion (λ x. word_cmp v x.0 ≡ Less) entries → lookup (λ k. is_eq (word_cmp v k)) entries ≡ None
 lookup-below v [] h = refl

@@ -16,8 +16,7 @@ use Rattle.normal_category.specs.Tests.{are_paths, is_typed, has_letters_in_play
 use Rattle.normal_category.specs.Laws.{SharpRulesAreTold}
 use Rattle.normal_category.proofs.PassedRules.{words_tested, words_suffice}
 
--- ---- types
-
+-- types
 module _ (q : Quiver) where
   -- the signature of the first word, which is that of all, or no word
   record HasEnds (p : List Term) : Type 0 where
@@ -45,8 +44,7 @@ module _ (q : Quiver) where
   test_from_typed : (p : Poly) (u v : ℕ) → IsTyped q u v p.terms → is_typed q p.terms ≡ true
   test_from_typed p u v typed = all_paths u v p.terms (words_suffice (is_path q u v) p typed.at)
 
-  -- ---- types and letters
-
+  -- types and letters
   module _ (play : ℕ → Bool) where
     abbrev test : List Term → Bool
     test f = is_typed q f && has_letters_in_play play f

@@ -33,7 +33,7 @@ use Rattle.outcome_laws.proofs.Results.{none_append}
 use Rattle.outcome_laws.proofs.EvidenceRanges.{quotient_in_range}
 use Rattle.outcome_laws.proofs.ReducedWithin.{Fits, sized_short, IsShortRow}
 
--- ---- S-polynomials
+-- S-polynomials
 finished_parts : (os : List Overflow) (p v : List Term) → finished os p ≡ Ok v → (first_overflow os ≡ None) × (sized p ≡ Ok v)
 finished_parts os p v ends = go (first_overflow os) refl ends
   where
@@ -58,7 +58,6 @@ s_polynomial_fits rules a p ends =
     let second = passed (row_multiple rules two) (λ n. combined one.coef first.value two.coef n) p first.rest in
     combined_fits one.coef first.value two.coef second.value p second.rest
 
--- ---- their rows
 -- what stands behind the first word, before the second one and behind that
 abbrev AreShortParts : Kind → ℕ → List ℕ → List ℕ → Type 0
 AreShortParts kind place p q =

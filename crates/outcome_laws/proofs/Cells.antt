@@ -15,7 +15,6 @@ use Rattle.outcome_laws.specs.Counts.{short_ambiguities}
 use Rattle.outcome_laws.proofs.Pigeons.{Member, Distinct, members_map, distinct_map, pigeonhole}
 use Rattle.outcome_laws.proofs.Squares.{same_or_not, AllIn, places, length_places, member_places}
 
--- ---- meetings of two words
 -- An overlap is above the diagonal: its row is the length of the first word, its column the place. An inclusion is not: its
 -- row is the place, its column that of the last letter of the second word.
 abbrev row_of : Kind → Word → ℕ → ℕ
@@ -87,7 +86,6 @@ same_from_cell k k' p p' q q' n n' w x y (of_overlap e1 e2 e3 e4 above inside) (
 same_from_cell k k' p p' q q' n n' w x y (of_inclusion e1 e2 e3 e4 below inside) (of_overlap f1 f2 f3 f4 above inside') = absurd (omega arith)
 same_from_cell k k' p p' q q' n n' w x y (of_inclusion e1 e2 e3 e4 below inside) (of_inclusion f1 f2 f3 f4 below' inside') = record { kind = e1 ∙ sym f1; first = e2 ∙ sym f2; second = e3 ∙ sym f3; place = e4 ∙ sym f4 }
 
--- ---- ambiguities
 -- No leading word is empty, and no two are the same.
 pub record HaveDistinctLeads (rules : List Rule) : Type 0 where
   pub nonempty : (n : ℕ) (g : Rule) → rule_at rules n ≡ Some g → 0 < length g.lead

@@ -40,7 +40,7 @@ use Rattle.completion_laws.proofs.Ends.{Gives, normal_form_gives}
 use Rattle.outcome_laws.proofs.Evidence.{IsExact, expansion_exact, gathered_exact}
 use Rattle.outcome_laws.proofs.Rounds.{has_cause, has_round}
 
--- ---- evidence
+-- evidence
 expansion_cause : (e : ExpandFault) → (expanding.IsMemory e → ⊥) → (c : Cause) × IsCauseOfExpansion e c
 expansion_cause (expand.Overflow o) exact = (cause.Overflow o, refl)
 expansion_cause (expand.Rows letters) exact = (cause.Rows letters, refl)
@@ -67,7 +67,7 @@ proved : (form : Format) (number : ℕ) (at : Place) (made : List Made) (claim :
 proved format.Plain number at made claim = expands number at (expansion_of made claim) (expansion_exact made claim)
 proved format.Lemmas number at made claim = gathers at (gathered_of number made claim) (gathered_exact number made claim)
 
--- ---- round 0 closes no run
+-- round 0 closes no run
 not_closed : (treated : List Ambiguity) (r : Result Recorded ReduceFault) → Ends 0 None treated r closed → ⊥
 not_closed treated (Ok r) is = unlike (record { rules = r.rules; made = r.made; treated = treated }) is
   where

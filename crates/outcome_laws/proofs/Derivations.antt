@@ -45,7 +45,7 @@ use Rattle.outcome_laws.proofs.OpenRuns.{run_kept, claim_reduced}
 use Rattle.outcome_laws.proofs.RangedReductions.{normal_forms_are_ranged}
 use Rattle.outcome_laws.proofs.RangedRuns.{AreMadeInRange, made_at, runs_in_range}
 
--- ---- records
+-- records
 among_first : (generators count : ℕ) (from : Origin) → IsEarlier generators count from → IsAmongFirst count from
 among_first generators count (origin.Generator n) is = tt
 among_first generators count (origin.Rule n) is = is
@@ -74,7 +74,7 @@ zero_traces letters compare generators rules p s reduced none = record {
       ∙ sym (ap (λ r. coefficient_of (poly_sum r sum) w) none) ∙ sym (reduced.balances.at w);
 }
 
--- ---- a claim of which nothing is left after so many rounds
+-- a claim of which nothing is left after so many rounds
 module _ (problem : Problem) (budget : Budget) (number rounds : ℕ) (s : RunState) (run : IsRunState (setting_of problem budget) rounds s)
     (left : State) (ends : normal_form_of (asked_cmp problem.parts.order) s.rules (claim_at problem number) budget.steps ≡ Ok left) (none : left.rest ≡ []) where
   abbrev letters : ℕ

@@ -21,7 +21,7 @@ use Rattle.cofactor_trace.specs.Faults as expanding
 use Rattle.cofactor_trace.specs.GatherFaults as failing
 use Rattle.cofactor_trace.specs.Limits.{row_limit, letter_limit}
 
--- ---- results, by what want of memory is
+-- results, by what want of memory is
 abbrev pub IsExact : {A E : Type 0} → (E → Type 0) → Result A E → Type 0
 IsExact IsMemory (Ok x) = Unit {0}
 IsExact IsMemory (Err e) = IsMemory e → ⊥
@@ -35,7 +35,7 @@ exact_unless : {A E : Type 0} (IsMemory : E → Type 0) (o : Option E) (r : Resu
 exact_unless IsMemory None r none exact = exact
 exact_unless IsMemory (Some e) r none exact = none
 
--- ---- expansion
+-- expansion
 overflow_no_memory : (o : Option Overflow) → IsNoMemory expanding.IsMemory (option_map expand.Overflow o)
 overflow_no_memory None = tt
 overflow_no_memory (Some o) = λ memory. memory
@@ -71,7 +71,7 @@ expansion_exact_from expansions (e ∷ rest) target =
 pub expansion_exact : (made : List Made) (target : Made) → IsExact expanding.IsMemory (expansion_of made target)
 expansion_exact made target = expansion_exact_from [] (needed_rules made target) target
 
--- ---- gathering
+-- gathering
 lemmas_no_memory : (lemmas : List Lemma) → IsNoMemory failing.IsMemory (gathering.limit_fault lemmas)
 lemmas_no_memory lemmas = go (nat_lt row_limit (gathering.row_count lemmas)) (nat_lt letter_limit (gathering.letter_count lemmas))
   where

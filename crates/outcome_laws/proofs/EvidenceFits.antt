@@ -81,7 +81,7 @@ module _ (problem : Problem) (budget : Budget) (number : ℕ) where
   in_range : All (λ n. (1 ≤ n) × (n ≤ length setting_in.generators)) setting_in.in_turn
   in_range = subst (λ k. All (λ n. (1 ≤ n) × (n ≤ k)) setting_in.in_turn) (sym counted) (turns_in_range (length (units_in problem.parts)) count (few_units_closed problem.parts problem.generators problem.closed))
 
-  -- ---- without terms
+  -- without terms
   zero_within : (f : Format) → IsWithinLimits problem number (evidence_of_zero f number)
   zero_within format.Plain = record { claim = refl; positive = omega (arith, ints); denominator = omega (arith, ints); rows = All-nil (IsRowWithin count); few = omega arith; letters = omega arith }
   zero_within format.Lemmas = record {
@@ -97,7 +97,7 @@ module _ (problem : Problem) (budget : Budget) (number : ℕ) where
     letters = omega arith;
   }
 
-  -- ---- of a claim that is reduced to zero
+  -- of a claim that is reduced to zero
   module _ (by : IsProvedBy setting_in claim) where
     abbrev target : Made
     target = record_of by.reduced
@@ -172,7 +172,7 @@ module _ (problem : Problem) (budget : Budget) (number : ℕ) where
           letters = sizes.1;
         }
 
-  -- ---- outcomes
+  -- outcomes
   same_evidence : (d e : Evidence) → outcome.Derived d ≡ outcome.Derived e → d ≡ e
   same_evidence d e same = cc
 

@@ -37,7 +37,7 @@ use Rattle.outcome_laws.proofs.EvidenceWords.{needed_each}
 pub quotient_in_range : (a d : ℤ) → pos 0 <ℤ d → IsCoefficient a → IsCoefficient (int_div a d)
 quotient_in_range a d positive fits = search rules
 
--- ---- sums
+-- sums
 sum_in_range : (so_far : ℤ) (cs : List ℤ) → IsCoefficient so_far → first_overflow (running_sums so_far cs) ≡ None → IsCoefficient (fold ◌+ℤ◌ so_far cs)
 sum_in_range so_far [] fits others = fits
 sum_in_range so_far (c ∷ cs) fits others =
@@ -68,7 +68,7 @@ divided_in : (d : ℤ) → pos 0 <ℤ d → (rows : List CertRow) → AreIn rows
 divided_in d positive [] each = tt
 divided_in d positive (r ∷ rows) each = (quotient_in_range r.coef d positive each.0, divided_in d positive rows each.1)
 
--- ---- one record
+-- one record
 unless_ok : {A : Type 0} (first : Option ExpandFault) (r : Result A ExpandFault) (x : A) → unless first r ≡ Ok x → (first ≡ None) × (r ≡ Ok x)
 unless_ok None r x h = (refl, h)
 unless_ok (Some e) r x h = absurd (cc)
@@ -106,7 +106,7 @@ module _ (known : Known) (each_positive : (o : Origin) → pos 0 <ℤ (known o).
         coefficients_in = All-from_recursion (λ (r : CertRow). IsCoefficient r.coef) (map (divided_row g) (gathered rows)) (divided_in g g_in (gathered rows) (gathered_in rows sums.1));
       })
 
--- ---- one expansion after another
+-- one expansion after another
 abbrev EachPositive : Expansions → Type 0
 EachPositive expansions = AllByRecursion (λ e. pos 0 <ℤ e.1.denominator) expansions
 
@@ -139,7 +139,6 @@ ranged_from expansions (e ∷ rest) target c each rules scale_in ends =
 pub expansion_ranged : (made : List Made) (target : Made) (c : Cofactors) → AllByRecursion (λ m. pos 0 <ℤ m.scale) made → pos 0 <ℤ target.scale → expansion_of made target ≡ Ok c → IsRanged c
 expansion_ranged made target c rules scale_in ends = ranged_from [] (needed_rules made target) target c tt (needed_each (λ m. pos 0 <ℤ m.scale) target 1 made rules) scale_in ends
 
--- ---- a gathered certificate
 -- Where each scale of the records is positive, so are those of the lemmas and of the goal, and the denominator.
 pub gathered_positive : (claim : ℕ) (made : List Made) (target : Made) (c : LemmaCertificate) → AllByRecursion (λ m. pos 0 <ℤ m.scale) made → pos 0 <ℤ target.scale → gathered_of claim made target ≡ Ok c
     → (pos 0 <ℤ c.denominator) × All (λ l. pos 0 <ℤ l.scale) (parts_of c)

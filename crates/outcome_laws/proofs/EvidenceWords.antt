@@ -57,7 +57,7 @@ module _ (P : List ℕ → Type 0) (empty : P []) (together : (u v : List ℕ) �
       each_append (λ m. P m.left × P m.right) (joined_rows known common r) (joined known common rows)
       (joined_between (r.coef *ℤ share known common r) r has.0 (known r.from).rows each.0) (all_between known common rows has.1 each.1)
 
-  -- ---- the list of expansions
+  -- the list of expansions
   abbrev EachBetween : Expansions → Type 0
   EachBetween expansions = AllByRecursion (λ e. AreBetween e.1.rows) expansions
 

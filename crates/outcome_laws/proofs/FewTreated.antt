@@ -44,7 +44,7 @@ use Rattle.outcome_laws.proofs.Counting.{HasFirsts, none_taken, firsts_weaker, d
 use Rattle.outcome_laws.proofs.LettersInPlay.{problem_play, generators_in_play, all_in}
 use Rattle.outcome_laws.proofs.TreatedRounds.{took_first, zero_treats_none}
 
--- ---- leading words
+-- leading words
 leads_apart : (letters : ℕ) (compare : Compare) (rules : List Rule) → AreApart rules → All (IsRule letters compare) rules → HaveDistinctLeads rules
 leads_apart letters compare rules apart are = record { nonempty = some; distinct = same }
   where
@@ -64,7 +64,7 @@ leads_apart letters compare rules apart are = record { nonempty = some; distinct
         go (inr _) (inl before) = absurd (earlier j i h g second first (sym is) before)
         go (inr after) (inr before) = omega (arith, after, before)
 
--- ---- a claim that follows below a word
+-- a claim that follows below a word
 module _ (problem : Problem) (budget : Budget) (number : ℕ) (word : List ℕ) (shown : IsShownBelow problem number word) where
   abbrev setting : Setting
   setting = setting_of problem budget
@@ -96,7 +96,7 @@ module _ (problem : Problem) (budget : Budget) (number : ℕ) (word : List ℕ) 
       subst (λ rs. IsAsked rs a) (sym begins.is)
       (record { is = ambiguity_more rules begins.more a asked.is; less = subst (λ w. word_cmp w word ≡ Less) (sym (overlap_word-more rules begins.more a asked.is)) asked.less })
 
-  -- ---- after a whole round that leaves a rest of the claim
+  -- after a whole round that leaves a rest of the claim
   module _ (n : ℕ) (s : RunState) (opened : IsOpen setting claim (suc n) s) where
     now : IsKeptState (quiver_of problem.parts.quiver) (problem_play problem) letters setting (done_after setting (suc n)) s
     now = kept (suc n) s (open_run setting claim (suc n) s opened)
@@ -145,7 +145,7 @@ module _ (problem : Problem) (budget : Budget) (number : ℕ) (word : List ℕ) 
                   (word_cmp-less_trans (overlap_word_of s.rules a) word w.word (subst (λ c. c (overlap_word_of s.rules a) word ≡ Less) canonical below.less) above);
             })))
 
-  -- ---- rounds
+  -- rounds
   small : (pairs treated pending : ℕ) → min round_limit (min (pairs - treated) pending) ≤ round_limit
   small pairs treated pending = omega arith
 

@@ -116,7 +116,7 @@ module _ (q : Quiver) (play : ℕ → Bool) (letters : ℕ) (compare : Compare) 
             again before after done treated front now went.value (subst (λ v. normal_form_of compare before.rules v steps ≡ Ok went.value) (sym some) went.given)
             (subst (λ o. Adds compare o before after) (sym (second_value first went.value went.value.rest rest went.rest)) added)
 
-  -- ---- one after another
+  -- one after another
   pub ambiguities_in_turn : (taken : List Ambiguity) → AllByRecursion (IsAmbiguity start) taken → (firsts : List First) → each_in_turn (first_of compare steps start) taken ≡ Ok firsts
       → (before after : Recorded) (done : List ℕ) (treated : List Ambiguity) → BeginsWith start before.rules → Now before done treated
       → InTurn compare (map (second_work compare steps) firsts) before (Ok after) → Now after done (treated ++ taken)

@@ -24,7 +24,7 @@ use Rattle.outcome_laws.specs.Enough.{letters_in_play}
 use Rattle.outcome_laws.proofs.Pigeons.{Member, here, there, member_from_contains}
 use Rattle.outcome_laws.proofs.Squares.{AllIn}
 
--- ---- lists
+-- lists
 member_filter : (test : ℕ → Bool) (a : ℕ) (xs : List ℕ) → Member a xs → test a ≡ true → Member a (filter test xs)
 member_filter test a _ (here xs) passes = first (test a) passes
   where
@@ -45,7 +45,7 @@ any_member v _ (there x xs m) = go (eqb v x) (any_member v xs m)
     go true e = refl
     go false e = e
 
--- ---- the parts of a statement
+-- the parts of a statement
 module _ (p : Parts) (posed : IsPosed p) where
   abbrev q : Quiver
   q = quiver_of p.quiver
@@ -87,7 +87,7 @@ module _ (p : Parts) (posed : IsPosed p) where
           (λ object. let same : a ≡ star q a = sym (quiver.star_star a inside) ∙ quiver.identity_star (star q a) object in absurd (omega (arith, same, object, map)))
           (λ past. ap (λ b. b || leb (star q a) (star q (star q a))) starred)
 
-  -- ---- words and polynomials
+  -- words and polynomials
   abbrev Words : List Term → Type 0
   Words f = AllByRecursion (λ t. AreInPlay play t.1) f
 
@@ -110,7 +110,7 @@ module _ (p : Parts) (posed : IsPosed p) where
       go true = tt
       go false = (adjoint_words starred f each.0, tt)
 
-  -- ---- the relations of identities
+  -- the relations of identities
   left_words : (v a : ℕ) → play v ≡ true → play a ≡ true → Words (left_unit v a)
   left_words v a one two = let rest = and_from (play a) true two refl in (and_from (play v) _ one rest, (rest, tt))
 
@@ -149,7 +149,7 @@ module _ (p : Parts) (posed : IsPosed p) where
   marked_words [] marked objects = tt
   marked_words (v ∷ vs) marked objects = all-append Words (units q p.starred v) _ (units_words v (marked v (here vs)) objects.0) (marked_words vs (λ u m. marked u (there v vs m)) objects.1)
 
-  -- ---- the generators
+  -- the generators
   assumption_words : (fs : List Poly) → AllByRecursion (HasLettersInPlay p.quiver p.starred (numbers p.marked)) fs → AllByRecursion Words (polynomials fs)
   assumption_words [] each = tt
   assumption_words (f ∷ fs) each = (terms f.terms (recursion_from_All (λ (t : Term). All (IsInPlay p.quiver p.starred (numbers p.marked)) t.1) f.terms each.0), assumption_words fs each.1)
@@ -174,7 +174,7 @@ module _ (p : Parts) (posed : IsPosed p) where
       adjoints true is = adjoints_words is (polynomials p.assumptions) assumed
       adjoints false is = tt
 
--- ---- of a problem
+-- of a problem
 module _ (problem : Problem) where
   abbrev pub problem_play : ℕ → Bool
   problem_play = is_in_play problem.parts.quiver problem.parts.starred (numbers problem.parts.marked)

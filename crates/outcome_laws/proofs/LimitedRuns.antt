@@ -42,7 +42,6 @@ use Rattle.outcome_laws.proofs.AmbiguitiesWithin.{s_polynomial_fits, s_rows_shor
 use Rattle.outcome_laws.proofs.ReducedWithin.{Fits, IsShortRow, reduced_within}
 use Rattle.outcome_laws.proofs.RowsOfRuns.{generator_words, IsKeptGenerator, IsKept, MadeFrom, states_held}
 
--- ---- rows
 -- a short row over so many rules, and over the first generators, as many as the other number says
 pub record IsLimitedRow (generators count : ℕ) (r : Row) : Type 0 where
   pub short : IsShortRow r
@@ -83,7 +82,6 @@ rows_up_to : (generators count : ℕ) (rows : List Row) → AllByRecursion (IsLi
 rows_up_to generators count [] each = tt
 rows_up_to generators count (r ∷ rows) each = (each.0.up_to, rows_up_to generators count rows each.1)
 
--- ---- records
 -- a record over so many rules and generators, with a row
 pub record IsLimitedMade (generators count : ℕ) (m : Made) : Type 0 where
   pub is_record : IsRecord count m
@@ -128,7 +126,6 @@ scale_fits compare rest g m made fits =
     go k [] leading nonzero each = absurd (none_some leading)
     go k (t ∷ terms) leading nonzero each = factor_fits k t.0 nonzero.0 each.0
 
--- ---- a run
 -- short words, and numbers that are coefficients
 abbrev AreFittingWords : ℕ → List Term → Type 0
 AreFittingWords letters p = AreWords letters p × Fits p
@@ -234,7 +231,7 @@ module _ (letters : ℕ) (setting : Setting) (generators : All (HasWords letters
       zero_plus : (n : ℕ) → 0 + n ≡ n
       zero_plus n = omega arith
 
--- ---- the numbers of the generators
+-- the numbers of the generators
 numbers_between : (a n low high : ℕ) → low ≤ a → a + n ≤ suc high → All (λ k. (low ≤ k) × (k ≤ high)) (range_with_len a n)
 numbers_between a n low high from to = All-from_get_or (λ k. (low ≤ k) × (k ≤ high)) (range_with_len a n) 0 each
   where
@@ -249,7 +246,7 @@ turns_in_range units count most =
     All-append (λ k. (1 ≤ k) × (k ≤ count)) (range_with_len (suc (count - units)) units) (range_with_len 1 (count - units))
     (numbers_between (suc (count - units)) units 1 count (omega arith) (omega (arith, most))) (numbers_between 1 (count - units) 1 count (omega arith) (omega arith))
 
--- ---- polynomials of the program
+-- polynomials of the program
 pub poly_fits : (p : Poly) → Fits p.terms
 poly_fits p = record {
   short = recursion_from_All (λ (t : Term). length t.1 ≤ word_limit) p.terms p.canonical.short;

@@ -70,7 +70,7 @@ module _ (problem : Problem) (budget : Budget) (number : ℕ) where
     });
   }
 
-  -- ---- nothing is left after a round
+  -- nothing is left after a round
   module _ (round rounds : ℕ) (s : RunState) (run : IsRunState (setting_of problem budget) rounds s) where
     module _ (left : State) (ends : normal_form_of (asked_cmp problem.parts.order) s.rules (claim_at problem number) budget.steps ≡ Ok left) (none : left.rest ≡ []) where
       -- the work stopped in making the certificate
@@ -122,7 +122,7 @@ module _ (problem : Problem) (budget : Budget) (number : ℕ) where
         inside = λ n is. absurd (means.in_run.no_certificate n is);
       })
 
--- ---- the laws
+-- the laws
 pub outcomes_mean_what_they_say : OutcomesMeanWhatTheySay
 outcomes_mean_what_they_say problem budget form number o is = gets_means problem budget number form is.rounds is.state o is.gets
 

@@ -38,7 +38,7 @@ use Rattle.outcome_laws.proofs.WholeRuns.{runs_are_kept, closed_is_nothing_pendi
 use Rattle.word_orders.proofs.AskedOrders.{asked_rank, asked_cmp-admissible}
 use Rattle.outcome_laws.proofs.ProblemPolynomials.{any_letter, generators_are, claim_is, claim_letters, turns_in_range, all_have_turns}
 
--- ---- runs
+-- runs
 pub open_run : (setting : Setting) (claim : List Term) (n : ℕ) (s : RunState) → IsOpen setting claim n s → IsRunState setting n s
 open_run setting claim zero s opened = opened.1
 open_run setting claim (suc n) s opened = record { before = opened.before; is_before = open_run setting claim n opened.before opened.is_before; round = opened.round }
@@ -53,7 +53,7 @@ some_nonzero (t ∷ p) shaped some = record {
       (sym (first_coefficient t p (distinct-descending (t ∷ p) (recursion_from_IsDescending (t ∷ p) shaped.descending)).0) ∙ none);
 }
 
--- ---- stops
+-- stops
 pub same_halt : (h k : Halt) → stopped h ≡ stopped k → h ≡ k
 same_halt h k e = cc
 
@@ -147,7 +147,7 @@ zero_goes_on setting s round = go round.result round.ends
     go (Ok r) ends = wrong_went _ ends
     go (Err e) ends = wrong_stop _ ends.stops
 
--- ---- the run of a problem
+-- the run of a problem
 module _ (problem : Problem) (budget : Budget) where
   abbrev setting : Setting
   setting = setting_of problem budget

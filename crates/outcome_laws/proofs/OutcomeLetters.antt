@@ -43,7 +43,7 @@ use Rattle.outcome_laws.proofs.OutcomeWays.{Way, no_terms, expanded, gathered, l
 use Rattle.outcome_laws.proofs.OverRuns.{AreOver, IsOverRow, reduced_over, records_over, least_over}
 use Rattle.outcome_laws.proofs.Results.{split_last}
 
--- ---- the problem
+-- the problem
 module _ (problem : Problem) (budget : Budget) where
   abbrev ds : List Declaration
   ds = problem.parts.quiver
@@ -66,7 +66,7 @@ module _ (problem : Problem) (budget : Budget) where
   pub rules_of : (rounds : ℕ) (s : RunState) → IsRunState setting_in rounds s → All (IsRule letters_in setting_in.compare) s.rules
   rules_of rounds s is = states_rules letters_in setting_in rounds s generators_have_words is
 
-  -- ---- claims
+  -- claims
   letter_below : (a : ℕ) → IsInPlay ds problem.parts.starred (numbers problem.parts.marked) a → a < letters_in
   letter_below a in_play = below (and_parts (nat_lt a letters_in) _ in_play).0
     where
@@ -89,7 +89,7 @@ module _ (problem : Problem) (budget : Budget) where
   claim_over number =
       numbered_over problem.parts.claims (recursion_from_All (HasLettersInPlay ds problem.parts.starred (numbers problem.parts.marked)) problem.parts.claims problem.posed.claim_letters) number
 
-  -- ---- outcomes
+  -- outcomes
   module _ (form : Format) (number : ℕ) where
     abbrev claim : List Term
     claim = claim_at problem number

@@ -29,7 +29,7 @@ use Rattle.outcome_laws.specs.Enough.{HasEnough, PairsSuffice, PairsAreEnough, P
 use Rattle.outcome_laws.proofs.FewTreated.{open_runs_treat_few}
 use Rattle.outcome_laws.proofs.Stops.{NotPairs, fault_not_pairs, expansion_not_pairs, gathering_not_pairs, zero_not_pairs, later_not_pairs}
 
--- ---- outcomes
+-- outcomes
 halted_suffices : (IsCause : Cause → Type 0) (at : Place) (o : Outcome) → ((c : Cause) → IsCause c → NotPairs c) → IsHalted IsCause at o → PairsSuffice o
 halted_suffices IsCause at o other halted = subst PairsSuffice (sym halted.halts) (other halted.reason halted.reason_of)
 
@@ -69,7 +69,7 @@ module _ (problem : Problem) (budget : Budget) (form : Format) (number : ℕ) (w
       absurd (closed_outside problem budget number rounds s closes.rest.terms opened round closes.left (record { denominator = follows.denominator; rows = follows.rows; combination = follows.combination.combination }))
   gets_suffices rounds s o (by_stop halt opened round stops) = subst PairsSuffice (sym stops) (stop_suffices rounds s halt opened round)
 
--- ---- the laws
+-- the laws
 pub pairs_are_enough : PairsAreEnough
 pairs_are_enough problem budget form number word o has is = gets_suffices problem budget form number word has is.rounds is.state o is.gets
 

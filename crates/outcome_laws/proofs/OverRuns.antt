@@ -35,7 +35,7 @@ use Rattle.traced_completion.proofs.RunStates.{states_rules}
 use Rattle.traced_completion.proofs.StoreLemmas.{pending-all}
 use Rattle.outcome_laws.proofs.RowsOfRuns.{generator_words, IsKept, IsKeptGenerator, MadeFrom, states_held}
 
--- ---- reductions
+-- reductions
 module _ (letters : ℕ) where
   abbrev pub AreOver : List Term → Type 0
   AreOver p = AllByRecursion (λ t. IsOver letters t.1) p
@@ -74,7 +74,7 @@ module _ (letters : ℕ) where
           ((All-take (λ n. n < letters) a.place (overlap_word_of rules a) word, All-drop (λ n. n < letters) (a.place + length (lead_at rules a.j)) (overlap_word_of rules a) word), tt),
         )
 
--- ---- records of a run
+-- records of a run
 module _ (letters : ℕ) (setting : Setting) (generators : All (HasWords letters) setting.generators) where
   abbrev IsOverRowOf : ℕ → Row → Type 0
   IsOverRowOf count r = IsOverRow letters r
@@ -112,7 +112,7 @@ module _ (letters : ℕ) (setting : Setting) (generators : All (HasWords letters
   pub records_over : (rounds : ℕ) (s : RunState) → IsRunState setting rounds s → AllByRecursion (λ m. AllByRecursion (IsOverRow letters) m.rows) s.made
   records_over rounds s is = each_made 0 s.made (states_held letters setting (AreWords letters) IsOverRowOf IsOverMade letters_kept rounds s is).made
 
-  -- ---- the least overlap word
+  -- the least overlap word
   pub least_over : (rounds : ℕ) (s : RunState) (halt : Halt) → IsRunState setting rounds s → IsRound setting rounds s (stopped halt) → (word : List ℕ) → halt.least ≡ Some word → IsOver letters word
   least_over rounds s halt run round word least = go rounds run round
     where

@@ -30,7 +30,7 @@ use Rattle.traced_completion.proofs.Comparing.{waiting_cmp-total, less-waiting, 
 use Rattle.outcome_laws.proofs.Sorted.{Decided, listing}
 use Rattle.outcome_laws.proofs.Meetings.{meeting_decided}
 
--- ---- an ambiguity is decided
+-- an ambiguity is decided
 none_some : (g : Rule) → ◌≡◌ {A = Option Rule} None (Some g) → ⊥
 none_some g is = cc
 
@@ -50,7 +50,7 @@ module _ (rules : List Rule) where
               let second : is.second ≡ h = same_Some is.second h (sym is.second_numbered ∙ second_at) in
               apart (subst (λ (p : Rule × Rule). MeetsAs a.kind a.i a.j p.0.lead p.1.lead a.place) (λ n. (first n, second n)) is.meets))
 
--- ---- lists with all of them
+-- lists with all of them
 numbers_below : (n k : ℕ) → k < n → Contains (range_with_len 0 n) k
 numbers_below n k below = let first : 0 + k ≡ k = omega arith in (k, omega (arith, length-range_with_len 0 n, below), get_or-range_with_len 0 n k k below ∙ first)
 
@@ -111,7 +111,7 @@ module _ (rules : List Rule) where
         (contains_flat (of_pair a.i) (range_with_len 0 (suc (length rules))) a.j a (numbers_below (suc (length rules)) a.j (omega (arith, rule_at-last rules a.j is.second is.second_numbered)))
         (contains_flat (at_place a.i a.j) (range_with_len 0 (suc (length (lead_at rules a.i)))) a.place a (numbers_below (suc (length (lead_at rules a.i))) a.place place_inside) in_one_way))
 
--- ---- in the order of the store
+-- in the order of the store
 pub record HasStore (compare : Compare) (rules : List Rule) (treated : List Ambiguity) : Type 0 where
   pub store : List Waiting
   pub all : AreAllPending compare rules treated store

@@ -29,7 +29,7 @@ use Rattle.claim_decider.specs.Decided.{claim_at}
 use Rattle.outcome_laws.specs.KeptRuns.{IsGenerator}
 use Rattle.outcome_laws.proofs.Turns.{each_generator_has_its_turn}
 
--- ---- paths
+-- paths
 leads_over : (q : Quiver) (u v : ℕ) (w : List ℕ) → leads q u v w ≡ true → AllByRecursion (λ a. a < letters q) w
 leads_over q u v [] path = tt
 leads_over q u v (a ∷ w) path = let first = step q u v a w path in (first.letter, leads_over q u (source q a) w first.rest)
@@ -46,7 +46,7 @@ all_letters : (w : List ℕ) → IsTrue (list_all any_letter w)
 all_letters [] = refl
 all_letters (a ∷ w) = all_letters w
 
--- ---- polynomials with a signature
+-- polynomials with a signature
 module _ (q : Quiver) (n : ℕ) (same : letters q ≡ n) where
   typed_is : (p : Poly) → HasSignature q p.terms → IsGenerator q any_letter n p.terms
   typed_is p has = record {
@@ -83,7 +83,7 @@ module _ (q : Quiver) (n : ℕ) (same : letters q ≡ n) where
   one_typed (p ∷ ps) each (suc zero) = each.0
   one_typed (p ∷ ps) each (suc (suc k)) = one_typed ps each.1 (suc k)
 
--- ---- of a problem
+-- of a problem
 module _ (problem : Problem) where
   generators_by_recursion : AllByRecursion (IsGenerator (quiver_of problem.parts.quiver) any_letter (letter_count problem.parts.quiver)) (polynomials problem.generators)
   generators_by_recursion =
@@ -107,7 +107,7 @@ module _ (problem : Problem) where
         (recursion_from_All (λ (t : Term). IsOver (letter_count problem.parts.quiver) t.1) (claim_at problem number) (claim_is number).over);
   }
 
-  -- ---- their turns
+  -- their turns
   counted : length (polynomials problem.generators) ≡ length problem.generators
   counted = length-map problem.generators (λ f. f.terms)
 

@@ -24,7 +24,7 @@ use Rattle.outcome_laws.specs.Existence.{EachStateHasARound, EachClaimHasAnOutco
 use Rattle.outcome_laws.proofs.Rounds.{has_round}
 use Rattle.outcome_laws.proofs.Claims.{Got, got, run_of}
 
--- ---- polynomials
+-- polynomials
 zero_is_canonical : IsCanonical []
 zero_is_canonical = record {
   shaped = record {
@@ -51,7 +51,7 @@ each_state_has_a_round problem budget number s =
     let order = problem.parts.order in
     has_round (setting_of problem budget) (canonical_at problem.generators) 0 (asked_rank 0 order) (asked_cmp-admissible 0 order) number s
 
--- ---- claims
+-- claims
 module _ (problem : Problem) (budget : Budget) (form : Format) where
   abbrev setting : Setting
   setting = setting_of problem budget

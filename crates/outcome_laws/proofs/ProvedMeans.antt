@@ -65,8 +65,7 @@ module _ {Object Arrow : Type 0} {s : Structure Object Arrow} (laws : Preadditiv
     plain = λ not_starred. record { zero = λ f rep cancels vanish. zero_made.zero f rep cancels (plain_generators laws problem not_starred f rep vanish) };
   }
 
--- ---- evidence
-
+-- evidence
 module _ {Object Arrow : Type 0} {s : Structure Object Arrow} (laws : PreadditiveLaws s) (sound : IsSound s) (with_lemmas : IsEvidenceSound s) (problem : Problem) where
   -- evidence that adds up makes the claim zero
   evidence_makes : (number : ℕ) (e : Evidence) → EvidenceAddsUp problem number e → MakesZero s (quiver_of problem.parts.quiver) (polynomials problem.generators) (denominator_of e) (claim_at problem number)

@@ -28,7 +28,7 @@ use Rattle.rule_reduce.specs.NormalForms.{halt_of, then_next, at_limit, one_step
 use Rattle.rule_reduce.proofs.Chosen.{found}
 use Rattle.rule_reduce.proofs.Runs.{move_result-value}
 
--- ---- integers
+-- integers
 pub negative_in_range : (z : ℤ) → IsCoefficient z → IsCoefficient (neg_ℤ z)
 negative_in_range (pos zero) h = h
 negative_in_range (pos (suc n)) h = h
@@ -41,7 +41,7 @@ quotient_in_range (negsuc a) d h =
     let size : suc a / d < 2 ^ 127 = omega (arith, h, less) in
     negative_in_range (pos (suc a / d)) size
 
--- ---- operations that did not overflow
+-- operations that did not overflow
 one_fits : (o : Overflow) (os : List Overflow) → first_overflow (o ∷ os) ≡ None → IsCoefficient (exact_value o) × (first_overflow os ≡ None)
 one_fits o os none = go (is_coefficient (exact_value o)) refl
   where
@@ -70,7 +70,7 @@ none_of {A} (Some x) r v ends = absurd (clash ends)
     clash : ◌≡◌ {A = Result A PolyFault} (Err (fault.Overflow x)) (Ok v) → ⊥
     clash k = cc
 
--- ---- rows
+-- rows
 abbrev pub AreInRange : List Row → Type 0
 AreInRange rows = AllByRecursion (λ (row : Row). IsCoefficient row.coef) rows
 
@@ -83,7 +83,6 @@ pub rows_times : (rows : List Row) (by : ℤ) → first_overflow (row_operations
 rows_times [] by none = tt
 rows_times (row ∷ rows) by none = let one = one_fits (product_of row.coef by) (row_operations rows by) none in (one.0, rows_times rows by one.1)
 
--- ---- reductions
 -- the multiplier and the coefficients of the rest and of the rows are in range
 pub record IsRanged (s : State) : Type 0 where
   pub multiplier : IsCoefficient s.multiplier

@@ -37,7 +37,7 @@ use Rattle.traced_completion.specs.PlainRun.{Setting, RunState, went, closed, st
 use Rattle.outcome_laws.proofs.RunsKept.{no_value, same_value, went_on}
 use Rattle.outcome_laws.proofs.RangedReductions.{AreInRange, negative_in_range, both_fit, rows_and, rows_times, normal_forms_are_ranged}
 
--- ---- rows
+-- rows
 negated_in_range : (rows : List Row) → AreInRange rows → AreInRange (negated_rows rows)
 negated_in_range [] each = tt
 negated_in_range (row ∷ rows) each = (negative_in_range row.coef each.0, negated_in_range rows each.1)
@@ -47,7 +47,7 @@ record IsGood (rest : Rest) : Type 0 where
   shaped : IsShaped rest.polynomial
   rows : AreInRange rest.rows
 
--- ---- a record that is made of a rest
+-- a record that is made of a rest
 abbrev pub IsMadeInRange : Made → Type 0
 IsMadeInRange m = IsCoefficient m.scale × AreInRange m.rows
 
@@ -88,7 +88,7 @@ made_at (x ∷ made) zero m each is = subst IsMadeInRange (same is) each.0
     same k = cc
 made_at (x ∷ made) (suc place) m each is = made_at made place m each.1 is
 
--- ---- works
+-- works
 same_rest : (x y : Rest) → ◌≡◌ {A = Option Rest} (Some x) (Some y) → x ≡ y
 same_rest x y is = cc
 
@@ -135,7 +135,7 @@ module _ (compare : Compare) (steps : ℕ) where
           let ranged = normal_forms_are_ranged compare rules (t ∷ p) steps went.value is.in_range went.given in
           second_left f went.value went.value.rest rest (normal_forms_are_shaped compare rules (t ∷ p) steps went.value is went.given) ranged.rows went.rest
 
-  -- ---- first reductions
+  -- first reductions
   first_shaped : (rules : List Rule) (a : Ambiguity) (f : First) → first_of compare steps rules a ≡ Ok f → IsShaped f.reduced.rest
   first_shaped rules a f ends =
       let one = went_on (halted (s_polynomial_of rules a)) (λ p. and_then (normal_form_of compare rules p steps) (λ s. Ok (record { rows = s_rows_of rules a; reduced = s }))) f ends in
@@ -154,7 +154,7 @@ module _ (compare : Compare) (steps : ℕ) where
       let others = went_on (each_in_turn (first_of compare steps rules) taken) (λ gs. Ok (one.value ∷ gs)) fs one.rest in
       subst (AllByRecursion (λ (f : First). IsShaped f.reduced.rest)) (same_value (one.value ∷ others.value) fs others.rest) (first_shaped rules a one.value one.given, firsts_shaped rules taken others.value others.given)
 
-  -- ---- works in turn
+  -- works in turn
   adds_in_range : (rest : Option Rest) (before after : Recorded) → Adds compare rest before after → AreMadeInRange before.made → ((r : Rest) → rest ≡ Some r → IsGood r) → AreMadeInRange after.made
   adds_in_range None before after same each good = subst (λ (r : Recorded). AreMadeInRange r.made) (sym same) each
   adds_in_range (Some rest) before after more each good =
@@ -186,7 +186,6 @@ module _ (compare : Compare) (steps : ℕ) where
       go (Err e) ends two = absurd (no_value e after (sym two))
       go (Ok fs) ends two = turns_in_range (map (second_work compare steps) fs) (second_works fs (firsts_shaped rules taken fs ends)) before after two each
 
--- ---- rounds
 -- the works of a round that was made whole ended well
 whole_works : (number : ℕ) (least : Option (List ℕ)) (treated : List Ambiguity) (r : Result Recorded ReduceFault) (s : RunState) → Ends number least treated r (went s) → r ≡ Ok (recorded s)
 whole_works number least treated (Ok t) s ends = ap (λ (x : RunState). Ok (recorded x)) (sym (same_state s (record { rules = t.rules; made = t.made; treated = treated }) ends))

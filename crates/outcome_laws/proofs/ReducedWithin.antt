@@ -34,7 +34,6 @@ use Rattle.nc_polynomial.specs.Limits.{word_limit, term_limit}
 use Rattle.outcome_laws.proofs.Results.{same_ok, fits_first, none_append}
 use Rattle.outcome_laws.proofs.EvidenceRanges.{quotient_in_range}
 
--- ---- polynomials within the limits
 -- no word has more letters than the limit, and the integers are coefficients
 pub record Fits (p : List Term) : Type 0 where
   pub short : AllByRecursion (λ t. length t.1 ≤ word_limit) p
@@ -58,7 +57,7 @@ sized_short p v ends = go (has_long_word p) refl (nat_lt term_limit (length p)) 
     go true is many k = absurd (no_error v (size_fault true) (sym k))
     go false is many k = none_long p is
 
--- ---- a step that goes well
+-- a step that goes well
 pub record StepFits (m : Move) (s : State) : Type 0 where
   pub multiplier : IsCoefficient (s.multiplier *ℤ m.by)
   pub rows : first_overflow (row_operations s.rows m.by) ≡ None
@@ -114,7 +113,6 @@ module _ (P : State → Type 0) (compare : Compare) (rules : List Rule)
           stepped None has (Err e) went j = absurd (halts t (halt_of e) j)
           stepped (Some g) has (Err e) went j = absurd (halts t (halt_of e) j)
 
--- ---- reductions
 -- a coefficient, and words of no more letters than the limit
 pub record IsShortRow (r : Row) : Type 0 where
   pub coefficient : IsCoefficient r.coef

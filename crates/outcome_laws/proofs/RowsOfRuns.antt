@@ -95,7 +95,7 @@ module _ (letters : ℕ) (setting : Setting) (IsPoly : List Term → Type 0) (Is
   some_less : (rows : List Row) (by : ℤ) (taken : List Row) → 1 ≤ length rows → 1 ≤ length (less_rows rows by taken)
   some_less rows by taken some = omega (arith, length-append (map (multiplied_row by) rows) (negated_rows taken), length-map rows (multiplied_row by), some)
 
-  -- ---- what works leave
+  -- what works leave
   record Holds (count : ℕ) (rest : Rest) : Type 0 where
     polynomial : IsPoly rest.polynomial
     rows : Rows count rest.rows
@@ -186,7 +186,6 @@ module _ (letters : ℕ) (setting : Setting) (IsPoly : List Term → Type 0) (Is
         go (Ok f) (Err e) one others rest k = absurd (no_error fs e k)
         go (Ok f) (Ok gs) one others rest k = subst (AllByRecursion (HoldsFirst (length rules))) (same_ok (f ∷ gs) fs k) (first_holds a f each.0 one, rest gs others)
 
-  -- ---- records
   -- the first of them has so many rules before it
   abbrev pub MadeFrom : ℕ → List Made → Type 0
   MadeFrom place [] = Unit {0}
@@ -248,7 +247,7 @@ module _ (letters : ℕ) (setting : Setting) (IsPoly : List Term → Type 0) (Is
           rest k.between k.next (longer o k.between k.added)
           (adds_held o before k.between k.added held (λ r same. each.0 before.rules least held.rules r (has ∙ ap Ok same)))
 
-  -- ---- rounds
+  -- rounds
   generator_works : (numbers : List ℕ) → AllByRecursion (IsKeptGenerator letters setting IsPoly IsRow) numbers → AllByRecursion (KeepsRows 0) (map (generator_work setting.compare setting.budget.steps setting.generators) numbers)
   generator_works [] each = tt
   generator_works (n ∷ numbers) each = (generator_keeps n each.0, generator_works numbers each.1)
@@ -312,7 +311,7 @@ module _ (letters : ℕ) (setting : Setting) (IsPoly : List Term → Type 0) (Is
       go [] all treats = absurd (went_closed t treats)
       go (w ∷ ws) all treats = on w ws (nat_le setting.budget.pairs (length s.treated)) all treats
 
-  -- ---- states
+  -- states
   pub states_held : (rounds : ℕ) (s : RunState) → IsRunState setting rounds s → Held (recorded s)
   states_held zero s is = subst (λ (x : RunState). Held (recorded x)) (sym is) (record { rules = All-nil (IsRule letters setting.compare); one_each = refl; made = tt })
   states_held (suc zero) s is = zero_round is.before s is.round (states_held zero is.before is.is_before)

@@ -29,7 +29,7 @@ use Rattle.traced_completion.specs.Works.{generator_work, Goes, InTurn}
 use Rattle.outcome_laws.specs.KeptRuns.{IsGenerator}
 use Rattle.outcome_laws.proofs.Adding.{appended}
 
--- ---- results
+-- results
 module _ {A E : Type 0} where
   pub no_value : (e : E) (x : A) → ◌≡◌ {A = Result A E} (Err e) (Ok x) → ⊥
   no_value e x is = cc
@@ -47,7 +47,7 @@ pub went_on : {A B : Type 0} (r : Result A ReduceFault) (next : A → Result B R
 went_on (Ok x) next y is = record { value = x; given = refl; rest = is }
 went_on (Err e) next y is = absurd (no_value e y is)
 
--- ---- generators
+-- generators
 zero_below : (letters : ℕ) → HasLettersBelow letters []
 zero_below letters = record { at = λ w some. absurd (some refl) }
 
@@ -92,7 +92,7 @@ module _ (q : Quiver) (play : ℕ → Bool) (letters : ℕ) (compare : Compare) 
         typed = normal_forms_stay_typed q play letters compare rules p steps s are rules_typed shaped typed ends;
       }
 
-  -- ---- one generator
+  -- one generator
   one_generator : (n : ℕ) → 1 ≤ n → n ≤ length generators → (before after : Recorded) (done : List ℕ) (treated : List Ambiguity) (rest : Option Rest) → KeptNow before done treated
       → generator_work compare steps generators n before.rules ≡ Ok rest → Adds compare rest before after → KeptNow after (done ++ (n ∷ [])) treated
   one_generator n first last before after done treated rest now ends added =

@@ -18,7 +18,6 @@ use Rattle.traced_completion.specs.PlainRun.{Setting, RunState, stopped, IsCause
 use Rattle.claim_decider.specs.Outcomes.{IsCauseOfExpansion, IsCauseOfGathering}
 use Rattle.outcome_laws.proofs.OpenRuns.{same_halt, not_went, not_closed}
 
--- ---- causes
 -- another cause than that the pairs are spent
 abbrev pub NotPairs : Cause → Type 0
 NotPairs c = (spent : ℕ) → c ≢ cause.Pairs spent
@@ -53,7 +52,7 @@ gathering_not_pairs (gather.Overflow o) c is = not_pairs c _ refl is
 gathering_not_pairs (gather.Rows passed) c is = not_pairs c _ refl is
 gathering_not_pairs (gather.Memory e) c is = absurd is
 
--- ---- rounds that stop
+-- rounds that stop
 given_up : (number : ℕ) (least : Option (List ℕ)) (treated : List Ambiguity) (r : Result Recorded ReduceFault) (h : Halt) → Ends number least treated r (stopped h) → NotPairs h.cause
 given_up number least treated (Ok r) h ends = absurd (not_went h _ ends)
 given_up number least treated (Err e) h ends = subst NotPairs (sym (ap (λ (k : Halt). k.cause) (same_halt h _ ends.stops))) (fault_not_pairs e ends.reason ends.reason_of)

@@ -16,7 +16,7 @@ use Rattle.outcome_laws.proofs.RunsKept.{no_value, same_value}
 use Rattle.outcome_laws.proofs.LaterRounds.{BeginsWith, begins_with}
 use Rattle.outcome_laws.proofs.WholeRuns.{ended}
 
--- ---- rules
+-- rules
 turns_begin : (compare : Compare) (rules : List Rule) (works : List Work) (before after : Recorded) → BeginsWith rules before.rules → InTurn compare works before (Ok after) → BeginsWith rules after.rules
 turns_begin compare rules [] before after front turn = subst (λ (r : Recorded). BeginsWith rules r.rules) (sym (same_value after before turn)) front
 turns_begin compare rules (work ∷ works) before after front turn = go (work before.rules) (λ between begins next. turns_begin compare rules works between after begins next) turn
@@ -26,7 +26,6 @@ turns_begin compare rules (work ∷ works) before after front turn = go (work be
     go (Err e) later on = absurd (no_value e after (sym on))
     go (Ok rest) later on = later on.between (begins_with rules compare rest before on.between front on.added) on.next
 
--- ---- a later round that was made whole
 -- There were pairs left, the first pending ones were taken, and the rules begin with those from before.
 pub record TookFirst (setting : Setting) (s after : RunState) : Type 0 where
   pub first : Waiting

@@ -24,7 +24,7 @@ use Rattle.outcome_laws.specs.KeptRuns.{IsGenerator, done_after, IsKeptState, Ru
 use Rattle.outcome_laws.proofs.RunsKept.{no_value, KeptNow, generators_in_turn}
 use Rattle.outcome_laws.proofs.LaterRounds.{ambiguities_in_turn}
 
--- ---- outcomes
+-- outcomes
 same_state : (s t : RunState) → went s ≡ went t → s ≡ t
 same_state s t e = cc
 
@@ -41,13 +41,13 @@ ended number least treated (Err e) s given_up = absurd (not_stopped given_up.sto
     not_stopped : {h : Halt} → went s ≡ stopped h → ⊥
     not_stopped e = cc
 
--- ---- the ambiguities that are taken are ambiguities of the rules
+-- the ambiguities that are taken are ambiguities of the rules
 taken_are : (rules : List Rule) (treated : List Ambiguity) (count : ℕ) (pending : List Waiting) → ((w : Waiting) → Contains pending w → IsPending rules treated w) → AllByRecursion (IsAmbiguity rules) (ambiguities_of (take count pending))
 taken_are rules treated zero pending each = tt
 taken_are rules treated (suc n) [] each = tt
 taken_are rules treated (suc n) (w ∷ pending) each = ((each w (zero, omega arith, refl)).is, taken_are rules treated n pending (λ v at. each v (suc at.0, omega (arith, at.1), at.2)))
 
--- ---- rounds
+-- rounds
 module _ (q : Quiver) (play : ℕ → Bool) (letters : ℕ) (rank : List ℕ → List ℕ) (setting : Setting) (laws : IsAdmissible letters setting.compare rank) (each : All (IsGenerator q play letters) setting.generators)
     (in_range : All (λ k. (1 ≤ k) × (k ≤ length setting.generators)) setting.in_turn) where
   abbrev Now : Recorded → List ℕ → List Ambiguity → Type 0
@@ -108,7 +108,7 @@ module _ (q : Quiver) (play : ℕ → Bool) (letters : ℕ) (rank : List ℕ →
 pub runs_are_kept : RunsAreKept
 runs_are_kept q play letters rank setting n s laws each in_range is = run q play letters rank setting laws each in_range n s is
 
--- ---- what is pending
+-- what is pending
 pub closed_is_nothing_pending : ClosedIsNothingPending
 closed_is_nothing_pending setting n s round = go round.pending (λ w is. (round.all_pending.members w).1 is) round.treats
   where

@@ -22,7 +22,7 @@ use Rattle.traced_completion.specs.Works.{Work, generator_rows, generator_work, 
 use Rattle.completion_laws.proofs.Ends.{Makes, Gives, s_polynomial_makes, normal_form_gives}
 use Rattle.outcome_laws.proofs.Makings.{has_rule}
 
--- ---- results one after another
+-- results one after another
 gives_then : {A B : Type 0} (P : A → Type 0) (Q : B → Type 0) (r : Result A ReduceFault) (next : A → Result B ReduceFault) → Gives P r → ((x : A) → P x → Gives Q (next x)) → Gives Q (and_then r next)
 gives_then P Q (Ok x) next gives later = later x gives
 gives_then P Q (Err e) next gives later = gives
@@ -43,7 +43,6 @@ gives_each {A} {B} P f each (x ∷ xs) =
     gives_then P (AllByRecursion P) (f x) (λ y. and_then (each_in_turn f xs) (λ ys. Ok (y ∷ ys))) (each x) (λ y y_held.
     gives_then (AllByRecursion P) (AllByRecursion P) (each_in_turn f xs) (λ ys. Ok (y ∷ ys)) (gives_each P f each xs) (λ ys ys_held. (y_held, ys_held)))
 
--- ---- what works leave
 -- nothing, or a canonical polynomial other than zero
 abbrev pub IsFit : Option Rest → Type 0
 IsFit None = Unit {0}
@@ -87,7 +86,6 @@ fit_seconds : (compare : Compare) (steps : ℕ) (firsts : List First) → AllByR
 fit_seconds compare steps [] each = tt
 fit_seconds compare steps (f ∷ firsts) each = ((λ rules. fit_second_reduction compare steps f rules f.reduced.rest each.0), fit_seconds compare steps firsts each.1)
 
--- ---- in turn
 -- a result, whose fault isn't want of memory
 pub record HasEnd (Ends : Result Recorded ReduceFault → Type 0) : Type 0 where
   pub result : Result Recorded ReduceFault

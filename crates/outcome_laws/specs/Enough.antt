@@ -17,7 +17,6 @@ use Rattle.claim_decider.specs.Decided.{claim_at, AreOutcomesOf}
 use Rattle.outcome_laws.specs.Meanings.{FollowsBelow, IsOutcomeAt}
 use Rattle.outcome_laws.specs.Counts.{short_ambiguities}
 
--- ---- pairs
 -- the letters that are in play, ascending
 abbrev pub letters_in_play : Problem → List ℕ
 letters_in_play problem = filter (is_in_play problem.parts.quiver problem.parts.starred (numbers problem.parts.marked))
@@ -39,14 +38,12 @@ pub record HasEnough (problem : Problem) (budget : Budget) (number : ℕ) (word 
   pub shown : IsShownBelow problem number word
   pub enough : enough_pairs problem word ≤ budget.pairs
 
--- ---- outcomes
 -- The claim is derived, or halted with another cause than that as many pairs as the budget says were treated.
 abbrev pub PairsSuffice : Outcome → Type 0
 PairsSuffice (outcome.Derived e) = ⊤
 PairsSuffice (outcome.Closed rest) = ⊥
 PairsSuffice (outcome.Halted h) = (spent : ℕ) → h.cause ≢ cause.Pairs spent
 
--- ---- the laws
 -- After a whole round that leaves a rest of such a claim, fewer pairs were treated than are enough for the word.
 abbrev pub OpenRunsTreatFew : Type 0
 OpenRunsTreatFew = (problem : Problem) (budget : Budget) (number : ℕ) (word : List ℕ) (rounds : ℕ) (s : RunState)

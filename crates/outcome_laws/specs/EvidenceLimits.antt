@@ -22,7 +22,6 @@ use Rattle.claim_decider.specs.Decided.{claim_at}
 use Rattle.nc_polynomial.specs.Limits.{word_limit}
 use Rattle.cofactor_trace.specs.Limits.{row_limit, letter_limit}
 
--- ---- rows over generators alone
 -- The integer in front is a coefficient, no word has more than 500 letters, and the row is over one of so many generators.
 pub record IsRowWithin (generators : ℕ) (row : CertRow) : Type 0 where
   pub coefficient : IsCoefficient row.coef
@@ -41,7 +40,6 @@ pub record IsCertificateWithin (generators number : ℕ) (c : Certificate) : Typ
   pub few : length c.rows ≤ row_limit
   pub letters : letter_count c.rows ≤ letter_limit
 
--- ---- rows over generators and lemmas
 -- The integer in front is a coefficient, and no word has more than 500 letters.
 pub record IsLemmaRowWithin (row : LemmaRow) : Type 0 where
   pub coefficient : IsCoefficient row.coef
@@ -69,7 +67,6 @@ pub record IsLemmaCertificateWithin (generators number : ℕ) (c : LemmaCertific
   pub few_rows : gathering.row_count (parts_of c) ≤ row_limit
   pub letters : gathering.letter_count (parts_of c) ≤ letter_limit
 
--- ---- evidence of either format
 -- The evidence is of the claim with this number, is over the generators of the problem, and is within the limits of its format.
 abbrev pub IsWithinLimits : Problem → ℕ → Evidence → Type 0
 IsWithinLimits problem number (evidence.Plain c) = IsCertificateWithin (length problem.generators) number c

@@ -24,7 +24,6 @@ use Rattle.claim_decider.specs.declared.outcome.Outcome.TheVariants as outcome
 use Rattle.claim_decider.specs.Outcomes.{IsOutcomeOf}
 use Rattle.claim_decider.specs.Decided.{claim_at}
 
--- ---- claims and generators
 -- some positive multiple of the claim with this number is a combination of the generators; a number of no claim has the claim zero
 abbrev pub Follows : Problem → ℕ → Type 0
 Follows problem number = InRationalIdeal (polynomials problem.generators) (claim_at problem number)
@@ -34,7 +33,6 @@ abbrev pub FollowsBelow : Problem → List ℕ → ℕ → Type 0
 FollowsBelow problem word number =
     ComesBelow (letter_count problem.parts.quiver) (asked_cmp problem.parts.order) (polynomials problem.generators) word (claim_at problem number)
 
--- ---- evidence
 -- The certificate names the claim, and its rows over the generators add up to its denominator, which is positive, times the claim.
 pub record CertificateAddsUp (problem : Problem) (number : ℕ) (c : Certificate) : Type 0 where
   pub claim : c.claim ≡ number
@@ -51,7 +49,6 @@ abbrev pub EvidenceAddsUp : Problem → ℕ → Evidence → Type 0
 EvidenceAddsUp problem number (evidence.Plain c) = CertificateAddsUp problem number c
 EvidenceAddsUp problem number (evidence.Lemmas c) = LemmaCertificateAddsUp problem number c
 
--- ---- outcomes
 -- Below the least word that is pending the claim is no combination, and where the work stopped in making its certificate it follows.
 pub record HaltMeans (problem : Problem) (number : ℕ) (h : Halt) : Type 0 where
   pub not_below : (word : List ℕ) → h.least ≡ Some word → FollowsBelow problem word number → ⊥
@@ -63,7 +60,6 @@ OutcomeMeans problem number (outcome.Derived e) = EvidenceAddsUp problem number 
 OutcomeMeans problem number (outcome.Closed rest) = Follows problem number → ⊥
 OutcomeMeans problem number (outcome.Halted h) = HaltMeans problem number h
 
--- ---- the laws
 -- The laws have one premise, that this is the outcome of the problem's claim with this number. `decide_all` and `decide` ensure it of
 -- each outcome that they give, in `outcomes`. That generators and claims are typed comes from the fields of a problem.
 abbrev pub IsOutcomeAt : Problem → Budget → Format → ℕ → Outcome → Type 0

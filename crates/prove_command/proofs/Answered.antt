@@ -39,8 +39,7 @@ use Rattle.report_readback.proofs.Declared.{declared_names_are_names}
 use Rattle.prove_command.proofs.OwnEvidence.{decided_is_evidence}
 use Rattle.prove_command.proofs.Outcomes.{OnHalted, broken, left, OnOutcome, by_outcome, verdicts_once, verdicts_end, verdicts_follow}
 
--- ---- one ending
-
+-- one ending
 module _ (problem : Problem) (asked : Asked) where
   outcome_once : (n : ℕ) (o o' : Outcome) → IsOutcomeOf (setting_of problem asked.budget) asked.form n (claim_at problem n) o → IsOutcomeOf (setting_of problem asked.budget) asked.form n (claim_at problem n) o' → o ≡ o'
   outcome_once n o o' one other =
@@ -82,8 +81,7 @@ claims_end print asked problem =
       },
     )
 
--- ---- what verdicts mean
-
+-- what verdicts mean
 module _ {Object Arrow : Type 0} {s : Structure Object Arrow} (laws : PreadditiveLaws s) (sound : IsSound s) (with_lemmas : IsEvidenceSound s) (problem : Problem) where
   module _ (asked : Asked) where
     halted_means : (number : ℕ) (halt : Halt) (v : Verdict) → HaltMeans problem number halt → OnHalted problem asked number halt v → VerdictMeans s problem number v
@@ -124,8 +122,7 @@ prints_meant {s} laws sound with_lemmas print asked ending problem answer = reco
   each = verdicts_mean laws sound with_lemmas problem asked answer.decides.outcomes answer.verdicts answer.decides.are_outcomes answer.decides.are_verdicts;
 }
 
--- ---- what is owed
-
+-- what is owed
 over_claims : (print : Print) (asked : Asked) → OwesOver (AnswersClaims print asked)
 over_claims print asked = record {
   one = claims_end print asked;

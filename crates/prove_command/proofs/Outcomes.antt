@@ -14,8 +14,7 @@ use Rattle.report_text.specs.declared.verdict.Verdict.TheVariants as verdict
 use Rattle.prove_command.specs.declared.prove.Asked.{Asked}
 use Rattle.prove_command.specs.Answers.{IsVerdictOn, proved, not_derivable, refuted, undecided, AreVerdictsOn}
 
--- ---- one claim
-
+-- one claim
 module _ (problem : Problem) (asked : Asked) (claim : ℕ) where
   -- it is refuted, where models are looked for and one breaks it
   pub refuted_by : (halt : Halt) (o : Outcome) (m : Model) → o ≡ outcome.Halted halt → (asked.models ≡ true) × LeastBreaks problem claim asked.seed m → IsVerdictOn problem asked claim o (verdict.Refuted m)
@@ -67,8 +66,7 @@ module _ (problem : Problem) (asked : Asked) (claim : ℕ) where
   verdict_ends (outcome.Closed rest) = (verdict.NotDerivable rest, not_derivable rest refl refl)
   verdict_ends (outcome.Halted halt) = halted_ends halt asked.models refl
 
--- ---- one verdict on each
-
+-- one verdict on each
 module _ (problem : Problem) (asked : Asked) where
   pub verdicts_once : (claims : List ℕ) (os : List Outcome) (vs vs' : List Verdict) → AreVerdictsOn problem asked claims os vs → AreVerdictsOn problem asked claims os vs' → vs ≡ vs'
   verdicts_once [] [] [] [] one other = refl

@@ -24,8 +24,6 @@ use Rattle.prove_command.specs.declared.prove.Extent.{Extent}
 use Rattle.prove_command.specs.declared.prove.Extent.TheVariants as extent
 use Rattle.command_shape.specs.Ending.{Ending}
 
--- ---- what a call asks for
-
 -- the format with this number
 abbrev pub format_of : ℕ → Format
 format_of number = if number == 1 then format.Plain else format.Lemmas
@@ -41,8 +39,6 @@ asked_by_bench = record {
   seed = default_seed;
   models = false;
 }
-
--- ---- verdicts
 
 -- What is said of the claim with this number by its outcome. One that halted is refuted by the least candidate that breaks it, where models are looked for
 -- and one does.
@@ -70,8 +66,6 @@ pub record Decides (problem : Problem) (asked : Asked) (verdicts : List Verdict)
   pub are_outcomes : AreOutcomesOf (setting_of problem asked.budget) asked.form problem (claim_numbers problem) outcomes
   pub are_verdicts : AreVerdictsOn problem asked (claim_numbers problem) outcomes verdicts
   pub are_rules : AreLastRules (setting_of problem asked.budget) asked.form problem (claim_numbers problem) rules
-
--- ---- endings
 
 -- what is printed of verdicts and rules, where letters have their names by declarations
 abbrev pub Print : Type 0

@@ -36,7 +36,7 @@ continued-fits q s b w in_range fits =
 continued-apart : (q : Quiver) (s : ℕ × ℕ) (b : ℕ) (w : List ℕ) → s.0 ≢ target q b → continued q s (b ∷ w) ≡ None
 continued-apart q s b w apart = ap (λ c. cond c (option_map (λ t. (t.0, s.1)) (signature_of q (b ∷ w))) None) (ne_eqb s.0 (target q b) apart)
 
--- ---- the same at a place of the word
+-- the same at a place of the word
 module _ (q : Quiver) (w : List ℕ) where
   -- the first letter has its own ends
   pub signature_of-begun : (s : ℕ × ℕ) → 0 < length w → get_or w 0 0 < letters q → s.0 ≡ source q (get_or w 0 0) → s.1 ≡ target q (get_or w 0 0) → signature_of q w ≡ continued q s (drop 1 w)

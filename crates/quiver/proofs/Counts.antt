@@ -46,7 +46,7 @@ few_letters (object name ∷ ds) = omega (arith, few_letters ds)
 few_letters (arrow name x y true ∷ ds) = omega (arith, few_letters ds)
 few_letters (arrow name x y false ∷ ds) = omega (arith, few_letters ds)
 
--- ---- one declaration more
+-- one declaration more
 pub object_count-append : (ds es : List Declaration) → object_count (ds ++ es) ≡ object_count ds + object_count es
 object_count-append [] es = omega arith
 object_count-append (object name ∷ ds) es = omega (arith, object_count-append ds es)

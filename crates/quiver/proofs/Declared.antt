@@ -17,7 +17,7 @@ use Rattle.quiver.specs.Refusals.{is_named, object_fault, map_fault}
 use Rattle.quiver.proofs.Counts.{object_count-append, map_count-append}
 use Rattle.quiver.proofs.Letters.{ends_of}
 
--- ---- what it means that nothing is wrong
+-- what it means that nothing is wrong
 pub record Fits (named full : Bool) : Type 0 where
   pub fresh : named ≡ false
   pub room : full ≡ false
@@ -48,7 +48,6 @@ module _ (ds : List Declaration) (name : List ℕ) where
       go false false true false k = absurd (cc)
       go false false false same k = refl
 
--- ---- distinct names
 -- a name that is not found is none of the names
 not_among : (name : List ℕ) (names : List (List ℕ × Named)) → lookup (bytes_eq name) names ≡ None → (k : ℕ) (d : List ℕ) → k < length (map (λ n. n.0) names) → get_or (map (λ n. n.0) names) k d ≢ name
 not_among name [] h k d below = absurd (omega arith)
@@ -70,7 +69,7 @@ distinct_more ds d declared fresh =
     let other = subst (λ names. (k : ℕ) (e : List ℕ) → k < length names → get_or names k e ≢ name_of d) (names_from_turns 0 0 0 ds) (not_among (name_of d) (naming_table ds) fresh) in
     subst (AllPairs (λ x y. x ≢ y)) (sym (map-append name_of ds (d ∷ []))) (all_pairs_push (λ x y. x ≢ y) (map name_of ds) (name_of d) declared.distinct other)
 
--- ---- ends
+-- ends
 has_ends_from : (n : ℕ) (name : List ℕ) (u v : ℕ) (selfmade : Bool) → u < n → v < n → (not selfmade || nat_eq u v) ≡ true → has_ends n (arrow name u v selfmade) ≡ true
 has_ends_from n name u v selfmade source target own = and_from _ _ (lt-ltb u n source) (and_from _ _ (lt-ltb v n target) own)
 

@@ -10,7 +10,7 @@ use Rattle.quiver.specs.Declarations.{Declaration, object, arrow, name_of, objec
 use Rattle.quiver.proofs.Counts.{object_count-append, letter_count-append, length-object_table, length-letter_table}
 use Rattle.quiver.proofs.Growth.{turn, names_from, objects_from, letters_from, object_table-append, letter_table-append}
 
--- ---- a declaration between others
+-- a declaration between others
 module _ (before : List Declaration) (d : Declaration) (after : List Declaration) where
   pub name_at-split : name_at (before ++ d ∷ after) (length before) ≡ name_of d
   name_at-split =
@@ -48,7 +48,7 @@ letter_declaration before (arrow name x y false) after (suc (suc k)) below = abs
 pub letter_name-split : (before : List Declaration) (d : Declaration) (after : List Declaration) (k : ℕ) → k < letters_of d → letter_name (before ++ d ∷ after) (letter_count before + k) ≡ name_of d
 letter_name-split before d after k below = ap (name_at (before ++ d ∷ after)) (letter_declaration before d after k below) ∙ name_at-split before d after
 
--- ---- the declaration that a look-up finds
+-- the declaration that a look-up finds
 pub plus_zero : (n : ℕ) → n ≡ n + 0
 plus_zero n = omega arith
 

@@ -41,7 +41,7 @@ turns_from-append p v a (d ∷ xs) ys =
     (turns_from-append (p + 1) (v + objects_of d) (a + letters_of d) xs ys
     ∙ (λ j. turns_from (p + 1) (v + objects_of d) (a + letters_of d) xs ++ turns_from (place j) (object_is j) (letter j) ys))
 
--- ---- declarations after others
+-- declarations after others
 module _ (xs ys : List Declaration) where
   turns-append : turns (xs ++ ys) ≡ turns xs ++ turns_from (length xs) (object_count xs) (letter_count xs) ys
   turns-append =
@@ -69,7 +69,6 @@ module _ (ds : List Declaration) (d : Declaration) where
   pub letter_table-more : letter_table (ds ++ d ∷ []) ≡ letter_table ds ++ letters_made d (next_turn ds d)
   letter_table-more = letter_table-append ds (d ∷ []) ∙ ap (λ more. letter_table ds ++ more) (append-nil _)
 
--- ---- from the tables back
 -- the entry at its number, behind those before it
 pub letter_in_seam : (before after : List LetterEntry) (a : ℕ) (e : LetterEntry) → length before ≡ a → letter_in (before ++ e ∷ after) a ≡ e
 letter_in_seam before after a e at = ap (letter_in (before ++ e ∷ after)) (sym at) ∙ get_or-append_seam before e after _

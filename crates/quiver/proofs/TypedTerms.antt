@@ -23,7 +23,7 @@ if_none (Some x) p = tt
 pub typed_from_paths : (q : Quiver) (u v : ℕ) (p : List (ℤ × List ℕ)) → All (λ t. IsPath q u v t.1) p → IsTyped q u v p
 typed_from_paths q u v p paths = typed_from_terms q u v p (recursion_from_All (λ t. IsPath q u v t.1) p paths)
 
--- ---- a word of a descending list is no later word, and so its coefficient is that of its term
+-- a word of a descending list is no later word, and so its coefficient is that of its term
 not_above_itself : (w : List ℕ) → word_cmp w w ≡ Greater → ⊥
 not_above_itself w h = go (word_cmp w w) (word_cmp_total.antisymm w w) h
   where
@@ -55,7 +55,7 @@ paths_from_typed q u v p shaped nonzero typed = record {
       (paths_by_terms q u v p (recursion_from_IsDescending p shaped.descending) (recursion_from_All (λ t. t.0 ≢ pos 0) p shaped.nonzero) typed);
 }
 
--- ---- the signature of one word is that of all
+-- the signature of one word is that of all
 some_is : (x y : ℕ × ℕ) → ◌≡◌ {A = Option (ℕ × ℕ)} (Some x) (Some y) → x ≡ y
 some_is x y e = cc
 

@@ -22,8 +22,7 @@ use Rattle.command_shape.proofs.Stops.{over_stated}
 use Rattle.report_text.proofs.Statuses.{verdicts_status}
 use Rattle.command_shape.proofs.Zips.{zip_once, zip_ends, zip_weaker, zip_all}
 
--- ---- one verdict on each claim
-
+-- one verdict on each claim
 module _ (problem : Problem) (seed : ℕ) where
   verdict_once : (claim : ℕ) (v v' : Verdict) → IsSearchedOn problem seed claim v → IsSearchedOn problem seed claim v' → v ≡ v'
   verdict_once claim v v' (refuted m least is) (refuted m' least' is') = is ∙ ap (λ x. verdict.Refuted x) (least_once problem claim seed m m' least least') ∙ sym is'
@@ -51,8 +50,7 @@ module _ (problem : Problem) (seed : ℕ) where
   verdict_means claim v (refuted m least is) = subst (SearchMeans problem claim) (sym is) (least_means problem claim seed m least)
   verdict_means claim v (not_refuted none is) = subst (SearchMeans problem claim) (sym is) tt
 
--- ---- what is answered
-
+-- what is answered
 search_ends : (seed : ℕ) (problem : Problem) → (ending : Ending) × AnswersSearch seed problem ending
 search_ends seed problem =
     let all = zip_ends (IsSearchedOn problem seed) (verdict_ends problem seed) (claim_numbers problem) in
@@ -77,8 +75,7 @@ search_meant seed statement ending problem is answer = record {
   own_evidence = search_is_evidence seed statement ending problem is answer;
 }
 
--- ---- what is owed
-
+-- what is owed
 pub search_owes : (seed : ℕ) (statement : List ℕ)
     → OwesEnding (OverStatement statement (AnswersSearch seed)) (λ Object Arrow s ending. SaysSearched seed statement ending)
 search_owes seed statement = owed_over statement (AnswersSearch seed) (λ Object Arrow s ending. SaysSearched seed statement ending)

@@ -17,8 +17,6 @@ use Rattle.block_text.proofs.TextsBack.{literal, line_text-append}
 use Rattle.basis_text.specs.Written.{rule_line, basis_text, IsPolyOver}
 use Rattle.report_readback.proofs.Numerals.{decimal_is_line}
 
--- ---- its lines
-
 -- `claim N`
 abbrev pub claim_body : ℕ → List ℕ
 claim_body claim = codes "claim " ++ decimal claim
@@ -36,8 +34,7 @@ basis_head = codes "basis 1"
 abbrev pub basis_lines : List Declaration → List Poly → ℕ → Poly → List (List ℕ)
 basis_lines ds rules claim rest = claim_body claim ∷ (map (rule_body ds) rules ++ rest_body ds rest ∷ [])
 
--- ---- the text is that of the part
-
+-- the text is that of the part
 rules_are : (ds : List Declaration) (rules : List Poly) (rest : Poly)
     → flat_map ended (map (rule_body ds) rules ++ rest_body ds rest ∷ []) ≡ flat_map (rule_line ds) rules ++ ended (rest_body ds rest)
 rules_are ds [] rest = append-nil (ended (rest_body ds rest))
@@ -57,8 +54,7 @@ basis_is_part ds rules claim rest =
     sym (ap (λ body. ended basis_head ++ (ended (claim_body claim) ++ body) ++ codes "end\n") (rules_are ds rules rest)
     ∙ ap (λ text. codes "basis 1\nclaim " ++ text) (end_is (decimal claim ++ codes "\n") (flat_map (rule_line ds) rules) (poly_text ds rest.terms)))
 
--- ---- it is a part
-
+-- it is a part
 pub claim_is_body : (claim : ℕ) → IsBodyLine (claim_body claim)
 claim_is_body claim = record {
   text = line_text-append (codes "claim ") (decimal claim) (literal (codes "claim ") refl refl) (decimal_is_line claim);

@@ -36,8 +36,7 @@ AreNamed ds = list_all is_named ds ≡ true
 join : (ds es : List Declaration) → AreNamed ds → AreNamed es → AreNamed (ds ++ es)
 join ds es front back = rw (list_all-append is_named ds es, front, back) refl
 
--- ---- a statement
-
+-- a statement
 names_named : (language : Language) (declare : Name → Declaration) → ((n : Name) → name_of (declare n) ≡ n.text) → (ns : List Name) → AreTokensOf language (names_tokens (bare_names ns)) → AreNamed (map declare ns)
 names_named language declare same [] spelled = refl
 names_named language declare same (n ∷ ns) spelled = rw (same n, spelled_is_name n.text spelled.0, names_named language declare same ns spelled.1) refl
@@ -82,8 +81,7 @@ stated_maps objects language (by_weight at word p ps) spelled = refl
 stated_maps objects language (modelled at m ps) spelled = refl
 stated_maps objects language (second_language at number) spelled = refl
 
--- ---- a file
-
+-- a file
 each_named : (language : Language) (declares : StatementKind → List Declaration) → NamesStated declares → (ls : List StatedLine) → AllSpelled language ls → AreNamed (flat_map (λ (s : Statement). declares s.kind) (file_tree ls))
 each_named language declares named [] spelled = refl
 each_named language declares named (l ∷ ls) spelled =

@@ -23,8 +23,7 @@ use Rattle.outcome_laws.proofs.Results.{split_last}
 use Rattle.report_readback.proofs.PlainAnswers.{Polys, item, none_differs}
 use Rattle.report_readback.proofs.OneLemma.{Answers, rows_answer, polynomial_is, lemma_answer}
 
--- ---- all lemmas
-
+-- all lemmas
 one_more : (before : Polys) (p : List Term) → suc (length before) ≡ length (before ++ p ∷ [])
 one_more before p = omega (arith, length-append before (p ∷ []))
 
@@ -55,8 +54,7 @@ module _ (gs : Polys) where
   one_each before (l ∷ lemmas) [] add_up = absurd add_up
   one_each before (l ∷ lemmas) (p ∷ ps) add_up = ap suc (one_each (before ++ p ∷ []) lemmas ps add_up.1)
 
--- ---- the certificate
-
+-- the certificate
 module _ (claims gs : Polys) (c : LemmaCertificate) (ps : Polys) (claim : IsNumberUpTo (length claims) c.claim) (within : IsLemmaCertificateWithin (length gs) c.claim c)
     (canonical : All IsCanonical ps) (evidence : IsEvidenceOf gs ps c (goal_claim claims c)) where
   polynomials : all_polynomials gs c ≡ ps

@@ -28,8 +28,7 @@ use Rattle.outcome_laws.proofs.Derivations.{gathering_adds_up}
 use Rattle.outcome_laws.proofs.Meanings.{derived_claims_add_up}
 use Rattle.outcome_laws.proofs.OutcomeWays.{Way, no_terms, expanded, gathered, left_over, given_up, with_run, way}
 
--- ---- rules are polynomials of the program
-
+-- rules are polynomials of the program
 zero_is_canonical : IsCanonical []
 zero_is_canonical = record {
   shaped = record { descending = IsDescending-from_recursion [] tt; nonzero = All-nil _; in_range = All-nil _ };
@@ -53,8 +52,7 @@ none_of_none : (gs : List (List Term)) (ps : List (List Term)) → AreOfLemmas g
 none_of_none gs [] add_up = All-nil IsCanonical
 none_of_none gs (p ∷ ps) add_up = absurd add_up
 
--- ---- outcomes
-
+-- outcomes
 module _ (problem : Problem) (budget : Budget) (form : Format) (number : ℕ) (c : LemmaCertificate) where
   -- the certificate is evidence of the claim, with polynomials of the program
   pub record HasLemmas : Type 0 where

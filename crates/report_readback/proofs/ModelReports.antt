@@ -32,8 +32,6 @@ use Rattle.report_readback.proofs.Heads.{told_of, told_is_line}
 use Rattle.report_readback.proofs.Bases.{basis_head, basis_lines, basis_is_part, basis_is}
 use Rattle.report_readback.proofs.SkippedEvidence.{IsSkipped, skipped_has_none, lines_go_on, certificates_are_others, evidence_is_skipped}
 
--- ---- texts with their models
-
 -- whole lines that have these models
 record IsTextWith (ds : List Declaration) (text : List ℕ) (ms : List Model) : Type 0 where
   whole : is_whole text ≡ true
@@ -45,8 +43,7 @@ skipped ds text is = record { whole = is.is.whole; has = skipped_has_none ds tex
 with-append : (ds : List Declaration) (xs ys : List ℕ) (first last : List Model) → IsTextWith ds xs first → IsTextWith ds ys last → length first + length last ≤ block_limit → IsTextWith ds (xs ++ ys) (first ++ last)
 with-append ds xs ys first last left right few = record { whole = whole_append xs ys left.whole right.whole; has = joined (model_kind ds) xs ys first last left.whole left.has right.has few }
 
--- ---- one claim
-
+-- one claim
 refuted-first : (v : Verdict) (verdicts : List Verdict) → refuted_in (v ∷ []) ++ refuted_in verdicts ≡ refuted_in (v ∷ verdicts)
 refuted-first (verdict.Proved e) verdicts = refl
 refuted-first (verdict.NotDerivable rest) verdicts = refl
@@ -114,8 +111,7 @@ module _ (ds : List Declaration) (rules : List Poly) (declared : IsDeclared ds) 
       subst (IsTextWith ds (report_from ds rules claim (v ∷ verdicts))) (refuted-first v verdicts)
       (with-append ds (head ++ block_text ds rules claim v) (report_from ds rules (suc claim) verdicts) own (refuted_in verdicts) first rest (omega (arith, few, count)))
 
--- ---- what is read
-
+-- what is read
 no_model : (ds : List Declaration) (bytes : List ℕ) → HasModels ds bytes [] → IsFirstFault ds bytes no_block
 no_model ds bytes has =
     let nothing : own_in has.blocks ≡ [] = nil_from_length (own_in has.blocks) (zip_length (λ b m. m ≡ model_value ds b) (own_in has.blocks) [] has.says) in

@@ -25,8 +25,7 @@ use Rattle.model_text.proofs.ObjectNames.{object_is_named}
 use Rattle.report_readback.proofs.Bases.{claim_body, claim_is_body}
 use Rattle.report_readback.proofs.Numerals.{either, decimal_is_line}
 
--- ---- its lines
-
+-- its lines
 abbrev pub model_head : List ℕ
 model_head = codes "model 1"
 
@@ -59,8 +58,7 @@ all_map_bodies ds m = flat_map (bodies_at ds m.maps) (range_with_len 0 (letter_c
 abbrev pub model_lines : List Declaration → Model → List (List ℕ)
 model_lines ds m = claim_body m.claim ∷ modulus_body m.modulus ∷ (side_bodies ds m ++ all_map_bodies ds m)
 
--- ---- the text is that of the part
-
+-- the text is that of the part
 one_map : (ds : List Declaration) (a : ℕ) (x : Matrix) (known : Bool)
     → flat_map ended (if known then map_body ds a x ∷ [] else []) ≡ (if known then ended (map_body ds a x) else [])
 one_map ds a x true = append-nil (ended (map_body ds a x))
@@ -91,8 +89,7 @@ model_is_part ds m =
     sym (ap (λ body. ended model_head ++ (ended (claim_body m.claim) ++ (ended (modulus_body m.modulus) ++ body)) ++ codes "end\n") (entries_are ds m)
     ∙ ap (λ text. text ++ codes "end\n") (texts_are (ended model_head) (ended (claim_body m.claim)) (ended (modulus_body m.modulus)) (sides_text ds m.sides) (maps_text ds m.maps)))
 
--- ---- it is a part
-
+-- it is a part
 modulus_is_body : (n : ℕ) → IsBodyLine (modulus_body n)
 modulus_is_body n = record {
   text = line_text-append (codes "modulus ") (decimal n) (literal (codes "modulus ") refl refl) (decimal_is_line n);

@@ -39,8 +39,7 @@ use Rattle.nc_polynomial.specs.Limits.{word_limit, term_limit}
 use Rattle.report_readback.specs.Answered.{PassesLimit}
 use Rattle.report_readback.proofs.PlainAnswers.{Polys, none_lacks}
 
--- ---- rows
-
+-- rows
 place_there : (generators lemmas : ℕ) (from : CertFrom) → IsWithin generators lemmas from → IsNumberUpTo (generators + lemmas) (place_of generators lemmas from)
 place_there generators lemmas (cert.Generator n) within =
     subst (IsNumberUpTo (generators + lemmas)) (sym (place-generator generators lemmas n within.1)) (record { least = within.0; most = omega (arith, within.1) })
@@ -65,8 +64,6 @@ rows_answer gs before number l names (refusal.Size row) refused = inl tt
 rows_answer gs before number l names (refusal.Memory failed) refused = inr tt
 rows_answer gs before number l names other refused = absurd refused
 
--- ---- sums
-
 -- a positive integer times a polynomial of the program
 multiple_descends : (s : ℤ) (p : List Term) → pos 0 <ℤ s → IsCanonical p → Descends (poly_multiple s p) × AllByRecursion (λ t. t.0 ≢ pos 0) (poly_multiple s p)
 multiple_descends s p positive canonical =
@@ -80,8 +77,7 @@ divides_multiple s p =
     All-map (λ (t : Term). unsigned_abs s ∣ unsigned_abs t.0) (λ t. (s *ℤ t.0, t.1)) p
     (λ k t below. subst (λ n. unsigned_abs s ∣ n) (sym (unsigned_abs-mul s (get_or p k t).0)) (dvd-mul_right (unsigned_abs s) (unsigned_abs (get_or p k t).0)))
 
--- ---- sizes
-
+-- sizes
 none_long : (s : ℤ) (p : List Term) → AllByRecursion (λ t. length t.1 ≤ word_limit) p → has_long_word (poly_multiple s p) ≡ false
 none_long s [] short = refl
 none_long s (t ∷ p) short = let here : nat_lt word_limit (length t.1) ≡ false = grind (arith, nat_tests, short.0) in rw (here, none_long s p short.1) refl
@@ -91,8 +87,7 @@ multiple_fits s p limit canonical =
     let few : nat_lt term_limit (length (poly_multiple s p)) ≡ false = grind (arith, nat_tests, length-map {B = Term} p (λ (t : Term). (s *ℤ t.0, t.1)), canonical.few) in
     rw (none_long s p (recursion_from_All (λ t. length t.1 ≤ word_limit) p canonical.short), few) (λ same. cc)
 
--- ---- the lemma
-
+-- the lemma
 module _ (gs before : Polys) (l : Lemma) (p : List Term) (positive : pos 0 <ℤ l.scale) (adds_up : AddsUpTo gs before l p) (canonical : IsCanonical p) where
   sum_is : collected (plain_sum gs before l.rows) ≡ poly_multiple l.scale p
   sum_is =

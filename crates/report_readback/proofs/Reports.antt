@@ -28,8 +28,7 @@ use Rattle.report_readback.proofs.Heads.{told_of, head_is_comment, told_is_line}
 use Rattle.report_readback.proofs.Bases.{basis_head, basis_lines, basis_is_part, basis_is}
 use Rattle.report_readback.proofs.Models.{model_head, model_lines, model_is_part, model_is}
 
--- ---- the parts of a report
-
+-- the parts of a report
 abbrev block_parts : List Declaration → List Poly → ℕ → Verdict → List Part
 block_parts ds rules claim (verdict.Proved e) = certificate e ∷ []
 block_parts ds rules claim (verdict.NotDerivable rest) = other basis_head (basis_lines ds rules claim rest) ∷ []
@@ -95,8 +94,7 @@ module _ (ds : List Declaration) (rules : List Poly) (declared : IsDeclared ds) 
       (All-append (IsPart Lemmas ds) (block_parts ds rules claim v) (parts_from ds rules (suc claim) verdicts) (block_parts_are claim v here)
       (parts_are (suc claim) verdicts (All-tail (IsWritableVerdict ds) v verdicts writable)))
 
--- ---- what is read
-
+-- what is read
 no_certificate : (ds : List Declaration) (bytes : List ℕ) → HasCertificates Lemmas ds bytes [] → IsFirstFault Lemmas ds bytes no_block
 no_certificate ds bytes has =
     let nothing : own_in has.blocks ≡ [] = nil_from_length (own_in has.blocks) (sym (AllZip-long (IsCertificateOf ds) (own_in has.blocks) [] has.says)) in

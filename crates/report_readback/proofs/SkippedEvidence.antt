@@ -30,8 +30,6 @@ use Rattle.block_text.specs.Blocks.{is_other_head, IsOtherBlock}
 use Rattle.model_text.specs.Models.{other_words, model_kind, HasModels}
 use Rattle.report_readback.proofs.Numerals.{decimal_is_line, signed_is_line}
 
--- ---- blocks of other kinds
-
 -- the text is one such block
 pub record IsSkipped (others : List (List ℕ)) (text : List ℕ) : Type 0 where
   pub block : OtherTokens
@@ -40,8 +38,6 @@ pub record IsSkipped (others : List (List ℕ)) (text : List ℕ) : Type 0 where
 
 pub skipped_has_none : (ds : List Declaration) (text : List ℕ) → IsSkipped other_words text → HasModels ds text []
 skipped_has_none ds text skipped = text_of_other (model_kind ds) text skipped.block skipped.is skipped.of_other_kind
-
--- ---- the lines between the first one and the last one
 
 -- the line is not `end`
 abbrev GoesOn : Line → Type 0
@@ -71,8 +67,7 @@ lines_go_on lines each =
 line_is_body : (line : List ℕ) → IsBodyLine line → IsBody (ended line)
 line_is_body line body = record { listed = content (line ∷ []); is = text_of_line line body.text; go_on = lines_go_on (line ∷ []) (All-cons IsBodyLine line [] body (All-nil IsBodyLine)) }
 
--- ---- evidence
-
+-- evidence
 module _ {X : Type 0} (ds : List Declaration) (shown : X → LemmaRow) where
   rows_are_body : (rows : List X) → All (λ row. IsWrittenRow ds (shown row)) rows → IsBody (flat_map (λ row. lemma_row_text ds (shown row)) rows)
   rows_are_body rows written = record {

@@ -24,8 +24,7 @@ use Rattle.statement_tokens.specs.Limits.{name_limit}
 use Rattle.report_readback.specs.Names.{IsNameToken, NamesAreNameTokens}
 use Rattle.report_readback.proofs.Spellings.{spelled_is_name, name_is_spelled}
 
--- ---- a name is a token by itself
-
+-- a name is a token by itself
 no_more : (before : List Token) (line column past : ℕ) → tokens_from before [] 0 (spot line column) past ≡ Ok (end_of line past)
 unfolding tokens_from
 no_more before line column past = refl
@@ -53,8 +52,7 @@ spelled_is_token text s =
           ∙ ap (λ (r : Result (List Token) Placed). r >>= λ ts. Ok (token ∷ ts)) (no_more (token ∷ []) 1 after after));
     }
 
--- ---- a token is a name
-
+-- a token is a name
 token_is_spelled : (text : List ℕ) → IsNameToken text → SpellsName text
 token_is_spelled text t =
     let here = name_token (record { text = text; at = t.at }) in

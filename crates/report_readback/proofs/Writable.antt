@@ -20,21 +20,18 @@ use Rattle.certificate_text.specs.Written.{IsLemmaOver, IsEvidenceOver}
 use Rattle.certificate_text.specs.Back.{IsWritableInteger, IsWritableRow, IsWritable, number_of, IsWritableLemma, IsWritableByLemmas, IsWritableEvidence}
 use Rattle.outcome_laws.specs.EvidenceLimits.{IsRowWithin, IsCertificateWithin, IsLemmaWithin, IsLemmaCertificateWithin, IsWithinLimits}
 
--- ---- scales and denominators
-
+-- scales and denominators
 small : (z : ℤ) → pos 0 <ℤ z → IsCoefficient z → IsWritableInteger z
 small (pos n) positive within = record { size = n; is = refl; in_range = within }
 small (negsuc n) positive within = absurd (omega (arith, ints, positive))
 
--- ---- names
-
+-- names
 small_number : (generators lemmas : ℕ) (from : CertFrom) → IsWithin generators lemmas from → generators ≤ generator_limit → lemmas ≤ 200000 → number_of from < 2 ^ 32
 small_number generators lemmas (cert.Generator n) names few few_lemmas = omega (arith, names.1, few)
 small_number generators lemmas (cert.Lemma n) names few few_lemmas = omega (arith, names.1, few_lemmas)
 
 module _ (ds : List Declaration) (generators : ℕ) (few : generators ≤ generator_limit) where
-  -- ---- certificates of rows
-
+  -- certificates of rows
   rows_writable : (c : Certificate) → All (IsRowWithin generators) c.rows → All (IsRowOver ds) c.rows → All (IsWritableRow ds) c.rows
   rows_writable c within over = λ k row below.
       let is = within k row below in
@@ -50,8 +47,7 @@ module _ (ds : List Declaration) (generators : ℕ) (few : generators ≤ genera
         letters = within.letters;
       }
 
-  -- ---- certificates with lemmas
-
+  -- certificates with lemmas
   lemma_writable : (lemmas : ℕ) (l : Lemma) → lemmas ≤ 200000 → IsLemmaWithin l → NamesWithin generators lemmas l → IsLemmaOver ds l → IsWritableLemma ds l
   lemma_writable lemmas l few_lemmas within names over =
       record {

@@ -25,8 +25,7 @@ use Rattle.block_text.proofs.LetterNames.{letter_is_spelled}
 use Rattle.model_text.specs.Models.{HasMap, IsPlaced}
 use Rattle.model_text.specs.Back.{IsWritableModel}
 
--- ---- declared maps have names
-
+-- declared maps have names
 module _ (ds : List Declaration) (declared : IsDeclared ds) (first : ObjectsFirst ds) (quiver : IsQuiver (quiver_of ds)) (names : IsTrue (list_all is_named ds)) where
   module _ (a : ℕ) (letter : a < letter_count ds) (behind : object_count ds ≤ a) (before : a ≤ star (quiver_of ds) a) where
     by_map : (b : ℕ) → named_in ds (letter_name ds a) ≡ Some (Map (record { 0 = b })) → (nat_eq a b ≡ true → b ≡ a) → (nat_eq a b ≡ false → star (quiver_of ds) b ≡ a)
@@ -49,8 +48,6 @@ module _ (ds : List Declaration) (declared : IsDeclared ds) (first : ObjectsFirs
 
     declared_map : HasMap ds a
     declared_map = by_name (named_in ds (letter_name ds a)) refl (letter_is_spelled ds a declared names letter).comes
-
--- ---- a candidate has matrices at declared maps alone
 
 -- it is made of values of the entries
 pub record IsMade (problem : Problem) (m : Model) : Type 0 where
@@ -96,8 +93,7 @@ module _ (problem : Problem) (m : Model) (made : IsMade problem m) (refutes : Ha
   each_placed : (a : ℕ) → a < letter_count problem.parts.quiver → IsPlaced problem.parts.quiver m.modulus a (map_at m a)
   each_placed a counted = at_letter a (subst (λ n. a < n) (sym (letters-quiver_of problem.parts.quiver)) counted) (is_declared_map (quiver_of problem.parts.quiver) a) refl
 
--- ---- what is written
-
+-- what is written
 pub breaking_candidates_are_writable : (problem : Problem) (claim seed number k : ℕ) (m : Model) → IsTrue (list_all is_named problem.parts.quiver)
     → Breaks problem claim seed number k m → IsWritableModel problem.parts.quiver m
 breaking_candidates_are_writable problem claim seed number k m names breaks =

@@ -18,8 +18,6 @@ use Rattle.claim_decider.specs.Outcomes.{IsOutcomeOf}
 use Rattle.claim_decider.specs.Decided.{claim_at, claim_numbers, AreOutcomesOf}
 use Rattle.report_readback.specs.ReadBack.{derived_in}
 
--- ---- limits
-
 -- a product or a sum leaves the range of coefficients, a sum has too many terms, or the lemmas have too many together
 abbrev pub PassesLimit : Refusal → Type 0
 PassesLimit (refusal.Overflow row overflow) = ⊤
@@ -27,8 +25,7 @@ PassesLimit (refusal.Size row) = ⊤
 PassesLimit (refusal.Kept row) = ⊤
 PassesLimit other = ⊥
 
--- ---- answers
-
+-- answers
 abbrev pub AcceptsOf : Problem → Evidence → Type 0
 AcceptsOf problem e = AcceptsEvidence (polynomials problem.parts.claims) (polynomials problem.generators) e
 

@@ -28,16 +28,12 @@ use Rattle.report_text.specs.declared.verdict.Verdict.{Verdict}
 use Rattle.report_text.specs.declared.verdict.Verdict.TheVariants as verdict
 use Rattle.report_text.specs.Report.{report_of, IsLeastOver}
 
--- ---- what is read
-
 -- The text has these certificates, of whatever format. Where there is one at least, it is evidence; where there is none, that is its
 -- first fault.
 pub record IsReadAs (ds : List Declaration) (bytes : List ℕ) (es : List Evidence) : Type 0 where
   pub has : HasCertificates Lemmas ds bytes es
   pub some : 0 < length es → IsEvidence Lemmas ds bytes es
   pub none : es ≡ [] → IsFirstFault Lemmas ds bytes no_block
-
--- ---- reports of verdicts
 
 -- the evidence of the claims that are proved
 abbrev pub proved_in : List Verdict → List Evidence
@@ -61,8 +57,6 @@ abbrev pub ReportsReadBack : Type 0
 ReportsReadBack = (ds : List Declaration) (rules : List Poly) (verdicts : List Verdict)
     → IsDeclared ds → IsTrue (list_all is_named ds) → All (IsPolyOver ds) rules → All (IsWritableVerdict ds) verdicts → length verdicts ≤ block_limit
     → IsReadAs ds (report_of ds rules verdicts) (proved_in verdicts)
-
--- ---- reports of outcomes
 
 -- what may be said of a claim whose run stopped: that it is undecided, or that it is refuted, by whatever model
 abbrev pub IsVerdictOfHalt : List Declaration → Halt → Verdict → Type 0

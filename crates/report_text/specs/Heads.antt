@@ -18,8 +18,7 @@ use Rattle.block_text.specs.Written.{word_text}
 use Rattle.report_text.specs.declared.verdict.Verdict.{Verdict}
 use Rattle.report_text.specs.declared.verdict.Verdict.TheVariants as verdict
 
--- ---- proved
-
+-- proved
 abbrev pub denominator_of : Evidence → ℤ
 denominator_of (format.Plain c) = c.denominator
 denominator_of (format.Lemmas c) = c.denominator
@@ -38,8 +37,7 @@ denominator_text denominator = codes " proved denominator " ++ signed_decimal de
 abbrev pub proved_text : Evidence → List ℕ
 proved_text e = denominator_text (denominator_of e) ++ (codes " rows " ++ decimal (row_count e))
 
--- ---- undecided
-
+-- undecided
 abbrev pub overflow_text : Overflow → List ℕ
 overflow_text o = signed_decimal o.left ++ (if o.product then codes " times " else codes " plus ") ++ signed_decimal o.right
 
@@ -65,17 +63,13 @@ least_text ds (Some word) = codes " least " ++ word_text ds word
 abbrev pub undecided_text : List Declaration → Halt → List ℕ
 undecided_text ds h = codes " undecided " ++ cause_text h.cause ++ place_text h.place ++ least_text ds h.least
 
--- ---- not derivable
-
+-- not derivable
 abbrev pub not_derivable_text : ℕ → List ℕ
 not_derivable_text rules = codes " not derivable rules " ++ decimal rules
 
--- ---- not refuted
-
+-- not refuted
 abbrev pub not_refuted_text : ℕ → List ℕ
 not_refuted_text candidates = codes " not refuted candidates " ++ decimal candidates
-
--- ---- the line
 
 -- what is said of a claim; the number is that of the rules
 abbrev pub said_of : List Declaration → ℕ → Verdict → List ℕ

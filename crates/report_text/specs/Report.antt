@@ -11,16 +11,13 @@ use Rattle.report_text.specs.declared.verdict.Verdict.{Verdict}
 use Rattle.report_text.specs.declared.verdict.Verdict.TheVariants as verdict
 use Rattle.report_text.specs.Heads.{head_line}
 
--- ---- the block of a verdict
-
+-- the block of a verdict
 abbrev pub block_text : List Declaration → List Poly → ℕ → Verdict → List ℕ
 block_text ds rules claim (verdict.Proved e) = evidence_text ds e
 block_text ds rules claim (verdict.NotDerivable rest) = basis_text ds rules claim rest
 block_text ds rules claim (verdict.Refuted m) = model_text ds m
 block_text ds rules claim (verdict.Undecided h) = []
 block_text ds rules claim (verdict.NotRefuted candidates) = []
-
--- ---- the report
 
 -- the verdicts on the claim with this number and the next ones, each by its head line and its block
 abbrev pub report_from : List Declaration → List Poly → ℕ → List Verdict → List ℕ
@@ -38,8 +35,7 @@ heads_from ds rules claim (v ∷ verdicts) = head_line ds rules claim v ++ heads
 abbrev pub heads_of : List Declaration → List Poly → List Verdict → List ℕ
 heads_of ds rules verdicts = heads_from ds (length rules) 1 verdicts
 
--- ---- the status
-
+-- the status
 abbrev pub is_proved : Verdict → Bool
 is_proved (verdict.Proved e) = true
 is_proved (verdict.NotDerivable rest) = false
@@ -76,8 +72,7 @@ status_of verdicts =
     else (if list_any is_refuted verdicts then 11
     else (if list_all is_proved verdicts then 0 else 10)))
 
--- ---- what can be written
-
+-- what can be written
 abbrev pub IsLeastOver : List Declaration → Option (List ℕ) → Type 0
 IsLeastOver ds None = ⊤
 IsLeastOver ds (Some word) = IsOver (letter_count ds) word

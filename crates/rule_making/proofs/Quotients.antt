@@ -22,7 +22,7 @@ use Rattle.rule_making.specs.Making.{is_negative, is_term_negative, leads_negati
 abbrev pub multiple_term : ℤ → Term → Term
 multiple_term k t = (k *ℤ t.0, t.1)
 
--- ---- the leading term of a multiple
+-- the leading term of a multiple
 module _ (compare : Compare) (k : ℤ) where
   multiple_of_greater : (o : Ordering) (b t : Term) → by_order o (multiple_term k b) (multiple_term k b) (multiple_term k t) ≡ multiple_term k (by_order o b b t)
   multiple_of_greater Less b t = refl
@@ -39,7 +39,7 @@ module _ (compare : Compare) (k : ℤ) where
   leading-multiple [] = refl
   leading-multiple (t ∷ v) = ap Some (multiple_of_greatest t v)
 
--- ---- words
+-- words
 module _ (P : List ℕ → Type 0) (k : ℤ) where
   words_of_quotient : (v : List Term) → AllByRecursion (λ t. P t.1) (poly_multiple k v) → AllByRecursion (λ t. P t.1) v
   words_of_quotient [] each = tt
@@ -49,7 +49,7 @@ module _ (P : List ℕ → Type 0) (k : ℤ) where
   pub quotient_words : (v p : List Term) → poly_multiple k v ≡ p → All (λ t. P t.1) p → All (λ t. P t.1) v
   quotient_words v p is each = All-from_recursion (λ t. P t.1) v (words_of_quotient v (recursion_from_All (λ t. P t.1) (poly_multiple k v) (subst (All (λ t. P t.1)) (sym is) each)))
 
--- ---- the content
+-- the content
 multiples_divided : (k : ℤ) (d : ℕ) (v : List Term) → AllByRecursion (λ t. d ∣ unsigned_abs t.0) v → AllByRecursion (λ t. (unsigned_abs k * d) ∣ unsigned_abs t.0) (poly_multiple k v)
 multiples_divided k d [] each = tt
 multiples_divided k d (t ∷ v) each =
@@ -73,7 +73,6 @@ quotient_content k g v p nonzero is content size = record {
       dvd_of_mul-dvd-mul_left d (abs_positive k nonzero) shared;
 }
 
--- ---- signs
 -- what a number is divided by
 abbrev pub signed : Bool → ℤ → ℤ
 signed negative s = cond negative (neg_ℤ s) s

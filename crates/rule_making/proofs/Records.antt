@@ -16,7 +16,7 @@ AreNamed count rows = All (λ (r : Row). IsAmongFirst count r.from) rows
 pub negated_named : (count : ℕ) (rows : List Row) → AreNamed count rows → AreNamed count (negated_rows rows)
 negated_named count rows named = All-map (λ (r : Row). IsAmongFirst count r.from) negated_row rows named
 
--- ---- one record more
+-- one record more
 none_some : (x : Made) → ◌≡◌ {A = Option Made} None (Some x) → ⊥
 none_some x is = cc
 

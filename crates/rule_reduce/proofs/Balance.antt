@@ -20,7 +20,7 @@ use Rattle.rule_reduce.specs.Laws.{ReductionsBalance}
 use Rattle.rule_reduce.proofs.Numbers.{rule_at-polynomial}
 use Rattle.rule_reduce.proofs.Runs.{reduction_keeps}
 
--- ---- coefficients of the parts of a step
+-- coefficients of the parts of a step
 coefficient_of-negated : (p : List Term) (w : List ℕ) → coefficient_of (negated p) w ≡ neg_ℤ (coefficient_of p w)
 coefficient_of-negated [] w = refl
 coefficient_of-negated (t ∷ p) w = go (word_eq t.1 w) (coefficient_of-negated p w)

@@ -42,7 +42,6 @@ memory-explains (Err e) is P whole = go e is.1
     go (fault.Size s) is = absurd is
     go (fault.Memory m) is = tt
 
--- ---- the state times a number
 -- multiplied from the right is multiplied from the left
 multiplied-scaled : (p : List Term) (k : ℤ) → multiplied p k ≡ scaled k p
 multiplied-scaled [] k = refl
@@ -143,7 +142,7 @@ module _ (by : ℤ) (s : State) (x : ℤ) (first_is : checked (product_of s.mult
         ∙ ap (λ o. unless_overflow o (Ok (multiplied_state by s))) (none_overflows (row_operations s.rows by) (map (multiplied_row by) s.rows) rows rows_is)
         ∙ ap Ok (λ i. record s { multiplier = multiplier i; rest = rest i; rows = rows_are i })
 
--- ---- a polynomial less a multiple of a rule
+-- a polynomial less a multiple of a rule
 module _ (k : ℤ) (l : List ℕ) (g : List Term) (r : List ℕ) (p : List Term) where
   abbrev pub less : Result (List Term) PolyFault
   less = finished (less_operations k l g r p) (less_multiple k l g r p)
@@ -173,7 +172,7 @@ finished_is os x v h = go (first_overflow os) h
     go None k = sized-value x v k
     go (Some o) k = absurd (no_error v (fault.Overflow o) (sym k))
 
--- ---- both
+-- both
 if_sized-after : {A : Type 0} (o : Option Overflow) (r : Result (List Term) PolyFault) (x : A) → unless_overflow o (if_sized r x) ≡ if_sized (unless_overflow o r) x
 if_sized-after None r x = refl
 if_sized-after (Some o) r x = refl

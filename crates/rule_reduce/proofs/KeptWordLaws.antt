@@ -30,7 +30,7 @@ each_weaker : (P Q : Term → Type 0) → ((t : Term) → P t → Q t) → (p : 
 each_weaker P Q weaker [] each = tt
 each_weaker P Q weaker (t ∷ p) each = (weaker t each.0, each_weaker P Q weaker p each.1)
 
--- ---- words stay below
+-- words stay below
 module _ (letters : ℕ) (compare : Compare) (rank : List ℕ → List ℕ) (laws : IsAdmissible letters compare rank) (p : List Term) (p_over : All (λ t. IsOver letters t.1) p) where
   over_at_most : (w : List ℕ) → IsAtMostOf letters compare p w → IsOver letters w
   over_at_most w most = go most.at_most
@@ -68,7 +68,7 @@ words_stay_below letters compare rank rules p steps s laws are_rules shaped over
     (λ n g has. replaced_at_most letters compare rank laws p over g (rule_at-all (IsRule letters compare) rules n g has are_rules))
     p steps s (words_of (IsAtMostOf letters compare p) p shaped (λ w occurs. record { word = w; occurs = occurs; at_most = inl refl })) ends
 
--- ---- types are kept
+-- types are kept
 replaced_path : (q : Quiver) (u v letters : ℕ) (compare : Compare) (g : Rule) → IsRule letters compare g → IsTypedRule q g → (l r : List ℕ) → IsPath q u v (l ++ (g.lead ++ r)) → AllByRecursion (λ t. IsPath q u v (l ++ (t.1 ++ r))) g.poly.terms
 replaced_path q u v letters compare g is_rule typed l r path =
     let paths = words_of (IsPath q typed.source typed.target) g.poly.terms g.poly.canonical.shaped typed.typed.at in
@@ -82,7 +82,7 @@ types_are_kept q u v letters compare rules p steps s are_rules typed shaped p_ty
     (λ n g has. replaced_path q u v letters compare g (rule_at-all (IsRule letters compare) rules n g has are_rules) (rule_at-all (IsTypedRule q) rules n g has typed))
     p steps s (words_of (IsPath q u v) p shaped p_typed.at) ends
 
--- ---- letters are kept
+-- letters are kept
 in_play-parts : (play : ℕ → Bool) (u v : List ℕ) → IsInPlay play (u ++ v) → IsInPlay play u × IsInPlay play v
 in_play-parts play u v both = and_parts (list_all play u) (list_all play v) (sym (list_all-append play u v) ∙ both)
 

@@ -43,8 +43,7 @@ use Rattle.signature_typing.proofs.Posed.{posed}
 use Rattle.signature_typing.proofs.Results.{Gives, equation_poly-gives}
 use Rattle.signature_typing.proofs.Generated.{Made, make, generators_exist}
 
--- ---- no fault is want of memory
-
+-- no fault is want of memory
 abbrev IsTold : Option TypeFault → Type 0
 IsTold None = ⊤
 IsTold (Some f) = IsMemory f → ⊥
@@ -91,8 +90,7 @@ told-polynomials ds quiver at e = go (polynomial_in ds e) (equation_poly-gives d
     go (Ok p) h = tt
     go (Err f) h = told-arithmetic at f h
 
--- ---- equations of which none is wrong have polynomials within the limits
-
+-- equations of which none is wrong have polynomials within the limits
 values-canonical : (ds : List Declaration) → IsQuiver (quiver_of ds) → (es : List Equation) → AllByRecursion IsCanonical (polynomials_of ds es)
 values-canonical ds quiver [] = tt
 values-canonical ds quiver (e ∷ es) = all-append IsCanonical (value_in (polynomial_in ds e)) (polynomials_of ds es) (go (polynomial_in ds e) (equation_poly-gives ds quiver e.left e.right)) (values-canonical ds quiver es)
@@ -101,8 +99,7 @@ values-canonical ds quiver (e ∷ es) = all-append IsCanonical (value_in (polyno
     go (Ok p) h = (h, tt)
     go (Err f) h = tt
 
--- ---- a file whose names are in order
-
+-- a file whose names are in order
 module _ (statements : List Statement) (clean : name_fault_of statements ≡ None) where
   abbrev ds : List Declaration
   ds = declarations_of statements

@@ -39,7 +39,7 @@ module _ (ds : List Declaration) (declared : IsDeclared ds) where
   AreBetween [] = Unit {0}
   AreBetween (p ∷ parts) = IsBetween p.1 × AreBetween parts
 
-  -- ---- marks
+  -- marks
   repeated_fine : (first caret : Spot) (s : Option Sig) → IsBetween s → IsFine IsBetween (repeated first caret s)
   repeated_fine first caret None between = tt
   repeated_fine first caret (Some s) between = go (nat_eq s.source.0 s.target.0)
@@ -62,7 +62,7 @@ module _ (ds : List Declaration) (declared : IsDeclared ds) where
   marked_fine first (m ∷ marks) s between =
       and_then IsBetween IsBetween (mark_signature first m s) (marked_signature first marks) (mark_fine first m s between) (marked_fine first marks)
 
-  -- ---- products
+  -- products
   product_step_fine : (so_far : Result (Option Sig) SignatureFault) (at : Spot) (next : Option Sig) → IsFine IsBetween so_far → IsBetween next → IsFine IsBetween (product_step so_far at next)
   product_step_fine (Err fault) at next fine between = fine
   product_step_fine (Ok so_far) at None fine between = tt
@@ -82,7 +82,7 @@ module _ (ds : List Declaration) (declared : IsDeclared ds) where
   product_fine (p ∷ []) between = between.0
   product_fine (p ∷ r ∷ parts) between = product_from_fine (Ok None) (p ∷ r ∷ parts) tt between
 
-  -- ---- sums
+  -- sums
   sum_step_fine : (so_far : Result (Option Sig) SignatureFault) (at : Spot) (next : Option Sig) → IsFine IsBetween so_far → IsBetween next → IsFine IsBetween (sum_step so_far at next)
   sum_step_fine (Err fault) at next fine between = fine
   sum_step_fine (Ok so_far) at None fine between = fine
@@ -107,7 +107,7 @@ module _ (ds : List Declaration) (declared : IsDeclared ds) where
       go true = left
       go false = (left, right)
 
-  -- ---- names
+  -- names
   letter_between : (name : List ℕ) (found : Option Named) → named_in ds name ≡ found → is_map found ≡ true → HasObjects ds (letter_signature (quiver_of ds) (letter_number found))
   letter_between name None is kind = absurd cc
   letter_between name (Some (Object v)) is kind = absurd cc
@@ -120,7 +120,7 @@ module _ (ds : List Declaration) (declared : IsDeclared ds) where
   object_between name (Some (Object v)) is kind = let in_range = (is_named ds name (Object v) is).0 in record { source = in_range; target = in_range }
   object_between name (Some (Map a)) is kind = absurd cc
 
-  -- ---- expressions
+  -- expressions
   mutual
     sum_fine : (s : Sum) → AreNames ds s → IsFine IsBetween (sum_signature ds s)
     sum_fine (Sum' at shape terms) names = and_then AreBetween IsBetween (terms_parts ds terms) (sum_from (Ok None)) (terms_fine _ terms names) (λ parts between. sum_from_fine (Ok None) parts tt between)

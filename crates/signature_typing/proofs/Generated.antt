@@ -23,8 +23,7 @@ use Rattle.quiver.specs.Declarations.{quiver_of}
 use Rattle.expressions.proofs.TwoAdjoints.{length-collected, words-collected, short-adjoint}
 use Rattle.signature_typing.proofs.Results.{shaped-adjoint}
 
--- ---- polynomials of lists that are within the limits
-
+-- polynomials of lists that are within the limits
 pub record Made (ps : List Poly) : Type 0 where
   pub polys : List made.Poly
   pub are : polynomials polys ≡ ps
@@ -37,8 +36,7 @@ pub canonical_polynomials : (ps : List made.Poly) → AllByRecursion IsCanonical
 canonical_polynomials [] = tt
 canonical_polynomials (p ∷ ps) = (p.canonical, canonical_polynomials ps)
 
--- ---- the size of an adjoint
-
+-- the size of an adjoint
 canonical-adjoint : (q : Quiver) → IsQuiver q → (p : Poly) → IsCanonical p → IsCanonical (collected (adjoint_poly q p))
 canonical-adjoint q quiver p h = record {
   shaped = shaped-adjoint q quiver p h.shaped;
@@ -46,8 +44,7 @@ canonical-adjoint q quiver p h = record {
   few = let same : length (adjoint_poly q p) ≡ length p = length-map p _ in omega (arith, h.few, same, length-collected (adjoint_poly q p));
 }
 
--- ---- the relations of identities
-
+-- the relations of identities
 canonical-unit : (u : List ℕ) (a : ℕ) → length u ≡ 2 → word_cmp u (a ∷ []) ≡ Greater → IsCanonical ((pos 1, u) ∷ (negsuc 0, a ∷ []) ∷ [])
 canonical-unit u a two above =
     let p : Poly = (pos 1, u) ∷ (negsuc 0, a ∷ []) ∷ [] in
@@ -85,8 +82,7 @@ canonical-letter_units q starred v a = outer (starred || leb a (star q a))
 canonical-units : (q : Quiver) (starred : Bool) (v : ℕ) → AllByRecursion IsCanonical (units q starred v)
 canonical-units q starred v = (canonical-left v v, all-flat_map IsCanonical (letter_units q starred v) (λ a. canonical-letter_units q starred v a) (range_with_len q.objects _))
 
--- ---- lists that say the same
-
+-- lists that say the same
 record Closed (target : List Poly) : Type 0 where
   list : List Poly
   canonical : AllByRecursion IsCanonical list

@@ -37,7 +37,7 @@ pub record IsCounted (ds : List Declaration) (statements : List Statement) (e : 
   pub starred : is_starred_equation e ≡ true → is_starred statements ≡ true
   pub marked : (v : ℕ) → has_the_identity ds v e ≡ true → is_marked ds statements v ≡ true
 
--- ---- marks
+-- marks
 or_left : (x y : Bool) → x ≡ true → (x || y) ≡ true
 or_left true y is = refl
 or_left false y is = absurd cc
@@ -89,7 +89,6 @@ all_starred part each (x ∷ xs) =
     (each_weaker (λ e. is_starred_equation e ≡ true → is_starred xs ≡ true) (λ e. is_starred_equation e ≡ true → is_starred (x ∷ xs) ≡ true)
     (λ e later mark. or_right (is_starred_in x.kind) (is_starred xs) (later mark)) (flat_map part xs) (all_starred part each xs))
 
--- ---- identities
 -- a test of an element is a test of some element of the list
 each_found : {V A : Type 0} (test : V → A → Bool) (xs : List A) → AllByRecursion (λ x. (v : V) → test v x ≡ true → list_any (test v) xs ≡ true) xs
 each_found test [] = tt
@@ -137,7 +136,7 @@ module _ (ds : List Declaration) (statements : List Statement) where
   pub claims_counted : AllByRecursion (IsCounted ds statements) (claims_of statements)
   claims_counted = counted (claims_of statements) (all_starred (λ s. claims_in s.kind) (λ s. claims_starred s.kind) statements) claims_identified
 
-  -- ---- letters
+  -- letters
   numbers_of_objects : (xs : List ℕ) → numbers (map an_object xs) ≡ xs
   numbers_of_objects [] = refl
   numbers_of_objects (x ∷ xs) = ap (λ ys. x ∷ ys) (numbers_of_objects xs)

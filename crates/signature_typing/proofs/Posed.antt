@@ -36,7 +36,7 @@ named ds statements ready =
     (each_part (HasNames ds) (equations_of ds) (λ s. claims_in s.kind) statements
     (recursion_from_All (HasNames ds) (assumptions_of ds statements) ready.assumptions) (recursion_from_All (HasNames ds) (claims_of statements) ready.claims)))
 
--- ---- equations that have a signature and a polynomial
+-- equations that have a signature and a polynomial
 module _ (typed : EquationsAreTyped) (written : LettersAreWritten) (ds : List Declaration) (statements : List Statement) (ready : IsReady ds statements) where
   -- what is known of an equation of the file
   abbrev IsKnown : Equation → Type 0
@@ -69,7 +69,6 @@ module _ (typed : EquationsAreTyped) (written : LettersAreWritten) (ds : List De
     equation_count : length ps ≡ length es
     equation_count = sym (length-map ps (λ p. p.terms)) ∙ ap length are ∙ length-values (polynomial_in ds) es have_polynomials
 
--- ---- a file
 -- that the equations have signatures and polynomials
 module _ (ds : List Declaration) (statements : List Statement) (no_signature : first_among (wrong_signature ds) statements ≡ None) (no_polynomial : first_among (wrong_polynomial ds) statements ≡ None) where
   have_signatures : AreValues (signature_in ds) (assumptions_of ds statements) × AreValues (signature_in ds) (claims_of statements)
@@ -113,7 +112,7 @@ posed typed written statements p parts ready no_signature no_polynomial =
       solved_ascending = rw parts.solved ready.solved_ascending;
     }
 
--- ---- its first fault
+-- its first fault
 last_fault : (signatures polys claims : Option TypeFault) → signatures ≡ None → polys ≡ None → option_or signatures (option_or polys claims) ≡ claims
 last_fault signatures polys claims no_signature no_polynomial = rw (no_signature, no_polynomial) refl
 

@@ -48,8 +48,7 @@ gives-then : (P : Poly → Type 0) (r : Result Poly PolyFault) (f : Poly → Res
 gives-then P (Ok p) f h k = k p h
 gives-then P (Err e) f h k = h
 
--- ---- one operation
-
+-- one operation
 sized-gives : (p : Poly) → IsShaped p → Gives IsCanonical (sized p)
 sized-gives p h = go (has_long_word p) (nat_lt 20000 (length p)) (canonical_sized p p h)
   where
@@ -88,8 +87,7 @@ combined-gives a p b q h k =
     let second = none_of (products b q) (sums (scaled a p) (scaled b q)) first.1 in
     shaped-added (scaled a p) (scaled b q) second.1 (shaped-scaled a p first.0 h) (shaped-scaled b q second.0 k))
 
--- ---- products
-
+-- products
 step-gives : (sum : Poly) (t : term) (q : Poly) → IsCanonical sum → IsCanonical q → Gives IsCanonical (product_step sum t q)
 step-gives sum t q h k =
     gives-then IsCanonical (sized (poly_between t.1 q [])) (λ moved. combined (pos 1) sum t.0 moved) (sized-gives (poly_between t.1 q []) (shaped-between t.1 [] q k.shaped))
@@ -121,8 +119,7 @@ product_poly-gives : (ps : List Poly) → AllByRecursion IsCanonical ps → Give
 product_poly-gives [] h = canonical-none
 product_poly-gives (p ∷ ps) h = product_from-gives p ps h.0 h.1
 
--- ---- powers
-
+-- powers
 repeated-canonical : (n : ℕ) (p : Poly) → IsCanonical p → AllByRecursion IsCanonical (replicate n p)
 repeated-canonical zero p h = tt
 repeated-canonical (suc n) p h = (h, repeated-canonical n p h)
@@ -132,8 +129,7 @@ power-gives (pos (suc n)) p h = product_poly-gives (replicate (suc n) p) (repeat
 power-gives (pos zero) p h = h
 power-gives (negsuc n) p h = h
 
--- ---- adjoints
-
+-- adjoints
 pub shaped-adjoint : (q : Quiver) → IsQuiver q → (p : Poly) → IsShaped p → IsShaped (collected (adjoint_poly q p))
 shaped-adjoint q quiver p h =
     let terms : Poly = adjoint_poly q p in
@@ -168,7 +164,7 @@ module _ (ds : List Declaration) (quiver : IsQuiver (quiver_of ds)) where
     few = omega arith;
   }
 
-  -- ---- the parts of an expression
+  -- the parts of an expression
   abbrev AreCanonical : List Summand → Type 0
   AreCanonical ss = AllByRecursion (λ s. IsCanonical s.1) ss
 
@@ -192,7 +188,7 @@ module _ (ds : List Declaration) (quiver : IsQuiver (quiver_of ds)) where
   scaled_by-gives None p h = h
   scaled_by-gives (Some n) p h = multiple-gives n.value p h
 
-  -- ---- by induction on the expression
+  -- by induction on the expression
   mutual
     sum_poly-gives : (s : Sum) → Gives IsCanonical (sum_poly ds s)
     sum_poly-gives (Sum' at shape terms) = gives-bind (λ ss. AllByRecursion (λ s. IsCanonical s.1) ss) IsCanonical (summands ds terms) total (summands-give terms) total-gives

@@ -26,8 +26,7 @@ use Rattle.signature_typing.specs.declared.fault.TypeFault.{TypeFault}
 use Rattle.signature_typing.specs.First.{first_among}
 use Rattle.signature_typing.specs.Fault.{told_name, told_signature, told_polynomial, no_claim}
 
--- ---- equations
-
+-- equations
 abbrev pub signature_in : List Declaration → Equation → Result Sig SignatureFault
 signature_in ds e = equation_signature ds e.left e.right
 
@@ -49,8 +48,6 @@ signatures_of ds es = flat_map (λ e. value_in (signature_in ds e)) es
 
 abbrev pub polynomials_of : List Declaration → List Equation → List Poly
 polynomials_of ds es = flat_map (λ e. value_in (polynomial_in ds e)) es
-
--- ---- the first fault
 
 -- what a statement assumes and claims
 abbrev pub equations_in : List Declaration → Statement → List Equation
@@ -85,8 +82,6 @@ equation_fault ds statements =
 -- Names come before equations.
 abbrev pub fault_of : List Statement → Option TypeFault
 fault_of statements = option_or (option_map told_name (name_fault_of statements)) (equation_fault (declarations_of statements) statements)
-
--- ---- the problem
 
 -- What the file says, where no name, signature or coefficient of it is wrong.
 pub record ArePartsOf (statements : List Statement) (p : Parts) : Type 0 where

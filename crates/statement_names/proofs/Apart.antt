@@ -13,7 +13,7 @@ abbrev pub Apart : List (List ℕ × Kind) → Type 0
 Apart [] = Unit {0}
 Apart (d ∷ ds) = (kind_in ds d.0 ≡ None) × Apart ds
 
--- ---- tests of names
+-- tests of names
 pub other_bytes : (xs ys : List ℕ) → (xs ≡ ys → ⊥) → bytes_eq xs ys ≡ false
 other_bytes xs ys differ = go (bytes_eq xs ys) refl
   where
@@ -87,7 +87,7 @@ pub Apart-left : (xs ys : List (List ℕ × Kind)) → Apart (xs ++ ys) → Apar
 Apart-left [] ys apart = tt
 Apart-left (x ∷ xs) ys apart = (absent_before xs ys x.0 apart.0, Apart-left xs ys apart.1)
 
--- ---- those of objects, and then those of maps
+-- those of objects, and then those of maps
 abbrev pub is_object_kind : Kind → Bool
 is_object_kind Object = true
 is_object_kind Map = false

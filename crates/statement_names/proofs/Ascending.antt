@@ -26,7 +26,7 @@ filter_passes a (suc n) test = go (test a) refl (Each-weaker (IsPassing (a + 1) 
 pub numbers_pass : (n : ℕ) (test : ℕ → Bool) → Each (IsPassing 0 n test) (numbers_that n test)
 numbers_pass n test = filter_passes 0 n test
 
--- ---- what is numbered so
+-- what is numbered so
 module _ {A : Type 0} (make : ℕ → A) (number : A → ℕ) (same : (k : ℕ) → number (make k) ≡ k) where
   filter_ascends : (a n : ℕ) (test : ℕ → Bool) → AllPairs (λ x y. number x < number y) (map make (filter test (range_with_len a n)))
   filter_ascends a zero test = λ i j d less below. absurd (omega arith)

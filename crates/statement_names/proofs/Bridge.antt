@@ -20,7 +20,7 @@ use Rattle.statement_names.specs.Faults.{declared_by, objects_by, maps_by, order
 use Rattle.statement_names.specs.Survey.{with_kind, with_kinds, declared_count, declared_before, short_of, declared_fault, or_else, fault_at, behind, goes_on, run, fault_in}
 use Rattle.statement_names.proofs.KindsFound.{take-with_kinds}
 
--- ---- room that is left, and what has used it
+-- room that is left, and what has used it
 below_room : (room used more limit : ℕ) → room + used ≡ limit → nat_lt room more ≡ nat_lt limit (used + more)
 below_room room used more limit whole = grind (arith, nat_tests)
 
@@ -41,7 +41,7 @@ not_short room more fault none = go (nat_lt room more) none
     go false e = refl
     go true e = absurd (cc)
 
--- ---- tests one after another
+-- tests one after another
 first_of_three : (a b c : Bool) (x y z : NameFault) → or_else (if a then Some x else if b then Some y else None) c z ≡ (if a then Some x else if b then Some y else if c then Some z else None)
 first_of_three true b c x y z = refl
 first_of_three false true c x y z = refl
@@ -63,7 +63,7 @@ not_double : (a : Bool) (x : NameFault) (rest : Option NameFault) → (if a then
 not_double true x rest e = absurd (cc)
 not_double false x rest e = refl
 
--- ---- how many names are declared
+-- how many names are declared
 number_by : (o : Occurrence) → length (declared_by o) ≡ objects_by o + maps_by o
 number_by (declares_object n) = refl
 number_by (declares_map n u v selfmade) = refl
@@ -83,7 +83,7 @@ number_declared (o ∷ os) =
     ∙ (let crossed : (objects_by o + maps_by o) + (sum_by objects_by os + sum_by maps_by os) ≡ (objects_by o + sum_by objects_by os) + (maps_by o + sum_by maps_by os) = omega arith in crossed)
     ∙ sym (ap₂ (λ m n. m + n) (sum_by-cons objects_by o os) (sum_by-cons maps_by o os))
 
--- ---- a survey of what stands before, and what is still to come
+-- a survey of what stands before, and what is still to come
 pub record Agrees (most_maps : ℕ) (kind : List ℕ → Option Kind) (before after : List Occurrence) (s : Survey) : Type 0 where
   pub kinds : (name : List ℕ) → kind_in s.kinds name ≡ kind name
   pub declared : s.kinds ≡ with_kinds (declared_in before) (declared_in after)
@@ -131,7 +131,7 @@ module _ (most_maps : ℕ) (kind : List ℕ → Option Kind) (before after : Lis
   fault_same (begins_claim at) = short_same s.claims (sum_by claims_by before) 1 claim_limit (TooMany at claim_limit) agrees.claims
   fault_same (begins_shape at) = short_same s.shapes (sum_by shapes_by before) 1 shape_limit (TooMany at shape_limit) agrees.shapes
 
-  -- ---- one occurrence further
+  -- one occurrence further
   same_count : (by : Occurrence → ℕ) (o : Occurrence) (room limit : ℕ) → by o ≡ 0 → room + sum_by by before ≡ limit → room + sum_by by (before ++ o ∷ []) ≡ limit
   same_count by o room limit none whole = ap (λ n. room + n) (sum_by_push by before o ∙ ap (λ n. sum_by by before + n) none) ∙ (let more : room + (sum_by by before + 0) ≡ limit = omega arith in more)
 

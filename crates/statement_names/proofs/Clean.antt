@@ -18,7 +18,7 @@ use Rattle.statement_names.specs.Faults.{declared_by, objects_by, maps_by, assum
 use Rattle.statement_names.proofs.Apart.{Apart, Apart-push}
 use Rattle.statement_names.proofs.Each.{Each}
 
--- ---- tests that let an occurrence through
+-- tests that let an occurrence through
 none_first : (found other : Option NameFault) → option_or found other ≡ None → found ≡ None
 none_first None other e = refl
 none_first (Some fault) other e = e
@@ -50,7 +50,7 @@ absent_from : (found : Option Kind) → is_some found ≡ false → found ≡ No
 absent_from None e = refl
 absent_from (Some k) e = absurd (cc)
 
--- ---- what each occurrence keeps to, whatever stands before it
+-- what each occurrence keeps to, whatever stands before it
 abbrev pub IsGood : (List ℕ → Option Kind) → Occurrence → Type 0
 IsGood kind (declares_map n u v selfmade) = (selfmade && are_two_objects kind u v) ≡ false
 IsGood kind (uses u) = is_kind (kind u.name.text) u.kind ≡ true
@@ -87,7 +87,7 @@ module _ (most_maps : ℕ) (kind : List ℕ → Option Kind) where
   each_good before [] clean = tt
   each_good before (o ∷ os) clean = (good before o (head_clean before o os clean), each_good (before ++ o ∷ []) os (tail_clean before o os clean))
 
-  -- ---- different names
+  -- different names
   apart_next : (before : List Occurrence) (o : Occurrence) → fault_behind most_maps kind before o ≡ None → Apart (declared_in before) → Apart (declared_in before ++ declared_by o)
   apart_next before (declares_object n) clean apart =
       Apart-push (declared_in before) (n.text, Object) apart (absent_from (kind_in (declared_in before) n.text) (test_false (is_some (kind_in (declared_in before) n.text)) _ _ clean))
@@ -106,7 +106,7 @@ module _ (most_maps : ℕ) (kind : List ℕ → Option Kind) where
       (subst Apart (declared_push before o) (apart_next before o (head_clean before o os clean) apart))
       (tail_clean before o os clean))
 
-  -- ---- at most so many
+  -- at most so many
   counted : (by : Occurrence → ℕ) (limit : ℕ) → ((before : List Occurrence) (o : Occurrence) → fault_behind most_maps kind before o ≡ None → sum_by by before ≤ limit → sum_by by before + by o ≤ limit)
       → (before os : List Occurrence) → sum_by by before ≤ limit → first_fault most_maps kind before os ≡ None → sum_by by (before ++ os) ≤ limit
   counted by limit step before [] few clean = subst (λ xs. sum_by by xs ≤ limit) (sym (append-nil before)) few

@@ -37,7 +37,7 @@ use Rattle.statement_names.proofs.Fresh.{different_of_apart, apart_of}
 use Rattle.statement_names.proofs.KindsFound.{kind_in-append, lookup-append, same_bytes}
 use Rattle.statement_names.proofs.NamedKinds.{kind_of, kinds, kind-named_in, apart_declarations, kind_declared, kinds-declared_objects, kinds-declarations_of, statement_kinds, object_from}
 
--- ---- look-ups behind more declarations
+-- look-ups behind more declarations
 stays : {A : Type 0} (found other : Option A) → is_some found ≡ true → option_or found other ≡ found
 stays (Some x) other there = refl
 stays None other there = absurd (cc)
@@ -61,7 +61,7 @@ object_in_range xs n is = go (named_in xs n.text) refl is
     go (Some (named.Map a)) found e = absurd (cc)
     go None found e = absurd (cc)
 
--- ---- an object of the file is one of its objects
+-- an object of the file is one of its objects
 maps_only : (ks : List (List ℕ × Kind)) (q : List ℕ) → kind_in (maps_among ks) q ≡ Some Object → ⊥
 maps_only [] q e = cc
 maps_only ((n, Object) ∷ ks) q e = maps_only ks q e
@@ -90,7 +90,7 @@ first_object (Some Object) other no_map no_object e = refl
 first_object (Some Map) other no_map no_object e = absurd (no_map refl)
 first_object None other no_map no_object e = absurd (no_object e)
 
--- ---- lists of declarations with ends
+-- lists of declarations with ends
 all_append : {A : Type 0} (test : A → Bool) (xs ys : List A) → list_all test xs ≡ true → list_all test ys ≡ true → list_all test (xs ++ ys) ≡ true
 all_append test [] ys h k = k
 all_append test (x ∷ xs) ys h k = go (test x) h (λ rest. all_append test xs ys rest k)
@@ -162,7 +162,7 @@ map_count-objects : (statements : List Statement) → map_count (declared_object
 map_count-objects [] = refl
 map_count-objects (s ∷ statements) = map_count-append (objects_in s.kind) (declared_objects statements) ∙ ap₂ (λ a b. a + b) (no_map_objects s.kind) (map_count-objects statements)
 
--- ---- a quiver has room for the maps of a file
+-- a quiver has room for the maps of a file
 some_enough : (k : StatementKind) → map_limit_after k ≤ map_limit
 some_enough statement.Language = omega arith
 some_enough k = omega arith
@@ -171,7 +171,7 @@ few_enough : (statements : List Statement) → map_limit_of statements ≤ map_l
 few_enough [] = omega arith
 few_enough (s ∷ statements) = some_enough s.kind
 
--- ---- in a file in whose names nothing is wrong
+-- in a file in whose names nothing is wrong
 module _ (statements : List Statement) (clean : name_fault_of statements ≡ None) where
   abbrev kind : List ℕ → Option Kind
   kind = kind_in (declared_in (occurrences_of statements))
@@ -254,7 +254,7 @@ module _ (statements : List Statement) (clean : name_fault_of statements ≡ Non
     ends = ends_behind statements statements_good;
   }
 
--- ---- the first declarations of a file
+-- the first declarations of a file
 declared_front : (xs ys : List Declaration) → list_all (has_ends (object_count xs)) xs ≡ true → IsDeclared (xs ++ ys) → IsDeclared xs
 declared_front xs ys ends declared = record {
   distinct = different_of_apart xs (Apart-left (kinds xs) (kinds ys) (subst Apart (map-append kind_of xs ys) (apart_of (xs ++ ys) declared.distinct)));
@@ -326,7 +326,7 @@ module _ (statements : List Statement) (clean : name_fault_of statements ≡ Non
       (ends_behind statements clean first (Each-take (λ t. Each (IsGood (kind_in (declared_in (occurrences_of statements)))) (statement_occurrences t)) (i + 1) statements (statements_good statements clean)))
       (subst IsDeclared whole (file_declared statements clean)))
 
--- ---- all objects come first
+-- all objects come first
 all_arrows : (objects : List Declaration) (k : StatementKind) → list_all is_arrow (maps_in objects k) ≡ true
 all_arrows objects (statement.Maps names source target selfmade) = go names
   where

@@ -21,7 +21,7 @@ use Rattle.statement_names.proofs.Fresh.{fresh_name}
 use Rattle.statement_names.proofs.KindsFound.{same_bytes, lookup-append}
 use Rattle.statement_names.proofs.NamedKinds.{kinds}
 
--- ---- an object by its number
+-- an object by its number
 pub record ObjectAt (ds : List Declaration) (v : ℕ) : Type 0 where
   pub before : List Declaration
   pub name : List ℕ
@@ -61,7 +61,7 @@ named_object ds apart v below =
     (ap (named_in split) (ap (object_name split) (plus_zero (object_count at.before)) ∙ object_name-split at.before at.name at.after)
     ∙ named_in-split at.before at.name at.after (subst (λ es. Apart (kinds es)) at.whole apart)))
 
--- ---- a map by its name
+-- a map by its name
 pub record MapAt (ds : List Declaration) (q : List ℕ) (a : ℕ) : Type 0 where
   pub before : List Declaration
   pub source : ℕ
@@ -113,7 +113,6 @@ map_split ds q a h =
     let number : a ≡ letter_count m.before = omega (arith, m.number) in
     record { before = m.before; source = m.source; target = m.target; selfmade = m.selfmade; after = m.after; whole = m.whole; number = number }
 
--- ---- the letters of a map
 -- a map that is its own adjoint has one letter, and else two
 abbrev pub letters_from_number : Bool → ℕ → List Letter
 letters_from_number true a = letter a ∷ []

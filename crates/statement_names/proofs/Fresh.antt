@@ -17,7 +17,7 @@ use Rattle.statement_names.specs.Faults.{kind_in}
 use Rattle.statement_names.proofs.Apart.{Apart, fresh_before, skipped, other_bytes, own_bytes, absent_head, absent_tail}
 use Rattle.statement_names.proofs.NamedKinds.{kind_of, kinds, nothing_named}
 
--- ---- different names, by places and by look-ups
+-- different names, by places and by look-ups
 module _ {A : Type 0} (R : A → A → Type 0) (x : A) (xs : List A) (pairs : AllPairs R (x ∷ xs)) where
   pub pairs_head : All (R x) xs
   pairs_head k d below = let in_range : suc k < suc (length xs) = omega arith in pairs 0 (suc k) d (omega arith) in_range
@@ -55,7 +55,7 @@ different_names (k ∷ ks) apart = AllPairs-cons (λ x y. x ≢ y) k.0 (map (λ 
 pub different_of_apart : (ds : List Declaration) → Apart (kinds ds) → AllPairs (λ x y. x ≢ y) (map name_of ds)
 different_of_apart ds apart = subst (AllPairs (λ x y. x ≢ y)) (names-kinds ds) (different_names (kinds ds) apart)
 
--- ---- the next declaration of a list that a quiver may have
+-- the next declaration of a list that a quiver may have
 pub fresh_name : (xs : List Declaration) (d : Declaration) (ys : List Declaration) → Apart (kinds (xs ++ d ∷ ys)) → named_in xs (kind_of d).0 ≡ None
 fresh_name xs d ys apart = nothing_named xs (kind_of d).0 (fresh_before (kinds xs) (kinds ys) (kind_of d) (subst Apart (map-append kind_of xs (d ∷ ys)) apart))
 

@@ -75,7 +75,7 @@ grown front (d ∷ more) = go (is_some (kind_in front d.0)) (grown front more) (
 pub take-with_kinds : (front more : List (List ℕ × Kind)) → take (length front) (with_kinds front more) ≡ front
 take-with_kinds front more = let new = grown front more in ap (take (length front)) new.1 ∙ take-append_seam front new.0
 
--- ---- one name or statement more
+-- one name or statement more
 pub name_put : (kinds new front : List (List ℕ × Kind)) (kind : Kind) (names : List Name) (i : ℕ) (n : Name) → i < length names → n ≡ get_or names i n
     → kinds ≡ with_kinds front (kinded kind (take i names)) → new ≡ with_kind kinds n.text kind → new ≡ with_kinds front (kinded kind (take (i + 1) names))
 name_put kinds new front kind names i n below at so_far is =

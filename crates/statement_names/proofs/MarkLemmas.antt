@@ -10,7 +10,7 @@ use Rattle.statement_names.specs.Marks.{Marks}
 use Rattle.statement_names.specs.Solved.{numbers_that}
 use Rattle.statement_names.proofs.Items.{take_next, flat_next}
 
--- ---- the numbers that pass a test
+-- the numbers that pass a test
 range_more : (a n : ℕ) → range_with_len a (n + 1) ≡ range_with_len a n ++ (a + n) ∷ []
 range_more a zero = let here : a ≡ a + 0 = omega arith in ap (λ k. k ∷ []) here
 range_more a (suc n) =
@@ -33,7 +33,7 @@ filter_same a (suc n) p q same =
 pub numbers_same : (n : ℕ) (p q : ℕ → Bool) → ((k : ℕ) → k < n → p k ≡ q k) → numbers_that n p ≡ numbers_that n q
 numbers_same n p q same = filter_same 0 n p q (λ k least most. let below : k < n = omega arith in same k below)
 
--- ---- one mark
+-- one mark
 or_true : (b : Bool) → true ≡ (b || true)
 or_true true = refl
 or_true false = refl
@@ -67,7 +67,7 @@ marks_one marks n below k in_range = go (nat_eq n k) refl
         let differ : k ≢ n = λ same. let e : nat_eq n k ≡ true = (Decides-eqb n k).1 (sym same) in cc in
         get_or-set_other marks n k true false differ ∙ or_nothing (get_or marks k false)
 
--- ---- marks upon marks
+-- marks upon marks
 pub marks_then : (old mid new : List Bool) (p q : ℕ → Bool) → length mid ≡ length old → Marks old mid p → Marks mid new q → Marks old new (λ k. p k || q k)
 marks_then old mid new p q same first second k below =
     second k (subst (λ n. k < n) (sym same) below) ∙ ap (λ b. b || q k) (first k below) ∙ or_assoc (get_or old k false) (p k) (q k)
@@ -97,7 +97,7 @@ marked_numbers n marks test len is =
     ∙ numbers_same n (λ k. get_or marks k false) test
     (λ k below. is k (subst (λ m. k < m) (sym (length-replicate n false)) below) ∙ ap (λ b. b || test k) (get_or-replicate_default n k false))
 
--- ---- the marked numbers one after another
+-- the marked numbers one after another
 module _ {A : Type 0} (make : ℕ → A) (items : List A) (n : ℕ) (test : ℕ → Bool) (so_far : items ≡ map make (numbers_that n test)) where
   pub number_kept : (new : List A) → test n ≡ true → new ≡ items ++ make n ∷ [] → new ≡ map make (numbers_that (n + 1) test)
   number_kept new passes is =

@@ -25,7 +25,7 @@ use Rattle.statement_names.proofs.Apart.{Apart, Apart-sorted, kind_in-sorted, ob
 use Rattle.statement_names.proofs.Clean.{apart_declared}
 use Rattle.statement_names.proofs.Quiet.{declared-statements}
 
--- ---- the kinds of declarations
+-- the kinds of declarations
 abbrev pub kind_of : Declaration → List ℕ × Kind
 kind_of (object name) = (name, Object)
 kind_of (arrow name u v selfmade) = (name, Map)
@@ -79,7 +79,7 @@ object_from (Some (named.Object v)) e = refl
 object_from (Some (named.Map a)) e = absurd (cc)
 object_from None e = absurd (cc)
 
--- ---- those of a file
+-- those of a file
 kinds-objects : (names : List Name) → kinds (map (λ n. object n.text) names) ≡ kinded Object names
 kinds-objects [] = refl
 kinds-objects (n ∷ names) = ap (λ ks. (n.text, Object) ∷ ks) (kinds-objects names)
@@ -146,7 +146,7 @@ kinds-declarations_of statements =
     map-append kind_of (declared_objects statements) (declared_maps (declared_objects statements) statements)
     ∙ ap₂ (λ xs ys. xs ++ ys) (kinds-declared_objects statements) (kinds-maps_in (declared_objects statements) statements)
 
--- ---- in a file in whose names nothing is wrong
+-- in a file in whose names nothing is wrong
 module _ (statements : List Statement) (clean : name_fault_of statements ≡ None) where
   apart_statements : Apart (statement_kinds statements)
   apart_statements = subst Apart (declared-statements statements) (apart_declared (map_limit_of statements) (kind_in (declared_in (occurrences_of statements))) [] (occurrences_of statements) tt clean)

@@ -87,7 +87,7 @@ mutual
 pub sides-quiet : (left right : Sum) → IsQuiet (sides_occurrences left right)
 sides-quiet left right = quiet-append (sum_occurrences left) (sum_occurrences right) (sum-quiet left) (sum-quiet right)
 
--- ---- a count of occurrences that leaves out those
+-- a count of occurrences that leaves out those
 module _ (by : Occurrence → ℕ) (no_use : (u : Use) → by (uses u) ≡ 0) (no_list : (front : List (List ℕ)) (u : Use) → by (lists front u) ≡ 0)
     (no_count : (most : ℕ) (n : Number) → by (counts most n) ≡ 0) (no_modulus : (n : Number) → by (modulus n) ≡ 0) where
   pub sum_by-quiet : (os : List Occurrence) → IsQuiet os → sum_by by os ≡ 0
@@ -116,7 +116,7 @@ declared-quiet (begins_assumptions n at ∷ os) h = absurd h
 declared-quiet (begins_claim at ∷ os) h = absurd h
 declared-quiet (begins_shape at ∷ os) h = absurd h
 
--- ---- what a statement declares
+-- what a statement declares
 declared-objects : (names : List Name) → declared_in (map (λ n. declares_object n) names) ≡ kinded Object names
 declared-objects [] = refl
 declared-objects (n ∷ names) = ap (λ ds. (n.text, Object) ∷ ds) (declared-objects names)

@@ -39,7 +39,7 @@ sides_from ds pairs i sides done size given =
     from_places 1 (λ v. side_in pairs (object_name ds v)) 0 (object_count ds) sides size
     (λ v below. let here : v ≡ 0 + v = omega arith in given v below ∙ ap (λ ps. side_in ps (object_name ds v)) (take_all i pairs done) ∙ ap (λ w. side_in pairs (object_name ds w)) here)
 
--- ---- one pair more
+-- one pair more
 abbrev given_side : Name × Number → List ℕ × ℕ
 given_side p = (p.0.text, value_of p.1.value)
 

@@ -14,7 +14,7 @@ use Rattle.statement_names.specs.Solved.{is_the_letter, names_letter}
 use Rattle.statement_names.proofs.Found.{map_split, map_letters}
 use Rattle.statement_names.proofs.Fresh.{all_right}
 
--- ---- objects come first
+-- objects come first
 no_objects : (ds : List Declaration) → list_all is_arrow ds ≡ true → object_count ds ≡ 0
 no_objects [] h = refl
 no_objects (object name ∷ ds) h = absurd (cc)
@@ -46,7 +46,7 @@ map_declared ds first q a found =
     star_above true = omega arith
     star_above false = omega arith
 
--- ---- a letter that a name stands for
+-- a letter that a name stands for
 named_letter : (a : ℕ) (found : Option Named) → is_the_letter a found ≡ true → found ≡ Some (named.Map (record { 0 = a }))
 named_letter a (Some (named.Map b)) e = ap (λ n. Some (named.Map (record { 0 = n }))) ((Decides-eqb b.0 a).0 e)
 named_letter a (Some (named.Object v)) e = absurd (cc)

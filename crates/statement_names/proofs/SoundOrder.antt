@@ -35,7 +35,7 @@ use Rattle.statement_names.proofs.Clean.{IsGood}
 use Rattle.statement_names.proofs.FileDeclared.{statements_good}
 use Rattle.statement_names.proofs.NamedKinds.{map_named}
 
--- ---- letters of a list, each once
+-- letters of a list, each once
 abbrev Spread : List Letter → Type 0
 Spread [] = Unit {0}
 Spread (l ∷ ls) = Each (λ m. l.0 ≢ m.0) ls × Spread ls
@@ -88,7 +88,7 @@ entries_good letters es in_range weights spread before e after split =
     (not_before (letters_in before) e.0 (letters_in after) (subst Spread letters_split spread)))
     (ap (λ b. if b then None else Some (BadWeight e.0)) is)
 
--- ---- the letters of maps
+-- the letters of maps
 map_is : (found : Option Named) → IsTrue (is_map found) → found ≡ Some (named.Map (record { 0 = letter_number found }))
 map_is (Some (named.Map a)) e = refl
 map_is (Some (named.Object v)) e = absurd (cc)
@@ -166,7 +166,7 @@ module _ (ds : List Declaration) where
       (weights_between pairs weights)
       (subst Spread (sym (weighed_letters pairs)) (letters_spread (named_by pairs) maps once))
 
--- ---- in a file in whose names nothing is wrong
+-- in a file in whose names nothing is wrong
 module _ (statements : List Statement) (clean : name_fault_of statements ≡ None) where
   abbrev kind : List ℕ → Option Kind
   kind = kind_in (declared_in (occurrences_of statements))

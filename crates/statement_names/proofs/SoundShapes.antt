@@ -29,7 +29,7 @@ use Rattle.statement_names.proofs.FileDeclared.{statements_good}
 use Rattle.statement_names.proofs.Stated.{IsPair, pairs_are}
 use Rattle.statement_names.proofs.Tally.{length-shapes}
 
--- ---- sides
+-- sides
 one_side : IsSide 1
 one_side = record { least = omega arith; most = omega arith }
 
@@ -55,7 +55,7 @@ Each-replicate P (suc n) x h = (h, Each-replicate P n x h)
 even_shape : (n side : ℕ) → IsSide side → IsShape n (shape 2 (replicate n side))
 even_shape n side is = record { modulus = refl; side_of_each = length-replicate n side; sides = Each-at IsSide (replicate n side) (Each-replicate IsSide n side is) }
 
--- ---- in a file in whose names nothing is wrong
+-- in a file in whose names nothing is wrong
 module _ (statements : List Statement) (clean : name_fault_of statements ≡ None) where
   abbrev all : List Declaration
   all = declarations_of statements

@@ -27,7 +27,7 @@ use Rattle.statement_names.proofs.Each.{Each, Each-at, Each-item, Each-unmap, Ea
 use Rattle.statement_names.proofs.FileDeclared.{statements_good}
 use Rattle.statement_names.proofs.NamedKinds.{map_named, object_named}
 
--- ---- numbers
+-- numbers
 both : (b c : Bool) → (b && c) ≡ true → (b ≡ true) × (c ≡ true)
 both true true e = (refl, refl)
 both true false e = absurd (cc)
@@ -49,7 +49,6 @@ any_small n limit (m ∷ ms) e k =
 pub modulus_small : (n : ℕ) → is_field_modulus n ≡ true → n ≤ 65537
 modulus_small n is = any_small n 65537 field_moduli is refl
 
--- ---- listed names
 -- each name once
 abbrev pub Once : List Name → Type 0
 Once [] = Unit {0}
@@ -101,7 +100,7 @@ module _ (kind : List ℕ → Option Kind) (k : Kind) where
   names_apart front (n ∷ names) good =
       (later_differ (front ++ n.text ∷ []) names n.text (put_in_front front n.text) good.1, names_apart (front ++ n.text ∷ []) names good.1)
 
--- ---- names with literals
+-- names with literals
 pub record IsPair (kind : List ℕ → Option Kind) (k : Kind) (most : ℕ) (p : Name × Number) : Type 0 where
   pub of_kind : is_kind (kind p.0.text) k ≡ true
   pub least : 1 ≤ value_of p.1.value
@@ -122,7 +121,7 @@ module _ (kind : List ℕ → Option Kind) (k : Kind) (most : ℕ) where
   pub pairs_apart : (front : List (List ℕ)) (pairs : List (Name × Number)) → Each (IsGood kind) (pairs_behind k most front pairs) → Once (named_by pairs)
   pairs_apart front pairs good = names_apart kind k front (named_by pairs) (names_good front pairs good)
 
--- ---- in a file in whose names nothing is wrong
+-- in a file in whose names nothing is wrong
 module _ (statements : List Statement) (clean : name_fault_of statements ≡ None) where
   abbrev kind : List ℕ → Option Kind
   kind = kind_in (declared_in (occurrences_of statements))

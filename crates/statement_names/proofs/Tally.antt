@@ -92,7 +92,7 @@ module _ (by : Occurrence → ℕ) (out : LeavesOut by) where
       ∙ ap₂ (λ a b. a + b) (same s.at s.kind ∙ sym (tally-statement s.at s.kind)) (tally-statements measure same whole none more statements)
       ∙ sym (sum_by-append by (statement_occurrences s) (occurrences_of statements))
 
--- ---- what a list of declarations adds
+-- what a list of declarations adds
 no_objects : (u v : List ℕ) (selfmade : Bool) (by : Occurrence → ℕ) → ((n : Name) → by (declares_map n u v selfmade) ≡ 0) → (names : List Name) → sum_by by (made_maps u v selfmade names) ≡ 0
 no_objects u v selfmade by none [] = refl
 no_objects u v selfmade by none (n ∷ names) = sum_by-cons by (declares_map n u v selfmade) (made_maps u v selfmade names) ∙ ap₂ (λ a b. a + b) (none n) (no_objects u v selfmade by none names)
@@ -109,7 +109,7 @@ map_each : (u v : List ℕ) (x y : ℕ) (selfmade : Bool) (names : List Name) �
 map_each u v x y selfmade [] = refl
 map_each u v x y selfmade (n ∷ names) = ap (λ k. 1 + k) (map_each u v x y selfmade names) ∙ sym (sum_by-cons maps_by (declares_map n u v selfmade) (made_maps u v selfmade names))
 
--- ---- the counts
+-- the counts
 objects_out : LeavesOut objects_by
 objects_out = record { use_ = λ u. refl; list_ = λ front u. refl; count_ = λ most n. refl; modulus_ = λ n. refl }
 

@@ -65,7 +65,7 @@ module _ (ds : List Declaration) (kind : List ℕ → Option Kind) (maps : (q : 
   pub are_named : (s : Sum) → Each (IsGood kind) (sum_occurrences s) → AreNames ds s
   are_named s good = sum_named s good
 
--- ---- expressions that are written out
+-- expressions that are written out
 module _ (ds : List Declaration) where
   factors-row : (n : _) (row : Row_of-Factor n) → are_names_of_factors ds row ≡ list_all (λ f. are_names_of_primary ds f.primary) (items-the_row-Factor n row)
   factors-row n end_of-Factor = refl
@@ -135,7 +135,7 @@ module _ (ds : List Declaration) where
       go (Some (named.Object v)) found e = absurd (cc)
       go None found e = absurd (cc)
 
--- ---- in a file in whose names nothing is wrong
+-- in a file in whose names nothing is wrong
 module _ (statements : List Statement) (clean : name_fault_of statements ≡ None) where
   abbrev all : List Declaration
   all = declarations_of statements

@@ -19,8 +19,7 @@ use Rattle.quiver.specs.Limits.{object_limit}
 use Rattle.adjoint_rules.specs.Limits.{assumption_limit, claim_limit, shape_limit}
 use Rattle.statement_names.specs.Limits.{map_limit_of}
 
--- ---- what occurrences declare, and how much they begin
-
+-- what occurrences declare, and how much they begin
 abbrev pub declared_by : Occurrence → List (List ℕ × Kind)
 declared_by (declares_object name) = (name.text, Object) ∷ []
 declared_by (declares_map name source target selfmade) = (name.text, Map) ∷ []
@@ -57,8 +56,7 @@ declared_in os = flat_map declared_by os
 abbrev pub kind_in : List (List ℕ × Kind) → List ℕ → Option Kind
 kind_in declared name = lookup (bytes_eq name) declared
 
--- ---- the tests
-
+-- the tests
 abbrev pub is_kind : Option Kind → Kind → Bool
 is_kind (Some Object) Object = true
 is_kind (Some Map) Map = true
@@ -78,8 +76,6 @@ value_of (negsuc n) = 0
 
 abbrev pub is_between : ℕ → ℕ → ℕ → Bool
 is_between least most n = nat_le least n && nat_le n most
-
--- ---- the faults
 
 -- What is wrong with an occurrence behind those before it, where it is known how many maps the file may declare and what
 -- each of its names is declared as.

@@ -17,8 +17,7 @@ use Rattle.quiver.specs.declared.named.Named.TheVariants.{Map}
 use Rattle.quiver.specs.Declarations.{Declaration, quiver_of, named_in, object_name}
 use Rattle.statement_names.specs.declared.written.Equation.{Equation}
 
--- ---- expressions, all of whose tokens are at one place
-
+-- expressions, all of whose tokens are at one place
 abbrev pub letter_at : Spot → List ℕ → Factor
 letter_at at name = factor_of at (Letter (name_with name at)) []
 
@@ -38,8 +37,7 @@ word_at at names = product_at at (map (letter_at at) names)
 abbrev pub adjoint_at : Spot → List (List ℕ) → Sum
 adjoint_at at names = product_at at (factor_of at (Bracket (word_at at names)) (Adjoint ∷ []) ∷ [])
 
--- ---- the abbreviations
-
+-- the abbreviations
 abbrev pub equation : Sum → Sum → Equation
 equation left right = record { left = left; right = right }
 

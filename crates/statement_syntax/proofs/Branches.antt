@@ -31,8 +31,7 @@ use Rattle.statement_syntax.specs.Steps.{◌>>=◌, outside, empty_head, open_st
 use Rattle.statement_syntax.specs.Written.{sign_kinds}
 use Rattle.statement_syntax.specs.Lines.{name_in, on_colon, colon_after, map_names_step, line_end, statement_by}
 
--- ---- literals and brackets
-
+-- literals and brackets
 pub literal_first : (levels : List Level) (head : Head) (part : Part) (focus : Focus) (n : Number) → part ≡ Nothing → focus ≡ Outside
     → literal_step levels head part n ≡ Ok (record { levels = levels; head = head; part = Scaled n; focus = focus })
 literal_first levels head part focus n nothing is =
@@ -53,8 +52,7 @@ bracket_opened levels head part at now outer under few levels_is outer_is under_
     rw (levels_is, outer_is, under_is, head_is, part_is, focus_is) refl in
     bracket_opens levels head part at few ∙ ap (λ r. Ok r) back
 
--- ---- names of `map`
-
+-- names of `map`
 pub map_lacks_names : (at : Spot) (names : List Name) (k : TokenKind) (place : Spot) → k ≡ kind.Colon → length names ≡ 0 → map_names_step at names k place ≡ Err Expected
 map_lacks_names at [] k place is none = ap (λ x. map_names_step at [] x place) is
 map_lacks_names at (n ∷ names) k place is none = absurd (omega (arith, none))
@@ -79,14 +77,12 @@ map_refused at names k place f differs read =
     not_colon (colon_after at names) (name_in k place >>= λ n. Ok (line.Map at (names ++ n ∷ []) rest.Names)) k differs
     ∙ ap (λ r. r >>= λ n. Ok (line.Map at (names ++ n ∷ []) rest.Names)) read
 
--- ---- what a `?` returns
-
+-- what a `?` returns
 pub misfit_given : {A : Type 0} (r : Result A ReadError) (read : Result A Misfit) (f : Misfit) → IsErrAnd r (λ e. e ≡ error.Misfit f) → read ≡ Err f → Gives r read
 misfit_given (Ok x) read f told is = absurd told
 misfit_given (Err e) read f told is = subst (λ e. Fails e read) (sym told) is
 
--- ---- ends of lines
-
+-- ends of lines
 pub line_ended : (l under : Line) (at : Spot) (end : Result StatementKind Misfit) (kind : StatementKind) → l ≡ under → line_end under ≡ statement_by at end → end ≡ Ok kind
     → line_end l ≡ Ok (record { at = at; kind = kind })
 line_ended l under at end kind is by read = ap line_end is ∙ by ∙ ap (statement_by at) read
@@ -113,7 +109,6 @@ line_lacks l (inr (inr (inl (at, is)))) = ap line_end is
 line_lacks l (inr (inr (inr (inl (at, is))))) = ap line_end is
 line_lacks l (inr (inr (inr (inr (at, is))))) = ap line_end is
 
--- ---- no sign is written
-
+-- no sign is written
 pub unsigned : (leading negative : Bool) (out : List TokenKind) → leading ≡ true → negative ≡ false → out ≡ out ++ sign_kinds leading negative
 unsigned leading negative out first plain = sym (append-nil out) ∙ ap₂ (λ l n. out ++ sign_kinds l n) (sym first) (sym plain)

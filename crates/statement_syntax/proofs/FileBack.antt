@@ -51,8 +51,7 @@ file-scalars language [] all = refl
 file-scalars language (l ∷ ls) all =
     characters-scalars language (kinds (stated_tokens (bare_stated l.stated))) all.0 true (10 ∷ file_characters language ls all.1) (file-scalars language ls all.1)
 
--- ---- the tokens
-
+-- the tokens
 new_line : (before : List Token) (rest : List ℕ) → item_at before 10 rest ≡ Ok item.NewLine
 unfolding item_at
 new_line before rest = refl
@@ -144,8 +143,7 @@ file_read First ls all speaks line = lines_read First ls all [] line (λ has. ha
 file_read Second [] all speaks line = absurd speaks
 file_read Second (l ∷ ls) all speaks line = second_read l.stated l.end ls all.0 all.1 speaks.0 line
 
--- ---- the tree
-
+-- the tree
 written_back : (language : Language) (ls : List StatedLine) → AllSpelled language ls → IsFileOf language ls → FileFits ls → ReadsBackAs (tree_text (file_tree ls)) (file_tree ls)
 written_back language ls all speaks fits =
     let bytes = tree_text (file_tree ls) in

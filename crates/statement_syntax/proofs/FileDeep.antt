@@ -93,8 +93,7 @@ sides_deep language w at (Some left) r ts t k read = second_deep language w at l
 sides_deep language w at None r ts t k read =
     by_equals (IsDeep language ts t) _ (λ k. token_step r k t >>= λ x. Ok (line.Sides w at None x)) (λ fails. absurd (equals_deep w at r ts read fails)) (λ k differs. first_deep language w at r ts t k read) k
 
--- ---- no other token is too deep
-
+-- no other token is too deep
 begun_deep : (o : Option Opening) (at : Spot) → NotDeep (begun o at)
 begun_deep None at fails = absurd cc
 begun_deep (Some o) at fails = absurd cc
@@ -146,8 +145,7 @@ line_deep language (line.Model at) ts t k read fails = absurd (by_number (λ k r
 line_deep language (line.Shape at m p) ts t k read fails = absurd (pairs_deep p.whole p.half t k (bind_deep (pairs_step p k t) (line.Shape at m) fails))
 line_deep language (line.Whole s) ts t k read fails = absurd cc
 
--- ---- in a file
-
+-- in a file
 module _ (language : Language) (before : List Statement) where
   abbrev FileIsDeep : Progress → List Token → Spot → TokenKind → Result Progress Misfit → Type 0
   FileIsDeep p ts t k r = r ≡ Err TooDeep → (more : List Token) × (lines : List StatedLine) × AreLinesOf language lines × ((ts ++ sign_token k t ∷ []) ++ more ≡ file_tokens lines)

@@ -32,8 +32,7 @@ use Rattle.statement_syntax.proofs.LineReads.{LineReads, line_step_reads}
 use Rattle.statement_syntax.proofs.LineEnds.{line_end_reads, line_on}
 use Rattle.statement_syntax.proofs.LineRuns.{by_token, end_line, stated_run, stated_end}
 
--- ---- the end of a line is a step of no line
-
+-- the end of a line is a step of no line
 focus_no_end : (r : Reading) (f : Focus) (at : Spot) → focus_step r.levels r.head r.part f kind.End at ≡ Err Expected
 focus_no_end r focus.Outside at = refl
 focus_no_end r (focus.Square left) at = refl
@@ -68,8 +67,7 @@ line_no_end language (line.Model at) t = refl
 line_no_end language (line.Shape at m p) t = ap (λ x. x >>= λ q. Ok (line.Shape at m q)) (pairs_no_end p.whole p.half t)
 line_no_end language (line.Whole s) t = refl
 
--- ---- a line inside a file
-
+-- a line inside a file
 abbrev pub in_file : List Statement → Line → Progress
 in_file statements l = record { statements = statements; line = l }
 
@@ -108,8 +106,6 @@ lines_run language statements (l ∷ lines) speak =
     (inside_upto (by_token language) (file_step language) (in_file statements) (file_each language statements) (file_deep language statements) (stated_tokens l.stated) line.Start (end_line l.stated) (stated_run language l.stated speak.0)))
     (before_it (one_step (file_step language) (in_file statements (end_line l.stated)) (in_file more line.Start) (sign_token kind.End l.end) (file_tokens lines) (line_ended language statements l.stated l.end))
     (after_it (lines_run language more lines speak.1) (ap (λ x. Ok (in_file x line.Start)) (append_assoc statements (stated_tree l.stated ∷ []) (file_tree lines))))))
-
--- ---- what has been read of a file
 
 -- the lines of it behind these statements
 pub record FileReads (language : Language) (before : List Statement) (p : Progress) (ts : List Token) : Type 0 where
@@ -194,8 +190,6 @@ module _ (language : Language) (before : List Statement) where
   pub run_reads : (p : Progress) (ts : List Token) → run (file_step language) (in_file before line.Start) ts ≡ Ok p → FileReads language before p ts
   run_reads p ts ran = run_reads_from (in_file before line.Start) p [] ts ran
       (record { lines = []; speak = tt; fits = tt; trees = sym (append-nil before); now = []; reads = refl; are = refl })
-
-  -- ---- the laws
 
   -- what was read can go on to lines within the limit
   pub file_on : (p : Progress) (ts : List Token) → FileReads language before p ts

@@ -18,8 +18,7 @@ use Rattle.statement_syntax.specs.Grammar.{sign_token, number_token, word_token,
 use Rattle.statement_syntax.specs.Tree.{file_tree}
 use Rattle.statement_syntax.specs.Stages.{first_statements, behind_first}
 
--- ---- the tokens of a file tell its language
-
+-- the tokens of a file tell its language
 abbrev chosen : Bool → Language
 chosen b = if b then Second else First
 
@@ -58,8 +57,6 @@ file_language First [] speaks = refl
 file_language First (l ∷ ls) speaks = ap language_of (append_assoc (stated_tokens l.stated) (sign_token kind.End l.end ∷ []) (file_tokens ls)) ∙ stated_first l.stated (sign_token kind.End l.end ∷ file_tokens ls) speaks.0
 file_language Second [] speaks = absurd speaks
 file_language Second (l ∷ ls) speaks = ap language_of (append_assoc (stated_tokens l.stated) (sign_token kind.End l.end ∷ []) (file_tokens ls)) ∙ named_second l.stated l.end (file_tokens ls) speaks.0
-
--- ---- the line taken off
 
 -- such lines of a file behind these
 pub record Behind (language : Language) (lines ls : List StatedLine) (more : List Token) : Type 0 where

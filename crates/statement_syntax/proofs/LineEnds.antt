@@ -34,8 +34,6 @@ use Rattle.statement_syntax.proofs.Viable.{viable, somewhere, some_name}
 use Rattle.statement_syntax.proofs.Machine as machine
 use Rattle.statement_syntax.proofs.LineReads.{MapReads, RestReads, FirstSide, SecondSide, SidesReads, half_tokens, WholeReads, list_speaks, LineReads, reading_ends, pairs_more}
 
--- ---- what has ended
-
 -- a kind of statement with its place
 abbrev Ended : Language → Spot → List Token → StatementKind → Type 0
 Ended language at ts kind = WholeReads language (record { at = at; kind = kind }) ts
@@ -118,8 +116,7 @@ line_end_reads language (line.Model at) ts s read goes = absurd cc
 line_end_reads language (line.Shape at m p) ts s read goes = by_kind language at ts _ s (λ k. shape_ended language at m p ts k read) goes
 line_end_reads language (line.Whole r) ts s read goes = let same : r ≡ s = cc in subst (λ x. WholeReads language x ts) same read
 
--- ---- where a line may not end, that is because more is expected
-
+-- where a line may not end, that is because more is expected
 list_end-fault : (w : ListWord) (names : List Name) (f : Misfit) → list_end w names ≡ Err f → f ≡ Expected
 list_end-fault w [] f fails = cc
 list_end-fault w (n ∷ ns) f fails = absurd cc
@@ -165,8 +162,6 @@ line_end-fault language (line.Weights at p) ts f read fails = kind-fault at _ f 
 line_end-fault language (line.Model at) ts f read fails = cc
 line_end-fault language (line.Shape at m p) ts f read fails = kind-fault at _ f (shape_end-fault m p.whole p.half) fails
 line_end-fault language (line.Whole s) ts f read fails = absurd cc
-
--- ---- each line can go on to its end
 
 -- with these tokens it is a statement within the limit
 abbrev pub LineGoesOn : Language → List Token → Type 0

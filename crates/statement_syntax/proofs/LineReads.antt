@@ -43,8 +43,6 @@ use Rattle.statement_syntax.proofs.Same.{step-seen, whole-seen}
 use Rattle.statement_syntax.proofs.Viable.{found, within}
 use Rattle.statement_syntax.proofs.Choices.{by_name, by_number, by_colon, by_arrow, by_equals}
 
--- ---- what has been read
-
 -- an expression that isn't at its end
 pub record ExprReads (r : Reading) (ts : List Token) : Type 0 where
   pub state : State
@@ -138,8 +136,6 @@ After language (Err e) ts = Unit {0}
 abbrev pub Grows : Language → List Token → Spot → TokenKind → Lined → Type 0
 Grows language ts at k r = After language r (ts ++ sign_token k at ∷ [])
 
--- ---- the first word
-
 -- the text of the word that begins a statement
 abbrev pub opening_text : Opening → List ℕ
 opening_text (opening.List w) = list_text w
@@ -218,8 +214,7 @@ start_grows : (language : Language) (k : TokenKind) (at : Spot) → Grows langua
 start_grows language (kind.Name x) at = begun_reads language x (opening_in language x) at (opening_is language x)
 start_grows language k at = tt
 
--- ---- the other tokens
-
+-- the other tokens
 with_next : (ts us : List Token) (t : Token) → ts ≡ us → ts ++ t ∷ [] ≡ us ++ t ∷ []
 with_next ts us t read = ap (λ (x : List Token). x ++ t ∷ []) read
 
@@ -271,8 +266,7 @@ map_grows language at names (rest.Target s e) ts t k read = on_word k
     on_word (kind.Name x) = self_grows language at names s e ts t x (bytes_eq x (codes "self")) refl read
     on_word k = tt
 
--- ---- expressions
-
+-- expressions
 seen_ok : (r : Result State Misfit) (next : Reading) → seen r ≡ Ok next → (st : State) × (r ≡ Ok st) × (next ≡ reading_of st)
 seen_ok (Ok st) next read = (st, refl, cc)
 seen_ok (Err e) next read = absurd cc
@@ -346,8 +340,7 @@ sides_grows language w at None r ts t k read =
     by_equals (Grows language ts t) _ (λ k. token_step r k t >>= λ x. Ok (line.Sides w at None x)) (equals_grows language w at r ts t (whole_sum r) refl read)
     (λ k differs. first_grows language w at r ts t k (token_step r k t) refl read) k
 
--- ---- names and pairs
-
+-- names and pairs
 pair_grows : (language : Language) (w : PairWord) (at : Spot) (first : Option Name) (ts : List Token) (t : Spot) (k : TokenKind) → LineReads language (line.Pair w at first) ts → Grows language ts t k (pair_step w at first k t)
 pair_grows language w at None ts t k read = by_name (Grows language ts t) _ t (λ x. with_next ts _ _ read) (λ k. tt) k
 pair_grows language w at (Some m) ts t k read =
@@ -402,8 +395,7 @@ order_grows : (language : Language) (at : Spot) (ts : List Token) (t : Spot) (k 
 order_grows language at ts t (kind.Name x) read = order_by language at ts t x (bytes_eq x (codes "degree")) (bytes_eq x (codes "weight")) refl refl read
 order_grows language at ts t k read = tt
 
--- ---- all lines
-
+-- all lines
 line_grows : (language : Language) (l : Line) (ts : List Token) (t : Spot) (k : TokenKind) → LineReads language l ts → Grows language ts t k (line_step language l k t)
 line_grows language line.Start ts t k read = subst (λ us. Grows language us t k (start_step language k t)) (sym read) (start_grows language k t)
 line_grows language (line.List w at names) ts t k read = list_grows language w at names ts t k read

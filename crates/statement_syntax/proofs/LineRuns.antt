@@ -66,8 +66,7 @@ err_is f g same = cc
 not_deep : (let f : Misfit = Expected in f) ≡ TooDeep → ⊥
 not_deep same = absurd cc
 
--- ---- an expression inside a line
-
+-- an expression inside a line
 first_line : SidesWord → Spot → State → Line
 first_line w at st = line.Sides w at None (reading_of st)
 
@@ -120,8 +119,7 @@ sides_run language w at d equals e =
     (before_it (one_step (by_token language) _ _ (sign_token kind.Equals equals) (expr_tokens e) (equals_step language w at d equals))
     (inside_upto step (by_token language) (λ st. line.Sides w at (Some (expr_tree d)) (reading_of st)) (second_each language w at (expr_tree d)) (second_deep language w at (expr_tree d)) (expr_tokens e) (fresh []) (end_state [] e) (only e))))
 
--- ---- names and pairs
-
+-- names and pairs
 list_start : (language : Language) (w : ListWord) (at : Spot) (n : Name) (ns : List Name) (rest : List Token) → IsOf language (listed w at n ns)
     → run (by_token language) line.Start (word_token (list_text w) at ∷ rest) ≡ run (by_token language) (line.List w at []) rest
 unfolding run
@@ -206,8 +204,6 @@ weight_start language at word behind = word_starts language (codes "order") open
 model_start : (language : Language) (at : Spot) (m : Number) (behind : List Token) → run (by_token language) line.Start (word_token (codes "model") at ∷ number_token m ∷ behind) ≡ run (by_token language) (line.Shape at m (whole_pairs_of [])) behind
 unfolding run
 model_start language at m behind = word_starts language (codes "model") opening.Model at (number_token m ∷ behind) refl refl
-
--- ---- all statements
 
 -- what has been read of a line once it is whole
 abbrev pub end_line : Stated → Line

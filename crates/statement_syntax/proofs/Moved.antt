@@ -19,8 +19,6 @@ use Rattle.statement_syntax.specs.Places.{somewhere, bare_name, bare_number, bar
 abbrev pub kinds : List Token → List TokenKind
 kinds ts = map (λ t. t.kind) ts
 
--- ---- tokens by their kinds
-
 -- the first token, and the others
 record Led (ts : List Token) (k : TokenKind) (ks : List TokenKind) : Type 0 where
   pub at : Spot
@@ -56,8 +54,6 @@ parts_by ts (x ∷ xs) ys alike =
 
 parts_of : (ts us vs : List Token) → kinds ts ≡ kinds (us ++ vs) → Parts ts (kinds us) (kinds vs)
 parts_of ts us vs alike = parts_by ts (kinds us) (kinds vs) (alike ∙ map-append (λ t. t.kind) us vs)
-
--- ---- expressions
 
 -- the same at other places, which fits wherever it fits
 record Moved {A : Type 0} (tokens : A → List Token) (bare_of : A → A) (Fits : A → ℕ → Type 0) (x : A) (ts : List Token) : Type 0 where
@@ -185,8 +181,6 @@ mutual
         same = ap (λ x. bracket somewhere x somewhere) d.same;
         fits = bracket_fits left right l.at r.at e d.moved d.fits;
       }
-
--- ---- statements
 
 -- all of the tokens
 record MovedWhole {A : Type 0} (tokens : A → List Token) (bare_of : A → A) (x : A) (ts : List Token) : Type 0 where
@@ -367,8 +361,7 @@ stated_moved (second_language at number) ts alike =
       names = λ names. names;
     }
 
--- ---- files
-
+-- files
 pub record MovedFile (ls : List StatedLine) (ts : List Token) : Type 0 where
   pub moved : List StatedLine
   pub are : ts ≡ file_tokens moved

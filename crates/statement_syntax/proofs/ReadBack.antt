@@ -29,8 +29,7 @@ use Rattle.statement_syntax.proofs.Spelled.{SpellsName, SpellsNumber, IsToken, A
 use Rattle.statement_tokens.proofs.Rescan.{EndsBefore, Ender, one_token, blank_back, name_back, stops_name, stops_digits, colon_back, equals_back, plus_back, minus_back, arrow_back, open_back, close_back, open_square_back, close_square_back, quote_back, caret_back}
 use Rattle.statement_tokens.proofs.Literals.{Digits, decimal_digits, plain_digit, literal_back}
 
--- ---- the characters of a token
-
+-- the characters of a token
 pub digits_of : (v : ℤ) → (t : SpellsNumber v) → Digits t.size (decimal t.size)
 digits_of v t = decimal_digits t.size (omega (arith, t.below))
 
@@ -69,8 +68,7 @@ word_back before x t rest given =
     ∙ ap (λ y. name_of y (length t.more)) (sym t.is)
     ∙ ap (λ b. cond b (Ok (item.Token (kind.Name x) (length t.more))) (Err BadToken)) (le-leb (length x) name_limit t.short)
 
--- ---- the characters of a line
-
+-- the characters of a line
 abbrev pub glue : Bool → List ℕ → List ℕ
 glue true text = text
 glue false text = 32 ∷ text
@@ -86,8 +84,6 @@ scalars-join (x ∷ xs) ys f g = ap₂ (λ a b. a && b) (and_first (scalar x) (s
 glue-scalars : (b : Bool) (text : List ℕ) → scalars text ≡ true → scalars (glue b text) ≡ true
 glue-scalars true text given = given
 glue-scalars false text given = given
-
--- ---- a line is read as its tokens
 
 -- behind these tokens the text is read as tokens of these kinds, and then goes on as the rest
 pub record ReadAs (before : List Token) (text : List ℕ) (ks : List TokenKind) (rest : List ℕ) (line column past : ℕ) : Type 0 where
@@ -205,8 +201,7 @@ module _ (language : Language) where
   characters-scalars (k ∷ ks) all glued rest given =
       glue-scalars (glued || closes k) _ (scalars-join (first_of k all.0 ∷ more_of k all.0) (characters ks all.1 (opens k) rest) (scalar_is k all.0) (characters-scalars ks all.1 (opens k) rest given))
 
-  -- ---- what stands behind a token
-
+  -- what stands behind a token
   closing_first : (k : TokenKind) (t : IsToken language k) → closes k ≡ true → Ender (first_of k t)
   closing_first kind.Close t given = inr (inr (inl refl))
   closing_first kind.CloseSquare t given = inr (inr (inr (inl refl)))

@@ -15,8 +15,7 @@ ok_is x y p = cc
 pub ok_differs : {A : Type 0} (x : A) (f : Misfit) → (let r : Result A Misfit = Ok x in r) ≡ Err f → ⊥
 ok_differs x f p = absurd cc
 
--- ---- runs
-
+-- runs
 module _ {S : Type 0} (step : S → Token → Result S Misfit) where
   pub one_step : (st next : S) (t : Token) (rest : List Token) → step st t ≡ Ok next → run step st (t ∷ rest) ≡ run step next rest
   unfolding run
@@ -42,8 +41,6 @@ module _ {S : Type 0} (step : S → Token → Result S Misfit) where
   unfolding run
   run_fails st [] f rest ran = absurd (ok_differs st f ran)
   run_fails st (t ∷ front) f rest ran = fails_by front rest f (step st t) (λ s given. run_fails s front f rest given) ran
-
--- ---- runs that may stop at a bracket that is too deep
 
 -- it is within the limit and goes on as this, or it is not and stops at a bracket that is too deep
 abbrev pub Upto : {S : Type 0} → Type 0 → Result S Misfit → Result S Misfit → Type 0
@@ -72,8 +69,7 @@ pub upto_ok : {S : Type 0} {F : Type 0} (r : Result S Misfit) (meant next : S) �
 upto_ok r meant next (inl (f, p)) given = (f, ok_is _ _ (sym p ∙ given))
 upto_ok r meant next (inr (f, p)) given = absurd (ok_differs next TooDeep (sym given ∙ p))
 
--- ---- one run inside another
-
+-- one run inside another
 module _ {S T : Type 0} (inner : S → Token → Result S Misfit) (outer : T → Token → Result T Misfit) (wrap : S → T)
     (each : (s next : S) (t : Token) → inner s t ≡ Ok next → outer (wrap s) t ≡ Ok (wrap next))
     (deep : (s : S) (t : Token) → inner s t ≡ Err TooDeep → outer (wrap s) t ≡ Err TooDeep) where

@@ -13,8 +13,7 @@ use Rattle.statement_syntax.proofs.Run.{Upto, then_on, before_it, after_it, one_
 use Rattle.statement_syntax.specs.Grammar.{Lead, no_sign, lead_plus, lead_minus, Sign, plus, minus, Expr, first, joined, Product, zero_alone, factors, Factors, one, beside, Marked, plain, marked, raised, Prime, name, identity, bracket, sign_token, name_token, number_token, lead_tokens, signed_token, literal_tokens, zero_at, expr_tokens, product_tokens, factors_tokens, marked_tokens, prime_tokens, ExprFits, ProductFits, FactorsFit, MarkedFits, PrimeFits}
 use Rattle.statement_syntax.proofs.Machine.{Head, led, after, Part, nothing, scaled, product, outside, Level, State, fresh, add, step, whole}
 
--- ---- the state at the end of each part
-
+-- the state at the end of each part
 abbrev pub at_outside : List Level → Head → Part → State
 at_outside levels head part = record { levels = levels; head = head; part = part; focus = outside }
 
@@ -35,8 +34,7 @@ abbrev pub end_state : List Level → Expr → State
 end_state levels (first l t) = at_outside levels (led l) (part_of t)
 end_state levels (joined e s t) = at_outside levels (after e s) (part_of t)
 
--- ---- single steps
-
+-- single steps
 sign_step : (levels : List Level) (e : Expr) (s : Sign) → step (end_state levels e) (signed_token s) ≡ Ok (at_outside levels (after e s) nothing)
 unfolding step
 sign_step levels (first l (zero_alone at)) (plus x) = refl
@@ -106,8 +104,7 @@ identity_run : (levels : List Level) (head : Head) (part : Part) (left : Spot) (
 unfolding step run
 identity_run levels head part left n right rest = refl
 
--- ---- whole parts
-
+-- whole parts
 open_fails : (levels : List Level) (head : Head) (part : Part) (left : Spot) (rest : List Token) → length levels + 0 ≡ bracket_limit
     → run step (at_outside levels head part) (sign_token kind.Open left ∷ rest) ≡ Err TooDeep
 unfolding step run

@@ -56,8 +56,7 @@ terms-seen (after e s) t = refl
 sum-seen : (head : Head) (t : Product) → steps.sum_with (head_of head) (product_tree t (head_of head).negative) ≡ expr_tree (with_term head t)
 sum-seen head t = ap₂ steps.sum_of (place-seen head t) (terms-seen head t)
 
--- ---- the steps
-
+-- the steps
 sign_made : (levels : List Level) (head : Head) (s : Sign) (t : Option Product)
     → (steps.sign_by (head_of head) (product_or t (head_of head).negative) (is_minus s) >>= λ next. Ok (steps.outside (levels_of levels) next (part_of nothing))) ≡ seen (sign_after levels head t s)
 sign_made levels head s None = refl

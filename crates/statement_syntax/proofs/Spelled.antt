@@ -70,16 +70,14 @@ pub AllKinds-split : (P : TokenKind → Type 0) (xs ys : List TokenKind) → All
 AllKinds-split P [] ys given = (tt, given)
 AllKinds-split P (x ∷ xs) ys given = let rest = AllKinds-split P xs ys given.1 in ((given.0, rest.0), rest.1)
 
--- ---- characters
-
+-- characters
 scalars-take : (n : ℕ) (cs : List ℕ) → scalars cs ≡ true → scalars (take n cs) ≡ true
 scalars-take zero [] given = refl
 scalars-take zero (c ∷ cs) given = refl
 scalars-take (suc n) [] given = refl
 scalars-take (suc n) (c ∷ cs) given = ap (λ b. b && scalars (take n cs)) (and_first _ _ given) ∙ scalars-take n cs (and_second _ _ given)
 
--- ---- one token
-
+-- one token
 caret_makes : (language : Language) (k : TokenKind) (more : ℕ) → caret_in language ≡ Ok (item.Token k more) → IsToken language k
 caret_makes First k more given = absurd cc
 caret_makes Second k more given = let same : kind.Caret ≡ k = cc in subst (IsToken Second) same tt
@@ -145,8 +143,7 @@ module _ (before : List Token) where
       by_test (is_digit c) _ _ (λ e. literal_makes _ _) (
       by_test (c == 45) _ _ (λ e. by_test (begins_with 62 rest) _ _ (λ e. this_token kind.Arrow 1 tt) (this_token kind.Minus 0 tt)) (sign_makes c))))))
 
--- ---- all tokens
-
+-- all tokens
 file_token : (language : Language) (k : TokenKind) → IsToken language k → IsFileToken language k
 file_token language (kind.Name x) t = t
 file_token language (kind.Literal n) t = t

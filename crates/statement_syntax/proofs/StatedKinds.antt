@@ -121,8 +121,7 @@ mutual
 expr-kinds : (e : Expr) → sum_kinds (expr_tree e) ≡ kinds (expr_tokens (bare e))
 expr-kinds e = sum_of-kinds (expr_at e) (expr_terms e) ∙ terms-kinds e
 
--- ---- statements
-
+-- statements
 names-kinds : (ns : List Name) → flat_map name_kinds ns ≡ kinds (names_tokens (bare_names ns))
 names-kinds [] = refl
 names-kinds (n ∷ ns) = ap (λ ks. kind.Name n.text ∷ ks) (names-kinds ns)

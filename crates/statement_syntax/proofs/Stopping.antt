@@ -36,8 +36,6 @@ use Rattle.statement_syntax.proofs.FirstLine.{file_language, Divided, Behind, di
 use Rattle.statement_syntax.proofs.FileReads.{FileReads, run_reads, file_on, file_misfit, lines_run, in_file, file_tokens-append, FileFits-append}
 use Rattle.statement_syntax.proofs.FileDeep.{file_deep}
 
--- ---- the loop
-
 -- the loop's run over tokens
 abbrev pub Runs : List Token → List Token → Progress → Type 0
 Runs ts front p = run (file_step (language_of ts)) (begun ts) front ≡ Ok p
@@ -65,8 +63,7 @@ stops_at ts front t rest p (error.Misfit f) refused splits ran fails tells = sub
   tells = refl;
 })
 
--- ---- after all tokens no line is left open
-
+-- after all tokens no line is left open
 module _ (language : Language) where
   run_split : (p : Progress) (xs ys : List Token) (next : Progress) → run (file_step language) p (xs ++ ys) ≡ Ok next
       → (mid : Progress) × (run (file_step language) p xs ≡ Ok mid) × (run (file_step language) mid ys ≡ Ok next)
@@ -91,8 +88,7 @@ module _ (language : Language) where
       let parts = run_split (in_file before line.Start) loop.0 (sign_token kind.End loop.1 ∷ []) p (sym (ap (run (file_step language) (in_file before line.Start)) loop.2) ∙ ran) in
       end_starts parts.0 p loop.1 parts.2
 
--- ---- the clauses
-
+-- the clauses
 pub record Closed (language : Language) (before : List Statement) (p : Progress) (ts : List Token) : Type 0 where
   pub lines : List StatedLine
   pub speak : AreLinesOf language lines
@@ -166,8 +162,7 @@ pub is_refused : (bytes : List ℕ) (ts : List Token) (lines : List StatedLine) 
 is_refused bytes ts lines (refusal.Memory e) read loop is = tt
 is_refused bytes ts lines (refusal.Fault code l c) read loop is = stopped_misfit bytes ts lines (refusal.Fault code l c) read loop is
 
--- ---- the token at which the loop stopped is the first misfit
-
+-- the token at which the loop stopped is the first misfit
 module _ (ts : List Token) (refused : SyntaxFault) (loop : StoppedAt ts refused) where
   abbrev before : List Statement
   before = first_statements (language_of ts) ts
@@ -231,8 +226,7 @@ is_first bytes ts (refusal.Memory e) utf8 read loop = tt
 is_first bytes ts (refusal.Fault code l c) utf8 read loop =
     subst (TellsFirstFault bytes) (sym loop.tells) (tells_by ts (refusal.Fault code l c) loop bytes loop.misfit utf8 read refl)
 
--- ---- bytes that are no text
-
+-- bytes that are no text
 pub told_not_utf8 : (bytes : List ℕ) (told : SyntaxFault) (column : ℕ) → told ≡ fault_at fault.NotUtf8 (record { line = 0; column = column }) → (IsUtf8 bytes → ⊥) → column ≡ utf8_valid_len bytes → TellsFirstFault bytes told
 told_not_utf8 bytes told column is invalid at = subst (TellsFirstFault bytes) (sym is) (fault.NotUtf8, refl, (invalid, ap (λ n. record { line = 0; column = n }) at))
 
@@ -241,8 +235,7 @@ pub told_scanned : (bytes : List ℕ) (told : SyntaxFault) (f : ScanFault) (at :
 told_scanned bytes told scan.BadToken at is utf8 first = subst (TellsFirstFault bytes) (sym is) (fault.BadToken, refl, (utf8, first))
 told_scanned bytes told scan.LiteralTooLarge at is utf8 first = subst (TellsFirstFault bytes) (sym is) (fault.LiteralTooLarge, refl, (utf8, first))
 
--- ---- statements have no fault
-
+-- statements have no fault
 no_misfit : (bytes : List ℕ) (lines : List StatedLine) (at : Spot) → IsMisfit bytes at → IsStatements bytes lines → ⊥
 no_misfit bytes lines at m is =
     let all : m.front ++ m.token ∷ m.rest ≡ file_tokens lines = tokens_are_unique (chars bytes) _ _ m.tokens is.tokens in

@@ -68,8 +68,7 @@ ends levels head part (behind_caret l fs caret) =
     let raised = with_power fs caret some_exponent in
     run_on _ (at_outside levels head (product l raised)) (number_token some_exponent) refl (closes levels head (product l raised) (factors l raised) refl)
 
--- ---- at the end
-
+-- at the end
 end_tokens : (levels : List Level) (head : Head) (part : Part) (f : Focus) (t : Option Product) (e : Expr) → whole_term part ≡ t → end_by levels head f t ≡ Some e
     → state_tokens (record { levels = levels; head = head; part = part; focus = f }) ≡ expr_tokens e
 end_tokens (level ∷ levels) head part f t e w given = absurd cc
@@ -84,8 +83,6 @@ end_tokens [] head part outside (Some t) e w given =
 -- what is read whole is the expression's tokens
 pub whole-tokens : (st : State) (e : Expr) → whole st ≡ Some e → state_tokens st ≡ expr_tokens e
 whole-tokens st e given = end_tokens st.levels st.head st.part st.focus (whole_term st.part) e refl given
-
--- ---- the laws
 
 -- found: what ends as an expression is that expression's tokens
 pub found : (ts : List Token) (st : State) (e : Expr) → run step (fresh []) ts ≡ Ok st → whole st ≡ Some e → ts ≡ expr_tokens e
@@ -108,8 +105,7 @@ viable front st ran =
     let all = run_front step (fresh []) front st on.0 ran ∙ on.3 in
     (on.0, on.2, within (front ++ on.0) on.1 on.2 all on.4, found (front ++ on.0) on.1 on.2 all on.4)
 
--- ---- a bracket that is too deep
-
+-- a bracket that is too deep
 sign_after-deep : (levels : List Level) (head : Head) (t : Option Product) (s : Sign) → sign_after levels head t s ≡ Err TooDeep → ⊥
 sign_after-deep levels head None s fails = absurd cc
 sign_after-deep levels head (Some t) s fails = absurd cc

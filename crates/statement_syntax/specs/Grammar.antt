@@ -129,8 +129,6 @@ abbrev mutual
   PrimeFits (bracket left e right) zero = ⊥
   PrimeFits (bracket left e right) (suc d) = ExprFits e d
 
--- ---- statements
-
 -- the words that stand before a list of names, before two sides and before two names
 abbrev pub list_text : ListWord → List ℕ
 list_text Object = codes "object"
@@ -214,8 +212,7 @@ StatedFits (by_weight at word p ps) = Unit {0}
 StatedFits (modelled at m ps) = Unit {0}
 StatedFits (second_language at number) = Unit {0}
 
--- ---- a file: a statement a line, in one of the two languages
-
+-- a file: a statement a line, in one of the two languages
 pub record StatedLine : Type 0 where
   pub stated : Stated
   pub end : Spot

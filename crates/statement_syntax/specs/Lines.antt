@@ -39,8 +39,7 @@ Lined = Result Line Misfit
 abbrev pub named : List ℕ → Spot → Name
 named text at = record { text = text; at = at }
 
--- ---- choices by the next token
-
+-- choices by the next token
 abbrev pub on_colon : {A : Type 0} → A → A → TokenKind → A
 on_colon found other kind.Colon = found
 on_colon found other k = other
@@ -64,8 +63,6 @@ name_in k at = Err Expected
 abbrev pub number_in : TokenKind → Spot → Result Number Misfit
 number_in (kind.Literal n) at = Ok (record { value = n; at = at })
 number_in k at = Err Expected
-
--- ---- the first word
 
 -- a word that begins a statement in both languages
 abbrev pub common_opening : List ℕ → Option Opening
@@ -107,8 +104,7 @@ abbrev pub start_step : Language → TokenKind → Spot → Lined
 start_step language (kind.Name x) at = begun (opening_in language x) at
 start_step language k at = Err Expected
 
--- ---- the other tokens
-
+-- the other tokens
 abbrev pub is_word : TokenKind → List ℕ → Bool
 is_word (kind.Name x) word = bytes_eq x word
 is_word k word = false
@@ -168,8 +164,6 @@ order_step at k =
 
 abbrev pub projection_step : Spot → TokenKind → Spot → Lined
 projection_step at k t = name_in k t >>= λ n. Ok (whole at (statement.Projection n))
-
--- ---- a token, and the line's end
 
 -- it holds no expression
 abbrev pub IsPlain : Line → Type 0
@@ -247,8 +241,7 @@ line_end (line.Model at) = Err Expected
 line_end (line.Shape at m ps) = statement_by at (shape_end m ps)
 line_end (line.Whole s) = Ok s
 
--- ---- a whole file: the statements of its lines, and the line that is read
-
+-- a whole file: the statements of its lines, and the line that is read
 abbrev pub ended : Progress → Result Progress Misfit
 ended p = line_end p.line >>= λ s. Ok (record { statements = p.statements ++ s ∷ []; line = line.Start })
 

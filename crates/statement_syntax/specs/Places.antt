@@ -56,8 +56,7 @@ abbrev mutual
   bare_prime (identity left n right) = identity somewhere (bare_name n) somewhere
   bare_prime (bracket left e right) = bracket somewhere (bare e) somewhere
 
--- ---- statements
-
+-- statements
 abbrev pub bare_ending : Ending → Ending
 bare_ending no_word = no_word
 bare_ending (self_word at) = self_word somewhere

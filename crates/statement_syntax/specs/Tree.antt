@@ -23,8 +23,7 @@ use Rattle.statement_syntax.specs.Grammar.{zero_alone, factors, Factors, one, be
 use Rattle.statement_syntax.specs.Grammar.{bracket, zero_at}
 use Rattle.statement_syntax.specs.Nodes.{factor_of, term_of, sum_of, marked_factor, raised_factor}
 
--- ---- the place of the first token
-
+-- the place of the first token
 abbrev pub prime_at : Prime → Spot
 prime_at (name n) = n.at
 prime_at (identity left n right) = left
@@ -56,8 +55,7 @@ abbrev pub expr_at : Expr → Spot
 expr_at (first l t) = lead_or l (product_at t)
 expr_at (joined e s t) = expr_at e
 
--- ---- signs
-
+-- signs
 abbrev pub is_minus : Sign → Bool
 is_minus (plus at) = false
 is_minus (minus at) = true
@@ -67,8 +65,7 @@ is_negative no_sign = false
 is_negative (lead_plus at) = false
 is_negative (lead_minus at) = true
 
--- ---- the trees
-
+-- the trees
 abbrev mutual
   pub expr_terms : Expr → List Term
   expr_terms (first l t) = product_tree t (is_negative l) ∷ []
@@ -100,8 +97,7 @@ abbrev mutual
 abbrev pub expr_tree : Expr → Sum
 expr_tree e = sum_of (expr_at e) (expr_terms e)
 
--- ---- statements
-
+-- statements
 abbrev pub list_kind : ListWord → List Name → StatementKind
 list_kind Object ns = statement.Objects ns
 list_kind Solve ns = statement.Solve ns

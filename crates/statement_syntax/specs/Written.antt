@@ -16,8 +16,7 @@ use Rattle.statement_syntax.specs.declared.tree.Factor.{Factor}
 use Rattle.statement_syntax.specs.declared.tree.Term.{Term, Term', Row_of-Factor, end_of-Factor, more_of-Factor}
 use Rattle.statement_syntax.specs.declared.tree.Sum.{Sum, Sum', Row_of-Term, end_of-Term, more_of-Term}
 
--- ---- the tokens of a tree
-
+-- the tokens of a tree
 abbrev pub name_kinds : Name → List TokenKind
 name_kinds n = kind.Name n.text ∷ []
 
@@ -115,8 +114,6 @@ statement_kinds (statement.Weight weights) = weight_kinds weights
 statement_kinds (statement.Solve names) = list_kinds (codes "solve") names
 statement_kinds (statement.Eliminate names) = list_kinds (codes "eliminate") names
 statement_kinds (statement.Shape modulus sides) = shape_kinds modulus sides
-
--- ---- the characters of the tokens
 
 -- nothing is put after them
 abbrev pub opens : TokenKind → Bool

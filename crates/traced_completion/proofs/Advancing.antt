@@ -27,7 +27,7 @@ use Rattle.traced_completion.proofs.Sorting.{distinct-permutation}
 use Rattle.traced_completion.proofs.Staying.{overlap_word-append, first-within, second-within, ambiguity-append, ambiguity-before}
 use Rattle.traced_completion.proofs.StoreLemmas.{pending-all}
 
--- ---- items of parts and of images
+-- items of parts and of images
 pub record Image {X Y : Type 0} (f : X → Y) (xs : List X) (y : Y) : Type 0 where
   pub item : X
   pub inside : Contains xs item
@@ -61,7 +61,7 @@ across-parts {X} Before n xs x y pairs (i, i_in, i_is) (j, j_in, j_is) =
     let default : get_or xs i y ≡ get_or xs i x = get_or_default xs i y x (omega (arith, first, second)) in
     subst (λ (p : X × X). Before p.0 p.1) (λ k. ((default ∙ one) k, other k)) (pairs i (n + j) y (omega (arith, first)) second)
 
--- ---- the same relation of all pairs
+-- the same relation of all pairs
 pairs-weaker : {X : Type 0} (R Q : X → X → Type 0) (xs : List X) → ((x y : X) → R x y → Q x y) → AllPairs R xs → AllPairs Q xs
 pairs-weaker R Q xs follows pairs i j d before inside = follows (get_or xs i d) (get_or xs j d) (pairs i j d before inside)
 

@@ -22,7 +22,7 @@ use Rattle.traced_completion.specs.Blocks.{joined, put_at, taken_out, restored, 
 use Rattle.traced_completion.proofs.Ascending.{drop-pairs}
 use Rattle.traced_completion.proofs.Comparing.{waiting_cmp-total}
 
--- ---- what was put is taken out
+-- what was put is taken out
 pub restored-more : (places : List (ℕ × ℕ)) (at : ℕ × ℕ) (blocks : List (List Waiting)) → restored (places ++ at ∷ []) blocks ≡ restored places (taken_out at blocks)
 restored-more [] at blocks = refl
 restored-more (x ∷ places) at blocks = ap (taken_out x) (restored-more places at blocks)
@@ -44,7 +44,7 @@ put-taken_out at w blocks number place =
     ∙ ap (set blocks at.0) (remove-insert block at.1 w place)
     ∙ set-get_or blocks at.0 []
 
--- ---- the blocks as one list
+-- the blocks as one list
 module _ (blocks : List (List Waiting)) (i : ℕ) (number : i < length blocks) where
   abbrev block : List Waiting
   block = get_or blocks i []
@@ -77,7 +77,7 @@ module _ (blocks : List (List Waiting)) (i : ℕ) (number : i < length blocks) w
       ∙ ap₂ (λ xs ys. xs ++ w ∷ ys) (take_at (front ++ take p block) (drop p block ++ behind) (length front + p) count) (drop_at (front ++ take p block) (drop p block ++ behind) (length front + p) count) in
       left ∙ ap (λ xs. front ++ xs) (append_assoc (take p block) (w ∷ drop p block) behind) ∙ sym (append_assoc front (take p block) (w ∷ (drop p block ++ behind))) ∙ sym right
 
--- ---- one more in its order
+-- one more in its order
 module _ {X : Type 0} (R : X → X → Type 0) (follows : (x y z : X) → R x y → R y z → R x z) (items : List X) (pairs : AllPairs R items) (q : ℕ) (w : X) (within : q ≤ length items)
     (before : (d : X) → 0 < q → R (get_or items (q - 1) d) w) (above : (d : X) → q < length items → R w (get_or items q d)) where
   front-before : (x : X) → Contains (take q items) x → R x w
@@ -147,7 +147,7 @@ module _ {X : Type 0} (R : X → X → Type 0) (follows : (x y z : X) → R x y 
       across x y x_in (inl same) = subst (R x) same (front-before x x_in)
       across x y x_in (inr y_in) = follows x w y (front-before x x_in) (rest-after y y_in)
 
--- ---- an ambiguity that was put where it belongs
+-- an ambiguity that was put where it belongs
 mirrored : (o : Ordering) → is_gt (ordering_reverse o) ≡ is_lt o
 mirrored Less = refl
 mirrored Equal = refl
@@ -300,7 +300,7 @@ module _ (compare : Compare) (total : IsTotalOrder compare) where
           old_over : All (λ (v : Waiting). IsOver letters v.word) (get_or mid at.0 [])
           old_over = done.over at.0 [] put.number
 
--- ---- two blocks of one
+-- two blocks of one
 module _ (blocks : List (List Waiting)) (i p : ℕ) (number : i < length blocks) where
   abbrev cut_blocks : List (List Waiting)
   cut_blocks = take i blocks ++ take p (get_or blocks i []) ∷ drop p (get_or blocks i []) ∷ drop (suc i) blocks
@@ -378,7 +378,7 @@ pub split-long : (blocks : List (List Waiting)) (i p : ℕ) (inside : i < length
 split-long blocks i p inside =
     omega (arith, length-append (take i blocks) (take p (get_or blocks i []) ∷ drop p (get_or blocks i []) ∷ drop (suc i) blocks), length-take-le i blocks (omega (arith, inside)))
 
--- ---- the blocks behind the first ones
+-- the blocks behind the first ones
 pub all-blocks : (P : Waiting → Type 0) (blocks : List (List Waiting)) → All P (joined blocks) → All (All P) blocks
 all-blocks P blocks all k d inside j e within =
     let place : ℕ = length (joined (take k blocks)) + j in

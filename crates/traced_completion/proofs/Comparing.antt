@@ -14,7 +14,7 @@ use Rattle.traced_completion.specs.declared.pending.waiting.Waiting.{Waiting}
 use Rattle.traced_completion.specs.Pending.{IsBeforeInStore}
 use Rattle.traced_completion.specs.StoreOrder.{ambiguity_cmp, waiting_cmp}
 
--- ---- one comparison after another
+-- one comparison after another
 then-left : (o p : Ordering) → o ≡ Less → ordering_then o p ≡ Less
 then-left o p less = ap (λ r. ordering_then r p) less
 
@@ -40,7 +40,7 @@ then-equal Greater p e = absurd (unlike e)
     unlike : Greater ≡ Equal → ⊥
     unlike k = cc
 
--- ---- numbers
+-- numbers
 number-less : (m n : ℕ) → nat_cmp m n ≡ Less → m < n
 number-less m n e = ranked m n Less (sym e)
 
@@ -69,7 +69,7 @@ same_kind Overlap Inclusion e = absurd (omega (arith, e))
 same_kind Inclusion Overlap e = absurd (omega (arith, e))
 same_kind Inclusion Inclusion e = refl
 
--- ---- ambiguities
+-- ambiguities
 module _ (a b : Ambiguity) where
   abbrev by_first : Ordering
   by_first = nat_cmp a.i b.i
@@ -139,7 +139,7 @@ ambiguity_not_before_itself a before = unlike (sym (less-ambiguity a a before) �
     unlike : Less ≡ Equal → ⊥
     unlike k = cc
 
--- ---- with their overlap words
+-- with their overlap words
 module _ (compare : Compare) (total : IsTotalOrder compare) where
   pub waiting_cmp-total : IsTotalOrder (waiting_cmp compare)
   waiting_cmp-total = then_total (on_total (λ (w : Waiting). w.word) total) (on_total (λ (w : Waiting). w.which) ambiguity_cmp-total)

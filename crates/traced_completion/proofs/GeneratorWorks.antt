@@ -73,7 +73,7 @@ module _ (compare : Compare) (steps : ℕ) (generators : List (List Term)) (numb
       go [] k = absurd (omega (arith, k))
       go (t ∷ q) k = refl
 
--- ---- turns
+-- turns
 got_left : (xs ys : List ℕ) (i : ℕ) (d : ℕ) → i < length xs → get_or (xs ++ ys) i d ≡ get_or xs i d
 got_left [] ys i d below = absurd (omega (arith, below))
 got_left (x ∷ xs) ys zero d below = refl

@@ -32,7 +32,6 @@ explains-itself r (fault.Overflow o) is = is
 explains-itself r (fault.Size s) is = is
 explains-itself r (fault.Memory e) is = tt
 
--- ---- answers to items
 -- a fault of the first item is the first fault
 explains-head : {A B : Type 0} (f : A → Result B ReduceFault) (x : A) (xs : List A) (e : ReduceFault) → Explains (f x) e → Explains (each_in_turn f (x ∷ xs)) e
 explains-head f x xs (fault.Steps limit) why = ap (λ r. and_then r (λ y. and_then (each_in_turn f xs) (λ ys. Ok (y ∷ ys)))) why

@@ -29,7 +29,7 @@ range-next from place items reached passed =
     let count : (place - from) + 1 ≡ (place + 1) - from = omega (arith, reached) in
     ap₂ (λ xs k. xs ++ k ∷ []) passed there ∙ sym (range-more from (place - from)) ∙ ap (range_with_len from) count
 
--- ---- items at places that differ, moved one by one
+-- items at places that differ, moved one by one
 module _ (old : List Waiting) (places : List ℕ) (k : ℕ) (inside : k < length places) where
   pub moved-more : (sorted : List Waiting) (w : Waiting) → ((d : Waiting) → sorted ≡ map (λ p. get_or old p d) (take k places)) → ((d : Waiting) → w ≡ get_or old (get_or places k 0) d)
       → (d : Waiting) → sorted ++ w ∷ [] ≡ map (λ p. get_or old p d) (take (k + 1) places)

@@ -71,7 +71,7 @@ pub other_value : {A B : Type 0} (o : Option Overflow) (x v : A) (y : B) → unl
 other_value None x v y is = λ _. Ok y
 other_value (Some o) x v y is = absurd (no_error v (fault.Overflow o) (sym is))
 
--- ---- the rows of a record
+-- the rows of a record
 module _ (f : First) (s : State) where
   abbrev pub all_rows : Result (List Row) ReduceFault
   all_rows = unless_overflow (first_overflow (rows_operations f s)) (second_rows f s)

@@ -40,7 +40,7 @@ use Rattle.traced_completion.proofs.UniqueRuns.{same_factor}
 combined_is : (a : ℤ) (p : List Term) (b : ℤ) (q r : List Term) → combined a p b q ≡ Ok r → added (scaled a p) (scaled b q) ≡ r
 combined_is a p b q r ends = finished-value (products a p ++ (products b q ++ sums (scaled a p) (scaled b q))) (added (scaled a p) (scaled b q)) r ends
 
--- ---- words
+-- words
 module _ (letters : ℕ) where
   abbrev pub IsWord : List ℕ → Type 0
   IsWord w = (0 < length w) × IsOver letters w
@@ -106,7 +106,7 @@ module _ (letters : ℕ) where
         subst AreWords (combined_is one.coef first.value two.coef second.value p second.rest)
         (all-totals IsWord (aligned (scaled one.coef first.value) (scaled two.coef second.value)) (all-aligned IsWord (scaled one.coef first.value) (scaled two.coef second.value) (all-scaled IsWord one.coef first.value left) (all-scaled IsWord two.coef second.value right)))
 
--- ---- a rule that is made
+-- a rule that is made
 same_rule : (g h : Rule) → ◌≡◌ {A = Option Rule} (Some g) (Some h) → g ≡ h
 same_rule g h same = cc
 

@@ -51,7 +51,7 @@ went_is s t same = cc
 went_closed : (t : RunState) → went t ≡ closed → ⊥
 went_closed t same = cc
 
--- ---- what works keep
+-- what works keep
 module _ (letters : ℕ) (compare : Compare) where
   -- what is left by rules is of words
   abbrev KeepsWords : Work → Type 0
@@ -154,7 +154,7 @@ module _ (letters : ℕ) (compare : Compare) where
   generator_works steps generators each [] = tt
   generator_works steps generators each (n ∷ numbers) = (generator_keeps steps generators n (generator_words generators each n), generator_works steps generators each numbers)
 
--- ---- how many rules works add
+-- how many rules works add
 module _ (compare : Compare) where
   -- one record for each rule, and so many rules at most
   record Counts (most : ℕ) (r : Recorded) : Type 0 where
@@ -192,7 +192,7 @@ module _ (compare : Compare) where
           let after = turns_counts most (map (second_work compare steps) fs) before t k counts in
           record { one_each = after.one_each; few = omega (arith, after.few, length-map fs (second_work compare steps), each_length (first_of compare steps before.rules) taken fs has) }
 
--- ---- rounds that were made whole
+-- rounds that were made whole
 went_stopped : (s : RunState) (h : Halt) → went s ≡ stopped h → ⊥
 went_stopped s h same = cc
 
@@ -242,7 +242,7 @@ module _ (setting : Setting) (number : ℕ) (s t : RunState) where
       let ends = ends_ok 0 None s.treated is.result t is.ends in
       (subst (InTurn setting.compare (map (generator_work setting.compare setting.budget.steps setting.generators) setting.in_turn) (recorded s)) ends.0 is.generators, ends.1)
 
--- ---- states
+-- states
 pub states_rules : StatesHaveRules
 states_rules letters setting zero s words is = subst (λ (x : RunState). All (IsRule letters setting.compare) x.rules) (sym is) (λ i g inside. absurd (omega (arith, inside)))
 states_rules letters setting (suc zero) s words is =

@@ -27,7 +27,7 @@ distinct-permutation {K} e tells xs ys moved distinct = AllPairs-from_IsDistinct
     flips : (x y : K) → e x y ≡ e y x
     flips x y = same_from_decides (e x y) (e y x) (tells x y) (λ held. sym ((tells y x).0 held), λ same. (tells y x).1 (sym same))
 
--- ---- places up to the end of a list
+-- places up to the end of a list
 range-within : (from n : ℕ) → All (λ place. place < n) (range_with_len from (n - from))
 range-within from n k d inside =
     let count : k < n - from = omega (arith, inside, length-range_with_len from (n - from)) in

@@ -36,7 +36,7 @@ use Rattle.traced_completion.specs.Completions.{IsBudget, state_of, outcome_of, 
 use Rattle.traced_completion.proofs.Ascending.{contains-first}
 use Rattle.traced_completion.proofs.StoreLemmas.{nothing-at_first, taken-ambiguities}
 
--- ---- a completion that stays
+-- a completion that stays
 unchanged_state : (old new : Completion) → IsUnchanged old new → state_of old ≡ state_of new
 unchanged_state old new same = sym (λ i. record { rules = same.rules i; made = same.made i; treated = same.treated i })
 
@@ -73,7 +73,7 @@ taken_back old tried new rules treated rules_are treated_are one_each budget rou
   waiting = waiting_back ∙ waiting;
 }
 
--- ---- the setting
+-- the setting
 module _ (problem : Problem) (budget : Budget) (order : AnyOrder) (rounds : ℕ) (s : RunState) (waiting : List Waiting) (is : IsRunOf problem budget order rounds s waiting) where
   abbrev setting : Setting
   setting = setting_of problem budget
@@ -104,7 +104,7 @@ module _ (problem : Problem) (budget : Budget) (order : AnyOrder) (rounds : ℕ)
         (next s.treated (subst (λ rs. All (IsAmbiguity rs) s.treated) (sym front) is.treated)
         (subst (λ rs. AreAllPending (made_cmp order) rs s.treated waiting) (sym front) waiting_made))
 
-  -- ---- the first round
+  -- the first round
   module _ (first : rounds ≡ 0) where
     pub at_start : s ≡ start
     at_start = subst (λ n. IsRunState setting n s) first is.run
@@ -138,7 +138,7 @@ module _ (problem : Problem) (budget : Budget) (order : AnyOrder) (rounds : ℕ)
         } in
         subst (λ n. IsRound setting n s outcome) (sym first) zero_is
 
-  -- ---- a later round
+  -- a later round
   module _ (later : 0 < rounds) (some : 0 < length waiting) where
     in_later : (outcome : Outcome) → TreatsPending setting rounds s waiting outcome → IsRound setting rounds s outcome
     in_later outcome treats = go rounds later treats
@@ -191,7 +191,7 @@ module _ (problem : Problem) (budget : Budget) (order : AnyOrder) (rounds : ℕ)
       go [] k = refl
       go (w ∷ ws) k = absurd (omega (arith, k))
 
-  -- ---- the run after the round
+  -- the run after the round
   pub next_run : (t : RunState) (waiting' : List Waiting) (count : ℕ) → take (length s.rules) t.rules ≡ s.rules → t.treated ≡ s.treated ++ ambiguities_of (take count waiting)
       → IsNextStore (made_cmp order) t.rules (length s.rules) count waiting waiting' → HasRecords (recorded t)
       → length t.treated ≤ budget.pairs → length t.rules ≤ length problem.generators + length t.treated → suc rounds ≤ suc (length t.treated)
@@ -213,7 +213,7 @@ module _ (problem : Problem) (budget : Budget) (order : AnyOrder) (rounds : ℕ)
       subst (λ n. IsRunOf problem budget' order' n t waiting') (sym same_rounds)
       (subst (λ o. IsRunOf problem budget' o (suc rounds) t waiting') (sym same_order) (subst (λ b. IsRunOf problem b order (suc rounds) t waiting') (sym same_budget) here))
 
--- ---- the run before round 0
+-- the run before round 0
 none_there : (m : Made) → ◌≡◌ {A = Option Made} None (Some m) → ⊥
 none_there m is = cc
 
@@ -240,7 +240,6 @@ first_run problem budget order rules made treated waiting compares letters in_bu
     } in
     subst (λ s. IsRunOf problem budget order 0 s waiting) there (subst (IsRunOf problem budget order 0 start) (sym waiting_are) here)
 
--- ---- a round that is given up
 -- how the works end, and the outcome
 pub record Ending (P : Result Recorded ReduceFault → Type 0) (number : ℕ) (least : Option (List ℕ)) (treated : List Ambiguity) (outcome : Outcome) : Type 0 where
   pub result : Result Recorded ReduceFault
@@ -254,7 +253,7 @@ given_up P number least treated (fault.Overflow o) step t ends giving = record {
 given_up P number least treated (fault.Size z) step t ends giving = record { result = Err (fault.Size z); holds = ends; ends = record { reason = giving.reason; reason_of = giving.reason_of; stops = ap (λ x. outcome_of x t) giving.stops } }
 given_up P number least treated (fault.Memory e) step t ends giving = absurd giving.reason_of
 
--- ---- numbers
+-- numbers
 pub is_spent : (pairs treated : ℕ) → pairs ≤ treated → leb pairs treated ≡ true
 is_spent pairs treated most = go (leb pairs treated) refl
   where

@@ -64,7 +64,7 @@ ends_weaker P Q weaker (fault.Overflow o) ends = weaker (Err (fault.Overflow o))
 ends_weaker P Q weaker (fault.Size s) ends = weaker (Err (fault.Size s)) ends
 ends_weaker P Q weaker (fault.Memory e) ends = tt
 
--- ---- two passes
+-- two passes
 module _ (compare : Compare) (steps : ℕ) (before : Recorded) (firsts : Result (List First) ReduceFault) where
   -- a fault of the first pass ends both
   pub first_ends : (e : ReduceFault) → Explains firsts e → EndsWith (InTwoPasses compare steps firsts before) e

@@ -29,7 +29,7 @@ use Rattle.traced_completion.specs.RunLaws.{RoundsAreUnique, StatesAreUnique}
 use Rattle.rule_making.proofs.Quotients.{signed, signed_nonzero}
 use Rattle.traced_completion.proofs.StoreLemmas.{stores-unique}
 
--- ---- rules
+-- rules
 IsCanonical-prop : (p : List Term) → IsProp (IsCanonical p)
 IsCanonical-prop p = Prim.hlevel std.props
 
@@ -88,7 +88,7 @@ adds_one compare (Some rest) before one other first second =
     let same = same_made compare rest first.rule second.rule first.made second.made first.made_from second.made_from in
     first.appended ∙ (λ i. record { rules = before.rules ++ (same.0 i) ∷ []; made = before.made ++ (same.1 i) ∷ [] }) ∙ sym second.appended
 
--- ---- works
+-- works
 goes_one : (compare : Compare) (r : Result (Option Rest) ReduceFault) (before : Recorded) (One Other : Recorded → Type 0) (one other : Result Recorded ReduceFault)
     → ((s : Recorded) → One s → Other s → one ≡ other) → Goes compare r before One one → Goes compare r before Other other → one ≡ other
 goes_one compare (Err e) before One Other one other each first second = first ∙ sym second
@@ -104,7 +104,7 @@ passes_one : (compare : Compare) (steps : ℕ) (r : Result (List First) ReduceFa
 passes_one compare steps (Err e) before one other first second = first ∙ sym second
 passes_one compare steps (Ok firsts) before one other first second = turns_one compare (map (second_work compare steps) firsts) before one other first second
 
--- ---- outcomes
+-- outcomes
 cause_one : (e : ReduceFault) (c d : Cause) → IsCauseOf e c → IsCauseOf e d → c ≡ d
 cause_one (fault.Steps limit) c d first second = first ∙ sym second
 cause_one (fault.Overflow o) c d first second = first ∙ sym second

@@ -44,7 +44,6 @@ pub data Outcome : Type 0 where
   closed : Outcome
   stopped : Halt → Outcome
 
--- ---- how a round ends
 -- the cause of a fault; want of memory is none
 abbrev pub IsCauseOf : ReduceFault → Cause → Type 0
 IsCauseOf (fault.Steps limit) c = c ≡ cause.Steps limit
@@ -63,7 +62,7 @@ abbrev pub Ends : ℕ → Option (List ℕ) → List Ambiguity → Result Record
 Ends number least treated (Ok r) outcome = outcome ≡ went (record { rules = r.rules; made = r.made; treated = treated })
 Ends number least treated (Err e) outcome = IsGivenUp number least e outcome
 
--- ---- round 0
+-- round 0
 abbrev pub start : RunState
 start = record { rules = []; made = []; treated = [] }
 
@@ -76,7 +75,6 @@ pub record IsRoundZero (setting : Setting) (s : RunState) (outcome : Outcome) : 
   pub generators : InTurn setting.compare (map (generator_work setting.compare setting.budget.steps setting.generators) setting.in_turn) (recorded s) result
   pub ends : Ends 0 None s.treated result outcome
 
--- ---- a later round
 -- the least of the limit of a round, the pairs left and the number pending
 abbrev pub taken_count : Budget → RunState → List Waiting → ℕ
 taken_count budget s pending = min round_limit (min (budget.pairs - length s.treated) (length pending))
@@ -105,7 +103,6 @@ pub record IsLaterRound (setting : Setting) (number : ℕ) (s : RunState) (outco
   pub all_pending : AreAllPending setting.compare s.rules s.treated pending
   pub treats : TreatsPending setting number s pending outcome
 
--- ---- the run
 -- what comes of the round with this number
 abbrev pub IsRound : Setting → ℕ → RunState → Outcome → Type 0
 IsRound setting zero s outcome = IsRoundZero setting s outcome
@@ -122,7 +119,7 @@ abbrev pub IsRunState : Setting → ℕ → RunState → Type 0
 IsRunState setting zero s = s ≡ start
 IsRunState setting (suc n) s = IsAfter setting n (IsRunState setting n) s
 
--- ---- of a problem
+-- of a problem
 abbrev pub setting_of : Problem → Budget → Setting
 setting_of problem budget = record {
   compare = asked_cmp problem.parts.order;

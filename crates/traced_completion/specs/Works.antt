@@ -22,7 +22,6 @@ use Rattle.rule_making.specs.Making.{Recorded, Rest, rest_with, negated_rows, Ad
 abbrev pub Work : Type 0
 Work = List Rule → Result (Option Rest) ReduceFault
 
--- ---- round 0
 -- the rows of a generator times the multiplier, less those of its reduction
 abbrev pub generator_rows : ℕ → ℤ → List Row → List Row
 generator_rows number multiplier taken = record { coef = multiplier; left = []; from = origin.Generator number; right = [] } ∷ negated_rows taken
@@ -32,7 +31,6 @@ abbrev pub generator_work : Compare → ℕ → List (List Term) → ℕ → Wor
 generator_work compare steps generators number rules =
     and_then (normal_form_of compare rules (generator_at generators number) steps) (λ s. Ok (rest_with s.rest (generator_rows number s.multiplier s.rows)))
 
--- ---- the first reductions of a later round
 -- the rows of an S-polynomial, and its reduction
 pub record First : Type 0 where
   pub rows : List Row
@@ -44,7 +42,6 @@ first_of compare steps rules a =
     and_then (halted (s_polynomial_of rules a)) (λ p.
     and_then (normal_form_of compare rules p steps) (λ s. Ok (record { rows = s_rows_of rules a; reduced = s })))
 
--- ---- the second reductions
 -- the rows times the multiplier of a reduction, less its rows
 abbrev pub less_rows : List Row → ℤ → List Row → List Row
 less_rows rows multiplier taken = map (multiplied_row multiplier) rows ++ negated_rows taken
@@ -74,7 +71,6 @@ second_reduction compare steps f rules (t ∷ p) = and_then (normal_form_of comp
 abbrev pub second_work : Compare → ℕ → First → Work
 second_work compare steps f rules = second_reduction compare steps f rules f.reduced.rest
 
--- ---- one after another
 -- the work goes well, and what it leaves is added
 pub record Does (compare : Compare) (work : Result (Option Rest) ReduceFault) (before after : Recorded) : Type 0 where
   pub rest : Option Rest

@@ -7,8 +7,7 @@ use Rattle.command_answers.specs.Answers.{Answers}
 use Rattle.command_answers.proofs.Commands.{answered, are_contents, are_short, other_default, no_item}
 use Rattle.command_answers.proofs.answers.answer.Goals as goal
 
--- ---- a call without files
-
+-- a call without files
 pub returns-in_err-statement-in-empty : goal.returns-in_err-statement-in-empty
 returns-in_err-statement-in-empty g c =
     memory_ends (Answers c.args.call.now c.args.contents.now) c.from_residual.result c.from_residual.ensures.0 c.from_residual.ensures.1
@@ -26,8 +25,7 @@ returns-in_ok-statement-in-empty g c =
     (no_item contents 0 (written_by call) (omega (arith, none)) ∙ sym c.in_ok-statement-in-empty.ensures.written ∙ sym c.deref.ensures.value)
     (no_item contents 1 [] (omega (arith, none))) c.answer_over.ensures
 
--- ---- a statement alone
-
+-- a statement alone
 pub answer_over-requires-in-len1-clause-statement_fits : goal.answer_over-requires-in-len1-clause-statement_fits
 answer_over-requires-in-len1-clause-statement_fits g c κs within =
     let contents : List (List ℕ) = c.args.contents.now in
@@ -47,8 +45,7 @@ returns-in-len1 g c =
     (other_default contents 0 (written_by call) c.statement-item.result (omega (arith, some)) ∙ sym c.statement-item.is ∙ sym slice)
     (no_item contents 1 [] (omega (arith, few))) c.answer_over-in-len1.ensures
 
--- ---- a statement and a text of evidence
-
+-- a statement and a text of evidence
 pub answer_over-requires-in-len2-up-clause-statement_fits : goal.answer_over-requires-in-len2-up-clause-statement_fits
 answer_over-requires-in-len2-up-clause-statement_fits g c κs within =
     let contents : List (List ℕ) = c.args.contents.now in

@@ -25,8 +25,7 @@ over c =
     let ds = c.args.problem.now.parts.quiver in
     all_there (IsRowOver ds) c.args.certificate.now.rows c.args.place c.at-row.result.now (recursion_from_All (IsRowOver ds) c.args.certificate.now.rows c.requires.checkable.letters) c.at-row.ensures
 
--- ---- the row is no step
-
+-- the row is no step
 pub returns-in-None-clause-line : goal.returns-in-None-clause-line
 returns-in-None-clause-line c =
     let problem = c.args.problem.now in
@@ -43,8 +42,7 @@ returns-in-None-clause-written c =
     let no_step : is_step problem certificate.claim row ≡ false = subst (GoesOn problem certificate c.args.place row) c.in-None.is (goes (goal.at.returns-in-None-clause-written c).In_ok-next) in
     λ front is. is ∙ ap (λ (t : List ℕ). front ++ t) (sym (same_text problem certificate c.args.place row c.at-row.ensures no_step))
 
--- ---- it is one
-
+-- it is one
 some : (c : In-Some) → GoesOn c.args.problem.now c.args.certificate.now c.args.place c.at-row.result.now (Some c.in-Some.next)
 some c = subst (GoesOn c.args.problem.now c.args.certificate.now c.args.place c.at-row.result.now) c.in-Some.is (c.in_ok-next.ensures.line c.at-row.result.now c.at-row.ensures)
 

@@ -8,7 +8,7 @@ use Rattle.expressions.proofs.Totals.{so_far-next}
 use Rattle.expressions.proofs.PolynomialLoops.{summands_of, polys_of, sum-end, sum-fault, sum-next, alone-fault, alone-end, product-end, product-end_fault, product-fault, product-next}
 use Rattle.expressions.proofs.polynomial.+polys.Goals as goal
 
--- ---- a factor
+-- a factor
 pub factor_poly-with_marks-requires : goal.factor_poly-with_marks-requires
 factor_poly-with_marks-requires t c =
     let ok : primary_poly c.args.quiver.now c.args.factor.now.primary ≡ Ok c.in_ok-poly.poly.terms = search rules in
@@ -17,7 +17,7 @@ factor_poly-with_marks-requires t c =
       letters = in_range-primary c.args.quiver.now c.requires.declared c.args.factor.now.primary c.in_ok-poly.poly.terms c.requires.names ok;
     }
 
--- ---- a sum
+-- a sum
 pub sum_poly-term_poly-requires : goal.sum_poly-term_poly-requires
 sum_poly-term_poly-requires t c = (
   search (rules, the_lemmas),
@@ -40,7 +40,7 @@ pub sum_poly-returns : goal.sum_poly-returns
 sum_poly-returns t c =
     sum-end c.args.quiver.now c.args.sum.now c.as_slice-term-items.result.now c.as_slice-term-items.ensures c.loop-term.term-index c.loop-term.summands.items c.loop-term.invariant c.loop-term-test.false c.merged_total.result c.merged_total.ensures
 
--- ---- a sum of many terms
+-- a sum of many terms
 pub running_total-term_poly-requires : goal.running_total-term_poly-requires
 running_total-term_poly-requires t c = (
   search (rules, the_lemmas),
@@ -77,7 +77,7 @@ running_total-returns t c =
     let made : total (summands_of so_far.made) ≡ Ok c.in_ok-into_poly.field-0.terms = search rules in
     sum-end c.args.quiver.now c.args.sum.now c.as_slice-term-items.result.now c.as_slice-term-items.ensures c.loop-term.term-index so_far.made so_far.before c.loop-term-test.false (Ok c.in_ok-into_poly.field-0) made
 
--- ---- a factor alone
+-- a factor alone
 pub term_poly-factor_poly-requires : goal.term_poly-factor_poly-requires
 term_poly-factor_poly-requires t c = (
   search (rules, the_lemmas),
@@ -96,7 +96,7 @@ term_poly-returns-in-len1 t c =
     let ok : factor_poly c.args.quiver.now c.factor-item.result ≡ Ok c.in_ok-poly.poly.terms = search rules in
     alone-end c.args.quiver.now c.args.term.now c.as_slice-factors.result.now c.as_slice-factors.ensures (omega arith) c.factor-item.result c.factor-item.is c.in_ok-poly.poly ok c.scaled_by.result c.scaled_by.ensures
 
--- ---- a product
+-- a product
 pub term_poly-factor_poly-requires-in-loop-factor : goal.term_poly-factor_poly-requires-in-loop-factor
 term_poly-factor_poly-requires-in-loop-factor t c = (
   search (rules, the_lemmas),

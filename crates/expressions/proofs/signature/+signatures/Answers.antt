@@ -11,7 +11,7 @@ pub factor_signature-returns-clause-in_range : goal.factor_signature-returns-cla
 factor_signature-returns-clause-in_range t c =
     rw c.marked_signature.ensures (objects-marked_signature (object_count c.args.quiver.now) c.args.factor.now.at c.as_slice.result.now c.in_ok-signature.signature (search rules))
 
--- ---- a sum
+-- a sum
 pub sum_signature-term_signature-requires : goal.sum_signature-term_signature-requires
 sum_signature-term_signature-requires t c =
     (search (rules, the_lemmas), names_of_the_term c.args.quiver.now c.args.sum.now c.as_slice-term-items.result.now c.loop-term.term-index c.term-item.result c.requires c.as_slice-term-items.ensures c.loop-term-test.true c.term-item.is)
@@ -35,7 +35,7 @@ pub sum_signature-returns-clause-exact : goal.sum_signature-returns-clause-exact
 sum_signature-returns-clause-exact t c =
     sum-end c.args.quiver.now c.args.sum.now c.as_slice-term-items.result.now c.as_slice-term-items.ensures c.loop-term.term-index c.loop-term.signature c.loop-term.invariant.rest (omega (arith, c.loop-term-test.false))
 
--- ---- a product
+-- a product
 pub term_signature-factor_signature-requires : goal.term_signature-factor_signature-requires
 term_signature-factor_signature-requires t c =
     (search (rules, the_lemmas), names_of_the_factor c.args.quiver.now c.args.term.now c.as_slice-factors.result.now 0 c.index-factors-0.result c.requires c.as_slice-factors.ensures (omega (arith, c.if-factors-eq1.true)) c.index-factors-0.is)

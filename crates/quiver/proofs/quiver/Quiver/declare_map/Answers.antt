@@ -10,7 +10,7 @@ use Rattle.quiver.proofs.Fields.{are_declared, names_len}
 use Rattle.quiver.proofs.Added.{Adds, declarations_added, kept_added, kept_of_same}
 use Rattle.quiver.proofs.quiver.Quiver.declare_map.Goals as goal
 
--- ---- a map that is its own adjoint
+-- a map that is its own adjoint
 allowed : (c : goal.In_ok-push) → map_fault c.args.self.now c.args.name.now c.args.source.0 c.args.target.0 c.args.selfmade ≡ None
 allowed c = search rules
 
@@ -46,7 +46,7 @@ invariant_of-self-in-Continue-branch-4 c =
     kept_added c.self.inside _ c.args.self.now _ c.self.view_is c.self.invariant (adds c)
     (declared_map c.args.self.now c.args.name.now (are_declared c.self.inside c.args.self.now c.self.view_is c.self.invariant) _ _ _ c.requires.source_in c.requires.target_in (allowed c))
 
--- ---- a map and its adjoint
+-- a map and its adjoint
 allowed_pair : (c : goal.In_ok-push-3) → map_fault c.args.self.now c.args.name.now c.args.source.0 c.args.target.0 c.args.selfmade ≡ None
 allowed_pair c = search rules
 
@@ -89,7 +89,7 @@ invariant_of-self-in-Continue-branch-6 c =
     kept_added c.self.inside _ c.args.self.now _ c.self.view_is c.self.invariant (adds_pair c)
     (declared_map c.args.self.now c.args.name.now (are_declared c.self.inside c.args.self.now c.self.view_is c.self.invariant) _ _ _ c.requires.source_in c.requires.target_in (allowed_pair c))
 
--- ---- where memory is short, the quiver holds what it held
+-- where memory is short, the quiver holds what it held
 pub invariant_of-self : goal.invariant_of-self
 invariant_of-self c = kept_of_same c.self.inside _ refl refl c.reserve.ensures.items c.self.invariant
 
