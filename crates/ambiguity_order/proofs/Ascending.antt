@@ -1,7 +1,6 @@
 -- Lists in which each item is before all later ones.
-use Rattle.std.proofs.Common.{◌≡◌, ◌⊎◌, inl, inr, ℕ, zero, suc, ◌+◌, ◌<◌, List, [], ◌∷◌, length, drop, refl, sym, ap₂, ◌∙◌, subst, arith}
+use Rattle.std.proofs.Common.{◌≡◌, ◌⊎◌, inl, inr, zero, suc, List, [], ◌∷◌, refl, sym, ap₂, ◌∙◌, subst, arith}
 use Rattle.std.specs.List.{AllPairs, Contains}
-use Rattle.std.proofs.lemmas.List.{get_or-drop, length-drop}
 
 -- an item of a longer list is the first one, or one of the rest
 pub contains-cases : {X : Type 0} (y : X) (xs : List X) (x : X) → Contains (y ∷ xs) x → (y ≡ x) ⊎ Contains xs x
@@ -20,12 +19,6 @@ module _ {X : Type 0} (Before : X → X → Type 0) where
 
   pub rest-pairs : (x : X) (xs : List X) → AllPairs Before (x ∷ xs) → AllPairs Before xs
   rest-pairs x xs pairs i j d before inside = pairs (suc i) (suc j) d (omega (arith, before)) (omega (arith, inside))
-
-  pub drop-pairs : (n : ℕ) (xs : List X) → AllPairs Before xs → AllPairs Before (drop n xs)
-  drop-pairs n xs pairs i j d before inside =
-      let within : n + j < length xs = omega (arith, inside, length-drop n xs) in
-      let later : n + i < n + j = omega (arith, before) in
-      subst (λ (p : X × X). Before p.0 p.1) (λ k. (sym (get_or-drop n xs i d) k, sym (get_or-drop n xs j d) k)) (pairs (n + i) (n + j) d later within)
 
   module _ (apart : (x : X) → Before x x → ⊥) (one_way : (x y : X) → Before x y → Before y x → ⊥) where
     -- two such lists with the same items are the same

@@ -137,12 +137,6 @@ ambiguity_cmp-total =
     then_total (then_total (on_total (λ (a : Ambiguity). a.i) nat_cmp_total) (on_total (λ (a : Ambiguity). a.j) nat_cmp_total))
     (then_total (on_total (λ (a : Ambiguity). kind_number a.kind) nat_cmp_total) (on_total (λ (a : Ambiguity). a.place) nat_cmp_total))
 
-pub ambiguity_not_before_itself : (a : Ambiguity) → IsBefore a a → ⊥
-ambiguity_not_before_itself a before = unlike (sym (less-ambiguity a a before) ∙ tied_itself ambiguity_cmp-total a)
-  where
-    unlike : Less ≡ Equal → ⊥
-    unlike k = cc
-
 -- by their overlap words
 module _ (compare : Compare) (total : IsTotalOrder compare) (rules : List Rule) where
   abbrev word_of : Ambiguity → List ℕ

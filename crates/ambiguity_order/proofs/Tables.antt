@@ -17,7 +17,7 @@ use Rattle.rule_reduce.specs.declared.rule.Rule.{Rule}
 use Rattle.rule_reduce.specs.RuleLists.{rule_at}
 use Rattle.ambiguities.specs.Listed.{ListsExactly}
 use Rattle.ambiguities.proofs.Exactly.{exactly-one, exactly-append, exactly-same}
-use Rattle.ambiguities.proofs.Numbers.{rule_at-first, rule_at-last}
+use Rattle.ambiguities.proofs.Numbers.{rule_at-last}
 use Rattle.ambiguity_order.specs.declared.table.Lead.{Lead}
 use Rattle.ambiguity_order.specs.Table.{IsLeadOf, IsTableOf, StandsBefore, rank_at}
 use Rattle.ambiguity_order.proofs.Fronts.{BeginsWith, ranks_ascend}
@@ -47,9 +47,6 @@ module _ (rules : List Rule) where
       go : (o : Option Rule) → rule_at rules l.number ≡ o → option_map (λ (g : Rule). g.lead) o ≡ Some l.letters → Leading l
       go None at e = absurd (none_some e)
       go (Some g) at e = record { rule = g; numbered = at; letters = same_Some g.lead l.letters e }
-
-  lead-first : (l : Lead) → IsLeadOf rules l → 0 < l.number
-  lead-first l is = let of = leading l is in rule_at-first rules l.number of.rule of.numbered
 
   lead-last : (l : Lead) → IsLeadOf rules l → l.number ≤ length rules
   lead-last l is = let of = leading l is in rule_at-last rules l.number of.rule of.numbered
@@ -83,12 +80,6 @@ module _ (rules : List Rule) where
       join : (l : Lead) → IsEarly rules count l ⊎ (lead ≡ l) → IsEarly rules (count + 1) l
       join l (inl early) = record { of = early.of; early = omega (arith, early.early) }
       join l (inr same) = subst (IsEarly rules (count + 1)) same (record { of = is; early = omega (arith, number) })
-
-  pub early-none : ListsExactly ByNumber (IsEarly rules 0) []
-  early-none = record {
-    members = λ l. (λ at. absurd (omega (arith, at.1)), λ early. absurd (omega (arith, early.early, lead-first l early.of)));
-    ascending = λ i j d before inside. absurd (omega (arith, inside));
-  }
 
   pub early-all : (count : ℕ) (leads : List Lead) → length rules ≤ count → ListsExactly ByNumber (IsEarly rules count) leads
       → ListsExactly ByNumber (IsLeadOf rules) leads

@@ -451,9 +451,6 @@ module _ (table : List Lead) where
     abbrev OfThe : ℕ → Ambiguity → Type 0
     OfThe n = IsOfFirsts table (take n table)
 
-    pub firsts-none : (old : List Ambiguity) → IsAdded (OfThe 0) old old
-    firsts-none old = added-none (OfThe 0) old (λ a of. omega (arith, of.among.1))
-
     pub firsts-more : (n : ℕ) (l : Lead) (old mid new : List Ambiguity) → n < length table → get_or table n l ≡ l → IsAdded (OfThe n) old mid
         → IsAdded (IsOfFirst table l (λ p. Unit {0})) mid new → IsAdded (OfThe (n + 1)) old new
     firsts-more n l old mid new inside here before more =

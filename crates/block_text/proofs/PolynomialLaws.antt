@@ -444,9 +444,6 @@ module _ (ds : List Declaration) where
   pub is_over : (line : Line) (p : Poly) → IsPolynomialLine ds line p → All (λ x. IsOver (letter_count ds) x.1) p
   is_over line p is = zip_right GoodTerm (λ x. IsOver (letter_count ds) x.1) (λ t x good. good.over) (terms_in is.tokens) p (good_terms line p is)
 
-  pub has_letters : (line : Line) (p : Poly) → IsPolynomialLine ds line p → All (λ x. 0 < length x.1) p
-  has_letters line p is = zip_right GoodTerm (λ x. 0 < length x.1) (λ t x good. good.some) (terms_in is.tokens) p (good_terms line p is)
-
   -- the same of terms that are read
   pub made_canonical : (line : Line) (p : Poly) → ◌≡◌ {A = Option Poly} (Some p) (poly_behind ds [] (terms_of line)) → IsCanonical p
   made_canonical line p made = is_canonical line p (made_of line p (sym made))

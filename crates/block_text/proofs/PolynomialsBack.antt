@@ -1,5 +1,5 @@
 -- A polynomial that is written is what its line spells.
-use Rattle.std.proofs.Common.{◌≡◌, ◌≢◌, ◌<◌, ◌≤◌, ◌^◌, ◌==◌, ℕ, zero, suc, ℤ, pos, negsuc, Bool, true, false, cond, List, [], ◌∷◌, ◌++◌, Option, Some, None, arith, refl, sym, ap, ◌∙◌, subst, length, map, codes, IsTrue, nat_eq, nat_lt, eqb-true, ltb-true, Ok}
+use Rattle.std.proofs.Common.{◌≡◌, ◌≢◌, ◌<◌, ◌≤◌, ◌^◌, ◌==◌, ℕ, zero, suc, ℤ, pos, negsuc, Bool, true, false, cond, List, [], ◌∷◌, ◌++◌, Option, Some, None, arith, refl, sym, ap, ◌∙◌, subst, length, map, codes, IsTrue, nat_eq, nat_lt, eqb-true, ltb-true}
 use Rattle.std.specs.Prelude.{decimal}
 use Rattle.std.specs.Int.{is_negative}
 use Rattle.std.specs.Int.RustNames.{unsigned_abs}
@@ -23,13 +23,12 @@ use Rattle.block_text.specs.Letters.{is_name, letter_of, signed}
 use Rattle.block_text.specs.Lines.{Line, integer_limit}
 use Rattle.block_text.specs.PolynomialBack.{IsPolynomialLine, PolynomialsAreReadBack}
 use Rattle.block_text.specs.PolynomialLines.{TermTokens, PolynomialTokens, zero as zero_line, terms, factor_line, term_line, first_line, later_line, polynomial_line, is_term_letter, IsFactor, IsTerm, IsPolynomialTokens, terms_in, factor_value, IsTermOf, IsPolynomialOf, IsWrittenLetter}
-use Rattle.block_text.specs.PolynomialReading.{polynomial_of}
 use Rattle.block_text.specs.Tokens.{tokens_of, goes_on}
 use Rattle.block_text.specs.Written.{spelled_as, letter_text, word_text, factor_text, term_text, later_text, poly_text}
 use Rattle.block_text.proofs.LettersBack.{Comes, spelled_map, spelled_adjoint, spelled_identity}
 use Rattle.block_text.proofs.LetterNames.{letter_is_spelled}
 use Rattle.block_text.proofs.NumbersBack.{decimal_number, decimal_text}
-use Rattle.block_text.proofs.PolynomialLaws.{poly_unique, polynomial_there}
+use Rattle.block_text.proofs.PolynomialLaws.{poly_unique}
 use Rattle.block_text.proofs.TextsBack.{letters_written, word_written}
 use Rattle.block_text.proofs.TokensBack.{token_read, tokens_read, name_token, plain_token}
 
@@ -268,10 +267,6 @@ module _ (ds : List Declaration) (declared : IsDeclared ds) (known : IsTrue (lis
   -- the tokens of a polynomial that is written are its line
   pub is_written_line : (p : Poly) → IsWritable p → IsPolynomialLine ds (tokens_of (poly_text ds p)) p
   is_written_line p writable = subst (λ line. IsPolynomialLine ds line p) (sym (tokens_are p (good_of p writable))) (is_line p writable)
-
-  -- it is read as it is, and stands behind any text that its tokens stand behind
-  pub is_read_back : (p : Poly) → IsWritable p → polynomial_of ds (tokens_of (poly_text ds p)) ≡ Ok p
-  is_read_back p writable = polynomial_there ds (tokens_of (poly_text ds p)) p (is_written_line p writable)
 
 pub polynomials_are_read_back : PolynomialsAreReadBack
 polynomials_are_read_back ds p declared known canonical over some = is_written_line ds declared known p (record { canonical = canonical; over = over; some = some })

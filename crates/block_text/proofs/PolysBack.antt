@@ -1,7 +1,6 @@
 -- Numbers, words and polynomials that are written are text without line ends.
 use Rattle.std.proofs.Common.{◌<◌, ◌^◌, ◌==◌, ℕ, ℤ, Bool, true, false, cond, List, [], ◌∷◌, ◌++◌, arith, refl, codes, IsTrue}
 use Rattle.std.specs.Prelude.{decimal}
-use Rattle.std.specs.Fmt.{signed_decimal}
 use Rattle.std.specs.Int.{is_negative}
 use Rattle.std.specs.Int.RustNames.{unsigned_abs}
 use Rattle.std.specs.List.{All, list_all, flat_map}
@@ -13,16 +12,13 @@ use Rattle.quiver.specs.Declarations.{Declaration, letter_count, IsDeclared}
 use Rattle.block_text.specs.Written.{word_text, factor_text, term_text, later_text, poly_text}
 use Rattle.block_text.specs.Back.{is_named, IsLineText}
 use Rattle.block_text.proofs.TextsBack.{letters_written, line_text-append, literal, plain_name, word_written}
-use Rattle.block_text.proofs.NumbersBack.{integer_read, decimal_text}
+use Rattle.block_text.proofs.NumbersBack.{decimal_text}
 
 pub nothing_is_line : IsLineText []
 nothing_is_line = record { utf8 = IsUtf8-nil; inside = refl }
 
 pub number_is_line : (n : ℕ) → n < 10 ^ 64 → IsLineText (decimal n)
 number_is_line n below = (plain_name (decimal n) (decimal_text n below)).line
-
-pub integer_is_line : (z : ℤ) → IsCoefficient z → IsLineText (signed_decimal z)
-integer_is_line z within = let integer = integer_read z within in record { utf8 = integer.utf8; inside = integer.inside }
 
 -- one of two texts
 either_is_line : (b : Bool) (xs ys : List ℕ) → IsLineText xs → IsLineText ys → IsLineText (cond b xs ys)

@@ -1,8 +1,8 @@
 -- What was read where a reading went well, and what was wrong where it did not.
-use Rattle.std.proofs.Common.{◌≡◌, ℕ, Bool, true, false, cond, Option, Some, None, Result, Ok, Err, refl, subst}
+use Rattle.std.proofs.Common.{◌≡◌, Bool, true, false, cond, Option, Some, None, Result, Ok, Err, refl, subst}
 use Rattle.std.specs.Option.{option_map}
 use Rattle.block_text.specs.declared.fault.Flaw.{Flaw}
-use Rattle.block_text.specs.Fault.{◌>>=◌, asked, at_line}
+use Rattle.block_text.specs.Fault.{◌>>=◌, asked}
 
 pub bind_ok : {A B F P : Type 0} (r : Result A F) (f : A → Result B F) (y : B) → (r >>= f) ≡ Ok y → ((x : A) → r ≡ Ok x → f x ≡ Ok y → P) → P
 bind_ok (Ok x) f y read use_it = use_it x refl read
@@ -27,10 +27,6 @@ asked_ok f None x read = absurd (cc)
 pub asked_err : {A : Type 0} (f : Flaw) (o : Option A) (e : Flaw) → asked f o ≡ Err e → e ≡ f
 asked_err f (Some y) e read = absurd (cc)
 asked_err f None e read = cc
-
-pub at_line_ok : {A : Type 0} (number : ℕ) (r : Result A Flaw) (x : A) → at_line number r ≡ Ok x → r ≡ Ok x
-at_line_ok number (Ok y) x read = cc
-at_line_ok number (Err f) x read = absurd (cc)
 
 -- by the test that a value hangs on
 pub by_test : {A P : Type 0} (b : Bool) (x y z : A) → cond b x y ≡ z → (b ≡ true → x ≡ z → P) → (b ≡ false → y ≡ z → P) → P

@@ -63,7 +63,3 @@ AllZip-same_map f R [] [] each zipped = refl
 AllZip-same_map f R [] (y ∷ ys) each zipped = absurd zipped
 AllZip-same_map f R (x ∷ xs) [] each zipped = absurd zipped
 AllZip-same_map f R (x ∷ xs) (y ∷ ys) each zipped = ap (λ z. z ∷ map f ys) (each x y zipped.0) ∙ ap (λ l. f x ∷ l) (AllZip-same_map f R xs ys each zipped.1)
-
-pub All-mapped : {X Y : Type 0} (f : X → Y) (P : X → Type 0) (Q : Y → Type 0) (xs : List X) → ((x : X) → P x → Q (f x)) → AllByRecursion P xs → AllByRecursion Q (map f xs)
-All-mapped f P Q [] each all = tt
-All-mapped f P Q (x ∷ xs) each all = (each x all.0, All-mapped f P Q xs each all.1)

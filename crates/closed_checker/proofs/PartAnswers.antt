@@ -10,27 +10,16 @@ use Rattle.nc_polynomial.specs.declared.fault.PolyFault.{PolyFault}
 use Rattle.nc_polynomial.specs.declared.fault.PolyFault.TheVariants as fault
 use Rattle.nc_polynomial.specs.Faults as poly
 use Rattle.rule_reduce.specs.declared.rule.Rule.{Rule}
-use Rattle.rule_reduce.specs.declared.state.State.{State}
 use Rattle.rule_reduce.specs.declared.fault.ReduceFault.{ReduceFault}
-use Rattle.rule_reduce.specs.declared.fault.ReduceFault.TheVariants as halt
-use Rattle.rule_reduce.specs.NormalForms.{ExplainsHalt, halt_of}
-use Rattle.ambiguities.specs.declared.ambiguity.Ambiguity.{Ambiguity}
-use Rattle.ambiguities.specs.SPolynomials.{s_polynomial_of}
+use Rattle.rule_reduce.specs.NormalForms.{halt_of}
 use Rattle.adjoint_rules.specs.declared.problem.Problem.{Problem}
 use Rattle.adjoint_rules.specs.Problem.{polynomials}
 use Rattle.basis_text.specs.declared.basis.Basis.{Basis}
 use Rattle.closed_checker.specs.declared.part.Part.{Part}
 use Rattle.closed_checker.specs.declared.part.Part.TheVariants as part
-use Rattle.closed_checker.specs.Rests.{order_of, rules_of, claim_of, rest_in, rest_by, rest_of}
+use Rattle.closed_checker.specs.Rests.{order_of, rules_of, claim_of, rest_by, rest_of}
 use Rattle.closed_checker.specs.Closed.{IsNumberUpTo, IsPart, Reaches}
 use Rattle.closed_checker.specs.Working.{AreRulesOf, Explains, IsAnswer}
-
--- faults
-pub explains_rest : (r : Result State ReduceFault) (f : ReduceFault) → ExplainsHalt r f → Explains (rest_in r) f
-explains_rest r (halt.Steps limit) is = ap rest_in is
-explains_rest r (halt.Overflow o) is = ap rest_in is
-explains_rest r (halt.Size s) is = ap rest_in is
-explains_rest r (halt.Memory e) is = tt
 
 pub explains_made : (compare : Compare) (rules : List Rule) (r : Result (List Term) PolyFault) (f : PolyFault) → poly.Explains r f → Explains (rest_by compare rules r) (halt_of f)
 explains_made compare rules r (fault.Overflow o) is = ap (rest_by compare rules) is
@@ -71,8 +60,3 @@ module _ (problem : Problem) (b : Basis) (order : AnyOrder) (rules : List Rule) 
       let terms : claim_of problem b ≡ g.terms = numbered_terms problem.parts.claims b.claim g reached.has_rules.claim.least at in
       subst (IsAnswer result)
       (rest_same problem b order rules (Ok g.terms) are ∙ ap (λ (q : List Term). rest_by (order_of problem) (rules_of problem b) (Ok q)) (sym terms) ∙ ap (rest_of problem b) (sym is))
-
-  pub ambiguity_answer : (p : Part) (a : Ambiguity) → p ≡ part.Ambiguity a → IsAnswer result (rest_by (made_cmp order) rules (s_polynomial_of rules a)) → IsAnswer result (rest_of problem b p)
-  ambiguity_answer p a is =
-      subst (IsAnswer result)
-      (rest_same problem b order rules (s_polynomial_of rules a) are ∙ ap (λ rs. rest_by (order_of problem) (rules_of problem b) (s_polynomial_of rs a)) are.same ∙ ap (rest_of problem b) (sym is))

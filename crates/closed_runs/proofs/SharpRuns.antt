@@ -21,8 +21,7 @@ use Rattle.adjoint_rules.specs.declared.problem.Problem.{Problem}
 use Rattle.adjoint_rules.specs.Problem.{polynomials}
 use Rattle.traced_completion.specs.declared.budget.Budget.{Budget}
 use Rattle.traced_completion.specs.PlainRun.{RunState, setting_of}
-use Rattle.claim_decider.specs.declared.outcome.Outcome.{Outcome}
-use Rattle.claim_decider.specs.Decided.{claim_at, claim_numbers, AreOutcomesOf, AreLastRules, polynomials_in}
+use Rattle.claim_decider.specs.Decided.{claim_at, polynomials_in}
 use Rattle.outcome_laws.proofs.ProblemStates.{state_kept}
 use Rattle.basis_text.specs.declared.basis.Basis.{Basis}
 use Rattle.closed_checker.specs.Rests.{order_of, rules_of}
@@ -36,9 +35,7 @@ use Rattle.normal_category.proofs.Problems.{problem_is_sharp}
 use Rattle.normal_category.proofs.Tested.{sharp_rules_are_told}
 use Rattle.confirm_command.specs.Texts.{claim_closed}
 use Rattle.closed_runs.specs.Printed.{IsPrinted}
-use Rattle.closed_runs.specs.BasesReadBack.{basis_by, closed_from}
 use Rattle.closed_runs.specs.SharpBases.{PrintedBasesAreSharp, PrintedBasesMeanSharp}
-use Rattle.closed_runs.proofs.ClaimBases.{each_closed}
 use Rattle.closed_runs.proofs.ClosedRuns.{Closes}
 use Rattle.closed_runs.proofs.Printed.{run, polys_are, rules_are, names, by_closing, are_rules, resolved, generator_inside}
 
@@ -106,12 +103,3 @@ printed_bases_are_sharp problem budget form b text printed accepts =
 
 pub printed_bases_mean_sharp : PrintedBasesMeanSharp
 printed_bases_mean_sharp problem budget form b printed = means problem budget form b printed
-
--- and each basis that is read of a report is
-pub reported_are_sharp : (problem : Problem) (budget : Budget) (form : Format) (outcomes : List Outcome) (rules : List Poly)
-    → AreOutcomesOf (setting_of problem budget) form problem (claim_numbers problem) outcomes
-    → AreLastRules (setting_of problem budget) form problem (claim_numbers problem) rules
-    → All (λ b. is_sharp problem.parts (polynomials b.rules) ≡ true) (closed_from rules 1 outcomes)
-reported_are_sharp problem budget form outcomes rules are last =
-    each_closed problem budget form rules (λ (b : Basis). is_sharp problem.parts (polynomials b.rules) ≡ true)
-    (λ number rest there is. printed_is_sharp problem budget form (basis_by rules number rest) (record { outcome = is; rules = last })) outcomes are

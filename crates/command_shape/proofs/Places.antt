@@ -16,12 +16,6 @@ module _ {Item : Type 0} where
   drop-all (b ∷ bs) zero past = absurd (omega arith)
   drop-all (b ∷ bs) (suc place) past = drop-all bs place (omega arith)
 
-  pub take-all : (bs : List Item) (place : ℕ) → length bs ≤ place → take place bs ≡ bs
-  take-all [] zero past = refl
-  take-all [] (suc place) past = refl
-  take-all (b ∷ bs) zero past = absurd (omega arith)
-  take-all (b ∷ bs) (suc place) past = ap (λ x. b ∷ x) (take-all bs place (omega arith))
-
   take-suc : (bs : List Item) (place : ℕ) (b : Item) → place < length bs → b ≡ get_or bs place b → take (suc place) bs ≡ take place bs ++ b ∷ []
   take-suc [] place b inside is = absurd (omega arith)
   take-suc (d ∷ bs) zero b inside is = ap (λ x. x ∷ []) (sym is)

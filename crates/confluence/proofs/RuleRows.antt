@@ -1,15 +1,14 @@
 -- Rows over rules, by the polynomials of the rules.
 use Rattle.std.proofs.Common.{◌≡◌, ◌≢◌, ℕ, ◌<◌, ◌⊎◌, inl, inr, refl, arith, subst, sym, ap, ◌∙◌, List, [], ◌++◌, ℤ, pos, ◌+ℤ◌, ◌*ℤ◌, ◌<ℤ◌, neg_ℤ, append-nil}
 use Rattle.std.proofs.lemmas.Int.{ints}
-use Rattle.definitions.specs.Poly.{coefficient_of, poly_between, poly_multiple, Word, Term}
-use Rattle.definitions.proofs.Coefficients.{coefficient_of-multiple}
+use Rattle.definitions.specs.Poly.{coefficient_of, poly_between, Word, Term}
 use Rattle.word_orders.specs.Orders.{Order}
 use Rattle.confluence.proofs.Led.{Led, led_at, HasLed, IsLed, IsAtMostOf}
 use Rattle.confluence.proofs.Integers.{nonzero_or, positive_nat}
-use Rattle.confluence.proofs.Spans.{Coefs, Span, span_add, more, part}
+use Rattle.confluence.proofs.Spans.{Coefs, Span, span_add, part}
 use Rattle.confluence.proofs.Shifts.{shift-same, coefficient_of-between}
 use Rattle.confluence.proofs.Meets.{poly, Allowed, Row}
-use Rattle.confluence.proofs.Outside.{AnyRow, coefficient_of-between_at}
+use Rattle.confluence.proofs.Outside.{coefficient_of-between_at}
 use Rattle.confluence.proofs.Parts.{parted, coefficient_of-parted, rules_of}
 
 -- a row over a rule, by the polynomial of the rule
@@ -58,12 +57,6 @@ module _ (o : Order) where
       may = may;
       is = same_between l r (led_at rules n).poly (poly (parted (led_at rules n))) (λ w. sym (coefficient_of-parted o (led_at rules n) (ok n h) w));
     }
-
-    one_span : (q : Allowed o) (c : ℤ) (n : ℕ) (l r : Word) (f : Coefs) → HasLed rules n → ((w : Word) → coefficient_of (led_at rules n).poly w ≢ pos 0 → o.Range (l ++ (w ++ r)) × q.May (l ++ (w ++ r))) → Span (AnyRow o (rules_of o rules ok) q) f → Span (AnyRow o (rules_of o rules ok) q) (λ w. coefficient_of (poly_multiple c (poly_between l (led_at rules n).poly r)) w +ℤ f w)
-    one_span q c n l r f h within sp = more _ f (coefficient_of (poly_between l (led_at rules n).poly r)) c (_, row_at q n l r h top.0 top.1) sp (λ w. ap (λ z. z +ℤ f w) (coefficient_of-multiple c (poly_between l (led_at rules n).poly r) w))
-      where
-        top : o.Range (l ++ ((led_at rules n).lead ++ r)) × q.May (l ++ ((led_at rules n).lead ++ r))
-        top = within (led_at rules n).lead (leading_nonzero (led_at rules n) (ok n h))
 
 -- what is reduced to a rest in the span is in the span
 pub from_rest : (Base : Coefs → Type 0) (p rest : List Term) (m : ℤ) → pos 0 <ℤ m → Span Base (λ w. m *ℤ coefficient_of p w +ℤ neg_ℤ (coefficient_of rest w)) → Span Base (coefficient_of rest) → Span Base (coefficient_of p)

@@ -9,8 +9,6 @@ use Rattle.cofactor_trace.specs.declared.Certificate.{Certificate}
 use Rattle.adjoint_rules.specs.declared.problem.Problem.{Problem}
 use Rattle.adjoint_rules.specs.Problem.{polynomials}
 use Rattle.equation_chain.specs.declared.fault.ChainFault.{ChainFault}
-use Rattle.equation_chain.specs.declared.fault.ChainFault.TheVariants as fault
-use Rattle.cofactor_checker.specs.declared.refusal.Refusal.TheVariants as refusal
 use Rattle.equation_chain.specs.declared.chain.Chain.{Chain}
 use Rattle.equation_chain.specs.declared.chain.Making.{Making}
 use Rattle.equation_chain.specs.declared.line.Line.{Line}
@@ -79,15 +77,6 @@ module _ (problem : Problem) (c : Certificate) where
 
   pub made_lines : (i : ℕ) → length c.rows ≤ i → (m : Making) → IsMaking problem c i m → polynomials (m.lines ++ m.line.poly ∷ []) ≡ lines_of problem c
   made_lines i past m making = one_poly_more m.lines m.line.poly ∙ making.lines ∙ ap (lines_by problem c) (whole i past)
-
--- want of memory can come at any time
-pub memory_is_first : (problem : Problem) (c : Certificate) (f : ChainFault) → IsMemory f → IsFirstFault problem c f
-memory_is_first problem c (fault.Refused (refusal.Memory e)) memory = tt
-memory_is_first problem c (fault.Refused other) memory = absurd memory
-memory_is_first problem c (fault.Overflow row o) memory = absurd memory
-memory_is_first problem c (fault.Size row) memory = absurd memory
-memory_is_first problem c (fault.Long row) memory = absurd memory
-memory_is_first problem c (fault.Memory e) memory = tt
 
 -- where more rows pass, fewer do
 pub fewer : (problem : Problem) (c : Certificate) (m n : ℕ) → m ≤ n → StepsPass problem c n → StepsPass problem c m

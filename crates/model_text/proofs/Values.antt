@@ -75,18 +75,9 @@ more_numbers columns (row ∷ rest) rows =
       rw (length-append row (flat_map (λ r. r) rest), others.1, count) (omega arith),
     )
 
-pub rows_have_numbers : (first : Line) (rest : List Line) → AreRows first rest → list_all is_number (flat_map (λ row. row) (first ∷ rest)) ≡ true
-rows_have_numbers first rest rows =
-    let numbers = and_parts _ (list_all is_number first) rows.first_row in
-    rw (list_all-append is_number first (flat_map (λ r. r) rest), numbers.1, (more_numbers (length first) rest rows.more).0) refl
-
 pub rows_have_length : (first : Line) (rest : List Line) → AreRows first rest → length (flat_map (λ row. row) (first ∷ rest)) ≡ (length rest + 1) * length first
 rows_have_length first rest rows =
     rw (length-append first (flat_map (λ r. r) rest), (more_numbers (length first) rest rows.more).1) (omega arith)
-
--- one by one
-pub first_number : (tokens : Line) (number : List ℕ) (more : Line) → tokens ≡ number ∷ more → list_all is_number tokens ≡ true → (is_number number ≡ true) × (list_all is_number more ≡ true)
-first_number tokens number more is all = and_parts (is_number number) (list_all is_number more) (subst (λ (ts : Line). list_all is_number ts ≡ true) is all)
 
 -- the rows have numbers alone
 abbrev pub HaveNumbers : List Line → Type 0

@@ -13,7 +13,7 @@ use Rattle.confluence.proofs.Closed.{setting, zero_or_reducible}
 use Rattle.confluence.proofs.Resolve.{everything}
 use Rattle.normal_forms.proofs.FieldLaws.{none_plus, times_one, times_none, minus_times, times_swap, int_none}
 use Rattle.normal_forms.specs.Forms.{Form, with_words}
-use Rattle.normal_forms.proofs.Forms.{words-words, words-same, words-append, Each, hit, look, scaled, sum-append, sum-scaled, Alike, alike-words, alike-append, alike-scaled, scaled-append, scaled-words}
+use Rattle.normal_forms.proofs.Forms.{words-words, words-same, words-append, Each, hit, look, scaled, sum-append, Alike, alike-words, alike-append, alike-scaled, scaled-append, scaled-words}
 
 -- a row of a rule, with any word in range on top
 abbrev pub AnyRow : (o : Order) → Rules o → Coefs → Type 0
@@ -68,9 +68,6 @@ module _ {K : Type 0} (k : Field K) where
 
   look-append : (p q : Form K) (w : Word) → look k (p ++ q) w ≡ k.plus (look k p w) (look k q w)
   look-append p q w = sum-append k (λ u. hit k u w) p q
-
-  look-scaled : (c : K) (p : Form K) (w : Word) → look k (scaled k c p) w ≡ k.times c (look k p w)
-  look-scaled c p w = sum-scaled k (λ u. hit k u w) c p
 
   ring : (N D c A B S F Q : K) → k.times N c ≡ A → k.times D S ≡ k.plus F (k.times D Q)
       → k.times (k.times N D) (k.plus (k.times c B) S) ≡ k.plus (k.plus (k.times (k.times D A) B) (k.times N F)) (k.times (k.times N D) Q)

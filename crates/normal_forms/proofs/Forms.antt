@@ -32,10 +32,6 @@ pub each-weaker : {K : Type 0} (P Q : Word → Type 0) → ((w : Word) → P w �
 each-weaker P Q h [] a = tt
 each-weaker P Q h (t ∷ p) a = (h t.1 a.0, each-weaker P Q h p a.1)
 
-pub each-words : {K : Type 0} (P : Word → Type 0) (h : Word → Word) (p : Form K) → Each (λ w. P (h w)) p → Each P (with_words h p)
-each-words P h [] a = tt
-each-words P h (t ∷ p) a = (a.0, each-words P h p a.1)
-
 module _ {K : Type 0} (k : Field K) where
   abbrev pub hit : Word → Word → K
   hit u w = cond (word_eq u w) k.one k.none
@@ -103,9 +99,6 @@ module _ {K : Type 0} (k : Field K) where
       go false e ih = rw e
           (ap (λ z. k.plus (k.times t.0 (cond z k.one k.none)) (look (without w p) w)) e ∙ ap (λ z. k.plus z (look (without w p) w)) (times_none k t.0)
           ∙ none_plus k (look (without w p) w) ∙ ih)
-
-  hit_apart : (u w v : Word) → word_eq u w ≡ false → word_eq v w ≡ true → hit u v ≡ k.none
-  hit_apart u w v h e = ap (λ z. cond z k.one k.none) (subst (λ x. word_eq u x ≡ false) (sym (word_eq-true v w e)) h)
 
   -- lists with all coefficients none have the sum none
   pub sum-null : (f : Word → K) (p : Form K) → ((w : Word) → look p w ≡ k.none) → sum f p ≡ k.none

@@ -1,10 +1,9 @@
 -- Evidence of a derived claim names that claim, so it adds up for the claim that it names.
-use Rattle.std.proofs.Common.{◌≡◌, ℕ, List, sym, subst}
+use Rattle.std.proofs.Common.{ℕ, List, sym, subst}
 use Rattle.definitions.specs.Poly.{Term}
 use Rattle.definitions.specs.Combination.{IsCombination}
 use Rattle.cofactor_trace.specs.declared.Certificate.{Certificate}
 use Rattle.cofactor_trace.specs.declared.evidence.LemmaCertificate.{LemmaCertificate}
-use Rattle.cofactor_trace.specs.declared.evidence.Evidence.{Evidence}
 use Rattle.cofactor_trace.specs.declared.evidence.Evidence.TheVariants as evidence
 use Rattle.cofactor_trace.specs.declared.evidence.Format.{Format}
 use Rattle.cofactor_trace.specs.Rows.{rows_of}
@@ -14,22 +13,10 @@ use Rattle.adjoint_rules.specs.Problem.{polynomials}
 use Rattle.traced_completion.specs.declared.budget.Budget.{Budget}
 use Rattle.claim_decider.specs.declared.outcome.Outcome.TheVariants as outcome
 use Rattle.claim_decider.specs.Decided.{claim_at}
-use Rattle.outcome_laws.specs.Meanings.{IsOutcomeAt, EvidenceAddsUp}
+use Rattle.outcome_laws.specs.Meanings.{IsOutcomeAt}
 use Rattle.outcome_laws.proofs.Meanings.{derived_claims_add_up}
 
--- the number of the claim that the evidence names
-abbrev pub named_claim : Evidence → ℕ
-named_claim (evidence.Plain c) = c.claim
-named_claim (evidence.Lemmas c) = c.claim
-
 module _ (problem : Problem) (budget : Budget) (form : Format) (number : ℕ) where
-  pub evidence_names : (e : Evidence) → IsOutcomeAt problem budget form number (outcome.Derived e) → named_claim e ≡ number
-  evidence_names e is = go e (derived_claims_add_up problem budget form number e is)
-    where
-      go : (e : Evidence) → EvidenceAddsUp problem number e → named_claim e ≡ number
-      go (evidence.Plain c) adds_up = adds_up.claim
-      go (evidence.Lemmas c) adds_up = adds_up.claim
-
   pub certificate_adds_up : (c : Certificate) → IsOutcomeAt problem budget form number (outcome.Derived (evidence.Plain c)) → IsCombination (polynomials problem.generators) (rows_of c.rows) c.denominator (claim_at problem c.claim)
   certificate_adds_up c is =
       let adds_up = derived_claims_add_up problem budget form number (evidence.Plain c) is in
@@ -39,8 +26,3 @@ module _ (problem : Problem) (budget : Budget) (form : Format) (number : ℕ) wh
   pub record IsEvidence (c : LemmaCertificate) : Type 0 where
     pub lemmas : List (List Term)
     pub evidence : IsEvidenceOf (polynomials problem.generators) lemmas c (claim_at problem c.claim)
-
-  pub lemma_certificate_adds_up : (c : LemmaCertificate) → IsOutcomeAt problem budget form number (outcome.Derived (evidence.Lemmas c)) → IsEvidence c
-  lemma_certificate_adds_up c is =
-      let adds_up = derived_claims_add_up problem budget form number (evidence.Lemmas c) is in
-      record { lemmas = adds_up.lemmas; evidence = subst (λ n. IsEvidenceOf (polynomials problem.generators) adds_up.lemmas c (claim_at problem n)) (sym adds_up.claim) adds_up.evidence }

@@ -11,7 +11,6 @@ pub mod OpenRuns
 pub mod Derivations
 pub mod Meanings
 pub mod DerivedClaims
-pub mod AllOutcomes
 mod MeaningExamples
 pub mod Results
 pub mod RowsOfRuns

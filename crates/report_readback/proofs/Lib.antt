@@ -11,7 +11,6 @@ pub mod ModelReports
 pub mod Writable
 pub mod ClaimNumbers
 pub mod Outcomes
-pub mod WithoutModels
 pub mod PlainAnswers
 pub mod OneLemma
 pub mod LemmaAnswers

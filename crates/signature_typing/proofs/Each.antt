@@ -36,7 +36,3 @@ module _ {A : Type 0} (P : A → Type 0) where
     each_of_both (front x) (back x) (each_in_front (front x) (flat_map front xs) fronts) (each_in_front (back x) (flat_map back xs) backs),
     each_part front back xs (each_behind (front x) (flat_map front xs) fronts) (each_behind (back x) (flat_map back xs) backs),
   )
-
-  pub each_of_parts : {S : Type 0} (part : S → List A) (xs : List S) → AllByRecursion (λ s. AllByRecursion P (part s)) xs → AllByRecursion P (flat_map part xs)
-  each_of_parts part [] each = tt
-  each_of_parts part (x ∷ xs) each = each_of_both (part x) (flat_map part xs) each.0 (each_of_parts part xs each.1)

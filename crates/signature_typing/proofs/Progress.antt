@@ -36,11 +36,6 @@ pub all_listed : {A B C X : Type 0} (parts : A → List B) (gives : B → List X
 all_listed parts gives wrong xs i now past so_far =
     so_far.listed ∙ ap (flat_map (λ x. flat_map gives (parts x))) (take_all i xs past) ∙ flat_map_twice parts gives xs
 
--- nothing is wrong with any
-pub all_fit : {A B X : Type 0} (gives : A → List X) (wrong : A → Option B) (xs : List A) (i : ℕ) (before now : List X) → length xs ≤ i
-    → IsSoFar gives wrong xs i before now → first_among wrong xs ≡ None
-all_fit gives wrong xs i before now past so_far = ap (first_among wrong) (sym (take_all i xs past)) ∙ so_far.fits
-
 -- What the statements so far assume and claim is listed, and nothing is wrong with them.
 pub record AreSoFar {A B X : Type 0} (assumed claimed : A → List X) (wrong : A → Option B) (xs : List A) (i : ℕ) (assumptions claims : List X) : Type 0 where
   pub assumed_so_far : IsSoFar assumed wrong xs i [] assumptions

@@ -87,11 +87,6 @@ pub Apart-left : (xs ys : List (List ℕ × Kind)) → Apart (xs ++ ys) → Apar
 Apart-left [] ys apart = tt
 Apart-left (x ∷ xs) ys apart = (absent_before xs ys x.0 apart.0, Apart-left xs ys apart.1)
 
--- those of objects, and then those of maps
-abbrev pub is_object_kind : Kind → Bool
-is_object_kind Object = true
-is_object_kind Map = false
-
 abbrev pub objects_among : List (List ℕ × Kind) → List (List ℕ × Kind)
 objects_among [] = []
 objects_among ((name, Object) ∷ ds) = (name, Object) ∷ objects_among ds

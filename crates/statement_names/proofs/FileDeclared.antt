@@ -99,14 +99,6 @@ all_append test (x ∷ xs) ys h k = go (test x) h (λ rest. all_append test xs y
     go true e rest = rest e
     go false e rest = absurd (cc)
 
-all_left : {A : Type 0} (test : A → Bool) (xs ys : List A) → list_all test (xs ++ ys) ≡ true → list_all test xs ≡ true
-all_left test [] ys h = refl
-all_left test (x ∷ xs) ys h = go (test x) h (all_left test xs ys)
-  where
-    go : (b : Bool) → (b && list_all test (xs ++ ys)) ≡ true → (list_all test (xs ++ ys) ≡ true → list_all test xs ≡ true) → (b && list_all test xs) ≡ true
-    go true e rest = rest e
-    go false e rest = absurd (cc)
-
 names_end : (n : ℕ) (names : List Name) → list_all (has_ends n) (map (λ m. object m.text) names) ≡ true
 names_end n [] = refl
 names_end n (m ∷ names) = names_end n names

@@ -29,8 +29,3 @@ module _ {A : Type 0} (items : List A) (i : ℕ) (x : A) (below : i < length ite
     pub flat_next : flat_map f (take (i + 1) items) ≡ flat_map f (take i items) ++ f x
     flat_next =
         ap (flat_map f) take_next ∙ flat_map-append f (take i items) (x ∷ []) ∙ ap (λ ys. flat_map f (take i items) ++ ys) (append-nil (f x))
-
-    pub flat_split : flat_map f items ≡ (flat_map f (take i items) ++ f x) ++ flat_map f (drop (i + 1) items)
-    flat_split =
-        ap (flat_map f) items_split ∙ flat_map-append f (take i items) (x ∷ drop (i + 1) items)
-        ∙ sym (append_assoc (flat_map f (take i items)) (f x) (flat_map f (drop (i + 1) items)))

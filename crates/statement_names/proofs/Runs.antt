@@ -15,13 +15,6 @@ pub explained : (found other : Option NameFault) → ((fault : NameFault) → fo
 explained found other same (Fault fault) h = same fault h
 explained found other same (Memory e) h = tt
 
--- one occurrence
-pub step_on : (s t : Survey) (o : Occurrence) (os : List Occurrence) → fault_at s o ≡ None → t ≡ behind s o → run s (o ∷ os) ≡ run t os
-step_on s t o os good t_is = ap (λ f. goes_on f (run (behind s o) os)) good ∙ ap (λ u. run u os) (sym t_is)
-
-pub step_stops : (s : Survey) (o : Occurrence) (os : List Occurrence) (fault : NameFault) → fault_at s o ≡ Some fault → fault_in (run s (o ∷ os)) ≡ Some fault
-step_stops s o os fault is = ap (λ f. fault_in (goes_on f (run (behind s o) os))) is
-
 -- some occurrences and then others
 abbrev then_run : Result Survey NameFault → List Occurrence → Result Survey NameFault
 then_run (Ok s) os = run s os
@@ -44,9 +37,6 @@ then_run-stops (Err e) ys fault is = is
 
 pub run_stops : (s : Survey) (xs ys : List Occurrence) (fault : NameFault) → fault_in (run s xs) ≡ Some fault → fault_in (run s (xs ++ ys)) ≡ Some fault
 run_stops s xs ys fault is = ap fault_in (run-append s xs ys) ∙ then_run-stops (run s xs) ys fault is
-
-pub run_ends : (s : Survey) (xs ys : List Occurrence) (why : NameStop) → Explains (fault_in (run s xs)) why → Explains (fault_in (run s (xs ++ ys))) why
-run_ends s xs ys = explained (fault_in (run s xs)) (fault_in (run s (xs ++ ys))) (run_stops s xs ys)
 
 -- the occurrences of items, one after another
 module _ {A : Type 0} (of : A → List Occurrence) (items : List A) (i : ℕ) (x : A) (below : i < length items) (at : x ≡ get_or items i x) where
