@@ -23,13 +23,13 @@ kit_file() {
   rt=$(readlink -f "$(command -v rt)") && echo "${rt%/*/*}/KIT-ID"
 }
 
-# The checksum of all that the program is made of.
-sources() {
-  cd "$top" && {
-    cat crates.txt &&
-      find crates -name out -prune -o -type f \( -name '*.rt' -o -name '*.antt' \) -print0 | LC_ALL=C sort -z | xargs -0 sha256sum
-  } | sha256sum
+# The checksums of the sources in a folder.
+checksums() {
+  find "$1" -name out -prune -o -type f \( -name '*.rt' -o -name '*.antt' \) -print0 | LC_ALL=C sort -z | xargs -0 sha256sum
 }
+
+# The checksum of all that the program is made of.
+sources() { cd "$top" && { cat crates.txt && checksums crates; } | sha256sum; }
 
 # The crates that the program stands on and the program, first those with the longest chain of lines above them, so each before
 # those that stand on it; behind each the seconds that it takes by itself, and the crates that it stands on. The seconds are those of
@@ -59,50 +59,39 @@ closure() {
     }' - "$top/crates.txt" | sort -rn | cut -d' ' -f2-
 }
 
-declare -gA below=() under=() seconds=() process=() began=() took=() is_proved=() is_kept=()
+declare -gA below=() seconds=() process=() began=() took=() is_proved=() is_kept=() made_of=()
 crates=()
 
-# Reads the crates, and which of them were proved before: no source of theirs, or of a crate below, is newer than what is built, nor is
-# the use of this kit here. These are proved without a look: the program's own rt, which comes last, compares what they are made of.
+# Reads the crates, and which of them were proved before.
 read_crates() {
   local name work names
-  crates=() below=() under=() seconds=() process=() began=() took=() is_proved=() is_kept=()
+  crates=() below=() seconds=() process=() began=() took=() is_proved=() is_kept=() made_of=()
   while read -r name work names; do
     crates+=("$name")
     seconds[$name]=$work below[$name]=$names
-    add_under "$name"
   done < <(closure)
-  date_kit
   for name in "${crates[@]}"; do
-    [ "$name" = opprove ] || ! were_proved "${below[$name]}" || ! is_unchanged "$name" || is_kept[$name]=yes is_proved[$name]=yes
+    ! is_ready "$name" || ! is_unchanged "$name" || is_kept[$name]=yes is_proved[$name]=yes
   done
 }
 
-# All crates that one stands on, of which those that it names are known.
-add_under() {
-  local name other
-  local -A found=()
-  for name in ${below[$1]}; do for other in $name ${under[$name]}; do found[$other]=yes; done; done
-  under[$1]=${!found[*]}
-}
+# The libraries that a crate names, of these crates and of the kit.
+libraries() { awk -v name="$1" -F: '{ split($1, words, " ") } words[1] == name { print $2 }' "$top/crates.txt"; }
 
-were_proved() {
+# The checksum of what a library is proved from: the kit, its libraries, its sources, and what those of the libraries were that are
+# proved here.
+made_from() {
   local name
-  for name in $1; do [ -n "${is_kept[$name]:-}" ] || return 1; done
+  {
+    echo "$version" && cat "$version" && libraries "$1" && (cd "$top" && checksums "crates/$1") &&
+      for name in ${below[$1]}; do cat "$proved/$name.made_from" || return; done
+  } | sha256sum
 }
 
-# Whether what is built of a crate is newer than its folders and files, and than the use of this kit.
+# Whether the library was proved from just this.
 is_unchanged() {
-  local stamp=$top/crates/$1/out/rlib/stamp
-  [ -f "$stamp" ] && [ -z "$(find "$out/opprove.kit" "$top/crates/$1" -name out -prune -o -newer "$stamp" -print -quit 2>&1)" ]
-}
-
-# Dates the use of this kit: that of another one ends now, and the first one was there since it was installed.
-date_kit() {
-  local dated=$out/opprove.kit kit
-  kit=$version$'\n'$(<"$version")
-  [ ! -f "$dated" ] || [ "$(<"$dated")" != "$kit" ] || return 0
-  if [ -f "$dated" ]; then echo "$kit" >"$dated"; else echo "$kit" >"$dated" && touch -r "$version" "$dated"; fi
+  local kept=$proved/$1.made_from
+  [ -f "$kept" ] && [ "$(<"$kept")" = "$(made_from "$1")" ]
 } 2>/dev/null
 
 # Whether all that the crate stands on is proved.
@@ -167,26 +156,20 @@ announce() {
   left=$(foretell)
   say "${#crates[@]} crates are proved and the program is built first, once for the present sources: about $(minutes "$left") here$(
     ((kept)) && echo " ($kept of them are proved already)" || echo ' (43 on a busy machine of 4 processors)')"
-  say "./unproved WORDS answers within a minute and a half, with nothing behind it but the code; Ctrl-C loses nothing that is proved"
+  say "./unproved WORDS answers within a minute and a half, with nothing behind it but the code; Ctrl-C loses no crate that is proved"
   ((slots == wanted)) ||
     say "side by side are proved $slots at most, and not $wanted, for want of memory: each may take 3 GB, and ${free:-?} GB are free"
 }
 
-# How far it is: on a terminal a line that is rewritten, with a bar and with rt's own count of functions where its log has one; else a
-# line for each crate that is proved.
+# How far it is: on a terminal a line that is rewritten, with a bar; else a line for each crate that is proved.
 tell() {
-  local name count text="" done=0 all=0 width
+  local name text done=0 all=0 width
   ((SECONDS < told_at + 5 && ${#is_proved[@]} == told_of)) || { left=$(foretell) told_at=$SECONDS; }
   if [ -t 2 ]; then
-    for name in "${!process[@]}"; do
-      count=$(grep -o '[0-9]* of [0-9]* functions' "$top/crates/$name/out/opprove.log" 2>/dev/null | tail -n 1)
-      count=${count% functions}
-      text+=" $name${count:+ (${count/ of //})}"
-    done
     for name in "${crates[@]}"; do ((all += seconds[$name])); [ -z "${is_proved[$name]:-}" ] || ((done += seconds[$name])); done
     bar=$(printf '%*s' $((20 * done / all)) '' | tr ' ' '#')
     width=$(tput cols 2>/dev/null || echo 80)
-    text=$(printf '[%-20s] %d of %d crates, about %s left:%s' "$bar" ${#is_proved[@]} ${#crates[@]} "$(minutes "$left")" "$text")
+    text=$(printf '[%-20s] %d of %d crates, about %s left: %s' "$bar" ${#is_proved[@]} ${#crates[@]} "$(minutes "$left")" "${!process[*]}")
     printf '\r%.*s\033[K' "$((width - 1))" "$text" >&2
     bar=shown
   elif ((${#is_proved[@]} > told_of)); then
@@ -197,55 +180,43 @@ tell() {
 
 # ---- Proofs
 
-# Makes the room in which a crate is proved: a checkout of that crate and of those below it, with what is built of them.
-# rt keeps others out of each folder that it reads, so in one checkout crates that stand on the same ones would wait for each other.
-furnish() {
-  local room=$rooms/$1 name part parts=()
-  for name in "$1" ${under[$1]}; do
-    for part in src specs proofs out/rlib; do
-      [ ! -d "$top/crates/$name/$part" ] || parts+=("crates/$name/$part")
-    done
+# Proves a crate with so many jobs by the kit's prover, as rt ci does: a library is built as what others can cite of it, so nothing above
+# it reads its proofs, and the program is compiled and linked. What is killed, as for want of memory, is tried once more with one job.
+prove_crate() {
+  local name place words=(--crate-name "$1" --links "$1=" --extern "std=$kit/rlibs/std.rlib" -L "dependency=$kit/rlibs" -L "dependency=$proved")
+  for name in $(libraries "$1"); do
+    if [ -d "$top/crates/$name" ]; then place=$proved; else place=$kit/rlibs; fi
+    words+=(--extern "$name=$place/$name.rlib")
   done
-  mkdir -p "$room/crates/$1/out" &&
-    (cd "$top" && "${copy[@]}" --parents "${parts[@]}" "$room") &&
-    awk -v names=" $1 ${under[$1]} " '{ split($0, words, /[ :]/) } index(names, " " words[1] " ")' \
-      "$top/crates.txt" >"$room/crates.txt" &&
-    { [ ! -d "$top/crates/$1/out/incremental" ] || mv "$top/crates/$1/out/incremental" "$room/crates/$1/out"; }
+  words+=(--antt-project "$kit/rattle/logic/antt-project.json" --logic-built "$kit/logic_built")
+  if [ "$1" = opprove ]; then
+    words+=(--toolchain "$kit/toolchain" -o "$program.o" src/main.rt)
+  else
+    words+=(--statements -o "$proved/$1.rlib" src/lib.rt)
+  fi
+  cd "$top/crates/$1" || return
+  "$kit/bin/rattle" build --jobs "$2" "${words[@]}" ||
+    { (($? == 137 && $2 > 1)) && "$kit/bin/rattle" build --jobs 1 "${words[@]}"; } || return
+  [ "$1" != opprove ] || "$kit/bin/rattle-link" --target x86_64-unknown-linux-gnu --toolchain "$kit/toolchain" -o "$program" \
+    "$program.o" "$kit/c/libos_c.a" "$kit/c/liblibc_c.a"
 }
 
-# Hands back what the proof of a crate has made, and removes its room.
-vacate() {
-  local part
-  [ -d "$rooms/$1" ] || return 0
-  for part in rlib incremental; do
-    [ ! -d "$rooms/$1/crates/$1/out/$part" ] ||
-      { rm -rf "$top/crates/$1/out/$part" && mv "$rooms/$1/crates/$1/out/$part" "$top/crates/$1/out"; }
-  done
-  rm -rf "${rooms:?}/$1"
-}
-
-# Starts the proof of a crate with so many jobs. The program, which is the last one, is proved where it stands, and linked too.
+# Starts the proof of a crate with so many jobs.
 start() {
-  local task=lib folder=$rooms/$1/crates/$1 log=$top/crates/$1/out/opprove.log
-  if [ "$1" = opprove ]; then task=run folder=$top/crates/$1; fi
-  { mkdir -p "${log%/*}" && : >"$log"; } 2>/dev/null || return
+  made_of[$1]=$(made_from "$1")
+  { rm -rf "$proved/$1.rlib" "$proved/$1.made_from" && : >"$proved/$1.log"; } 2>/dev/null || return
   # A process group of its own, which is ended as one, and which an interrupt of the terminal doesn't reach.
   set -m
-  (trap - INT TERM HUP PIPE && { [ "$task" = run ] || furnish "$1"; } && cd "$folder" &&
-    exec rt "$task" --jobs "$2" </dev/null) >"$log" 2>&1 9>&- &
+  (trap - INT TERM HUP PIPE && prove_crate "$1" "$2" </dev/null) >"$proved/$1.log" 2>&1 9>&- &
   process[$1]=$!
   set +m
   began[$1]=$SECONDS
 }
 
-# Ends all proofs that are under way. What they have done so far is kept for the next time.
+# Ends all proofs that are under way.
 stop_all() {
   local name
-  for name in "${!process[@]}"; do
-    { kill -- "-${process[$name]}"; wait "${process[$name]}"; } 2>/dev/null
-    vacate "$name"
-  done
-  rm -rf "$rooms"
+  for name in "${!process[@]}"; do { kill -- "-${process[$name]}"; wait "${process[$name]}"; } 2>/dev/null; done
 }
 
 # Ends the run by the signal that ended it.
@@ -266,7 +237,7 @@ has_room() {
 
 # Says in one line why something could not be written or proved, and what to do.
 fail() {
-  local log=$top/crates/$1/out/opprove.log
+  local log=$proved/$1.log
   if ! has_room || grep -qs 'No space left on device' "$log"; then
     say "the disk of $(cd "$top" && pwd) is full, or may not be written: make room and call again, which goes on with what is proved"
   elif ! command -v rt >/dev/null; then
@@ -308,7 +279,7 @@ start_ready() {
   done
 }
 
-# Takes what has ended.
+# Takes what has ended. A library whose sources were changed meanwhile is proved once more.
 take_ended() {
   local name status
   for name in "${!process[@]}"; do
@@ -317,13 +288,15 @@ take_ended() {
     status=$?
     took[$name]=$((SECONDS - began[$name]))
     unset "process[$name]"
-    vacate "$name"
-    # The program's own status is that of no words.
-    if [ "$name" = opprove ] && is_whole; then status=0; fi
+    [ "$name" != opprove ] || is_whole || status=1
     if ((status)); then
       stop_all
       fail "$name"
       return 1
+    fi
+    if [ "$name" != opprove ]; then
+      [ "${made_of[$name]}" = "$(made_from "$name")" ] || continue
+      { echo "${made_of[$name]}" >"$proved/$name.made_from"; } 2>/dev/null || { stop_all; fail "$name"; return 1; }
     fi
     is_proved[$name]=yes
   done
@@ -331,11 +304,7 @@ take_ended() {
 
 # Proves the crates as processors and memory allow, and links the program.
 prove() {
-  local name rooms told_at=$SECONDS told_of=${#is_proved[@]} copy=(cp -al)
-  rooms=$(cd "$top" && pwd)/.git/opprove-rooms
-  [ -d "$top/.git" ] || rooms=$(mktemp -d) || return
-  { rm -rf "$rooms" && mkdir -p "$rooms"; } 2>/dev/null || { fail opprove; return 1; }
-  ln "$top/crates.txt" "$rooms" 2>/dev/null || copy=(cp -a)
+  local name told_at=$SECONDS told_of=${#is_proved[@]}
   for name in INT TERM HUP PIPE; do trap "interrupted $name" "$name"; done
   while ((${#is_proved[@]} < ${#crates[@]})); do
     start_ready || return
@@ -344,12 +313,12 @@ prove() {
     take_ended || return
   done
   trap - INT TERM HUP PIPE
-  rm -rf "$rooms"
 }
 
-# One run proves at a time, and others wait for what it builds.
+# One run proves at a time, and others wait for what it builds. What is proved stands where rt ci leaves what it finds.
 lock() {
-  { mkdir -p "$out" && exec 9>"$out/opprove.lock"; } 2>/dev/null || { fail opprove; return 1; }
+  proved=$out/rlib
+  { mkdir -p "$proved" && out=$(cd "$out" && pwd) && proved=$out/rlib program=$out/opprove && exec 9>"$out/opprove.lock"; } 2>/dev/null || { fail opprove; return 1; }
   command -v flock >/dev/null ||
     { say "flock isn't found, by which one run proves at a time: install util-linux, and call again"; return 1; }
   flock -n 9 || { say "waiting for another run that proves the program" && flock 9; }
@@ -357,13 +326,14 @@ lock() {
 
 # Proves and builds the program for the present sources. A second round looks whether a source was changed meanwhile.
 build() {
-  local version present stamp slots wanted free load left
+  local kit version present stamp slots wanted free load left
   for _ in 1 2 3; do
     ! is_current || return 0
     if ! { version=$(kit_file) && [ -f "$version" ]; } 2>/dev/null; then
       say "rt isn't found, which proves and builds the program: put the bin folder of a Rattle kit in PATH, and call again"
       return 1
     fi
+    kit=${version%/*}
     { : >"$out/opprove.started"; } 2>/dev/null || { fail opprove; return 1; }
     # With no program it is said before the checksum is made, which takes a moment.
     if [ ! -x "$program" ] || [ ! -f "$built_for" ]; then
@@ -378,7 +348,8 @@ build() {
       [ ! -f "$built_for" ] || announce
       rm -f "$program" "$built_for"
       prove || return
-      { echo "$stamp" >"$built_for.new" && mv "$built_for.new" "$built_for"; } 2>/dev/null || { fail opprove; return 1; }
+      { echo "$stamp" >"$built_for.new" && touch -r "$out/opprove.started" "$built_for.new" && mv "$built_for.new" "$built_for"; } 2>/dev/null ||
+        { fail opprove; return 1; }
       say "built in $(minutes "$SECONDS")"
     fi
   done
