@@ -23,13 +23,13 @@ kit_file() {
   rt=$(readlink -f "$(command -v rt)") && echo "${rt%/*/*}/KIT-ID"
 }
 
-# The checksums of the sources in a folder.
-checksums() {
-  find "$1" -name out -prune -o -type f \( -name '*.rt' -o -name '*.antt' \) -print0 | LC_ALL=C sort -z | xargs -0 sha256sum
-}
+# The checksums of the sources in a folder of the checkout.
+checksums() (
+  cd "$top" && find "$1" -name out -prune -o -type f \( -name '*.rt' -o -name '*.antt' \) -print0 | LC_ALL=C sort -z | xargs -0 sha256sum
+)
 
 # The checksum of all that the program is made of.
-sources() { cd "$top" && { cat crates.txt && checksums crates; } | sha256sum; }
+sources() { { cat "$top/crates.txt" && checksums crates; } | sha256sum; }
 
 # The crates that the program stands on and the program, first those with the longest chain of lines above them, so each before
 # those that stand on it; behind each the seconds that it takes by itself, and the crates that it stands on. The seconds are those of
@@ -59,40 +59,35 @@ closure() {
     }' - "$top/crates.txt" | sort -rn | cut -d' ' -f2-
 }
 
-declare -gA below=() seconds=() process=() began=() took=() is_proved=() is_kept=() made_of=()
+declare -gA named=() below=() seconds=() process=() began=() took=() is_proved=() is_kept=() made_of=()
 crates=()
 
-# Reads the crates, and which of them were proved before.
+# Reads the crates and the libraries that each names, and which of them were proved before.
 read_crates() {
-  local name work names
-  crates=() below=() seconds=() process=() began=() took=() is_proved=() is_kept=() made_of=()
+  local name work names sum file
+  local -A sums=()
+  named=() below=() seconds=() process=() began=() took=() is_proved=() is_kept=() made_of=()
+  crates=()
+  while IFS=: read -r name names; do named[${name%% *}]=$names; done < <(grep '^[a-z]' "$top/crates.txt")
   while read -r name work names; do
     crates+=("$name")
     seconds[$name]=$work below[$name]=$names
   done < <(closure)
+  [ -n "$(find "$proved" -name '*.made_of' -print -quit)" ] || return 0
+  while read -r sum file; do
+    name=${file#crates/} name=${name%%/*}
+    sums[$name]+=${sums[$name]:+$'\n'}"$sum  $file"
+  done < <(checksums crates)
   for name in "${crates[@]}"; do
-    ! is_ready "$name" || ! is_unchanged "$name" || is_kept[$name]=yes is_proved[$name]=yes
+    ! is_ready "$name" || ! was_made_of "$name" "$(made_of "$name" "${sums[$name]}")" || is_kept[$name]=yes is_proved[$name]=yes
   done
 }
 
-# The libraries that a crate names, of these crates and of the kit.
-libraries() { awk -v name="$1" -F: '{ split($1, words, " ") } words[1] == name { print $2 }' "$top/crates.txt"; }
+# What a library is proved from beside those below it: the kit, the libraries that it names, and its sources, whose checksums are given.
+made_of() { printf '%s\n' "$kit_id" "${named[$1]}" "$2"; }
 
-# The checksum of what a library is proved from: the kit, its libraries, its sources, and what those of the libraries were that are
-# proved here.
-made_from() {
-  local name
-  {
-    echo "$version" && cat "$version" && libraries "$1" && (cd "$top" && checksums "crates/$1") &&
-      for name in ${below[$1]}; do cat "$proved/$name.made_from" || return; done
-  } | sha256sum
-}
-
-# Whether the library was proved from just this.
-is_unchanged() {
-  local kept=$proved/$1.made_from
-  [ -f "$kept" ] && [ "$(<"$kept")" = "$(made_from "$1")" ]
-} 2>/dev/null
+# Whether a library is there that was proved from just this. What is said of it goes before one below it is proved anew.
+was_made_of() { [ -f "$proved/$1.rlib/format" ] && [ -f "$proved/$1.made_of" ] && [ "$(<"$proved/$1.made_of")" = "$2" ]; }
 
 # Whether all that the crate stands on is proved.
 is_ready() {
@@ -184,7 +179,7 @@ tell() {
 # it reads its proofs, and the program is compiled and linked. What is killed, as for want of memory, is tried once more with one job.
 prove_crate() {
   local name place words=(--crate-name "$1" --links "$1=" --extern "std=$kit/rlibs/std.rlib" -L "dependency=$kit/rlibs" -L "dependency=$proved")
-  for name in $(libraries "$1"); do
+  for name in ${named[$1]}; do
     if [ -d "$top/crates/$name" ]; then place=$proved; else place=$kit/rlibs; fi
     words+=(--extern "$name=$place/$name.rlib")
   done
@@ -203,8 +198,8 @@ prove_crate() {
 
 # Starts the proof of a crate with so many jobs.
 start() {
-  made_of[$1]=$(made_from "$1")
-  { rm -rf "$proved/$1.rlib" "$proved/$1.made_from" && : >"$proved/$1.log"; } 2>/dev/null || return
+  made_of[$1]=$(made_of "$1" "$(checksums "crates/$1")")
+  { rm -rf "$proved/$1.rlib" && : >"$proved/$1.log"; } 2>/dev/null || return
   # A process group of its own, which is ended as one, and which an interrupt of the terminal doesn't reach.
   set -m
   (trap - INT TERM HUP PIPE && prove_crate "$1" "$2" </dev/null) >"$proved/$1.log" 2>&1 9>&- &
@@ -295,8 +290,8 @@ take_ended() {
       return 1
     fi
     if [ "$name" != opprove ]; then
-      [ "${made_of[$name]}" = "$(made_from "$name")" ] || continue
-      { echo "${made_of[$name]}" >"$proved/$name.made_from"; } 2>/dev/null || { stop_all; fail "$name"; return 1; }
+      [ "${made_of[$name]}" = "$(made_of "$name" "$(checksums "crates/$name")")" ] || continue
+      { echo "${made_of[$name]}" >"$proved/$name.made_of"; } 2>/dev/null || { stop_all; fail "$name"; return 1; }
     fi
     is_proved[$name]=yes
   done
@@ -304,7 +299,9 @@ take_ended() {
 
 # Proves the crates as processors and memory allow, and links the program.
 prove() {
-  local name told_at=$SECONDS told_of=${#is_proved[@]}
+  local name told_at=$SECONDS told_of=${#is_proved[@]} others=()
+  for name in "${crates[@]}"; do [ -n "${is_kept[$name]:-}" ] || others+=("$proved/$name.made_of"); done
+  rm -f "${others[@]}" 2>/dev/null || { fail opprove; return 1; }
   for name in INT TERM HUP PIPE; do trap "interrupted $name" "$name"; done
   while ((${#is_proved[@]} < ${#crates[@]})); do
     start_ready || return
@@ -326,14 +323,14 @@ lock() {
 
 # Proves and builds the program for the present sources. A second round looks whether a source was changed meanwhile.
 build() {
-  local kit version present stamp slots wanted free load left
+  local kit kit_id version present stamp slots wanted free load left
   for _ in 1 2 3; do
     ! is_current || return 0
     if ! { version=$(kit_file) && [ -f "$version" ]; } 2>/dev/null; then
       say "rt isn't found, which proves and builds the program: put the bin folder of a Rattle kit in PATH, and call again"
       return 1
     fi
-    kit=${version%/*}
+    kit=${version%/*} kit_id=$version$'\n'$(<"$version")
     { : >"$out/opprove.started"; } 2>/dev/null || { fail opprove; return 1; }
     # With no program it is said before the checksum is made, which takes a moment.
     if [ ! -x "$program" ] || [ ! -f "$built_for" ]; then
@@ -341,7 +338,7 @@ build() {
       announce
     fi
     present=$(sources 2>/dev/null) || { say "the sources could not be read"; return 1; }
-    stamp=$version$'\n'$(<"$version")$'\n'$present
+    stamp=$kit_id$'\n'$present
     if [ -f "$built_for" ] && [ "$(<"$built_for")" = "$stamp" ]; then
       touch -r "$out/opprove.started" "$built_for"
     else
