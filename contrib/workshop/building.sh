@@ -59,14 +59,14 @@ closure() {
     }' - "$top/crates.txt" | sort -rn | cut -d' ' -f2-
 }
 
-declare -gA named=() below=() seconds=() process=() began=() took=() is_proved=() is_kept=() made_of=()
+declare -gA named=() below=() seconds=() process=() began=() took=() is_proved=() is_kept=() made_then=()
 crates=()
 
 # Reads the crates and the libraries that each names, and which of them were proved before.
 read_crates() {
   local name work names sum file
   local -A sums=()
-  named=() below=() seconds=() process=() began=() took=() is_proved=() is_kept=() made_of=()
+  named=() below=() seconds=() process=() began=() took=() is_proved=() is_kept=() made_then=()
   crates=()
   while IFS=: read -r name names; do named[${name%% *}]=$names; done < <(grep '^[a-z]' "$top/crates.txt")
   while read -r name work names; do
@@ -178,14 +178,14 @@ tell() {
 # Proves a crate with so many jobs by the kit's prover, as rt ci does: a library is built as what others can cite of it, so nothing above
 # it reads its proofs, and the program is compiled and linked. What is killed, as for want of memory, is tried once more with one job.
 prove_crate() {
-  local name place words=(--crate-name "$1" --links "$1=" --extern "std=$kit/rlibs/std.rlib" -L "dependency=$kit/rlibs" -L "dependency=$proved")
+  local name place words=(--crate-name "$1" --links "$1=" -L "dependency=$kit/rlibs" -L "dependency=$proved")
+  words+=(--antt-project "$kit/rattle/logic/antt-project.json" --logic-built "$kit/logic_built" --extern "std=$kit/rlibs/std.rlib")
   for name in ${named[$1]}; do
     if [ -d "$top/crates/$name" ]; then place=$proved; else place=$kit/rlibs; fi
     words+=(--extern "$name=$place/$name.rlib")
   done
-  words+=(--antt-project "$kit/rattle/logic/antt-project.json" --logic-built "$kit/logic_built")
   if [ "$1" = opprove ]; then
-    words+=(--toolchain "$kit/toolchain" -o "$program.o" src/main.rt)
+    words+=(--toolchain "$kit/toolchain" --backend llvm -o "$program.o" src/main.rt)
   else
     words+=(--statements -o "$proved/$1.rlib" src/lib.rt)
   fi
@@ -198,7 +198,7 @@ prove_crate() {
 
 # Starts the proof of a crate with so many jobs.
 start() {
-  made_of[$1]=$(made_of "$1" "$(checksums "crates/$1")")
+  made_then[$1]=$(made_of "$1" "$(checksums "crates/$1")")
   { rm -rf "$proved/$1.rlib" && : >"$proved/$1.log"; } 2>/dev/null || return
   # A process group of its own, which is ended as one, and which an interrupt of the terminal doesn't reach.
   set -m
@@ -290,8 +290,8 @@ take_ended() {
       return 1
     fi
     if [ "$name" != opprove ]; then
-      [ "${made_of[$name]}" = "$(made_of "$name" "$(checksums "crates/$name")")" ] || continue
-      { echo "${made_of[$name]}" >"$proved/$name.made_of"; } 2>/dev/null || { stop_all; fail "$name"; return 1; }
+      [ "${made_then[$name]}" = "$(made_of "$name" "$(checksums "crates/$name")")" ] || continue
+      { echo "${made_then[$name]}" >"$proved/$name.made_of"; } 2>/dev/null || { stop_all; fail "$name"; return 1; }
     fi
     is_proved[$name]=yes
   done
@@ -315,7 +315,8 @@ prove() {
 # One run proves at a time, and others wait for what it builds. What is proved stands where rt ci leaves what it finds.
 lock() {
   proved=$out/rlib
-  { mkdir -p "$proved" && out=$(cd "$out" && pwd) && proved=$out/rlib program=$out/opprove && exec 9>"$out/opprove.lock"; } 2>/dev/null || { fail opprove; return 1; }
+  { mkdir -p "$proved" && out=$(cd "$out" && pwd) && proved=$out/rlib program=$out/opprove && exec 9>"$out/opprove.lock"; } 2>/dev/null ||
+    { fail opprove; return 1; }
   command -v flock >/dev/null ||
     { say "flock isn't found, by which one run proves at a time: install util-linux, and call again"; return 1; }
   flock -n 9 || { say "waiting for another run that proves the program" && flock 9; }
@@ -345,8 +346,8 @@ build() {
       [ ! -f "$built_for" ] || announce
       rm -f "$program" "$built_for"
       prove || return
-      { echo "$stamp" >"$built_for.new" && touch -r "$out/opprove.started" "$built_for.new" && mv "$built_for.new" "$built_for"; } 2>/dev/null ||
-        { fail opprove; return 1; }
+      { echo "$stamp" >"$built_for.new" && touch -r "$out/opprove.started" "$built_for.new" && mv "$built_for.new" "$built_for"; } \
+        2>/dev/null || { fail opprove; return 1; }
       say "built in $(minutes "$SECONDS")"
     fi
   done
