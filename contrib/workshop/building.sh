@@ -23,13 +23,13 @@ kit_file() {
   rt=$(readlink -f "$(command -v rt)") && echo "${rt%/*/*}/KIT-ID"
 }
 
+# The checksums of the sources in a folder of the checkout.
+checksums() (
+  cd "$top" && find "$1" -name out -prune -o -type f \( -name '*.rt' -o -name '*.antt' \) -print0 | LC_ALL=C sort -z | xargs -0 sha256sum
+)
+
 # The checksum of all that the program is made of.
-sources() {
-  cd "$top" && {
-    cat crates.txt &&
-      find crates -name out -prune -o -type f \( -name '*.rt' -o -name '*.antt' \) -print0 | LC_ALL=C sort -z | xargs -0 sha256sum
-  } | sha256sum
-}
+sources() { { cat "$top/crates.txt" && checksums crates; } | sha256sum; }
 
 # The crates that the program stands on and the program, first those with the longest chain of lines above them, so each before
 # those that stand on it; behind each the seconds that it takes by itself, and the crates that it stands on. The seconds are those of
@@ -59,51 +59,35 @@ closure() {
     }' - "$top/crates.txt" | sort -rn | cut -d' ' -f2-
 }
 
-declare -gA below=() under=() seconds=() process=() began=() took=() is_proved=() is_kept=()
+declare -gA named=() below=() seconds=() process=() began=() took=() is_proved=() is_kept=() made_then=()
 crates=()
 
-# Reads the crates, and which of them were proved before: no source of theirs, or of a crate below, is newer than what is built, nor is
-# the use of this kit here. These are proved without a look: the program's own rt, which comes last, compares what they are made of.
+# Reads the crates and the libraries that each names, and which of them were proved before.
 read_crates() {
-  local name work names
-  crates=() below=() under=() seconds=() process=() began=() took=() is_proved=() is_kept=()
+  local name work names sum file
+  local -A sums=()
+  named=() below=() seconds=() process=() began=() took=() is_proved=() is_kept=() made_then=()
+  crates=()
+  while IFS=: read -r name names; do named[${name%% *}]=$names; done < <(grep '^[a-z]' "$top/crates.txt")
   while read -r name work names; do
     crates+=("$name")
     seconds[$name]=$work below[$name]=$names
-    add_under "$name"
   done < <(closure)
-  date_kit
+  [ -n "$(find "$proved" -name '*.made_of' -print -quit)" ] || return 0
+  while read -r sum file; do
+    name=${file#crates/} name=${name%%/*}
+    sums[$name]+=${sums[$name]:+$'\n'}"$sum  $file"
+  done < <(checksums crates)
   for name in "${crates[@]}"; do
-    [ "$name" = opprove ] || ! were_proved "${below[$name]}" || ! is_unchanged "$name" || is_kept[$name]=yes is_proved[$name]=yes
+    ! is_ready "$name" || ! was_made_of "$name" "$(made_of "$name" "${sums[$name]}")" || is_kept[$name]=yes is_proved[$name]=yes
   done
 }
 
-# All crates that one stands on, of which those that it names are known.
-add_under() {
-  local name other
-  local -A found=()
-  for name in ${below[$1]}; do for other in $name ${under[$name]}; do found[$other]=yes; done; done
-  under[$1]=${!found[*]}
-}
+# What a library is proved from beside those below it: the kit, the libraries that it names, and its sources, whose checksums are given.
+made_of() { printf '%s\n' "$kit_id" "${named[$1]}" "$2"; }
 
-were_proved() {
-  local name
-  for name in $1; do [ -n "${is_kept[$name]:-}" ] || return 1; done
-}
-
-# Whether what is built of a crate is newer than its folders and files, and than the use of this kit.
-is_unchanged() {
-  local stamp=$top/crates/$1/out/rlib/stamp
-  [ -f "$stamp" ] && [ -z "$(find "$out/opprove.kit" "$top/crates/$1" -name out -prune -o -newer "$stamp" -print -quit 2>&1)" ]
-}
-
-# Dates the use of this kit: that of another one ends now, and the first one was there since it was installed.
-date_kit() {
-  local dated=$out/opprove.kit kit
-  kit=$version$'\n'$(<"$version")
-  [ ! -f "$dated" ] || [ "$(<"$dated")" != "$kit" ] || return 0
-  if [ -f "$dated" ]; then echo "$kit" >"$dated"; else echo "$kit" >"$dated" && touch -r "$version" "$dated"; fi
-} 2>/dev/null
+# Whether a library is there that was proved from just this. What is said of it goes before one below it is proved anew.
+was_made_of() { [ -f "$proved/$1.rlib/format" ] && [ -f "$proved/$1.made_of" ] && [ "$(<"$proved/$1.made_of")" = "$2" ]; }
 
 # Whether all that the crate stands on is proved.
 is_ready() {
@@ -167,26 +151,20 @@ announce() {
   left=$(foretell)
   say "${#crates[@]} crates are proved and the program is built first, once for the present sources: about $(minutes "$left") here$(
     ((kept)) && echo " ($kept of them are proved already)" || echo ' (43 on a busy machine of 4 processors)')"
-  say "./unproved WORDS answers within a minute and a half, with nothing behind it but the code; Ctrl-C loses nothing that is proved"
+  say "./unproved WORDS answers within a minute and a half, with nothing behind it but the code; Ctrl-C loses no crate that is proved"
   ((slots == wanted)) ||
     say "side by side are proved $slots at most, and not $wanted, for want of memory: each may take 3 GB, and ${free:-?} GB are free"
 }
 
-# How far it is: on a terminal a line that is rewritten, with a bar and with rt's own count of functions where its log has one; else a
-# line for each crate that is proved.
+# How far it is: on a terminal a line that is rewritten, with a bar; else a line for each crate that is proved.
 tell() {
-  local name count text="" done=0 all=0 width
+  local name text done=0 all=0 width
   ((SECONDS < told_at + 5 && ${#is_proved[@]} == told_of)) || { left=$(foretell) told_at=$SECONDS; }
   if [ -t 2 ]; then
-    for name in "${!process[@]}"; do
-      count=$(grep -o '[0-9]* of [0-9]* functions' "$top/crates/$name/out/opprove.log" 2>/dev/null | tail -n 1)
-      count=${count% functions}
-      text+=" $name${count:+ (${count/ of //})}"
-    done
     for name in "${crates[@]}"; do ((all += seconds[$name])); [ -z "${is_proved[$name]:-}" ] || ((done += seconds[$name])); done
     bar=$(printf '%*s' $((20 * done / all)) '' | tr ' ' '#')
     width=$(tput cols 2>/dev/null || echo 80)
-    text=$(printf '[%-20s] %d of %d crates, about %s left:%s' "$bar" ${#is_proved[@]} ${#crates[@]} "$(minutes "$left")" "$text")
+    text=$(printf '[%-20s] %d of %d crates, about %s left: %s' "$bar" ${#is_proved[@]} ${#crates[@]} "$(minutes "$left")" "${!process[*]}")
     printf '\r%.*s\033[K' "$((width - 1))" "$text" >&2
     bar=shown
   elif ((${#is_proved[@]} > told_of)); then
@@ -197,55 +175,43 @@ tell() {
 
 # ---- Proofs
 
-# Makes the room in which a crate is proved: a checkout of that crate and of those below it, with what is built of them.
-# rt keeps others out of each folder that it reads, so in one checkout crates that stand on the same ones would wait for each other.
-furnish() {
-  local room=$rooms/$1 name part parts=()
-  for name in "$1" ${under[$1]}; do
-    for part in src specs proofs out/rlib; do
-      [ ! -d "$top/crates/$name/$part" ] || parts+=("crates/$name/$part")
-    done
+# Proves a crate with so many jobs by the kit's prover, as rt ci does: a library is built as what others can cite of it, so nothing above
+# it reads its proofs, and the program is compiled and linked. What is killed, as for want of memory, is tried once more with one job.
+prove_crate() {
+  local name place words=(--crate-name "$1" --links "$1=" -L "dependency=$kit/rlibs" -L "dependency=$proved")
+  words+=(--antt-project "$kit/rattle/logic/antt-project.json" --logic-built "$kit/logic_built" --extern "std=$kit/rlibs/std.rlib")
+  for name in ${named[$1]}; do
+    if [ -d "$top/crates/$name" ]; then place=$proved; else place=$kit/rlibs; fi
+    words+=(--extern "$name=$place/$name.rlib")
   done
-  mkdir -p "$room/crates/$1/out" &&
-    (cd "$top" && "${copy[@]}" --parents "${parts[@]}" "$room") &&
-    awk -v names=" $1 ${under[$1]} " '{ split($0, words, /[ :]/) } index(names, " " words[1] " ")' \
-      "$top/crates.txt" >"$room/crates.txt" &&
-    { [ ! -d "$top/crates/$1/out/incremental" ] || mv "$top/crates/$1/out/incremental" "$room/crates/$1/out"; }
+  if [ "$1" = opprove ]; then
+    words+=(--toolchain "$kit/toolchain" --backend llvm -o "$program.o" src/main.rt)
+  else
+    words+=(--statements -o "$proved/$1.rlib" src/lib.rt)
+  fi
+  cd "$top/crates/$1" || return
+  "$kit/bin/rattle" build --jobs "$2" "${words[@]}" ||
+    { (($? == 137 && $2 > 1)) && "$kit/bin/rattle" build --jobs 1 "${words[@]}"; } || return
+  [ "$1" != opprove ] || "$kit/bin/rattle-link" --target x86_64-unknown-linux-gnu --toolchain "$kit/toolchain" -o "$program" \
+    "$program.o" "$kit/c/libos_c.a" "$kit/c/liblibc_c.a"
 }
 
-# Hands back what the proof of a crate has made, and removes its room.
-vacate() {
-  local part
-  [ -d "$rooms/$1" ] || return 0
-  for part in rlib incremental; do
-    [ ! -d "$rooms/$1/crates/$1/out/$part" ] ||
-      { rm -rf "$top/crates/$1/out/$part" && mv "$rooms/$1/crates/$1/out/$part" "$top/crates/$1/out"; }
-  done
-  rm -rf "${rooms:?}/$1"
-}
-
-# Starts the proof of a crate with so many jobs. The program, which is the last one, is proved where it stands, and linked too.
+# Starts the proof of a crate with so many jobs.
 start() {
-  local task=lib folder=$rooms/$1/crates/$1 log=$top/crates/$1/out/opprove.log
-  if [ "$1" = opprove ]; then task=run folder=$top/crates/$1; fi
-  { mkdir -p "${log%/*}" && : >"$log"; } 2>/dev/null || return
+  made_then[$1]=$(made_of "$1" "$(checksums "crates/$1")")
+  { rm -rf "$proved/$1.rlib" && : >"$proved/$1.log"; } 2>/dev/null || return
   # A process group of its own, which is ended as one, and which an interrupt of the terminal doesn't reach.
   set -m
-  (trap - INT TERM HUP PIPE && { [ "$task" = run ] || furnish "$1"; } && cd "$folder" &&
-    exec rt "$task" --jobs "$2" </dev/null) >"$log" 2>&1 9>&- &
+  (trap - INT TERM HUP PIPE && prove_crate "$1" "$2" </dev/null) >"$proved/$1.log" 2>&1 9>&- &
   process[$1]=$!
   set +m
   began[$1]=$SECONDS
 }
 
-# Ends all proofs that are under way. What they have done so far is kept for the next time.
+# Ends all proofs that are under way.
 stop_all() {
   local name
-  for name in "${!process[@]}"; do
-    { kill -- "-${process[$name]}"; wait "${process[$name]}"; } 2>/dev/null
-    vacate "$name"
-  done
-  rm -rf "$rooms"
+  for name in "${!process[@]}"; do { kill -- "-${process[$name]}"; wait "${process[$name]}"; } 2>/dev/null; done
 }
 
 # Ends the run by the signal that ended it.
@@ -266,7 +232,7 @@ has_room() {
 
 # Says in one line why something could not be written or proved, and what to do.
 fail() {
-  local log=$top/crates/$1/out/opprove.log
+  local log=$proved/$1.log
   if ! has_room || grep -qs 'No space left on device' "$log"; then
     say "the disk of $(cd "$top" && pwd) is full, or may not be written: make room and call again, which goes on with what is proved"
   elif ! command -v rt >/dev/null; then
@@ -308,7 +274,7 @@ start_ready() {
   done
 }
 
-# Takes what has ended.
+# Takes what has ended. A library whose sources were changed meanwhile is proved once more.
 take_ended() {
   local name status
   for name in "${!process[@]}"; do
@@ -317,13 +283,15 @@ take_ended() {
     status=$?
     took[$name]=$((SECONDS - began[$name]))
     unset "process[$name]"
-    vacate "$name"
-    # The program's own status is that of no words.
-    if [ "$name" = opprove ] && is_whole; then status=0; fi
+    [ "$name" != opprove ] || is_whole || status=1
     if ((status)); then
       stop_all
       fail "$name"
       return 1
+    fi
+    if [ "$name" != opprove ]; then
+      [ "${made_then[$name]}" = "$(made_of "$name" "$(checksums "crates/$name")")" ] || continue
+      { echo "${made_then[$name]}" >"$proved/$name.made_of"; } 2>/dev/null || { stop_all; fail "$name"; return 1; }
     fi
     is_proved[$name]=yes
   done
@@ -331,11 +299,9 @@ take_ended() {
 
 # Proves the crates as processors and memory allow, and links the program.
 prove() {
-  local name rooms told_at=$SECONDS told_of=${#is_proved[@]} copy=(cp -al)
-  rooms=$(cd "$top" && pwd)/.git/opprove-rooms
-  [ -d "$top/.git" ] || rooms=$(mktemp -d) || return
-  { rm -rf "$rooms" && mkdir -p "$rooms"; } 2>/dev/null || { fail opprove; return 1; }
-  ln "$top/crates.txt" "$rooms" 2>/dev/null || copy=(cp -a)
+  local name told_at=$SECONDS told_of=${#is_proved[@]} others=()
+  for name in "${crates[@]}"; do [ -n "${is_kept[$name]:-}" ] || others+=("$proved/$name.made_of"); done
+  rm -f "${others[@]}" 2>/dev/null || { fail opprove; return 1; }
   for name in INT TERM HUP PIPE; do trap "interrupted $name" "$name"; done
   while ((${#is_proved[@]} < ${#crates[@]})); do
     start_ready || return
@@ -344,12 +310,13 @@ prove() {
     take_ended || return
   done
   trap - INT TERM HUP PIPE
-  rm -rf "$rooms"
 }
 
-# One run proves at a time, and others wait for what it builds.
+# One run proves at a time, and others wait for what it builds. What is proved stands where rt ci leaves what it finds.
 lock() {
-  { mkdir -p "$out" && exec 9>"$out/opprove.lock"; } 2>/dev/null || { fail opprove; return 1; }
+  proved=$out/rlib
+  { mkdir -p "$proved" && out=$(cd "$out" && pwd) && proved=$out/rlib program=$out/opprove && exec 9>"$out/opprove.lock"; } 2>/dev/null ||
+    { fail opprove; return 1; }
   command -v flock >/dev/null ||
     { say "flock isn't found, by which one run proves at a time: install util-linux, and call again"; return 1; }
   flock -n 9 || { say "waiting for another run that proves the program" && flock 9; }
@@ -357,13 +324,14 @@ lock() {
 
 # Proves and builds the program for the present sources. A second round looks whether a source was changed meanwhile.
 build() {
-  local version present stamp slots wanted free load left
+  local kit kit_id version present stamp slots wanted free load left
   for _ in 1 2 3; do
     ! is_current || return 0
     if ! { version=$(kit_file) && [ -f "$version" ]; } 2>/dev/null; then
       say "rt isn't found, which proves and builds the program: put the bin folder of a Rattle kit in PATH, and call again"
       return 1
     fi
+    kit=${version%/*} kit_id=$version$'\n'$(<"$version")
     { : >"$out/opprove.started"; } 2>/dev/null || { fail opprove; return 1; }
     # With no program it is said before the checksum is made, which takes a moment.
     if [ ! -x "$program" ] || [ ! -f "$built_for" ]; then
@@ -371,14 +339,15 @@ build() {
       announce
     fi
     present=$(sources 2>/dev/null) || { say "the sources could not be read"; return 1; }
-    stamp=$version$'\n'$(<"$version")$'\n'$present
+    stamp=$kit_id$'\n'$present
     if [ -f "$built_for" ] && [ "$(<"$built_for")" = "$stamp" ]; then
       touch -r "$out/opprove.started" "$built_for"
     else
       [ ! -f "$built_for" ] || announce
       rm -f "$program" "$built_for"
       prove || return
-      { echo "$stamp" >"$built_for.new" && mv "$built_for.new" "$built_for"; } 2>/dev/null || { fail opprove; return 1; }
+      { echo "$stamp" >"$built_for.new" && touch -r "$out/opprove.started" "$built_for.new" && mv "$built_for.new" "$built_for"; } \
+        2>/dev/null || { fail opprove; return 1; }
       say "built in $(minutes "$SECONDS")"
     fi
   done
