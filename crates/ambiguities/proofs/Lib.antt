@@ -11,3 +11,4 @@ pub mod Signatures
 pub mod Exits
 pub mod Leads
 pub mod Occurrences
+pub mod Agreement

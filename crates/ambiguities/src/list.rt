@@ -5,7 +5,7 @@ ghost use Rattle.std.specs.List.{All, AllPairs};
 ghost use Rattle.nc_polynomial.specs.Limits.{word_limit};
 ghost use Rattle.ambiguities.specs.Listed.{IsBefore, ListsExactly, IsAmbiguityFrom, IsOfFirst, IsOfPair, IsGrown, ambiguity_at};
 
-use crate::places::inclusions;
+use crate::places::{inclusions, overlaps};
 use crate::{Ambiguity, Kind};
 use lists::Listing;
 use rule_reduce::{Rule, Rules, rule_with};
@@ -70,8 +70,8 @@ fn push_pair(
 {
     let word = &rule_with(rules, i).lead;
     let other = &rule_with(rules, j).lead;
-    let overlaps = word.overlaps(other)?;
-    push_places(found, i, j, Kind::Overlap, overlaps.as_slice())?;
+    let overlapping = overlaps(found.allocator(), word, other)?;
+    push_places(found, i, j, Kind::Overlap, overlapping.as_slice())?;
     if i != j {
         let places = inclusions(found.allocator(), word, other)?;
         push_places(found, i, j, Kind::Inclusion, places.as_slice())?;
