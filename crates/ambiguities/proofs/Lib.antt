@@ -12,3 +12,4 @@ pub mod Exits
 pub mod Leads
 pub mod Occurrences
 pub mod Agreement
+pub mod Marked
