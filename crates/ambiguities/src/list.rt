@@ -58,7 +58,7 @@ fn push_first(
     Ok(())
 }
 
-// Those of two rules, of the first of which the marks are.
+// Those of two rules, with the marks of the letters of the first one's leading word.
 fn push_marked(
     found: &mut Listing<Ambiguity>,
     rules: &[Rule],

@@ -4,7 +4,7 @@ ghost use Rattle.ambiguities.specs.Agreement.{HasMarks, is_marked};
 
 use word_core::Word;
 
-// The number of marks. A letter has the mark that is left of its number when it is divided by the number of marks.
+// The number of marks. A letter's mark is the remainder of its number by it.
 pub(crate) const MARKS: usize = 64;
 
 // A mark for each letter of the word.
