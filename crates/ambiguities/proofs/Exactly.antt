@@ -2,7 +2,7 @@
 use Rattle.std.proofs.Common.{◌≡◌, ◌↔◌, ◌⊎◌, inl, inr, ℕ, ◌+◌, ◌-◌, ◌<◌, ◌≤◌, List, [], ◌∷◌, ◌++◌, map, length, get_or, refl, sym, ap, ◌∙◌, subst, arith}
 use Rattle.std.specs.List.{All, AllPairs, Contains}
 use Rattle.std.proofs.lemmas.Bool.{cases_lt}
-use Rattle.std.proofs.lemmas.List.{append_assoc, length-append, length-map, get_or_append_left, get_or-append_right, get_or-map}
+use Rattle.std.proofs.lemmas.List.{append-nil, append_assoc, length-append, length-map, get_or_append_left, get_or-append_right, get_or-map}
 use Rattle.std.proofs.lemmas.List.Elements.{Contains-append_left, Contains-append_right, Contains-append_cases, Contains-get_or, All-weaker, All-contains_itself}
 use Rattle.ambiguities.specs.declared.ambiguity.Ambiguity.{Ambiguity}
 use Rattle.ambiguities.specs.Listed.{IsBefore, ListsExactly, IsGrown}
@@ -139,6 +139,17 @@ grown-append P Q R old mid new first second across both = record {
 
 pub grown-same : (P Q : Ambiguity → Type 0) (old new : List Ambiguity) → ((a : Ambiguity) → Q a ↔ P a) → IsGrown P old new → IsGrown Q old new
 grown-same P Q old new same grown = record { more = grown.more; appended = grown.appended; exact = exactly-same IsBefore P Q grown.more same grown.exact }
+
+-- where nothing has the property, nothing is appended
+pub grown-none : (P : Ambiguity → Type 0) (old : List Ambiguity) → ((a : Ambiguity) → P a → ⊥) → IsGrown P old old
+grown-none P old none = record {
+  more = [];
+  appended = sym (append-nil old);
+  exact = record {
+    members = λ a. (λ at. absurd (omega (arith, at.1)), λ held. absurd (none a held));
+    ascending = λ m n d before inside. absurd (omega (arith, inside));
+  };
+}
 
 -- what grew from nothing is what was appended
 pub grown-whole : (P : Ambiguity → Type 0) (new : List Ambiguity) → IsGrown P [] new → ListsExactly IsBefore P new

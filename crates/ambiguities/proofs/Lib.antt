@@ -11,3 +11,5 @@ pub mod Signatures
 pub mod Exits
 pub mod Leads
 pub mod Occurrences
+pub mod Agreement
+pub mod Marked

@@ -6,7 +6,7 @@ use Rattle.word_core.specs.Overlap.{OverlapsAt}
 use Rattle.word_core.proofs.Places.{OccursAt-length}
 
 module _ (word sub : List ℕ) (place : ℕ) where
-  front_is : place + length sub ≤ length word → ((k : ℕ) → k < length sub → get_or word (place + k) 0 ≡ get_or sub k 0) → take (length sub) (drop place word) ≡ sub
+  pub front_is : place + length sub ≤ length word → ((k : ℕ) → k < length sub → get_or word (place + k) 0 ≡ get_or sub k 0) → take (length sub) (drop place word) ≡ sub
   front_is fits agree = same_lists (take (length sub) (drop place word)) sub lengths letters
     where
       lengths : length (take (length sub) (drop place word)) ≡ length sub

@@ -1,11 +1,6 @@
 -- The ambiguities of two rules: those of each kind, at their places.
-use Rattle.std.proofs.Common.{◌≡◌, ◌⊎◌, inl, inr, ℕ, ◌-◌, ◌<◌, List, ◌++◌, map, length, Some, refl, sym, ap, ◌∙◌, subst, arith}
-use Rattle.std.specs.List.{AllPairs, range_with_len}
-use Rattle.std.proofs.lemmas.List.Kept.{AllPairs-filter}
-use Rattle.std.proofs.lemmas.List.FromFn.{length-range_with_len, get_or-range_with_len}
+use Rattle.std.proofs.Common.{◌≡◌, ◌⊎◌, inl, inr, ℕ, ◌<◌, List, ◌++◌, map, Some, refl, sym, ap, ◌∙◌, subst, arith}
 use Rattle.std.proofs.lemmas.Option.{same_Some}
-use Rattle.word_core.specs.Overlap.{OverlapsAt, overlaps_at, overlap_places}
-use Rattle.word_core.proofs.Overlaps.{overlap_places-tells}
 use Rattle.rule_reduce.specs.declared.rule.Rule.{Rule}
 use Rattle.rule_reduce.specs.RuleLists.{rule_at}
 use Rattle.ambiguities.specs.declared.ambiguity.Kind.{Kind}
@@ -14,19 +9,6 @@ use Rattle.ambiguities.specs.declared.ambiguity.Ambiguity.{Ambiguity}
 use Rattle.ambiguities.specs.Ambiguities.{MeetsAs}
 use Rattle.ambiguities.specs.Listed.{IsBefore, kind_number, ListsExactly, IsGrown, IsOfPair, ambiguity_at}
 use Rattle.ambiguities.proofs.Exactly.{exactly-map, grown-append, grown-same}
-
-range-ascending : (a n : ℕ) → AllPairs (λ s t. s < t) (range_with_len a n)
-range-ascending a n i j d before inside =
-    let j_in : j < n = omega (arith, inside, length-range_with_len a n) in
-    let i_in : i < n = omega (arith, j_in, before) in
-    omega (arith, before, get_or-range_with_len a n i d i_in, get_or-range_with_len a n j d j_in)
-
--- the places at which two words overlap, ascending
-pub overlaps-exactly : (p q : List ℕ) → ListsExactly (λ s t. s < t) (OverlapsAt p q) (overlap_places p q)
-overlaps-exactly p q = record {
-  members = overlap_places-tells p q;
-  ascending = AllPairs-filter (λ s t. s < t) (overlaps_at p q) (range_with_len 1 (length p - 1)) (range-ascending 1 (length p - 1));
-}
 
 module _ (rules : List Rule) (i j : ℕ) (first second : Rule) (first_is : rule_at rules i ≡ Some first) (second_is : rule_at rules j ≡ Some second) where
   pub record OfKind (kind : Kind) (a : Ambiguity) : Type 0 where

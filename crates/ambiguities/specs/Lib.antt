@@ -15,6 +15,7 @@ pub use Rattle.rule_reduce.specs.RuleLists
 pub use Rattle.coef_int.specs.Divisor
 pub use Rattle.rule_reduce.specs.KeptWords
 pub mod Ambiguities
+pub mod Agreement
 pub mod Listed
 pub mod SPolynomials
 pub mod Laws

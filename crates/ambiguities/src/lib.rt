@@ -5,6 +5,7 @@ mod ambiguity;
 mod factors;
 mod laws;
 mod list;
+mod marks;
 mod overlap;
 mod places;
 mod polynomial;

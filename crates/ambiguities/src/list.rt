@@ -3,9 +3,12 @@
 ghost use Rattle.std.specs.Prelude.{◌≡◌, ◌↔◌, ◌≤◌, ◌<◌, ◌^◌, ◌++◌, map, length, Contains, IfOk, OnOk};
 ghost use Rattle.std.specs.List.{All, AllPairs};
 ghost use Rattle.nc_polynomial.specs.Limits.{word_limit};
+ghost use Rattle.ambiguities.specs.Agreement.{HasMarks};
+ghost use Rattle.ambiguities.specs.Ambiguities.{lead_at};
 ghost use Rattle.ambiguities.specs.Listed.{IsBefore, ListsExactly, IsAmbiguityFrom, IsOfFirst, IsOfPair, IsGrown, ambiguity_at};
 
-use crate::places::inclusions;
+use crate::marks::{MARKS, marks_of, may_begin};
+use crate::places::{inclusions, overlaps};
 use crate::{Ambiguity, Kind};
 use lists::Listing;
 use rule_reduce::{Rule, Rules, rule_with};
@@ -47,11 +50,34 @@ fn push_first(
     requires last { i ≤ length rules.now }
     ensures { OnOk result (IsGrown (IsOfFirst from rules.now i) found.old found.new) }
 {
+    let marks = marks_of(&rule_with(rules, i).lead);
     let least = if i < from { from } else { 1 };
     for j in least..=rules.len() as u32 {
-        push_pair(found, rules, i, j)?;
+        push_marked(found, rules, &marks, i, j)?;
     }
     Ok(())
+}
+
+// Those of two rules, with the marks of the letters of the first one's leading word.
+fn push_marked(
+    found: &mut Listing<Ambiguity>,
+    rules: &[Rule],
+    marks: &[bool; MARKS],
+    i: u32,
+    j: u32,
+) -> Result<(), AllocError>
+    requires short { All (λ g. length g.lead ≤ word_limit) rules.now }
+    requires i_first { 0 < i }
+    requires i_last { i ≤ length rules.now }
+    requires j_first { 0 < j }
+    requires j_last { j ≤ length rules.now }
+    requires marked { HasMarks marks.now (lead_at rules.now i) }
+    ensures { OnOk result (IsGrown (IsOfPair rules.now i j) found.old found.new) }
+{
+    if !may_begin(marks, &rule_with(rules, j).lead) {
+        return Ok(());
+    }
+    push_pair(found, rules, i, j)
 }
 
 // Those of two rules.
@@ -70,8 +96,8 @@ fn push_pair(
 {
     let word = &rule_with(rules, i).lead;
     let other = &rule_with(rules, j).lead;
-    let overlaps = word.overlaps(other)?;
-    push_places(found, i, j, Kind::Overlap, overlaps.as_slice())?;
+    let overlapping = overlaps(found.allocator(), word, other)?;
+    push_places(found, i, j, Kind::Overlap, overlapping.as_slice())?;
     if i != j {
         let places = inclusions(found.allocator(), word, other)?;
         push_places(found, i, j, Kind::Inclusion, places.as_slice())?;

@@ -1,0 +1,10 @@
+use Rattle.std.proofs.Common.{◌≡◌, ℕ, ◌<◌, true, length}
+use Rattle.ambiguities.specs.Agreement.{is_marked}
+use Rattle.ambiguities.proofs.marks.marks_of.Given as goal
+
+-- the letters that were passed are marked
+abbrev pub invariant-loop-place : goal.invariant-loop-place
+invariant-loop-place l = record {
+  sized : length l.marks ≡ 64;
+  marked : (k : ℕ) → k < l.place → is_marked l.marks l.word k ≡ true;
+}
