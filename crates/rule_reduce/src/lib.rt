@@ -10,6 +10,7 @@ mod rule;
 mod rules;
 mod state;
 mod stepping;
+mod subtracting;
 
 pub use fault::ReduceFault;
 pub use laws::{
