@@ -6,7 +6,7 @@ ghost use Rattle.std.specs.declared.cmp.Ordering.TheVariants.{Greater};
 ghost use Rattle.coef_int.specs.Range.{IsCoefficient};
 ghost use Rattle.word_core.specs.Canonical.{word_cmp};
 ghost use Rattle.nc_polynomial.specs.Shape.{IsShaped};
-ghost use Rattle.nc_polynomial.specs.Terms.{added, sums};
+ghost use Rattle.nc_polynomial.specs.Terms.{IsDescending, added, sums};
 ghost use Rattle.nc_polynomial.specs.Faults.{checked, Explains};
 
 use lists::Listing;
@@ -39,6 +39,7 @@ pub(crate) fn add_terms(
 
 // The number of the first terms that are above all others.
 fn count_in_front(terms: &[(i128, Word)], others: &[(i128, Word)]) -> usize
+    requires descending { IsDescending terms.now }
     ensures in_range { result ≤ length terms.now }
     ensures above { IfSome (slice_get others.now 0) (λ u. All (λ t. word_cmp t.1 u.1 ≡ Greater) (take result terms.now)) }
 {
@@ -50,15 +51,18 @@ fn count_in_front(terms: &[(i128, Word)], others: &[(i128, Word)]) -> usize
 
 // The number of the first terms that are above the word.
 fn count_above(terms: &[(i128, Word)], word: &Word) -> usize
+    requires descending { IsDescending terms.now }
     ensures in_range { result ≤ length terms.now }
     ensures above { All (λ t. word_cmp t.1 word.now ≡ Greater) (take result terms.now) }
 {
-    let mut count = 0;
-    while count < terms.len() {
-        match terms[count].1.cmp_degree(word) {
-            Ordering::Greater => count += 1,
-            _ => return count,
+    let mut low = 0;
+    let mut high = terms.len();
+    while low < high {
+        let middle = low + (high - low) / 2;
+        match terms[middle].1.cmp_degree(word) {
+            Ordering::Greater => low = middle + 1,
+            _ => high = middle,
         }
     }
-    count
+    low
 }

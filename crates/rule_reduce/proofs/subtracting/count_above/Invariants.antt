@@ -4,12 +4,13 @@ use Rattle.std.specs.declared.cmp.Ordering.TheVariants.{Greater}
 use Rattle.word_core.specs.Canonical.{word_cmp}
 use Rattle.rule_reduce.proofs.subtracting.count_above.Given as goal
 
--- those so far are above
-abbrev pub invariant-loop-count : goal.invariant-loop-count
-invariant-loop-count l = record {
-  in_range : l.count ≤ length l.terms;
-  above : All (λ t. word_cmp t.1 l.word ≡ Greater) (take l.count l.terms);
+-- the first ones are above
+abbrev pub invariant-loop-low : goal.invariant-loop-low
+invariant-loop-low l = record {
+  ordered : l.low ≤ l.high;
+  in_range : l.high ≤ length l.terms;
+  above : All (λ t. word_cmp t.1 l.word ≡ Greater) (take l.low l.terms);
 }
 
-abbrev pub decreases-loop-count : goal.decreases-loop-count
-decreases-loop-count l = length l.terms - l.count
+abbrev pub decreases-loop-low : goal.decreases-loop-low
+decreases-loop-low l = l.high - l.low
