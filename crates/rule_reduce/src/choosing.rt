@@ -1,6 +1,6 @@
 //! The choice of a step: the greatest word that can be reduced, the least rule for it, and its leftmost place.
 
-ghost use Rattle.std.specs.Prelude.{◌≡◌, ◌↔◌, ◌≤◌, length, IfOk, IfSome, IsTrue};
+ghost use Rattle.std.specs.Prelude.{◌≡◌, ◌↔◌, ◌≤◌, length, take, IfOk, IfSome, IsTrue};
 ghost use Rattle.std.specs.List.{All};
 ghost use Rattle.std.specs.declared.cmp.Ordering.TheVariants.{Greater};
 ghost use Rattle.coef_int.specs.Range.{IsCoefficient};
@@ -8,13 +8,14 @@ ghost use Rattle.word_core.specs.Canonical.{word_cmp};
 ghost use Rattle.word_core.specs.Letters.{IsOver};
 ghost use Rattle.word_orders.specs.Limits.{measured_letters};
 ghost use Rattle.nc_polynomial.specs.Shape.{IsCanonical};
+ghost use Rattle.nc_polynomial.specs.Terms.{IsDescending};
 ghost use Rattle.rule_index.specs.Matches.{match_of};
 ghost use Rattle.rule_reduce.specs.Choices.{better_choice, choice_of, IsSettled};
 
 use crate::state::Choice;
+use crate::subtracting::count_above;
 use rule_index::Index;
 use std::alloc::AllocError;
-use std::cmp::Ordering;
 use std::marker::Model;
 use word_core::Word;
 use word_orders::WordOrder;
@@ -59,19 +60,33 @@ pub(crate) fn choose<O: WordOrder>(
 ) -> Result<Option<Choice>, AllocError>
     requires canonical { IsCanonical terms.now }
     requires over { All (λ t. IsOver (O.letters order.now) t.1) terms.now }
-    requires last_over { IfSome last (λ w. IsOver (O.letters order.now) w.now) }
+    requires last_short { IfSome last (λ w. length w.now ≤ measured_letters) }
     requires settled { IfSome last (λ w. All (λ t. IsSettled (O.compare order.now) index.now w.now t.1) terms.now) }
     ensures in_range { IfOk result (λ b. IfSome b (λ c. IsCoefficient c.coefficient)) }
     ensures over { IfOk result (λ b. IfSome b (λ c. IsOver (O.letters order.now) c.word)) }
+    ensures short { IfOk result (λ b. IfSome b (λ c. length c.word ≤ measured_letters)) }
     ensures exact { IfOk result (λ b. b ≡ choice_of (O.compare order.now) index.now terms.now) }
 {
+    let above = count_above_last(terms, last);
     let mut best = None;
-    for term in terms {
-        best = improve(order, index, last, best, term);
+    for place in 0..terms.len() {
+        best = improve(order, index, last, place < above, best, &terms[place]);
     }
     match best {
         Some(found) => Ok(Some(found.choice()?)),
         None => Ok(None),
+    }
+}
+
+// The number of the first terms that are canonically above the last word that was reduced, if there is one.
+fn count_above_last(terms: &[(i128, Word)], last: Option<&Word>) -> usize
+    requires descending { IsDescending terms.now }
+    ensures in_range { result ≤ length terms.now }
+    ensures above { IfSome last.entry (λ w. All (λ t. word_cmp t.1 w.now ≡ Greater) (take result terms.now)) }
+{
+    match last {
+        Some(last) => count_above(terms, last),
+        None => 0,
     }
 }
 
@@ -80,14 +95,15 @@ fn improve<'a, O: WordOrder>(
     order: &O,
     index: &Index,
     last: Option<&Word>,
+    is_above: bool,
     best: Option<Found<'a>>,
     term: &'a (i128, Word),
 ) -> Option<Found<'a>>
-    requires last_over { IfSome last (λ w. IsOver (O.letters order.now) w.now) }
+    requires last_short { IfSome last (λ w. length w.now ≤ measured_letters) }
+    requires above { IfSome last (λ w. IsTrue is_above → word_cmp term.now.1 w.now ≡ Greater) }
     requires settled { IfSome last (λ w. IsSettled (O.compare order.now) index.now w.now term.now.1) }
     requires best_short { IfSome best (λ c. length c.word ≤ measured_letters) }
     requires behind { IfSome best (λ c. word_cmp c.word term.now.1 ≡ Greater) }
-    requires term_over { IsOver (O.letters order.now) term.now.1 }
     requires short { length term.now.1 ≤ measured_letters }
     ensures { result ≡ better_choice (O.compare order.now) index.now best.entry term.now }
 {
@@ -96,7 +112,7 @@ fn improve<'a, O: WordOrder>(
             return best;
         }
     }
-    match first_match(order, index, last, &term.1) {
+    match first_match(order, index, last, is_above, &term.1) {
         Some((number, place)) => Some(Found {
             term,
             number,
@@ -121,17 +137,31 @@ fn first_match<O: WordOrder>(
     order: &O,
     index: &Index,
     last: Option<&Word>,
+    is_above: bool,
     word: &Word,
 ) -> Option<(u32, usize)>
-    requires over { IsOver (O.letters order.now) word.now }
-    requires last_over { IfSome last (λ w. IsOver (O.letters order.now) w.now) }
+    requires short { length word.now ≤ measured_letters }
+    requires last_short { IfSome last (λ w. length w.now ≤ measured_letters) }
+    requires above { IfSome last (λ w. IsTrue is_above → word_cmp word.now w.now ≡ Greater) }
     requires settled { IfSome last (λ w. IsSettled (O.compare order.now) index.now w.now word.now) }
     ensures { result ≡ match_of index.now word.now }
 {
     if let Some(last) = last {
-        if let Ordering::Greater = order.cmp(word, last) {
+        if exceeds(order, word, last, is_above) {
             return None;
         }
     }
     index.first_match(word)
+}
+
+// Whether it shows by their measures that a word is greater than another one, above which it may be known to be canonically.
+fn exceeds<O: WordOrder>(order: &O, word: &Word, other: &Word, is_above: bool) -> bool
+    requires short { length word.now ≤ measured_letters }
+    requires other_short { length other.now ≤ measured_letters }
+    requires above { IsTrue is_above → word_cmp word.now other.now ≡ Greater }
+    ensures { IsTrue result → O.compare order.now word.now other.now ≡ Greater }
+{
+    let measure = order.measure(word);
+    let bound = order.measure(other);
+    measure > bound || is_above && measure == bound
 }

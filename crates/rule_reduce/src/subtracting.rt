@@ -50,7 +50,7 @@ fn count_in_front(terms: &[(i128, Word)], others: &[(i128, Word)]) -> usize
 }
 
 // The number of the first terms that are above the word.
-fn count_above(terms: &[(i128, Word)], word: &Word) -> usize
+pub(crate) fn count_above(terms: &[(i128, Word)], word: &Word) -> usize
     requires descending { IsDescending terms.now }
     ensures in_range { result ≤ length terms.now }
     ensures above { All (λ t. word_cmp t.1 word.now ≡ Greater) (take result terms.now) }

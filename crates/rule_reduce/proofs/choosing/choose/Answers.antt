@@ -1,6 +1,7 @@
-use Rattle.std.proofs.Common.{rules, ◌≡◌, ℕ, ◌+◌, ◌<◌, ◌≤◌, List, ◌∷◌, length, drop, get_or, Option, IfSome, sym, ap, subst, ◌∙◌, arith}
+use Rattle.std.proofs.Common.{rules, ◌≡◌, ℕ, ◌+◌, ◌<◌, ◌≤◌, List, ◌∷◌, length, take, drop, get_or, Option, IfSome, sym, ap, subst, ◌∙◌, arith}
 use Rattle.std.specs.List.{All, AllByRecursion}
 use Rattle.std.specs.declared.cmp.Ordering.TheVariants.{Greater}
+use Rattle.std.proofs.lemmas.List.{get_or-take, length-take}
 use Rattle.std.proofs.lemmas.Option.{IfSome_then}
 use Rattle.coef_int.specs.Range.{IsCoefficient}
 use Rattle.definitions.specs.Poly.{Term}
@@ -25,6 +26,13 @@ next_choice compare entries p t i best next whole back exact same = ap (λ b. ch
 at_place : (P : Term → Type 0) (p : List Term) (t : Term) (i : ℕ) → All P p → i < length p → t ≡ get_or p i t → P t
 at_place P p t i all inside is = subst P (sym is) (all i t inside)
 
+-- one of the first terms is above what they are above
+in_front : (p : List Term) (t : Term) (i n : ℕ) (w : List ℕ) → All (λ u. word_cmp u.1 w ≡ Greater) (take n p) → i < length p → t ≡ get_or p i t → i < n → word_cmp t.1 w ≡ Greater
+in_front p t i n w all inside is front =
+    let size = length-take n p in
+    let there : i < length (take n p) = omega (arith, size, inside, front) in
+    subst (λ (u : Term). word_cmp u.1 w ≡ Greater) (get_or-take n p i t front ∙ sym is) (all i t there)
+
 abbrev IsBehind : List Term → Choice → Type 0
 IsBehind p c = AllByRecursion (λ t. word_cmp c.word t.1 ≡ Greater) p
 
@@ -32,27 +40,37 @@ pub improve-best-requires-clause-settled : goal.improve-best-requires-clause-set
 improve-best-requires-clause-settled g c =
     let compare = g.O.WordOrder.compare c.args.order.now in
     let entries = c.args.index.now in
-    let t : Term = c.term-item.result in
+    let t : Term = c.index-terms-place.result in
     IfSome_then c.args.last c.requires.settled
-    (λ w all. subst (λ (u : Term). IsSettled compare entries w.now u.1) (sym c.term-item.is) (all c.loop-term.term-index t c.loop-term-test.true))
+    (λ w all. subst (λ (u : Term). IsSettled compare entries w.now u.1) (sym c.index-terms-place.is) (all c.loop-place.place t c.loop-place-test.true))
 
 pub improve-best-requires-clause-behind : goal.improve-best-requires-clause-behind
 improve-best-requires-clause-behind g c =
     let p = c.args.terms.now in
-    let i = c.loop-term.term-index in
-    let t : Term = c.term-item.result in
-    let back : drop i p ≡ t ∷ drop (i + 1) p = drop_next p i t c.loop-term-test.true c.term-item.is in
-    IfSome_then c.loop-term.best c.loop-term.invariant.behind (λ b below. (subst (λ q. IsBehind q b) back below).0)
+    let i = c.loop-place.place in
+    let t : Term = c.index-terms-place.result in
+    let back : drop i p ≡ t ∷ drop (i + 1) p = drop_next p i t c.loop-place-test.true c.index-terms-place.is in
+    IfSome_then c.loop-place.best c.loop-place.invariant.behind (λ b below. (subst (λ q. IsBehind q b) back below).0)
+
+pub improve-best-requires-clause-above : goal.improve-best-requires-clause-above
+improve-best-requires-clause-above g c =
+    let p = c.args.terms.now in
+    let i = c.loop-place.place in
+    let n = c.count_above_last-above.result in
+    let t : Term = c.index-terms-place.result in
+    IfSome_then c.args.last c.count_above_last-above.ensures.above
+    (λ w all yes. in_front p t i n w.now all c.loop-place-test.true c.index-terms-place.is (search rules))
 
 pub improve-best-requires-clause-short : goal.improve-best-requires-clause-short
 improve-best-requires-clause-short g c =
-    let t : Term = c.term-item.result in
-    let short : length t.1 ≤ word_limit = at_place (λ u. length u.1 ≤ word_limit) c.args.terms.now t c.loop-term.term-index c.requires.canonical.short c.loop-term-test.true c.term-item.is in
+    let t : Term = c.index-terms-place.result in
+    let short : length t.1 ≤ word_limit = at_place (λ u. length u.1 ≤ word_limit) c.args.terms.now t c.loop-place.place c.requires.canonical.short c.loop-place-test.true c.index-terms-place.is in
     omega (arith, short)
 
-pub loop-term-init : goal.loop-term-init
-loop-term-init g c =
+pub loop-place-init : goal.loop-place-init
+loop-place-init g c =
     record {
+      within = omega arith;
       best_in = search rules;
       best_over = search rules;
       best_short = search rules;
@@ -61,32 +79,33 @@ loop-term-init g c =
       same = search rules;
     }
 
-pub loop-term-preserved : goal.loop-term-preserved
-loop-term-preserved g c =
+pub loop-place-preserved : goal.loop-place-preserved
+loop-place-preserved g c =
     let compare = g.O.WordOrder.compare c.args.order.now in
     let letters = g.O.WordOrder.letters c.args.order.now in
     let entries = c.args.index.now in
     let p = c.args.terms.now in
-    let i = c.loop-term.term-index in
-    let t : Term = c.term-item.result in
-    let inside = c.loop-term-test.true in
-    let is = c.term-item.is in
-    let at = c.loop-term.invariant in
+    let i = c.loop-place.place in
+    let t : Term = c.index-terms-place.result in
+    let inside = c.loop-place-test.true in
+    let is = c.index-terms-place.is in
+    let at = c.loop-place.invariant in
     let back : drop i p ≡ t ∷ drop (i + 1) p = drop_next p i t inside is in
-    let exact : c.improve-best.result ≡ better_choice compare entries c.loop-term.best t = search rules in
+    let exact : c.improve-best.result ≡ better_choice compare entries c.loop-place.best t = search rules in
     let descends = subst Descends back at.descends in
     let coefficient : IsCoefficient t.0 = at_place (λ u. IsCoefficient u.0) p t i c.requires.canonical.shaped.in_range inside is in
     let over : IsOver letters t.1 = at_place (λ u. IsOver letters u.1) p t i c.requires.over inside is in
     let short : length t.1 ≤ word_limit = at_place (λ u. length u.1 ≤ word_limit) p t i c.requires.canonical.short inside is in
     let few : length t.1 ≤ measured_letters = omega (arith, short) in
-    let behind = IfSome_then c.loop-term.best at.behind (λ b below. (subst (λ q. IsBehind q b) back below).1) in
-    let better = λ (P : Choice → Type 0) (each : (m : ℕ × ℕ) → P (record { coefficient = t.0; word = t.1; number = m.0; place = m.1 })) (held : IfSome c.loop-term.best P).
-    subst (λ (o : Option Choice). IfSome o P) (sym exact) (holds-better P compare entries t each c.loop-term.best held) in
+    let behind = IfSome_then c.loop-place.best at.behind (λ b below. (subst (λ q. IsBehind q b) back below).1) in
+    let better = λ (P : Choice → Type 0) (each : (m : ℕ × ℕ) → P (record { coefficient = t.0; word = t.1; number = m.0; place = m.1 })) (held : IfSome c.loop-place.best P).
+    subst (λ (o : Option Choice). IfSome o P) (sym exact) (holds-better P compare entries t each c.loop-place.best held) in
     record {
+      within = omega (arith, inside);
       best_in = better (λ b. IsCoefficient b.coefficient) (λ m. coefficient) at.best_in;
       best_over = better (λ b. IsOver letters b.word) (λ m. over) at.best_over;
       best_short = better (λ b. length b.word ≤ measured_letters) (λ m. few) at.best_short;
       behind = better (IsBehind (drop (i + 1) p)) (λ m. descends.0) behind;
       descends = descends.1;
-      same = next_choice compare entries p t i c.loop-term.best c.improve-best.result _ back exact at.same;
+      same = next_choice compare entries p t i c.loop-place.best c.improve-best.result _ back exact at.same;
     }

@@ -5,6 +5,7 @@ use Rattle.nc_polynomial.specs.Shape.{IsCanonical}
 use Rattle.definitions.specs.Poly.{Term}
 use Rattle.word_core.specs.Letters.{IsOver}
 use Rattle.word_orders.specs.Admissible.{Compare}
+use Rattle.word_orders.specs.Limits.{measured_letters}
 use Rattle.nc_polynomial.specs.Faults.{Explains}
 use Rattle.rule_reduce.specs.declared.rule.Rule.{Rule}
 use Rattle.rule_reduce.specs.declared.state.Choice.{Choice}
@@ -43,7 +44,7 @@ loop-init g c =
       used = omega (arith, c.requires.unused);
       in_range = c.requires.in_range;
       over = c.requires.over;
-      last_over = tt;
+      last_short = tt;
       settled = tt;
       same = ap (λ n. reduction limit compare c.args.self.now.rules n c.args.start) whole;
     }
@@ -62,8 +63,8 @@ choose-requires-clause-canonical g c = subst IsCanonical (sym c.as_slice-terms.e
 pub choose-requires-clause-over : goal.choose-requires-clause-over
 choose-requires-clause-over g c = subst (All (λ (t : Term). IsOver (g.O.WordOrder.letters c.args.self.now.order) t.1)) (sym c.as_slice-terms.ensures) c.loop.invariant.over
 
-pub choose-requires-clause-last_over : goal.choose-requires-clause-last_over
-choose-requires-clause-last_over g c = if_borrowed (IsOver (g.O.WordOrder.letters c.args.self.now.order)) c.as_ref.result c.loop.last c.as_ref.ensures.value c.loop.invariant.last_over
+pub choose-requires-clause-last_short : goal.choose-requires-clause-last_short
+choose-requires-clause-last_short g c = if_borrowed (λ w. length w ≤ measured_letters) c.as_ref.result c.loop.last c.as_ref.ensures.value c.loop.invariant.last_short
 
 pub choose-requires-2-clause-canonical : goal.choose-requires-2-clause-canonical
 choose-requires-2-clause-canonical g c = subst IsCanonical (sym c.as_slice-2.ensures) c.loop.invariant.in_range.rest
@@ -71,8 +72,8 @@ choose-requires-2-clause-canonical g c = subst IsCanonical (sym c.as_slice-2.ens
 pub choose-requires-2-clause-over : goal.choose-requires-2-clause-over
 choose-requires-2-clause-over g c = subst (All (λ (t : Term). IsOver (g.O.WordOrder.letters c.args.self.now.order) t.1)) (sym c.as_slice-2.ensures) c.loop.invariant.over
 
-pub choose-requires-2-clause-last_over : goal.choose-requires-2-clause-last_over
-choose-requires-2-clause-last_over g c = if_borrowed (IsOver (g.O.WordOrder.letters c.args.self.now.order)) c.as_ref-2.result c.loop.last c.as_ref-2.ensures.value c.loop.invariant.last_over
+pub choose-requires-2-clause-last_short : goal.choose-requires-2-clause-last_short
+choose-requires-2-clause-last_short g c = if_borrowed (λ w. length w ≤ measured_letters) c.as_ref-2.result c.loop.last c.as_ref-2.ensures.value c.loop.invariant.last_short
 
 pub returns-in-Err-clause-exact : goal.returns-in-Err-clause-exact
 returns-in-Err-clause-exact g c =
@@ -114,7 +115,7 @@ loop-preserved g c =
       used = search rules;
       in_range = search rules;
       over = c.in-Ok.ensures.letters letters (subst (λ (rs : List Rule). All (λ f. All (λ u. IsOver letters u.1) f.poly.terms) rs) (sym same_rules) rules_over) word_over c.loop.invariant.over;
-      last_over = word_over;
+      last_short = search rules;
       settled = above_index;
       same = after_round (λ n t. reduction limit compare all n t) s next left (limit - c.loop.counter) (limit - (c.loop.counter + 1)) _ fewer more (goes_on limit compare all s left choice next pick stepped) c.loop.invariant.same;
     }
