@@ -12,8 +12,8 @@ ghost use Rattle.nc_polynomial.specs.Terms.{IsDescending};
 ghost use Rattle.rule_index.specs.Matches.{match_of};
 ghost use Rattle.rule_reduce.specs.Choices.{better_choice, choice_of, IsSettled};
 
+use crate::adding::count_above;
 use crate::state::Choice;
-use crate::subtracting::count_above;
 use rule_index::Index;
 use std::alloc::AllocError;
 use std::marker::Model;
@@ -154,7 +154,7 @@ fn first_match<O: WordOrder>(
     index.first_match(word)
 }
 
-// Whether it shows by their measures that a word is greater than another one, above which it may be known to be canonically.
+// Whether the measures show that a word is greater than another one. Where `is_above` is set, it is canonically above it.
 fn exceeds<O: WordOrder>(order: &O, word: &Word, other: &Word, is_above: bool) -> bool
     requires short { length word.now ≤ measured_letters }
     requires other_short { length other.now ≤ measured_letters }

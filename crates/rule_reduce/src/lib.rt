@@ -1,6 +1,7 @@
 //! Rules, and normal forms of polynomials by them, with the rows that say what was taken away.
 #![tactic(auto)]
 
+mod adding;
 mod choosing;
 mod fault;
 mod laws;
@@ -10,7 +11,6 @@ mod rule;
 mod rules;
 mod state;
 mod stepping;
-mod subtracting;
 
 pub use fault::ReduceFault;
 pub use laws::{

@@ -10,10 +10,10 @@ ghost use Rattle.rule_reduce.specs.Steps.{multiplied_row, row_operations, multip
 ghost use Rattle.rule_reduce.specs.Steps.{less_operations, move_of, move_row, move_result, step_result, IsInRange};
 
 use crate::Rule;
+use crate::adding::add_terms;
 use crate::parts::{back, front};
 use crate::rule::rule_with;
 use crate::state::{Choice, State};
-use crate::subtracting::add_terms;
 use coef_int::{divisor, quotient};
 use cofactor_trace::{Origin, Row};
 use lists::Listing;

@@ -2,7 +2,7 @@ use Rattle.std.proofs.Common.{◌≡◌, ◌≤◌, ◌-◌, length, take}
 use Rattle.std.specs.List.{All}
 use Rattle.std.specs.declared.cmp.Ordering.TheVariants.{Greater}
 use Rattle.word_core.specs.Canonical.{word_cmp}
-use Rattle.rule_reduce.proofs.subtracting.count_above.Given as goal
+use Rattle.rule_reduce.proofs.adding.count_above.Given as goal
 
 -- the first ones are above
 abbrev pub invariant-loop-low : goal.invariant-loop-low

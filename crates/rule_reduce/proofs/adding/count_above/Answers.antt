@@ -6,7 +6,7 @@ use Rattle.definitions.specs.Poly.{Term}
 use Rattle.word_core.specs.Canonical.{word_cmp}
 use Rattle.nc_polynomial.proofs.Shapes.{recursion_from_IsDescending}
 use Rattle.rule_reduce.proofs.InFront.{above_too}
-use Rattle.rule_reduce.proofs.subtracting.count_above.Goals as goal
+use Rattle.rule_reduce.proofs.adding.count_above.Goals as goal
 
 pub loop-low-preserved-in-Greater : goal.loop-low-preserved-in-Greater
 loop-low-preserved-in-Greater c =

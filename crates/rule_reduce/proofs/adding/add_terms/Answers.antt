@@ -3,8 +3,8 @@ use Rattle.nc_polynomial.specs.Terms.{aligned}
 use Rattle.nc_polynomial.specs.Faults.{Explains}
 use Rattle.nc_polynomial.proofs.Checked.{join, total_from}
 use Rattle.rule_reduce.proofs.InFront.{in_front, explains-join}
-use Rattle.rule_reduce.proofs.subtracting.add_terms.Goals as goal
-use Rattle.rule_reduce.proofs.subtracting.add_terms.Goals.{In_ok-split_off}
+use Rattle.rule_reduce.proofs.adding.add_terms.Goals as goal
+use Rattle.rule_reduce.proofs.adding.add_terms.Goals.{In_ok-split_off}
 
 -- the sum is what stands in front and the sum of the others
 in_two : (c : In_ok-split_off) → total_from (aligned c.args.terms c.args.others) ≡ join (take c.count_in_front-count.result c.args.terms) (total_from (aligned (drop c.count_in_front-count.result c.args.terms) c.args.others))
