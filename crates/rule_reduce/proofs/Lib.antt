@@ -1,6 +1,7 @@
 pub mod Numbers
 pub mod Rows
 pub mod Exits
+pub mod InFront
 pub mod Rounds
 pub mod Runs
 pub mod Balance
@@ -9,6 +10,7 @@ pub mod RowsByRules
 pub mod Irreducible
 pub mod Matched
 pub mod AtMost
+pub mod BetterChoices
 pub mod Chosen
 pub mod WordsKept
 pub mod Settled

@@ -1,6 +1,7 @@
 //! Rules, and normal forms of polynomials by them, with the rows that say what was taken away.
 #![tactic(auto)]
 
+mod adding;
 mod choosing;
 mod fault;
 mod laws;

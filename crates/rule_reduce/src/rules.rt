@@ -197,11 +197,16 @@ impl<O: WordOrder + Drop> Rules<O> {
                 Some(choice) => choice,
                 None => return Ok(state),
             };
-            last = Some(choice.word.copy()?);
-            state = match take_step(self.rules.allocator(), self.rules.as_slice(), choice, state) {
+            state = match take_step(
+                self.rules.allocator(),
+                self.rules.as_slice(),
+                &choice,
+                state,
+            ) {
                 Ok(next) => next,
                 Err(fault) => return Err(halt(fault)),
             };
+            last = Some(choice.word);
         }
         match choose(
             &self.order,

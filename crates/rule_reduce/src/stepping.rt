@@ -10,13 +10,14 @@ ghost use Rattle.rule_reduce.specs.Steps.{multiplied_row, row_operations, multip
 ghost use Rattle.rule_reduce.specs.Steps.{less_operations, move_of, move_row, move_result, step_result, IsInRange};
 
 use crate::Rule;
+use crate::adding::add_terms;
 use crate::parts::{back, front};
 use crate::rule::rule_with;
 use crate::state::{Choice, State};
 use coef_int::{divisor, quotient};
 use cofactor_trace::{Origin, Row};
 use lists::Listing;
-use nc_polynomial::{Poly, PolyFault, merge_terms, multiply_terms, negate_terms, shift_terms};
+use nc_polynomial::{Poly, PolyFault, multiply_terms, negate_terms, shift_terms};
 use std::alloc::{AllocError, Global};
 use word_core::Word;
 
@@ -99,7 +100,7 @@ fn subtract_multiple(
 {
     let taken = shift_terms(alloc, times, left, rule.terms.as_slice(), right)?;
     let taken = negate_terms(alloc, taken)?;
-    Poly::from_descending(merge_terms(alloc, rest, taken)?)
+    Poly::from_descending(add_terms(alloc, rest, taken)?)
 }
 
 // The row of so many times the rule, with what stands on either side of its leading word.
@@ -145,21 +146,21 @@ fn take_away(alloc: Global, rule: &Rule, choice: &Choice, state: State) -> Resul
 pub(crate) fn take_step(
     alloc: Global,
     rules: &[Rule],
-    choice: Choice,
+    choice: &Choice,
     state: State,
 ) -> Result<State, PolyFault>
     requires leading_in { All (λ g. IsCoefficient g.leading) rules.now }
     requires positive { All (λ g. pos 0 <ℤ g.leading) rules.now }
-    requires first { 0 < choice.number }
-    requires last { choice.number ≤ length rules.now }
-    requires choice_in { IsCoefficient choice.coefficient }
+    requires first { 0 < choice.now.number }
+    requires last { choice.now.number ≤ length rules.now }
+    requires choice_in { IsCoefficient choice.now.coefficient }
     requires in_range { IsInRange state }
     requires steps { state.used + 1 < 2 ^ 32 }
     ensures in_range { IfOk result IsInRange }
     ensures steps { IfOk result (λ t. t.used ≤ state.used + 1) }
-    ensures letters { IfOk result (λ t. (n : ℕ) → All (λ g. All (λ u. IsOver n u.1) g.poly.terms) rules.now → IsOver n choice.word
+    ensures letters { IfOk result (λ t. (n : ℕ) → All (λ g. All (λ u. IsOver n u.1) g.poly.terms) rules.now → IsOver n choice.now.word
         → All (λ u. IsOver n u.1) state.rest → All (λ u. IsOver n u.1) t.rest) }
-    ensures exact { MatchResult result (λ t. step_result rules.now choice state ≡ Ok t) (Explains (step_result rules.now choice state)) }
+    ensures exact { MatchResult result (λ t. step_result rules.now choice.now state ≡ Ok t) (Explains (step_result rules.now choice.now state)) }
 {
-    take_away(alloc, rule_with(rules, choice.number), &choice, state)
+    take_away(alloc, rule_with(rules, choice.number), choice, state)
 }

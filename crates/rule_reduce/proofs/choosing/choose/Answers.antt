@@ -1,11 +1,20 @@
-use Rattle.std.proofs.Common.{rules, ◌≡◌, ℕ, ◌+◌, List, ◌∷◌, drop, Option, sym, ap, subst, ◌∙◌}
-use Rattle.std.proofs.lemmas.List.{drop_all}
+use Rattle.std.proofs.Common.{rules, ◌≡◌, ℕ, ◌+◌, ◌<◌, ◌≤◌, List, ◌∷◌, length, take, drop, get_or, Option, IfSome, sym, ap, subst, ◌∙◌, arith}
+use Rattle.std.specs.List.{All, AllByRecursion}
+use Rattle.std.specs.declared.cmp.Ordering.TheVariants.{Greater}
+use Rattle.std.proofs.lemmas.List.{get_or-take, length-take}
 use Rattle.std.proofs.lemmas.Option.{IfSome_then}
+use Rattle.coef_int.specs.Range.{IsCoefficient}
 use Rattle.definitions.specs.Poly.{Term}
+use Rattle.word_core.specs.Canonical.{word_cmp}
+use Rattle.word_core.specs.Letters.{IsOver}
+use Rattle.nc_polynomial.specs.Limits.{word_limit}
 use Rattle.nc_polynomial.proofs.Steps.{drop_next}
+use Rattle.nc_polynomial.proofs.Shapes.{Descends, recursion_from_IsDescending}
 use Rattle.word_orders.specs.Admissible.{Compare}
+use Rattle.word_orders.specs.Limits.{measured_letters}
 use Rattle.rule_reduce.specs.declared.state.Choice.{Choice}
 use Rattle.rule_reduce.specs.Choices.{better_choice, choice_from, IsSettled}
+use Rattle.rule_reduce.proofs.BetterChoices.{holds-better}
 use Rattle.rule_reduce.proofs.choosing.choose.Goals as goal
 
 -- the choice from the terms that are left is that of the next choice from those behind the first
@@ -13,30 +22,90 @@ next_choice : (compare : Compare) (entries : List (List ℕ × ℕ)) (p : List T
     → next ≡ better_choice compare entries best t → choice_from compare entries best (drop i p) ≡ whole → choice_from compare entries next (drop (i + 1) p) ≡ whole
 next_choice compare entries p t i best next whole back exact same = ap (λ b. choice_from compare entries b (drop (i + 1) p)) exact ∙ ap (choice_from compare entries best) (sym back) ∙ same
 
-pub improve-requires-clause-settled : goal.improve-requires-clause-settled
-improve-requires-clause-settled g c =
-    let compare = g.O.WordOrder.compare c.args.order.now in
-    let entries = c.args.index.now in
-    let t : Term = c.term-item.result in
-    IfSome_then c.args.last c.requires.settled
-    (λ w all. subst (λ (u : Term). IsSettled compare entries w.now u.1) (sym c.term-item.is) (all c.loop-term.term-index t c.loop-term-test.true))
+-- what holds of each term holds of one at a place
+at_place : (P : Term → Type 0) (p : List Term) (t : Term) (i : ℕ) → All P p → i < length p → t ≡ get_or p i t → P t
+at_place P p t i all inside is = subst P (sym is) (all i t inside)
 
-pub loop-term-preserved : goal.loop-term-preserved
-loop-term-preserved g c =
+-- one of the first terms is above what they are above
+in_front : (p : List Term) (t : Term) (i n : ℕ) (w : List ℕ) → All (λ u. word_cmp u.1 w ≡ Greater) (take n p) → i < length p → t ≡ get_or p i t → i < n → word_cmp t.1 w ≡ Greater
+in_front p t i n w all inside is front =
+    let size = length-take n p in
+    let there : i < length (take n p) = omega (arith, size, inside, front) in
+    subst (λ (u : Term). word_cmp u.1 w ≡ Greater) (get_or-take n p i t front ∙ sym is) (all i t there)
+
+abbrev IsBehind : List Term → Choice → Type 0
+IsBehind p c = AllByRecursion (λ t. word_cmp c.word t.1 ≡ Greater) p
+
+pub improve-best-requires-clause-settled : goal.improve-best-requires-clause-settled
+improve-best-requires-clause-settled g c =
     let compare = g.O.WordOrder.compare c.args.order.now in
     let entries = c.args.index.now in
+    let t : Term = c.index-terms-place.result in
+    IfSome_then c.args.last c.requires.settled
+    (λ w all. subst (λ (u : Term). IsSettled compare entries w.now u.1) (sym c.index-terms-place.is) (all c.loop-place.place t c.loop-place-test.true))
+
+pub improve-best-requires-clause-behind : goal.improve-best-requires-clause-behind
+improve-best-requires-clause-behind g c =
     let p = c.args.terms.now in
-    let i = c.loop-term.term-index in
-    let t : Term = c.term-item.result in
-    let back : drop i p ≡ t ∷ drop (i + 1) p = drop_next p i t c.loop-term-test.true c.term-item.is in
-    let exact : c.in_ok-best.best ≡ better_choice compare entries c.loop-term.best t = search rules in
+    let i = c.loop-place.place in
+    let t : Term = c.index-terms-place.result in
+    let back : drop i p ≡ t ∷ drop (i + 1) p = drop_next p i t c.loop-place-test.true c.index-terms-place.is in
+    IfSome_then c.loop-place.best c.loop-place.invariant.behind (λ b below. (subst (λ q. IsBehind q b) back below).0)
+
+pub improve-best-requires-clause-above : goal.improve-best-requires-clause-above
+improve-best-requires-clause-above g c =
+    let p = c.args.terms.now in
+    let i = c.loop-place.place in
+    let n = c.count_above_last-above.result in
+    let t : Term = c.index-terms-place.result in
+    IfSome_then c.args.last c.count_above_last-above.ensures.above
+    (λ w all yes. in_front p t i n w.now all c.loop-place-test.true c.index-terms-place.is (search rules))
+
+pub improve-best-requires-clause-short : goal.improve-best-requires-clause-short
+improve-best-requires-clause-short g c =
+    let t : Term = c.index-terms-place.result in
+    let short : length t.1 ≤ word_limit = at_place (λ u. length u.1 ≤ word_limit) c.args.terms.now t c.loop-place.place c.requires.canonical.short c.loop-place-test.true c.index-terms-place.is in
+    omega (arith, short)
+
+pub loop-place-init : goal.loop-place-init
+loop-place-init g c =
     record {
-      best_in = c.in_ok-best.ensures.in_range;
-      best_over = c.in_ok-best.ensures.over;
-      same = next_choice compare entries p t i c.loop-term.best c.in_ok-best.best _ back exact c.loop-term.invariant.same;
+      within = omega arith;
+      best_in = search rules;
+      best_over = search rules;
+      best_short = search rules;
+      behind = search rules;
+      descends = recursion_from_IsDescending c.args.terms.now c.requires.canonical.shaped.descending;
+      same = search rules;
     }
 
-pub returns-clause-exact : goal.returns-clause-exact
-returns-clause-exact g c =
-    ap (choice_from (g.O.WordOrder.compare c.args.order.now) c.args.index.now c.loop-term.best) (sym (drop_all c.loop-term.term-index c.args.terms.now c.loop-term-test.false))
-    ∙ c.loop-term.invariant.same
+pub loop-place-preserved : goal.loop-place-preserved
+loop-place-preserved g c =
+    let compare = g.O.WordOrder.compare c.args.order.now in
+    let letters = g.O.WordOrder.letters c.args.order.now in
+    let entries = c.args.index.now in
+    let p = c.args.terms.now in
+    let i = c.loop-place.place in
+    let t : Term = c.index-terms-place.result in
+    let inside = c.loop-place-test.true in
+    let is = c.index-terms-place.is in
+    let at = c.loop-place.invariant in
+    let back : drop i p ≡ t ∷ drop (i + 1) p = drop_next p i t inside is in
+    let exact : c.improve-best.result ≡ better_choice compare entries c.loop-place.best t = search rules in
+    let descends = subst Descends back at.descends in
+    let coefficient : IsCoefficient t.0 = at_place (λ u. IsCoefficient u.0) p t i c.requires.canonical.shaped.in_range inside is in
+    let over : IsOver letters t.1 = at_place (λ u. IsOver letters u.1) p t i c.requires.over inside is in
+    let short : length t.1 ≤ word_limit = at_place (λ u. length u.1 ≤ word_limit) p t i c.requires.canonical.short inside is in
+    let few : length t.1 ≤ measured_letters = omega (arith, short) in
+    let behind = IfSome_then c.loop-place.best at.behind (λ b below. (subst (λ q. IsBehind q b) back below).1) in
+    let better = λ (P : Choice → Type 0) (each : (m : ℕ × ℕ) → P (record { coefficient = t.0; word = t.1; number = m.0; place = m.1 })) (held : IfSome c.loop-place.best P).
+    subst (λ (o : Option Choice). IfSome o P) (sym exact) (holds-better P compare entries t each c.loop-place.best held) in
+    record {
+      within = omega (arith, inside);
+      best_in = better (λ b. IsCoefficient b.coefficient) (λ m. coefficient) at.best_in;
+      best_over = better (λ b. IsOver letters b.word) (λ m. over) at.best_over;
+      best_short = better (λ b. length b.word ≤ measured_letters) (λ m. few) at.best_short;
+      behind = better (IsBehind (drop (i + 1) p)) (λ m. descends.0) behind;
+      descends = descends.1;
+      same = next_choice compare entries p t i c.loop-place.best c.improve-best.result _ back exact at.same;
+    }

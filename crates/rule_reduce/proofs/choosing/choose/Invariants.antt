@@ -1,13 +1,22 @@
-use Rattle.std.proofs.Common.{◌≡◌, drop, IfSome}
+use Rattle.std.proofs.Common.{◌≡◌, ◌≤◌, length, drop, IfSome}
+use Rattle.std.specs.List.{AllByRecursion}
+use Rattle.std.specs.declared.cmp.Ordering.TheVariants.{Greater}
 use Rattle.coef_int.specs.Range.{IsCoefficient}
+use Rattle.word_core.specs.Canonical.{word_cmp}
 use Rattle.word_core.specs.Letters.{IsOver}
+use Rattle.word_orders.specs.Limits.{measured_letters}
+use Rattle.nc_polynomial.proofs.Shapes.{Descends}
 use Rattle.rule_reduce.specs.Choices.{choice_of, choice_from}
 use Rattle.rule_reduce.proofs.choosing.choose.Given as goal
 
--- the terms that are left give the choice
-abbrev pub invariant-loop-term : goal.invariant-loop-term
-invariant-loop-term g l = record {
+-- the terms that are left give the choice, and are canonically below the best one so far
+abbrev pub invariant-loop-place : goal.invariant-loop-place
+invariant-loop-place g l = record {
+  within : l.place ≤ length l.terms;
   best_in : IfSome l.best (λ c. IsCoefficient c.coefficient);
   best_over : IfSome l.best (λ c. IsOver (g.O.WordOrder.letters l.order) c.word);
-  same : choice_from (g.O.WordOrder.compare l.order) l.index l.best (drop l.term-index l.terms) ≡ choice_of (g.O.WordOrder.compare l.order) l.index l.terms;
+  best_short : IfSome l.best (λ c. length c.word ≤ measured_letters);
+  behind : IfSome l.best (λ c. AllByRecursion (λ t. word_cmp c.word t.1 ≡ Greater) (drop l.place l.terms));
+  descends : Descends (drop l.place l.terms);
+  same : choice_from (g.O.WordOrder.compare l.order) l.index l.best (drop l.place l.terms) ≡ choice_of (g.O.WordOrder.compare l.order) l.index l.terms;
 }

@@ -20,6 +20,15 @@ choice_stays compare entries (Some best) t none =
     any_order Equal = refl
     any_order Greater = refl
 
-pub returns-in-None-clause-exact : goal.returns-in-None-clause-exact
-returns-in-None-clause-exact g c =
-    choice_stays (g.O.WordOrder.compare c.args.order.now) c.args.index.now c.args.best (c.args.coefficient, c.args.word.now) (sym c.first_match.ensures ∙ c.in-None.is)
+-- a term that is not greater changes no choice
+choice_kept : (compare : Compare) (entries : List (List ℕ × ℕ)) (best : Choice) (t : Term) → ¬ (compare t.1 best.word ≡ Greater) → Some best ≡ better_choice compare entries (Some best) t
+choice_kept compare entries best t fails = go (compare t.1 best.word) fails
+  where
+    go : (o : Ordering) → ¬ o ≡ Greater → Some best ≡ by_order o (Some best) (Some best) (choice_or t (match_of entries t.1) (Some best))
+    go Less below = refl
+    go Equal same = refl
+    go Greater more = absurd (more refl)
+
+pub returns-in-None : goal.returns-in-None
+returns-in-None g c =
+    choice_stays (g.O.WordOrder.compare c.args.order.now) c.args.index.now c.args.best (c.args.term.now.0, c.args.term.now.1) (sym c.first_match.ensures ∙ c.in-None.is)

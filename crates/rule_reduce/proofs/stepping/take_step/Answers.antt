@@ -7,7 +7,7 @@ use Rattle.rule_reduce.proofs.stepping.take_step.Goals as goal
 
 pub returns-clause-letters : goal.returns-clause-letters
 returns-clause-letters c =
-    let choice = c.args.choice in
+    let choice = c.args.choice.now in
     let s = c.args.state in
     let whole = step_result c.args.rules.now choice s in
     let exact : MatchResult c.take_away.result (λ t. whole ≡ Ok t) (Explains whole) = search rules in

@@ -1,9 +1,11 @@
 use Rattle.std.proofs.Common.{rules, ◌≡◌, ℕ, Option, pos, ◌<ℤ◌, ◌<◌, ◌≤◌, ◌+◌, ◌-◌, suc, length, zero, List, Some, None, Ok, Err, Result, IfSome, arith, refl, sym, ap, ◌∙◌, subst}
 use Rattle.std.specs.List.{All}
 use Rattle.coef_int.specs.Range.{IsCoefficient}
+use Rattle.nc_polynomial.specs.Shape.{IsCanonical}
 use Rattle.definitions.specs.Poly.{Term}
 use Rattle.word_core.specs.Letters.{IsOver}
 use Rattle.word_orders.specs.Admissible.{Compare}
+use Rattle.word_orders.specs.Limits.{measured_letters}
 use Rattle.nc_polynomial.specs.Faults.{Explains}
 use Rattle.rule_reduce.specs.declared.rule.Rule.{Rule}
 use Rattle.rule_reduce.specs.declared.state.Choice.{Choice}
@@ -42,7 +44,7 @@ loop-init g c =
       used = omega (arith, c.requires.unused);
       in_range = c.requires.in_range;
       over = c.requires.over;
-      last_over = tt;
+      last_short = tt;
       settled = tt;
       same = ap (λ n. reduction limit compare c.args.self.now.rules n c.args.start) whole;
     }
@@ -55,23 +57,23 @@ pub take_step-requires-clause-positive : goal.take_step-requires-clause-positive
 take_step-requires-clause-positive g c =
     subst (All (λ (f : Rule). pos 0 <ℤ f.leading)) (sym c.as_slice.ensures) (λ k d inside. (c.args.self.now.each k d inside).positive)
 
-pub choose-requires-clause-terms_in : goal.choose-requires-clause-terms_in
-choose-requires-clause-terms_in g c = subst (All (λ (t : Term). IsCoefficient t.0)) (sym c.as_slice-terms.ensures) c.loop.invariant.in_range.rest.shaped.in_range
+pub choose-requires-clause-canonical : goal.choose-requires-clause-canonical
+choose-requires-clause-canonical g c = subst IsCanonical (sym c.as_slice-terms.ensures) c.loop.invariant.in_range.rest
 
 pub choose-requires-clause-over : goal.choose-requires-clause-over
 choose-requires-clause-over g c = subst (All (λ (t : Term). IsOver (g.O.WordOrder.letters c.args.self.now.order) t.1)) (sym c.as_slice-terms.ensures) c.loop.invariant.over
 
-pub choose-requires-clause-last_over : goal.choose-requires-clause-last_over
-choose-requires-clause-last_over g c = if_borrowed (IsOver (g.O.WordOrder.letters c.args.self.now.order)) c.as_ref.result c.loop.last c.as_ref.ensures.value c.loop.invariant.last_over
+pub choose-requires-clause-last_short : goal.choose-requires-clause-last_short
+choose-requires-clause-last_short g c = if_borrowed (λ w. length w ≤ measured_letters) c.as_ref.result c.loop.last c.as_ref.ensures.value c.loop.invariant.last_short
 
-pub choose-requires-2-clause-terms_in : goal.choose-requires-2-clause-terms_in
-choose-requires-2-clause-terms_in g c = subst (All (λ (t : Term). IsCoefficient t.0)) (sym c.as_slice-2.ensures) c.loop.invariant.in_range.rest.shaped.in_range
+pub choose-requires-2-clause-canonical : goal.choose-requires-2-clause-canonical
+choose-requires-2-clause-canonical g c = subst IsCanonical (sym c.as_slice-2.ensures) c.loop.invariant.in_range.rest
 
 pub choose-requires-2-clause-over : goal.choose-requires-2-clause-over
 choose-requires-2-clause-over g c = subst (All (λ (t : Term). IsOver (g.O.WordOrder.letters c.args.self.now.order) t.1)) (sym c.as_slice-2.ensures) c.loop.invariant.over
 
-pub choose-requires-2-clause-last_over : goal.choose-requires-2-clause-last_over
-choose-requires-2-clause-last_over g c = if_borrowed (IsOver (g.O.WordOrder.letters c.args.self.now.order)) c.as_ref-2.result c.loop.last c.as_ref-2.ensures.value c.loop.invariant.last_over
+pub choose-requires-2-clause-last_short : goal.choose-requires-2-clause-last_short
+choose-requires-2-clause-last_short g c = if_borrowed (λ w. length w ≤ measured_letters) c.as_ref-2.result c.loop.last c.as_ref-2.ensures.value c.loop.invariant.last_short
 
 pub returns-in-Err-clause-exact : goal.returns-in-Err-clause-exact
 returns-in-Err-clause-exact g c =
@@ -106,7 +108,6 @@ loop-preserved g c =
     let fewer : limit - (c.loop.counter + 1) ≡ left = omega arith in
     let rules_over : All (λ f. All (λ u. IsOver letters u.1) f.poly.terms) all = λ k d inside. (c.args.self.now.each k d inside).over in
     let word_over : IsOver letters choice.word = search rules in
-    let word : choice.word ≡ c.in_ok-copy.field-0 = search rules in
     let above : All (λ t. IsSettled compare (entries_of all) choice.word t.1) next.rest = step_settles letters compare (g.O.WordOrder.rank c.args.self.now.order) (g.met.O.WordOrder.admissible c.args.self.now.order) all choice c.args.self.now.each s next pick stepped in
     let above_index : All (λ t. IsSettled compare c.args.self.now.index choice.word t.1) next.rest = subst (λ es. All (λ t. IsSettled compare es choice.word t.1) next.rest) (sym c.args.self.now.indexed) above in
     record {
@@ -114,8 +115,8 @@ loop-preserved g c =
       used = search rules;
       in_range = search rules;
       over = c.in-Ok.ensures.letters letters (subst (λ (rs : List Rule). All (λ f. All (λ u. IsOver letters u.1) f.poly.terms) rs) (sym same_rules) rules_over) word_over c.loop.invariant.over;
-      last_over = subst (IsOver letters) word word_over;
-      settled = subst (λ w. All (λ t. IsSettled compare c.args.self.now.index w t.1) next.rest) word above_index;
+      last_short = search rules;
+      settled = above_index;
       same = after_round (λ n t. reduction limit compare all n t) s next left (limit - c.loop.counter) (limit - (c.loop.counter + 1)) _ fewer more (goes_on limit compare all s left choice next pick stepped) c.loop.invariant.same;
     }
 

@@ -1,6 +1,7 @@
-use Rattle.std.proofs.Common.{◌≡◌, ◌≤◌, ◌-◌, IfSome}
+use Rattle.std.proofs.Common.{◌≡◌, ◌≤◌, ◌-◌, length, IfSome}
 use Rattle.std.specs.List.{All}
 use Rattle.word_core.specs.Letters.{IsOver}
+use Rattle.word_orders.specs.Limits.{measured_letters}
 use Rattle.rule_reduce.specs.Choices.{IsSettled}
 use Rattle.rule_reduce.specs.Steps.{IsInRange}
 use Rattle.rule_reduce.specs.NormalForms.{reduction}
@@ -13,7 +14,7 @@ invariant-loop g l = record {
   used : l.state.used ≤ l.counter;
   in_range : IsInRange l.state;
   over : All (λ t. IsOver (g.O.WordOrder.letters l.self.order) t.1) l.state.rest;
-  last_over : IfSome l.last (IsOver (g.O.WordOrder.letters l.self.order));
+  last_short : IfSome l.last (λ w. length w ≤ measured_letters);
   settled : IfSome l.last (λ w. All (λ t. IsSettled (g.O.WordOrder.compare l.self.order) l.self.index w t.1) l.state.rest);
   same : reduction l.steps (g.O.WordOrder.compare l.self.order) l.self.rules (l.steps - l.counter) l.state ≡ reduction l.steps (g.O.WordOrder.compare l.self.order) l.self.rules l.steps l.fn.start;
 }

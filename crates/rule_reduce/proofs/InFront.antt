@@ -1,0 +1,79 @@
+-- Terms above the first word of another list stand in front of the sum as they are.
+use Rattle.std.proofs.Common.{◌≡◌, ◌≢◌, ◌<◌, ℕ, zero, suc, pos, length, get_or, ◌+ℤ◌, List, [], ◌∷◌, ◌++◌, take, drop, slice_get, IfSome, Result, Ok, Err, refl, sym, ap, ◌∙◌, subst, arith}
+use Rattle.std.specs.List.{All, AllByRecursion}
+use Rattle.std.specs.declared.cmp.Ordering.TheVariants.{Greater}
+use Rattle.std.proofs.lemmas.Int.{ints}
+use Rattle.std.proofs.lemmas.List.{take-append-drop}
+use Rattle.std.proofs.lemmas.List.Elements.{recursion_from_All, All-from_recursion, All-take}
+use Rattle.coef_int.specs.Range.{IsCoefficient}
+use Rattle.coef_int.specs.Operations.{sum_of}
+use Rattle.definitions.specs.Poly.{Term}
+use Rattle.word_core.specs.Canonical.{word_cmp}
+use Rattle.word_core.proofs.Order.{word_cmp-trans}
+use Rattle.nc_polynomial.specs.declared.fault.PolyFault.{PolyFault}
+use Rattle.nc_polynomial.specs.declared.fault.PolyFault.TheVariants as fault
+use Rattle.nc_polynomial.specs.Faults.{Explains}
+use Rattle.nc_polynomial.specs.Shape.{IsShaped}
+use Rattle.nc_polynomial.specs.Terms.{aligned, aligned_at, by_order, keep, totals, total_operations}
+use Rattle.nc_polynomial.proofs.Shapes.{Descends}
+use Rattle.nc_polynomial.proofs.Checked.{join, join-none, keep-nonzero, one-fits, total_from}
+
+-- one term above the first word of the other list
+next_in_front : (t : Term) (p q : List Term) → IfSome (slice_get q 0) (λ u. word_cmp t.1 u.1 ≡ Greater) → aligned (t ∷ p) q ≡ (t.0, pos 0, t.1) ∷ aligned p q
+next_in_front t p [] above = refl
+next_in_front t p (y ∷ q) above = ap (λ o. by_order o ((pos 0, y.0, y.1) ∷ aligned_at t q (aligned p)) ((t.0, y.0, t.1) ∷ aligned p q) ((t.0, pos 0, t.1) ∷ aligned p (y ∷ q))) above
+
+join-one : (t : Term) (p : List Term) (r : Result (List Term) PolyFault) → join (t ∷ []) (join p r) ≡ join (t ∷ p) r
+join-one t p (Ok xs) = refl
+join-one t p (Err e) = refl
+
+-- what a front keeps and is
+record IsFront (q p : List Term) : Type 0 where
+  nonzero : AllByRecursion (λ t. t.0 ≢ pos 0) p
+  in_range : AllByRecursion (λ t. IsCoefficient t.0) p
+  above : AllByRecursion (λ t. IfSome (slice_get q 0) (λ u. word_cmp t.1 u.1 ≡ Greater)) p
+
+front_stays : (q p r : List Term) → IsFront q p → total_from (aligned (p ++ r) q) ≡ join p (total_from (aligned r q))
+front_stays q [] r is = sym (join-none (total_from (aligned r q)))
+front_stays q (t ∷ p) r is =
+    let rest = aligned (p ++ r) q in
+    let same : t.0 +ℤ pos 0 ≡ t.0 = omega (arith, ints) in
+    let fits : IsCoefficient (t.0 +ℤ pos 0) = subst IsCoefficient (sym same) is.in_range.0 in
+    ap total_from (next_in_front t (p ++ r) q is.above.0)
+    ∙ sym (join-none (total_from ((t.0, pos 0, t.1) ∷ rest)))
+    ∙ one-fits (sum_of t.0 (pos 0)) (total_operations rest) t.1 [] (totals rest) fits
+    ∙ ap (λ l. join l (total_from rest)) (ap (λ z. keep z t.1 []) same ∙ keep-nonzero t.0 t.1 [] is.nonzero.0)
+    ∙ ap (join (t ∷ [])) (front_stays q p r (record { nonzero = is.nonzero.1; in_range = is.in_range.1; above = is.above.1 }))
+    ∙ join-one t p (total_from (aligned r q))
+
+each_above : (q p : List Term) → IfSome (slice_get q 0) (λ u. All (λ t. word_cmp t.1 u.1 ≡ Greater) p) → AllByRecursion (λ t. IfSome (slice_get q 0) (λ u. word_cmp t.1 u.1 ≡ Greater)) p
+each_above [] p above = go p
+  where
+    go : (p : List Term) → AllByRecursion (λ t. Unit {0}) p
+    go [] = tt
+    go (t ∷ p) = (tt, go p)
+each_above (y ∷ q) p above = recursion_from_All (λ t. word_cmp t.1 y.1 ≡ Greater) p above
+
+pub in_front : (n : ℕ) (p q : List Term) → IsShaped p → IfSome (slice_get q 0) (λ u. All (λ t. word_cmp t.1 u.1 ≡ Greater) (take n p)) → total_from (aligned p q) ≡ join (take n p) (total_from (aligned (drop n p) q))
+in_front n p q shaped above =
+    ap (λ l. total_from (aligned l q)) (sym (take-append-drop n p))
+    ∙ front_stays q (take n p) (drop n p) (record {
+      nonzero = recursion_from_All (λ t. t.0 ≢ pos 0) (take n p) (All-take (λ t. t.0 ≢ pos 0) n p shaped.nonzero);
+      in_range = recursion_from_All (λ t. IsCoefficient t.0) (take n p) (All-take (λ t. IsCoefficient t.0) n p shaped.in_range);
+      above = each_above q (take n p) above;
+    })
+
+-- a fault behind a front is that of the whole
+pub explains-join : (p : List Term) (r : Result (List Term) PolyFault) (e : PolyFault) → Explains r e → Explains (join p r) e
+explains-join p r (fault.Overflow o) why = ap (join p) why
+explains-join p r (fault.Size s) why = ap (join p) why
+explains-join p r (fault.Memory m) why = tt
+
+-- with a term all those in front of it are above a word
+pub above_too : (w : List ℕ) (p : List Term) (m : ℕ) (t : Term) → Descends p → m < length p → t ≡ get_or p m t → word_cmp t.1 w ≡ Greater → AllByRecursion (λ u. word_cmp u.1 w ≡ Greater) (take (suc m) p)
+above_too w [] m t descends inside is above = absurd (omega (arith, inside))
+above_too w (x ∷ p) zero t descends inside is above = (subst (λ (u : Term). word_cmp u.1 w ≡ Greater) is above, tt)
+above_too w (x ∷ p) (suc m) t descends inside is above =
+    let further : m < length p = omega (arith, inside) in
+    let below : word_cmp x.1 t.1 ≡ Greater = subst (λ (u : Term). word_cmp x.1 u.1 ≡ Greater) (sym is) (All-from_recursion (λ u. word_cmp x.1 u.1 ≡ Greater) p descends.0 m t further) in
+    (word_cmp-trans x.1 t.1 w below above, above_too w p m t descends.1 further is above)
