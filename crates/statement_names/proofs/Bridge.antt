@@ -142,7 +142,8 @@ module _ (most_maps : ℕ) (kind : List ℕ → Option Kind) (before after : Lis
   -- the room that is left
   objects_behind : (o : Occurrence) → fault_at s o ≡ None → (behind s o).objects + sum_by objects_by (before ++ o ∷ []) ≡ object_limit
   objects_behind (declares_object n) good =
-      let room = enough s.objects 1 (TooMany n.at object_limit) (test_rest (is_some (kind_in (declared_before s) n.text)) (Double n.at) _ good) in
+      let new = test_rest (is_some (kind_in (declared_before s) n.text)) (Double n.at) _ good in
+      let room = enough s.objects 1 (TooMany n.at object_limit) new in
       omega (arith, agrees.objects, sum_by_push objects_by before (declares_object n), room)
   objects_behind o good = omega (arith, agrees.objects, sum_by_push objects_by before o)
 

@@ -110,7 +110,8 @@ maps_among-objects [] = refl
 maps_among-objects (n ∷ names) = maps_among-objects names
 
 objects_of_statement : (k : StatementKind) → kinds (objects_in k) ≡ objects_among (kinds_by k)
-objects_of_statement (statement.Objects names) = kinds-made Object (λ n. object n.text) (λ n. refl) names ∙ sym (objects_among-objects names)
+objects_of_statement (statement.Objects names) =
+    kinds-made Object (λ n. object n.text) (λ n. refl) names ∙ sym (objects_among-objects names)
 objects_of_statement (statement.Maps names source target selfmade) = sym (objects_among-maps names)
 objects_of_statement k = refl
 

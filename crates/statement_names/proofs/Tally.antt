@@ -70,7 +70,8 @@ module _ (by : Occurrence → ℕ) (out : (o : Occurrence) → IsUse o → by o 
   tally-statement at (statement.Solve names) = quiet (names_behind Map [] names) (names_behind-quiet Map [] names)
   tally-statement at (statement.Eliminate names) = begins (begins_order at) (names_behind Map [] names) (names_behind-quiet Map [] names)
   tally-statement at (statement.Shape m sides) =
-      begins (begins_shape at) (modulus m ∷ pairs_behind Object shape_side_limit [] sides) (tt, pairs_behind-quiet Object shape_side_limit [] sides)
+      begins (begins_shape at) (modulus m ∷ pairs_behind Object shape_side_limit [] sides)
+      (tt, pairs_behind-quiet Object shape_side_limit [] sides)
   tally-statement at k = refl
 
   -- a measure of statements that agrees with it
@@ -84,7 +85,8 @@ module _ (by : Occurrence → ℕ) (out : (o : Occurrence) → IsUse o → by o 
       ∙ sym (sum_by-append by (statement_occurrences s) (occurrences_of statements))
 
 -- what a list of declarations adds
-none_made : (by : Occurrence → ℕ) (make : Name → Occurrence) → ((n : Name) → by (make n) ≡ 0) → (names : List Name) → sum_by by (map make names) ≡ 0
+none_made : (by : Occurrence → ℕ) (make : Name → Occurrence) → ((n : Name) → by (make n) ≡ 0) → (names : List Name)
+    → sum_by by (map make names) ≡ 0
 none_made by make none [] = refl
 none_made by make none (n ∷ names) = sum_by-cons by (make n) (map make names) ∙ ap₂ (λ a b. a + b) (none n) (none_made by make none names)
 
@@ -119,7 +121,8 @@ shapes_out o h = refl
 
 objects_same : (at : Spot) (k : StatementKind) → object_count (objects_in k) ≡ tally objects_by at k
 objects_same at (statement.Objects names) = object_each names
-objects_same at (statement.Maps names source target selfmade) = sym (none_made objects_by (λ n. declares_map n source.text target.text selfmade) (λ n. refl) names)
+objects_same at (statement.Maps names source target selfmade) =
+    sym (none_made objects_by (λ n. declares_map n source.text target.text selfmade) (λ n. refl) names)
 objects_same at k = refl
 
 maps_same : (objects : List Declaration) (at : Spot) (k : StatementKind) → map_count (maps_in objects k) ≡ tally maps_by at k
@@ -129,17 +132,20 @@ maps_same objects at k = refl
 
 assumptions_same : (ds : List Declaration) (at : Spot) (k : StatementKind) → length (equations_in ds at k) ≡ tally assumptions_by at k
 assumptions_same ds at (statement.Objects names) = sym (none_made assumptions_by (λ n. declares_object n) (λ n. refl) names)
-assumptions_same ds at (statement.Maps names source target selfmade) = sym (none_made assumptions_by (λ n. declares_map n source.text target.text selfmade) (λ n. refl) names)
+assumptions_same ds at (statement.Maps names source target selfmade) =
+    sym (none_made assumptions_by (λ n. declares_map n source.text target.text selfmade) (λ n. refl) names)
 assumptions_same ds at k = refl
 
 claims_same : (at : Spot) (k : StatementKind) → length (claims_in k) ≡ tally claims_by at k
 claims_same at (statement.Objects names) = sym (none_made claims_by (λ n. declares_object n) (λ n. refl) names)
-claims_same at (statement.Maps names source target selfmade) = sym (none_made claims_by (λ n. declares_map n source.text target.text selfmade) (λ n. refl) names)
+claims_same at (statement.Maps names source target selfmade) =
+    sym (none_made claims_by (λ n. declares_map n source.text target.text selfmade) (λ n. refl) names)
 claims_same at k = refl
 
 shapes_same : (ds : List Declaration) (at : Spot) (k : StatementKind) → length (shapes_in ds k) ≡ tally shapes_by at k
 shapes_same ds at (statement.Objects names) = sym (none_made shapes_by (λ n. declares_object n) (λ n. refl) names)
-shapes_same ds at (statement.Maps names source target selfmade) = sym (none_made shapes_by (λ n. declares_map n source.text target.text selfmade) (λ n. refl) names)
+shapes_same ds at (statement.Maps names source target selfmade) =
+    sym (none_made shapes_by (λ n. declares_map n source.text target.text selfmade) (λ n. refl) names)
 shapes_same ds at k = refl
 
 pub object_count-statements : (statements : List Statement) → object_count (declared_objects statements) ≡ sum_by objects_by (occurrences_of statements)
