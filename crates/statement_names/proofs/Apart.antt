@@ -1,5 +1,5 @@
 -- Declarations of different names.
-use Rattle.std.proofs.Common.{◌≡◌, ℕ, Bool, true, false, cond, List, [], ◌∷◌, ◌++◌, Option, Some, None, refl, ap, ap₂, sym, ◌∙◌}
+use Rattle.std.proofs.Common.{◌≡◌, ℕ, Bool, true, false, cond, List, [], ◌∷◌, ◌++◌, Option, Some, None, refl, ap, ap₂, sym, ◌∙◌, arith}
 use Rattle.std.specs.Option.{option_or}
 use Rattle.std.specs.Str.{bytes_eq}
 use Rattle.std.proofs.lemmas.Slice.Eq.{bytes_eq-Decides}
@@ -29,11 +29,7 @@ bytes_turned xs ys differ = other_bytes ys xs (λ same. let e : bytes_eq xs ys �
 
 -- nothing is found for a name behind a declaration of another
 pub absent_head : (d : List ℕ × Kind) (ds : List (List ℕ × Kind)) (q : List ℕ) → kind_in (d ∷ ds) q ≡ None → bytes_eq q d.0 ≡ false
-absent_head d ds q absent = go (bytes_eq q d.0) absent
-  where
-    go : (b : Bool) → cond b (Some d.1) (kind_in ds q) ≡ None → b ≡ false
-    go false e = refl
-    go true e = absurd (cc)
+absent_head d ds q absent = grind arith
 
 pub absent_tail : (d : List ℕ × Kind) (ds : List (List ℕ × Kind)) (q : List ℕ) → kind_in (d ∷ ds) q ≡ None → kind_in ds q ≡ None
 absent_tail d ds q absent = ap (λ b. cond b (Some d.1) (kind_in ds q)) (sym (absent_head d ds q absent)) ∙ absent
@@ -44,19 +40,17 @@ skipped d ds q differ = ap (λ b. cond b (Some d.1) (kind_in ds q)) differ
 pub found_head : (d : List ℕ × Kind) (ds : List (List ℕ × Kind)) (q : List ℕ) → bytes_eq q d.0 ≡ true → kind_in (d ∷ ds) q ≡ Some d.1
 found_head d ds q same = ap (λ b. cond b (Some d.1) (kind_in ds q)) same
 
-absent_left : (found other : Option Kind) → option_or found other ≡ None → found ≡ None
-absent_left None other e = refl
-absent_left (Some k) other e = e
+pub none_first : {A : Type 0} (found other : Option A) → option_or found other ≡ None → found ≡ None
+none_first found other e = grind arith
 
-absent_right : (found other : Option Kind) → option_or found other ≡ None → other ≡ None
-absent_right None other e = e
-absent_right (Some k) other e = absurd (cc)
+pub none_later : {A : Type 0} (found other : Option A) → option_or found other ≡ None → other ≡ None
+none_later found other e = grind arith
 
 pub absent_before : (xs ys : List (List ℕ × Kind)) (q : List ℕ) → kind_in (xs ++ ys) q ≡ None → kind_in xs q ≡ None
-absent_before xs ys q absent = absent_left (kind_in xs q) (kind_in ys q) (sym (kind_in-append xs ys q) ∙ absent)
+absent_before xs ys q absent = none_first (kind_in xs q) (kind_in ys q) (sym (kind_in-append xs ys q) ∙ absent)
 
 pub absent_behind : (xs ys : List (List ℕ × Kind)) (q : List ℕ) → kind_in (xs ++ ys) q ≡ None → kind_in ys q ≡ None
-absent_behind xs ys q absent = absent_right (kind_in xs q) (kind_in ys q) (sym (kind_in-append xs ys q) ∙ absent)
+absent_behind xs ys q absent = none_later (kind_in xs q) (kind_in ys q) (sym (kind_in-append xs ys q) ∙ absent)
 
 -- a new name among others
 pub absent_with : (xs ys : List (List ℕ × Kind)) (d : List ℕ × Kind) (q : List ℕ) → kind_in (xs ++ ys) q ≡ None → bytes_eq q d.0 ≡ false → kind_in (xs ++ d ∷ ys) q ≡ None

@@ -1,5 +1,5 @@
 -- The search by what room is left finds what is defined by what stands before.
-use Rattle.std.proofs.Common.{◌≡◌, ℕ, ◌+◌, ◌-◌, ◌≤◌, Bool, true, false, ◌&&◌, not, nat_lt, if◌then◌else◌, is_some, List, [], ◌∷◌, ◌++◌, length, take, Option, Some, None, refl, ap, ap₂, sym, ◌∙◌, arith}
+use Rattle.std.proofs.Common.{◌≡◌, ℕ, ◌+◌, ◌-◌, ◌≤◌, Bool, false, ◌&&◌, not, nat_lt, if◌then◌else◌, is_some, List, [], ◌∷◌, ◌++◌, length, take, Option, Some, None, refl, ap, ap₂, sym, ◌∙◌, arith}
 use Rattle.std.specs.List.{sum_by}
 use Rattle.std.specs.Option.{option_or}
 use Rattle.std.specs.Str.{bytes_eq}
@@ -9,6 +9,7 @@ use Rattle.std.proofs.lemmas.Grind.{flat_map-append}
 use Rattle.std.proofs.lemmas.List.{append-nil, length-append}
 use Rattle.std.proofs.lemmas.List.Sums.{fold-append, sum_by-cons, sum_by_push}
 use Rattle.quiver.specs.Limits.{object_limit}
+use Rattle.statement_syntax.specs.declared.tree.Name.{Name}
 use Rattle.adjoint_rules.specs.Limits.{assumption_limit, claim_limit, shape_limit}
 use Rattle.statement_names.specs.declared.fault.NameFault.{NameFault}
 use Rattle.statement_names.specs.declared.fault.NameFault.TheVariants.{Unknown, Double, TooMany, NotSquare}
@@ -19,13 +20,11 @@ use Rattle.statement_names.specs.Occurrences.{Occurrence, declares_object, decla
 use Rattle.statement_names.specs.Faults.{declared_by, objects_by, maps_by, orders_by, assumptions_by, claims_by, shapes_by, declared_in, kind_in, is_kind, are_two_objects, is_among, fault_behind, first_fault}
 use Rattle.statement_names.specs.Survey.{with_kind, with_kinds, declared_count, declared_before, short_of, declared_fault, or_else, fault_at, behind, goes_on, run, fault_in}
 use Rattle.statement_names.proofs.KindsFound.{take-with_kinds}
+use Rattle.statement_names.proofs.Clean.{test_false, test_rest}
 
 -- room that is left, and what has used it
 below_room : (room used more limit : ℕ) → room + used ≡ limit → nat_lt room more ≡ nat_lt limit (used + more)
 below_room room used more limit whole = grind (arith, nat_tests)
-
-room_left : (room used more limit : ℕ) → room + used ≡ limit → nat_lt room more ≡ false → (room - more) + (used + more) ≡ limit
-room_left room used more limit whole enough = let fits : more ≤ room = ltb-false room more enough in omega arith
 
 taken_up : (room used limit : ℕ) → room + used ≡ limit → limit - room ≡ used
 taken_up room used limit whole = omega arith
@@ -34,54 +33,35 @@ short_same : (room used more limit : ℕ) (fault : NameFault) → room + used �
 short_same room used more limit fault whole = ap (λ b. if b then Some fault else None) (below_room room used more limit whole)
 
 -- there is room where no fault is
-not_short : (room more : ℕ) (fault : NameFault) → short_of room more fault ≡ None → nat_lt room more ≡ false
-not_short room more fault none = go (nat_lt room more) none
-  where
-    go : (b : Bool) → (if b then Some fault else None) ≡ None → b ≡ false
-    go false e = refl
-    go true e = absurd (cc)
+enough : (room more : ℕ) (fault : NameFault) → short_of room more fault ≡ None → more ≤ room
+enough room more fault none = ltb-false room more (test_false (nat_lt room more) fault None none)
 
 -- tests one after another
 first_of_three : (a b c : Bool) (x y z : NameFault) → or_else (if a then Some x else if b then Some y else None) c z ≡ (if a then Some x else if b then Some y else if c then Some z else None)
-first_of_three true b c x y z = refl
-first_of_three false true c x y z = refl
-first_of_three false false c x y z = refl
+first_of_three a b c x y z = grind arith
 
 first_of_two : (good b : Bool) (x y : NameFault) → or_else (if good then None else Some x) b y ≡ (if not good then Some x else if b then Some y else None)
-first_of_two true b x y = refl
-first_of_two false b x y = refl
+first_of_two good b x y = grind arith
 
 or_else_none : (found : Option NameFault) (wrong : Bool) (later : NameFault) → or_else found wrong later ≡ None → found ≡ None
-or_else_none None wrong later e = refl
-or_else_none (Some fault) wrong later e = e
-
-new_then_room : (a : Bool) (x : NameFault) (rest : Option NameFault) → (if a then Some x else rest) ≡ None → rest ≡ None
-new_then_room true x rest e = absurd (cc)
-new_then_room false x rest e = e
-
-not_double : (a : Bool) (x : NameFault) (rest : Option NameFault) → (if a then Some x else rest) ≡ None → a ≡ false
-not_double true x rest e = absurd (cc)
-not_double false x rest e = refl
+or_else_none found wrong later e = grind arith
 
 -- how many names are declared
 number_by : (o : Occurrence) → length (declared_by o) ≡ objects_by o + maps_by o
 number_by (declares_object n) = refl
-number_by (declares_map n u v selfmade) = refl
-number_by (uses u) = refl
-number_by (lists front u) = refl
-number_by (counts most n) = refl
-number_by (modulus n) = refl
-number_by (begins_order at) = refl
-number_by (begins_assumptions count at) = refl
-number_by (begins_claim at) = refl
-number_by (begins_shape at) = refl
+number_by o = refl
 
 number_declared : (os : List Occurrence) → length (declared_in os) ≡ sum_by objects_by os + sum_by maps_by os
 number_declared [] = refl
 number_declared (o ∷ os) =
-    length-append (declared_by o) (declared_in os) ∙ ap₂ (λ m n. m + n) (number_by o) (number_declared os)
-    ∙ (let crossed : (objects_by o + maps_by o) + (sum_by objects_by os + sum_by maps_by os) ≡ (objects_by o + sum_by objects_by os) + (maps_by o + sum_by maps_by os) = omega arith in crossed)
-    ∙ sym (ap₂ (λ m n. m + n) (sum_by-cons objects_by o os) (sum_by-cons maps_by o os))
+    omega (
+      arith,
+      length-append (declared_by o) (declared_in os),
+      number_by o,
+      number_declared os,
+      sum_by-cons objects_by o os,
+      sum_by-cons maps_by o os,
+    )
 
 -- a survey of what stands before, and what is still to come
 pub record Agrees (most_maps : ℕ) (kind : List ℕ → Option Kind) (before after : List Occurrence) (s : Survey) : Type 0 where
@@ -131,13 +111,6 @@ module _ (most_maps : ℕ) (kind : List ℕ → Option Kind) (before after : Lis
   fault_same (begins_claim at) = short_same s.claims (sum_by claims_by before) 1 claim_limit (TooMany at claim_limit) agrees.claims
   fault_same (begins_shape at) = short_same s.shapes (sum_by shapes_by before) 1 shape_limit (TooMany at shape_limit) agrees.shapes
 
-  -- one occurrence further
-  same_count : (by : Occurrence → ℕ) (o : Occurrence) (room limit : ℕ) → by o ≡ 0 → room + sum_by by before ≡ limit → room + sum_by by (before ++ o ∷ []) ≡ limit
-  same_count by o room limit none whole = ap (λ n. room + n) (sum_by_push by before o ∙ ap (λ n. sum_by by before + n) none) ∙ (let more : room + (sum_by by before + 0) ≡ limit = omega arith in more)
-
-  less_room : (by : Occurrence → ℕ) (o : Occurrence) (room limit : ℕ) → room + sum_by by before ≡ limit → nat_lt room (by o) ≡ false → (room - by o) + sum_by by (before ++ o ∷ []) ≡ limit
-  less_room by o room limit whole enough = ap (λ n. (room - by o) + n) (sum_by_push by before o) ∙ room_left room (sum_by by before) (by o) limit whole enough
-
   declared_push : (o : Occurrence) → declared_in (before ++ o ∷ []) ≡ declared_in before ++ declared_by o
   declared_push o = flat_map-append declared_by before (o ∷ []) ∙ ap (λ ds. declared_in before ++ ds) (append-nil (declared_by o))
 
@@ -149,118 +122,78 @@ module _ (most_maps : ℕ) (kind : List ℕ → Option Kind) (before after : Lis
       ∙ fold-append (λ ks d. with_kind ks d.0 d.1) (declared_in before) (declared_by o) (declared_in os)
       ∙ ap (λ ks. with_kinds ks (declared_in os)) (new ∙ sym (declared_push o))
 
+  map_taken : (n : Name) (u v : List ℕ) (selfmade : Bool) → fault_at s (declares_map n u v selfmade) ≡ None
+      → declared_fault (declared_before s) s.maps s.map_limit n ≡ None
+  map_taken n u v selfmade good = or_else_none _ (selfmade && are_two_objects (kind_in s.kinds) u v) (NotSquare n.at) good
+
   declared_new : (name : List ℕ) (k : Kind) → is_some (kind_in (declared_before s) name) ≡ false → with_kinds (declared_in before) ((name, k) ∷ []) ≡ declared_in before ++ (name, k) ∷ []
   declared_new name k new = ap (λ b. if b then declared_in before else declared_in before ++ (name, k) ∷ []) (sym (is_declared_same name) ∙ new)
 
-  -- an occurrence that declares nothing
-  declared_still : (o : Occurrence) (os : List Occurrence) → after ≡ o ∷ os → declared_by o ≡ [] → s.kinds ≡ with_kinds (declared_in (before ++ o ∷ [])) (declared_in os)
-  declared_still o os next none =
-      declared_next o os next (ap (with_kinds (declared_in before)) none ∙ sym (ap (λ ds. declared_in before ++ ds) none ∙ append-nil (declared_in before)))
+  declared_behind : (o : Occurrence) (os : List Occurrence) → after ≡ o ∷ os → fault_at s o ≡ None
+      → s.kinds ≡ with_kinds (declared_in (before ++ o ∷ [])) (declared_in os)
+  declared_behind (declares_object n) os next good =
+      declared_next (declares_object n) os next
+      (declared_new n.text Object (test_false (is_some (kind_in (declared_before s) n.text)) (Double n.at) _ good))
+  declared_behind (declares_map n u v selfmade) os next good =
+      declared_next (declares_map n u v selfmade) os next
+      (declared_new n.text Map (test_false (is_some (kind_in (declared_before s) n.text)) (Double n.at) _ (map_taken n u v selfmade good)))
+  declared_behind o os next good = declared_next o os next (sym (append-nil (declared_in before)))
 
-  -- and begins nothing
-  still : (o : Occurrence) (os : List Occurrence) → after ≡ o ∷ os → declared_by o ≡ [] → objects_by o ≡ 0 → maps_by o ≡ 0 → orders_by o ≡ 0 → assumptions_by o ≡ 0 → claims_by o ≡ 0 → shapes_by o ≡ 0
-      → Agrees most_maps kind (before ++ o ∷ []) os s
-  still o os next none no_object no_map no_order no_assumption no_claim no_shape = record {
-    kinds = agrees.kinds;
-    declared = declared_still o os next none;
-    objects = same_count objects_by o s.objects object_limit no_object agrees.objects;
-    map_limit = agrees.map_limit;
-    maps = same_count maps_by o s.maps most_maps no_map agrees.maps;
-    orders = same_count orders_by o s.orders 1 no_order agrees.orders;
-    assumptions = same_count assumptions_by o s.assumptions assumption_limit no_assumption agrees.assumptions;
-    claims = same_count claims_by o s.claims claim_limit no_claim agrees.claims;
-    shapes = same_count shapes_by o s.shapes shape_limit no_shape agrees.shapes;
+  -- the room that is left
+  objects_behind : (o : Occurrence) → fault_at s o ≡ None → (behind s o).objects + sum_by objects_by (before ++ o ∷ []) ≡ object_limit
+  objects_behind (declares_object n) good =
+      let new = test_rest (is_some (kind_in (declared_before s) n.text)) (Double n.at) _ good in
+      let room = enough s.objects 1 (TooMany n.at object_limit) new in
+      omega (arith, agrees.objects, sum_by_push objects_by before (declares_object n), room)
+  objects_behind o good = omega (arith, agrees.objects, sum_by_push objects_by before o)
+
+  maps_behind : (o : Occurrence) → fault_at s o ≡ None → (behind s o).maps + sum_by maps_by (before ++ o ∷ []) ≡ most_maps
+  maps_behind (declares_map n u v selfmade) good =
+      let new = test_rest (is_some (kind_in (declared_before s) n.text)) (Double n.at) _ (map_taken n u v selfmade good) in
+      let room = enough s.maps 1 (TooMany n.at s.map_limit) new in
+      omega (arith, agrees.maps, sum_by_push maps_by before (declares_map n u v selfmade), room)
+  maps_behind o good = omega (arith, agrees.maps, sum_by_push maps_by before o)
+
+  orders_behind : (o : Occurrence) → fault_at s o ≡ None → (behind s o).orders + sum_by orders_by (before ++ o ∷ []) ≡ 1
+  orders_behind (begins_order at) good =
+      omega (arith, agrees.orders, sum_by_push orders_by before (begins_order at), enough s.orders 1 (Double at) good)
+  orders_behind o good = omega (arith, agrees.orders, sum_by_push orders_by before o)
+
+  assumptions_behind : (o : Occurrence) → fault_at s o ≡ None
+      → (behind s o).assumptions + sum_by assumptions_by (before ++ o ∷ []) ≡ assumption_limit
+  assumptions_behind (begins_assumptions count at) good =
+      let room = enough s.assumptions count (TooMany at assumption_limit) good in
+      omega (arith, agrees.assumptions, sum_by_push assumptions_by before (begins_assumptions count at), room)
+  assumptions_behind o good = omega (arith, agrees.assumptions, sum_by_push assumptions_by before o)
+
+  claims_behind : (o : Occurrence) → fault_at s o ≡ None → (behind s o).claims + sum_by claims_by (before ++ o ∷ []) ≡ claim_limit
+  claims_behind (begins_claim at) good =
+      omega (arith, agrees.claims, sum_by_push claims_by before (begins_claim at), enough s.claims 1 (TooMany at claim_limit) good)
+  claims_behind o good = omega (arith, agrees.claims, sum_by_push claims_by before o)
+
+  shapes_behind : (o : Occurrence) → fault_at s o ≡ None → (behind s o).shapes + sum_by shapes_by (before ++ o ∷ []) ≡ shape_limit
+  shapes_behind (begins_shape at) good =
+      omega (arith, agrees.shapes, sum_by_push shapes_by before (begins_shape at), enough s.shapes 1 (TooMany at shape_limit) good)
+  shapes_behind o good = omega (arith, agrees.shapes, sum_by_push shapes_by before o)
+
+  same_behind : (o : Occurrence) → ((behind s o).kinds ≡ s.kinds) × ((behind s o).map_limit ≡ s.map_limit)
+  same_behind (declares_object n) = (refl, refl)
+  same_behind o = (refl, refl)
+
+  -- one occurrence further
+  behind_agrees : (o : Occurrence) (os : List Occurrence) → after ≡ o ∷ os → fault_at s o ≡ None
+      → Agrees most_maps kind (before ++ o ∷ []) os (behind s o)
+  behind_agrees o os next good = record {
+    kinds = λ name. ap (λ kinds. kind_in kinds name) (same_behind o).0 ∙ agrees.kinds name;
+    declared = (same_behind o).0 ∙ declared_behind o os next good;
+    objects = objects_behind o good;
+    map_limit = (same_behind o).1 ∙ agrees.map_limit;
+    maps = maps_behind o good;
+    orders = orders_behind o good;
+    assumptions = assumptions_behind o good;
+    claims = claims_behind o good;
+    shapes = shapes_behind o good;
   }
-
-  behind_agrees : (o : Occurrence) (os : List Occurrence) → after ≡ o ∷ os → fault_at s o ≡ None → Agrees most_maps kind (before ++ o ∷ []) os (behind s o)
-  behind_agrees (declares_object n) os next good =
-      let o = declares_object n in
-      let new : is_some (kind_in (declared_before s) n.text) ≡ false = not_double (is_some (kind_in (declared_before s) n.text)) (Double n.at) _ good in
-      let room : nat_lt s.objects 1 ≡ false = not_short s.objects 1 (TooMany n.at object_limit) (new_then_room (is_some (kind_in (declared_before s) n.text)) (Double n.at) _ good) in
-      record {
-        kinds = agrees.kinds;
-        declared = declared_next o os next (declared_new n.text Object new);
-        objects = less_room objects_by o s.objects object_limit agrees.objects room;
-        map_limit = agrees.map_limit;
-        maps = same_count maps_by o s.maps most_maps refl agrees.maps;
-        orders = same_count orders_by o s.orders 1 refl agrees.orders;
-        assumptions = same_count assumptions_by o s.assumptions assumption_limit refl agrees.assumptions;
-        claims = same_count claims_by o s.claims claim_limit refl agrees.claims;
-        shapes = same_count shapes_by o s.shapes shape_limit refl agrees.shapes;
-      }
-  behind_agrees (declares_map n u v selfmade) os next good =
-      let o = declares_map n u v selfmade in
-      let taken = or_else_none (declared_fault (declared_before s) s.maps s.map_limit n) (selfmade && are_two_objects (kind_in s.kinds) u v) (NotSquare n.at) good in
-      let new : is_some (kind_in (declared_before s) n.text) ≡ false = not_double (is_some (kind_in (declared_before s) n.text)) (Double n.at) _ taken in
-      let room : nat_lt s.maps 1 ≡ false =
-      not_short s.maps 1 (TooMany n.at s.map_limit) (new_then_room (is_some (kind_in (declared_before s) n.text)) (Double n.at) _ taken) in
-      record {
-        kinds = agrees.kinds;
-        declared = declared_next o os next (declared_new n.text Map new);
-        objects = same_count objects_by o s.objects object_limit refl agrees.objects;
-        map_limit = agrees.map_limit;
-        maps = less_room maps_by o s.maps most_maps agrees.maps room;
-        orders = same_count orders_by o s.orders 1 refl agrees.orders;
-        assumptions = same_count assumptions_by o s.assumptions assumption_limit refl agrees.assumptions;
-        claims = same_count claims_by o s.claims claim_limit refl agrees.claims;
-        shapes = same_count shapes_by o s.shapes shape_limit refl agrees.shapes;
-      }
-  behind_agrees (uses u) os next good = still (uses u) os next refl refl refl refl refl refl refl
-  behind_agrees (lists front u) os next good = still (lists front u) os next refl refl refl refl refl refl refl
-  behind_agrees (counts most n) os next good = still (counts most n) os next refl refl refl refl refl refl refl
-  behind_agrees (modulus n) os next good = still (modulus n) os next refl refl refl refl refl refl refl
-  behind_agrees (begins_order at) os next good =
-      let o = begins_order at in
-      record {
-        kinds = agrees.kinds;
-        declared = declared_still o os next refl;
-        objects = same_count objects_by o s.objects object_limit refl agrees.objects;
-        map_limit = agrees.map_limit;
-        maps = same_count maps_by o s.maps most_maps refl agrees.maps;
-        orders = less_room orders_by o s.orders 1 agrees.orders (not_short s.orders 1 (Double at) good);
-        assumptions = same_count assumptions_by o s.assumptions assumption_limit refl agrees.assumptions;
-        claims = same_count claims_by o s.claims claim_limit refl agrees.claims;
-        shapes = same_count shapes_by o s.shapes shape_limit refl agrees.shapes;
-      }
-  behind_agrees (begins_assumptions count at) os next good =
-      let o = begins_assumptions count at in
-      record {
-        kinds = agrees.kinds;
-        declared = declared_still o os next refl;
-        objects = same_count objects_by o s.objects object_limit refl agrees.objects;
-        map_limit = agrees.map_limit;
-        maps = same_count maps_by o s.maps most_maps refl agrees.maps;
-        orders = same_count orders_by o s.orders 1 refl agrees.orders;
-        assumptions = less_room assumptions_by o s.assumptions assumption_limit agrees.assumptions (not_short s.assumptions count (TooMany at assumption_limit) good);
-        claims = same_count claims_by o s.claims claim_limit refl agrees.claims;
-        shapes = same_count shapes_by o s.shapes shape_limit refl agrees.shapes;
-      }
-  behind_agrees (begins_claim at) os next good =
-      let o = begins_claim at in
-      record {
-        kinds = agrees.kinds;
-        declared = declared_still o os next refl;
-        objects = same_count objects_by o s.objects object_limit refl agrees.objects;
-        map_limit = agrees.map_limit;
-        maps = same_count maps_by o s.maps most_maps refl agrees.maps;
-        orders = same_count orders_by o s.orders 1 refl agrees.orders;
-        assumptions = same_count assumptions_by o s.assumptions assumption_limit refl agrees.assumptions;
-        claims = less_room claims_by o s.claims claim_limit agrees.claims (not_short s.claims 1 (TooMany at claim_limit) good);
-        shapes = same_count shapes_by o s.shapes shape_limit refl agrees.shapes;
-      }
-  behind_agrees (begins_shape at) os next good =
-      let o = begins_shape at in
-      record {
-        kinds = agrees.kinds;
-        declared = declared_still o os next refl;
-        objects = same_count objects_by o s.objects object_limit refl agrees.objects;
-        map_limit = agrees.map_limit;
-        maps = same_count maps_by o s.maps most_maps refl agrees.maps;
-        orders = same_count orders_by o s.orders 1 refl agrees.orders;
-        assumptions = same_count assumptions_by o s.assumptions assumption_limit refl agrees.assumptions;
-        claims = same_count claims_by o s.claims claim_limit refl agrees.claims;
-        shapes = less_room shapes_by o s.shapes shape_limit agrees.shapes (not_short s.shapes 1 (TooMany at shape_limit) good);
-      }
 
 -- the first fault is the one that the search finds
 pub first_same : (most_maps : ℕ) (kind : List ℕ → Option Kind) (before : List Occurrence) (s : Survey) (os : List Occurrence) → Agrees most_maps kind before os s

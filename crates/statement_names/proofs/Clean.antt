@@ -1,7 +1,6 @@
 -- What holds of occurrences none of which has a fault.
-use Rattle.std.proofs.Common.{◌≡◌, ℕ, ◌+◌, ◌≤◌, Bool, true, false, ◌&&◌, not, nat_lt, if◌then◌else◌, is_some, List, [], ◌∷◌, ◌++◌, Option, Some, None, refl, ap, sym, subst, ◌∙◌, arith, append_assoc}
+use Rattle.std.proofs.Common.{◌≡◌, ℕ, ◌+◌, ◌≤◌, Bool, true, false, ◌&&◌, not, nat_lt, if◌then◌else◌, is_some, List, [], ◌∷◌, ◌++◌, Option, Some, None, ap, sym, subst, ◌∙◌, arith, append_assoc}
 use Rattle.std.specs.List.{sum_by}
-use Rattle.std.specs.Option.{option_or}
 use Rattle.std.proofs.lemmas.Bool.{ltb-false}
 use Rattle.std.proofs.lemmas.Grind.{flat_map-append}
 use Rattle.std.proofs.lemmas.List.{append-nil}
@@ -13,42 +12,29 @@ use Rattle.statement_names.specs.declared.fault.NameFault.{NameFault}
 use Rattle.statement_names.specs.declared.fault.NameFault.TheVariants.{Double, TooMany}
 use Rattle.statement_names.specs.declared.kinds.Kind.{Kind}
 use Rattle.statement_names.specs.declared.kinds.Kind.TheVariants.{Object, Map}
-use Rattle.statement_names.specs.Occurrences.{Occurrence, declares_object, declares_map, uses, lists, counts, modulus, begins_order, begins_assumptions, begins_claim, begins_shape}
+use Rattle.statement_names.specs.Occurrences.{Occurrence, declares_object, declares_map, uses, lists, counts, modulus, begins_assumptions, begins_claim, begins_shape}
 use Rattle.statement_names.specs.Faults.{declared_by, objects_by, maps_by, assumptions_by, claims_by, shapes_by, declared_in, kind_in, is_kind, are_two_objects, is_among, is_between, value_of, fault_behind, first_fault}
-use Rattle.statement_names.proofs.Apart.{Apart, Apart-push}
+use Rattle.statement_names.proofs.Apart.{Apart, Apart-push, none_first, none_later}
 use Rattle.statement_names.proofs.Each.{Each}
 
 -- tests that let an occurrence through
-none_first : (found other : Option NameFault) → option_or found other ≡ None → found ≡ None
-none_first None other e = refl
-none_first (Some fault) other e = e
-
-none_later : (found other : Option NameFault) → option_or found other ≡ None → other ≡ None
-none_later None other e = e
-none_later (Some fault) other e = absurd (cc)
-
-test_false : (b : Bool) (fault : NameFault) (rest : Option NameFault) → (if b then Some fault else rest) ≡ None → b ≡ false
-test_false false fault rest e = refl
-test_false true fault rest e = absurd (cc)
+pub test_false : (b : Bool) (fault : NameFault) (rest : Option NameFault) → (if b then Some fault else rest) ≡ None → b ≡ false
+test_false b fault rest e = grind arith
 
 test_true : (b : Bool) (fault : NameFault) → (if b then None else Some fault) ≡ None → b ≡ true
-test_true true fault e = refl
-test_true false fault e = absurd (cc)
+test_true b fault e = grind arith
 
-test_rest : (b : Bool) (fault : NameFault) (rest : Option NameFault) → (if b then Some fault else rest) ≡ None → rest ≡ None
-test_rest false fault rest e = e
-test_rest true fault rest e = absurd (cc)
+pub test_rest : (b : Bool) (fault : NameFault) (rest : Option NameFault) → (if b then Some fault else rest) ≡ None → rest ≡ None
+test_rest b fault rest e = grind arith
 
 not_not : (b : Bool) → not b ≡ false → b ≡ true
-not_not true e = refl
-not_not false e = absurd (cc)
+not_not b e = grind arith
 
 at_most : (n limit : ℕ) (fault : NameFault) → (if nat_lt limit n then Some fault else None) ≡ None → n ≤ limit
 at_most n limit fault e = ltb-false limit n (test_false (nat_lt limit n) fault None e)
 
-absent_from : (found : Option Kind) → is_some found ≡ false → found ≡ None
-absent_from None e = refl
-absent_from (Some k) e = absurd (cc)
+pub absent_from : (found : Option Kind) → is_some found ≡ false → found ≡ None
+absent_from found e = grind arith
 
 -- what each occurrence keeps to, whatever stands before it
 abbrev pub IsGood : (List ℕ → Option Kind) → Occurrence → Type 0
@@ -77,11 +63,7 @@ module _ (most_maps : ℕ) (kind : List ℕ → Option Kind) where
   )
   good before (counts most n) clean = test_true (is_between 1 most (value_of n.value)) _ clean
   good before (modulus n) clean = test_true (is_field_modulus (value_of n.value)) _ clean
-  good before (declares_object n) clean = tt
-  good before (begins_order at) clean = tt
-  good before (begins_assumptions count at) clean = tt
-  good before (begins_claim at) clean = tt
-  good before (begins_shape at) clean = tt
+  good before o clean = tt
 
   pub each_good : (before os : List Occurrence) → first_fault most_maps kind before os ≡ None → Each (IsGood kind) os
   each_good before [] clean = tt

@@ -8,6 +8,7 @@ use Rattle.std.proofs.lemmas.Bool.{lt-ltb}
 use Rattle.std.proofs.lemmas.Bool.Decides.{Decides-eqb}
 use Rattle.std.proofs.lemmas.Grind.{flat_map-append}
 use Rattle.std.proofs.lemmas.List.{map-append, append-nil, take-append-drop}
+use Rattle.std.proofs.lemmas.List.Folds.{list_all-append}
 use Rattle.quiver.specs.declared.named.Named.{Named}
 use Rattle.quiver.specs.declared.named.Named.TheVariants as named
 use Rattle.quiver.specs.Limits.{map_limit}
@@ -33,14 +34,14 @@ use Rattle.statement_names.proofs.Clean.{IsGood, each_good, few_objects, few_map
 use Rattle.statement_names.proofs.Each.{Each, Each-of_flat_map, Each-left, Each-right, Each-item, Each-take}
 use Rattle.statement_names.proofs.Items.{flat_next}
 use Rattle.statement_names.proofs.Tally.{object_count-statements, map_count-statements}
+use Rattle.statement_names.proofs.SolvedMaps.{no_objects}
 use Rattle.statement_names.proofs.Fresh.{different_of_apart, apart_of}
 use Rattle.statement_names.proofs.KindsFound.{kind_in-append, lookup-append, same_bytes}
 use Rattle.statement_names.proofs.NamedKinds.{kind_of, kinds, kind-named_in, apart_declarations, kind_declared, kinds-declared_objects, kinds-declarations_of, statement_kinds, object_from}
 
 -- look-ups behind more declarations
 stays : {A : Type 0} (found other : Option A) → is_some found ≡ true → option_or found other ≡ found
-stays (Some x) other there = refl
-stays None other there = absurd (cc)
+stays found other there = grind arith
 
 pub named_in-more : (xs ys : List Declaration) (q : List ℕ) → is_some (named_in xs q) ≡ true → named_in (xs ++ ys) q ≡ named_in xs q
 named_in-more xs ys q there =
@@ -58,8 +59,7 @@ object_in_range xs n is = go (named_in xs n.text) refl is
   where
     go : (found : Option Named) → named_in xs n.text ≡ found → IsTrue (is_object found) → object_number (named_in xs n.text) < object_count xs
     go (Some (named.Object v)) found e = subst (λ f. object_number f < object_count xs) (sym found) (is_named xs n.text (named.Object v) found).0
-    go (Some (named.Map a)) found e = absurd (cc)
-    go None found e = absurd (cc)
+    go other found e = absurd (cc)
 
 -- an object of the file is one of its objects
 maps_only : (ks : List (List ℕ × Kind)) (q : List ℕ) → kind_in (maps_among ks) q ≡ Some Object → ⊥
@@ -82,8 +82,7 @@ objects_only ((n, Object) ∷ ks) q e = go (bytes_eq q n) e (objects_only ks q)
 
 kind_is : (found : Option Kind) → is_kind found Object ≡ true → found ≡ Some Object
 kind_is (Some Object) e = refl
-kind_is (Some Map) e = absurd (cc)
-kind_is None e = absurd (cc)
+kind_is found e = absurd (cc)
 
 first_object : (found other : Option Kind) → (found ≡ Some Map → ⊥) → (other ≡ Some Object → ⊥) → option_or found other ≡ Some Object → found ≡ Some Object
 first_object (Some Object) other no_map no_object e = refl
@@ -92,12 +91,7 @@ first_object None other no_map no_object e = absurd (no_object e)
 
 -- lists of declarations with ends
 all_append : {A : Type 0} (test : A → Bool) (xs ys : List A) → list_all test xs ≡ true → list_all test ys ≡ true → list_all test (xs ++ ys) ≡ true
-all_append test [] ys h k = k
-all_append test (x ∷ xs) ys h k = go (test x) h (λ rest. all_append test xs ys rest k)
-  where
-    go : (b : Bool) → (b && list_all test xs) ≡ true → (list_all test xs ≡ true → list_all test (xs ++ ys) ≡ true) → (b && list_all test (xs ++ ys)) ≡ true
-    go true e rest = rest e
-    go false e rest = absurd (cc)
+all_append test xs ys h k = rw (list_all-append test xs ys, h, k) refl
 
 names_end : (n : ℕ) (names : List Name) → list_all (has_ends n) (map (λ m. object m.text) names) ≡ true
 names_end n [] = refl
@@ -121,26 +115,25 @@ arrows_end_by n u v selfmade kind s t source target square (m ∷ names) good =
     ap₂ (λ b c. b && c) (arrow_ends n u v m.text selfmade source target (square good.0)) (arrows_end_by n u v selfmade kind s t source target square names good.1)
 
 same_ends : (first second same : Bool) → first ≡ true → second ≡ true → (first && (second && not same)) ≡ false → same ≡ true
-same_ends true true true f s e = refl
-same_ends true true false f s e = absurd (cc)
-same_ends true false same f s e = absurd (cc)
-same_ends false second same f s e = absurd (cc)
+same_ends first second same f s e = grind arith
 
 own_number : (n : ℕ) → nat_eq n n ≡ true
 own_number n = (Decides-eqb n n).1 refl
 
-no_object_maps : (objects : List Declaration) (k : StatementKind) → object_count (maps_in objects k) ≡ 0
-no_object_maps objects (statement.Maps names source target selfmade) = go names
+all_arrows : (objects : List Declaration) (k : StatementKind) → list_all is_arrow (maps_in objects k) ≡ true
+all_arrows objects (statement.Maps names source target selfmade) = go names
   where
-    go : (names : List Name) → object_count (map (λ m. arrow m.text (object_of objects source) (object_of objects target) selfmade) names) ≡ 0
+    go : (names : List Name) → list_all is_arrow (map (λ m. arrow m.text (object_of objects source) (object_of objects target) selfmade) names) ≡ true
     go [] = refl
-    go (m ∷ names) = ap (λ n. 0 + n) (go names)
-no_object_maps objects k = refl
+    go (m ∷ names) = go names
+all_arrows objects k = refl
+
+arrows_behind : (objects : List Declaration) (statements : List Statement) → list_all is_arrow (declared_maps objects statements) ≡ true
+arrows_behind objects [] = refl
+arrows_behind objects (s ∷ statements) = all_append is_arrow (maps_in objects s.kind) (declared_maps objects statements) (all_arrows objects s.kind) (arrows_behind objects statements)
 
 pub object_count-maps : (objects : List Declaration) (statements : List Statement) → object_count (declared_maps objects statements) ≡ 0
-object_count-maps objects [] = refl
-object_count-maps objects (s ∷ statements) =
-    object_count-append (maps_in objects s.kind) (declared_maps objects statements) ∙ ap₂ (λ a b. a + b) (no_object_maps objects s.kind) (object_count-maps objects statements)
+object_count-maps objects statements = no_objects (declared_maps objects statements) (arrows_behind objects statements)
 
 no_map_objects : (k : StatementKind) → map_count (objects_in k) ≡ 0
 no_map_objects (statement.Objects names) = go names
@@ -319,18 +312,6 @@ module _ (statements : List Statement) (clean : name_fault_of statements ≡ Non
       (subst IsDeclared whole (file_declared statements clean)))
 
 -- all objects come first
-all_arrows : (objects : List Declaration) (k : StatementKind) → list_all is_arrow (maps_in objects k) ≡ true
-all_arrows objects (statement.Maps names source target selfmade) = go names
-  where
-    go : (names : List Name) → list_all is_arrow (map (λ m. arrow m.text (object_of objects source) (object_of objects target) selfmade) names) ≡ true
-    go [] = refl
-    go (m ∷ names) = go names
-all_arrows objects k = refl
-
-arrows_behind : (objects : List Declaration) (statements : List Statement) → list_all is_arrow (declared_maps objects statements) ≡ true
-arrows_behind objects [] = refl
-arrows_behind objects (s ∷ statements) = all_append is_arrow (maps_in objects s.kind) (declared_maps objects statements) (all_arrows objects s.kind) (arrows_behind objects statements)
-
 first_arrows : (ds : List Declaration) → list_all is_arrow ds ≡ true → objects_first ds ≡ true
 first_arrows [] h = refl
 first_arrows (object name ∷ ds) h = absurd (cc)

@@ -1,11 +1,12 @@
 -- Nothing is wrong with a declaration of a list that a quiver may have.
-use Rattle.std.proofs.Common.{◌≡◌, ◌≢◌, ℕ, zero, suc, ◌+◌, ◌<◌, ◌≤◌, Bool, true, false, ◌&&◌, ◌||◌, not, nat_eq, nat_le, if◌then◌else◌, is_some, List, [], ◌∷◌, ◌++◌, length, map, All, AllPairs, Option, Some, None, refl, ap, ap₂, sym, subst, ◌∙◌, arith}
+use Rattle.std.proofs.Common.{◌≡◌, ◌≢◌, ℕ, zero, suc, ◌+◌, ◌<◌, ◌≤◌, Bool, true, false, ◌&&◌, ◌||◌, not, nat_eq, nat_le, if◌then◌else◌, is_some, List, [], ◌∷◌, ◌++◌, length, map, All, AllPairs, Some, None, refl, ap, ap₂, sym, subst, ◌∙◌, arith}
 use Rattle.std.specs.List.{list_all}
 use Rattle.std.specs.Str.{bytes_eq}
 use Rattle.std.proofs.lemmas.List.Kept.{AllPairs-cons}
+use Rattle.std.proofs.lemmas.Bool.{and_parts}
 use Rattle.std.proofs.lemmas.Bool.Decides.{nat_tests}
+use Rattle.std.proofs.lemmas.List.Folds.{list_all-append}
 use Rattle.std.proofs.lemmas.List.{map-append}
-use Rattle.quiver.specs.declared.fault.QuiverFault.{QuiverFault}
 use Rattle.quiver.specs.declared.fault.QuiverFault.TheVariants.{DoubleName, TooMany, NotSquare}
 use Rattle.quiver.specs.Declarations.{Declaration, object, arrow, name_of, object_count, map_count, named_in, has_ends, IsDeclared}
 use Rattle.quiver.specs.Limits.{object_limit, map_limit}
@@ -67,21 +68,10 @@ no_object_fault xs name ys declared =
     ap₂ (λ b c. if b then Some DoubleName else if c then Some (TooMany object_limit) else None) (ap is_some fresh) free
 
 pub all_right : {A : Type 0} (test : A → Bool) (xs ys : List A) → list_all test (xs ++ ys) ≡ true → list_all test ys ≡ true
-all_right test [] ys h = h
-all_right test (x ∷ xs) ys h = go (test x) h (all_right test xs ys)
-  where
-    go : (b : Bool) → (b && list_all test (xs ++ ys)) ≡ true → (list_all test (xs ++ ys) ≡ true → list_all test ys ≡ true) → list_all test ys ≡ true
-    go true e rest = rest e
-    go false e rest = absurd (cc)
-
-both_left : (b c : Bool) → (b && c) ≡ true → b ≡ true
-both_left true c e = refl
-both_left false c e = absurd (cc)
+all_right test xs ys h = (and_parts (list_all test xs) (list_all test ys) (sym (list_all-append test xs ys) ∙ h)).1
 
 square_of : (selfmade same : Bool) → (not selfmade || same) ≡ true → (selfmade && not same) ≡ false
-square_of true true e = refl
-square_of true false e = absurd (cc)
-square_of false same e = refl
+square_of selfmade same e = grind arith
 
 pub no_map_fault : (xs : List Declaration) (name : List ℕ) (u v : ℕ) (selfmade : Bool) (ys : List Declaration) → IsDeclared (xs ++ arrow name u v selfmade ∷ ys) → map_fault xs name u v selfmade ≡ None
 no_map_fault xs name u v selfmade ys declared =
@@ -89,7 +79,7 @@ no_map_fault xs name u v selfmade ys declared =
     let room : map_count xs + (1 + map_count ys) ≤ map_limit = subst (λ n. n ≤ map_limit) (map_count-append xs (arrow name u v selfmade ∷ ys)) declared.few_maps in
     let free : nat_le map_limit (map_count xs) ≡ false = grind (arith, nat_tests) in
     let n = object_count (xs ++ arrow name u v selfmade ∷ ys) in
-    let ends = both_left (has_ends n (arrow name u v selfmade)) (list_all (has_ends n) ys) (all_right (has_ends n) xs (arrow name u v selfmade ∷ ys) declared.ends) in
-    let square : (selfmade && not (nat_eq u v)) ≡ false = square_of selfmade (nat_eq u v) (ends_of n name u v selfmade ends).square in
+    let ends = all_right (has_ends n) xs (arrow name u v selfmade ∷ ys) declared.ends in
+    let square : (selfmade && not (nat_eq u v)) ≡ false = square_of selfmade (nat_eq u v) (ends_of n name u v selfmade (and_parts (has_ends n (arrow name u v selfmade)) (list_all (has_ends n) ys) ends).0).square in
     ap₂ (λ b c. if b then Some DoubleName else if c then Some (TooMany map_limit) else if selfmade && not (nat_eq u v) then Some NotSquare else None) (ap is_some fresh) free
     ∙ ap (λ b. if b then Some NotSquare else None) square

@@ -1,5 +1,5 @@
 -- The names of a map are the bytes of its keys.
-use Rattle.std.proofs.Common.{◌≡◌, Option, ap₂, sym, Bool, true, false, not, is_some, if◌then◌else◌, List, [], ◌∷◌, ◌++◌, map, None, Some, cond, refl, ap, ◌∙◌, ℕ, zero, suc, ◌+◌, ◌&&◌, nat_lt, length, take, position, string_bytes, Global, String, arith}
+use Rattle.std.proofs.Common.{◌≡◌, Option, ap₂, sym, Bool, false, not, is_some, if◌then◌else◌, List, [], ◌∷◌, ◌++◌, map, None, Some, cond, refl, ap, ◌∙◌, ℕ, zero, suc, ◌+◌, ◌&&◌, nat_lt, length, take, position, string_bytes, Global, String, arith}
 use Rattle.std.specs.List.{position_or_len}
 use Rattle.std.specs.Map.{keys_of}
 use Rattle.std.proofs.lemmas.Bool.Decides.{nat_tests}
@@ -13,6 +13,7 @@ use Rattle.statement_names.specs.declared.kinds.Kind.{Kind}
 use Rattle.statement_names.specs.declared.kinds.Kinds.TheInside.{Inside}
 use Rattle.statement_names.specs.Faults.{kind_in}
 use Rattle.statement_names.specs.Survey.{with_kind}
+use Rattle.statement_names.proofs.Clean.{absent_from}
 
 abbrev pub bytes_of : List (String Global × Kind) → List (List ℕ × Kind)
 bytes_of entries = map (λ e. (string_bytes e.0, e.1)) entries
@@ -32,10 +33,6 @@ bytes-inserted q new kinds key name kind key_is new_is view_is fresh =
     ∙ map-append (λ e. (string_bytes e.0, e.1)) q.kinds.entries ((key, kind) ∷ [])
     ∙ ap₂ (λ ks n. ks ++ (n, kind) ∷ []) view_is key_is
     ∙ ap (λ b. if b then kinds else kinds ++ (name, kind) ∷ []) (sym fresh)
-  where
-    absent_from : (found : Option Kind) → is_some found ≡ false → found ≡ None
-    absent_from None e = refl
-    absent_from (Some k) e = absurd (cc)
 
 -- a place is there, and below this
 abbrev pub is_below : Option ℕ → ℕ → Bool
@@ -43,19 +40,14 @@ is_below (Some place) count = nat_lt place count
 is_below None count = false
 
 below_same : (there : Bool) (place count : ℕ) → is_below (cond there (Some place) None) count ≡ (there && nat_lt place count)
-below_same true place count = refl
-below_same false place count = refl
+below_same there place count = grind arith
 
 module _ {K X : Type 0} (test : K → Bool) where
   first_place : (entries : List (K × X)) (count : ℕ)
       → is_some (lookup test (take count entries)) ≡ (nat_lt (position_or_len test (keys_of entries)) (length (keys_of entries)) && nat_lt (position_or_len test (keys_of entries)) count)
   first_place [] zero = refl
   first_place [] (suc count) = refl
-  first_place (e ∷ entries) zero = sym (never (nat_lt (position_or_len test (keys_of (e ∷ entries))) (length (keys_of (e ∷ entries)))) (position_or_len test (keys_of (e ∷ entries))))
-    where
-      never : (b : Bool) (n : ℕ) → (b && nat_lt n 0) ≡ false
-      never true n = grind (arith, nat_tests)
-      never false n = refl
+  first_place (e ∷ entries) zero = grind (arith, nat_tests)
   first_place (e ∷ entries) (suc count) = go (test e.0) (first_place entries count)
     where
       place : ℕ
@@ -66,8 +58,7 @@ module _ {K X : Type 0} (test : K → Bool) where
 
       go : (b : Bool) → is_some (lookup test (take count entries)) ≡ (nat_lt place all && nat_lt place count)
           → is_some (cond b (Some e.1) (lookup test (take count entries))) ≡ (nat_lt (cond (not b) (1 + place) 0) (suc all) && nat_lt (cond (not b) (1 + place) 0) (suc count))
-      go true rest = grind (arith, nat_tests)
-      go false rest = grind (arith, nat_tests)
+      go b rest = grind (arith, nat_tests)
 
 -- a name is among the first declarations where its place is below their number
 pub first-place : (name : List ℕ) (entries : List (String Global × Kind)) (count : ℕ)

@@ -9,7 +9,7 @@ use Rattle.quiver.specs.declared.named.Named.{Named}
 use Rattle.quiver.specs.declared.named.Named.TheVariants as named
 use Rattle.quiver.specs.Declarations.{Declaration, object, arrow, name_of, objects_of, letters_of, Turn, named_by, named_in}
 use Rattle.quiver.proofs.Growth.{names_from}
-use Rattle.expressions.specs.Names.{is_map, is_object}
+use Rattle.expressions.specs.Names.{is_map, is_object, object_of}
 use Rattle.statement_syntax.specs.declared.tree.Name.{Name}
 use Rattle.statement_syntax.specs.declared.tree.Statement.{Statement}
 use Rattle.statement_syntax.specs.declared.tree.StatementKind.{StatementKind}
@@ -71,22 +71,17 @@ nothing_named ds q absent = go (named_in ds q) (kind-named_in ds q ∙ absent)
 
 pub map_from : (found : Option Named) → is_kind (option_map named_kind found) Map ≡ true → IsTrue (is_map found)
 map_from (Some (named.Map a)) e = refl
-map_from (Some (named.Object v)) e = absurd (cc)
-map_from None e = absurd (cc)
+map_from found e = absurd (cc)
 
 pub object_from : (found : Option Named) → is_kind (option_map named_kind found) Object ≡ true → IsTrue (is_object found)
 object_from (Some (named.Object v)) e = refl
-object_from (Some (named.Map a)) e = absurd (cc)
-object_from None e = absurd (cc)
+object_from found e = absurd (cc)
 
 -- those of a file
-kinds-objects : (names : List Name) → kinds (map (λ n. object n.text) names) ≡ kinded Object names
-kinds-objects [] = refl
-kinds-objects (n ∷ names) = ap (λ ks. (n.text, Object) ∷ ks) (kinds-objects names)
-
-kinds-maps : (u v : ℕ) (selfmade : Bool) (names : List Name) → kinds (map (λ n. arrow n.text u v selfmade) names) ≡ kinded Map names
-kinds-maps u v selfmade [] = refl
-kinds-maps u v selfmade (n ∷ names) = ap (λ ks. (n.text, Map) ∷ ks) (kinds-maps u v selfmade names)
+kinds-made : (kind : Kind) (declare : Name → Declaration) → ((n : Name) → kind_of (declare n) ≡ (n.text, kind)) → (names : List Name)
+    → kinds (map declare names) ≡ kinded kind names
+kinds-made kind declare each [] = refl
+kinds-made kind declare each (n ∷ names) = ap₂ (λ k ks. k ∷ ks) (each n) (kinds-made kind declare each names)
 
 objects_among-append : (xs ys : List (List ℕ × Kind)) → objects_among (xs ++ ys) ≡ objects_among xs ++ objects_among ys
 objects_among-append [] ys = refl
@@ -115,13 +110,16 @@ maps_among-objects [] = refl
 maps_among-objects (n ∷ names) = maps_among-objects names
 
 objects_of_statement : (k : StatementKind) → kinds (objects_in k) ≡ objects_among (kinds_by k)
-objects_of_statement (statement.Objects names) = kinds-objects names ∙ sym (objects_among-objects names)
+objects_of_statement (statement.Objects names) =
+    kinds-made Object (λ n. object n.text) (λ n. refl) names ∙ sym (objects_among-objects names)
 objects_of_statement (statement.Maps names source target selfmade) = sym (objects_among-maps names)
 objects_of_statement k = refl
 
 maps_of_statement : (objects : List Declaration) (k : StatementKind) → kinds (maps_in objects k) ≡ maps_among (kinds_by k)
 maps_of_statement objects (statement.Objects names) = sym (maps_among-objects names)
-maps_of_statement objects (statement.Maps names source target selfmade) = kinds-maps _ _ selfmade names ∙ sym (maps_among-maps names)
+maps_of_statement objects (statement.Maps names source target selfmade) =
+    kinds-made Map (λ n. arrow n.text (object_of objects source) (object_of objects target) selfmade) (λ n. refl) names
+    ∙ sym (maps_among-maps names)
 maps_of_statement objects k = refl
 
 abbrev pub statement_kinds : List Statement → List (List ℕ × Kind)

@@ -1,5 +1,5 @@
 -- The letters that a file solves for are declared maps.
-use Rattle.std.proofs.Common.{◌≡◌, ℕ, ◌+◌, ◌≤◌, Bool, true, false, ◌||◌, if◌then◌else◌, List, [], ◌∷◌, ◌++◌, Option, Some, None, refl, ap, sym, subst, arith}
+use Rattle.std.proofs.Common.{◌≡◌, ℕ, ◌+◌, ◌≤◌, Bool, true, false, ◌||◌, if◌then◌else◌, List, [], ◌∷◌, ◌++◌, Option, Some, refl, ap, sym, subst, arith}
 use Rattle.std.specs.List.{list_any, list_all}
 use Rattle.std.proofs.lemmas.Bool.Decides.{Decides-eqb}
 use Rattle.quiver.specs.declared.named.Named.{Named}
@@ -15,7 +15,7 @@ use Rattle.statement_names.proofs.Found.{map_split, map_letters}
 use Rattle.statement_names.proofs.Fresh.{all_right}
 
 -- objects come first
-no_objects : (ds : List Declaration) → list_all is_arrow ds ≡ true → object_count ds ≡ 0
+pub no_objects : (ds : List Declaration) → list_all is_arrow ds ≡ true → object_count ds ≡ 0
 no_objects [] h = refl
 no_objects (object name ∷ ds) h = absurd (cc)
 no_objects (arrow name u v selfmade ∷ ds) h = ap (λ n. 0 + n) (no_objects ds h)
@@ -28,8 +28,7 @@ behind_arrow (arrow name x y own ∷ before) q u v selfmade after h = no_objects
 object_letters : (ds : List Declaration) → object_count ds ≤ letter_count ds
 object_letters [] = omega arith
 object_letters (object name ∷ ds) = omega (arith, object_letters ds)
-object_letters (arrow name u v true ∷ ds) = omega (arith, object_letters ds)
-object_letters (arrow name u v false ∷ ds) = omega (arith, object_letters ds)
+object_letters (arrow name u v selfmade ∷ ds) = omega (arith, object_letters ds)
 
 map_declared : (ds : List Declaration) → ObjectsFirst ds → (q : List ℕ) (a : ℕ) → named_in ds q ≡ Some (named.Map (record { 0 = a })) → IsDeclaredMap ds (letter a)
 map_declared ds first q a found =
@@ -49,8 +48,7 @@ map_declared ds first q a found =
 -- a letter that a name stands for
 named_letter : (a : ℕ) (found : Option Named) → is_the_letter a found ≡ true → found ≡ Some (named.Map (record { 0 = a }))
 named_letter a (Some (named.Map b)) e = ap (λ n. Some (named.Map (record { 0 = n }))) ((Decides-eqb b.0 a).0 e)
-named_letter a (Some (named.Object v)) e = absurd (cc)
-named_letter a None e = absurd (cc)
+named_letter a found e = absurd (cc)
 
 pub solved_declared : (ds : List Declaration) → ObjectsFirst ds → (a : ℕ) (names : List Name) → list_any (names_letter ds a) names ≡ true → IsDeclaredMap ds (letter a)
 solved_declared ds first a [] e = absurd (cc)

@@ -1,8 +1,8 @@
 -- What the names and literals of a statement are, in a file in whose names nothing is wrong.
-use Rattle.std.proofs.Common.{◌≡◌, ◌≢◌, ℕ, ◌<◌, ◌≤◌, Bool, true, false, ◌&&◌, ◌||◌, nat_eq, nat_le, IsTrue, List, [], ◌∷◌, ◌++◌, map, length, get_or, Option, None, All, AllPairs, refl, ap, sym, subst, ◌∙◌, arith}
+use Rattle.std.proofs.Common.{◌≡◌, ◌≢◌, ℕ, ◌<◌, ◌≤◌, Bool, true, false, ◌||◌, nat_eq, nat_le, IsTrue, List, [], ◌∷◌, ◌++◌, map, length, get_or, Option, None, All, AllPairs, refl, ap, subst, ◌∙◌, arith}
 use Rattle.std.specs.List.{list_any, list_all}
 use Rattle.std.specs.Str.{bytes_eq}
-use Rattle.std.proofs.lemmas.Bool.{leb-true}
+use Rattle.std.proofs.lemmas.Bool.{and_parts, leb-true}
 use Rattle.std.proofs.lemmas.Bool.Decides.{Decides-eqb}
 use Rattle.std.proofs.lemmas.List.Folds.{list_any-append}
 use Rattle.std.proofs.lemmas.List.Kept.{AllPairs-cons}
@@ -28,18 +28,13 @@ use Rattle.statement_names.proofs.FileDeclared.{statements_good}
 use Rattle.statement_names.proofs.NamedKinds.{map_named, object_named}
 
 -- numbers
-both : (b c : Bool) → (b && c) ≡ true → (b ≡ true) × (c ≡ true)
-both true true e = (refl, refl)
-both true false e = absurd (cc)
-both false c e = absurd (cc)
-
 pub between : (least most n : ℕ) → is_between least most n ≡ true → (least ≤ n) × (n ≤ most)
-between least most n e = let parts = both (nat_le least n) (nat_le n most) e in (leb-true least n parts.0, leb-true n most parts.1)
+between least most n e = let parts = and_parts (nat_le least n) (nat_le n most) e in (leb-true least n parts.0, leb-true n most parts.1)
 
 any_small : (n limit : ℕ) (ms : List ℕ) → list_any (nat_eq n) ms ≡ true → list_all (λ m. nat_le m limit) ms ≡ true → n ≤ limit
 any_small n limit [] e k = absurd (cc)
 any_small n limit (m ∷ ms) e k =
-    let parts = both (nat_le m limit) (list_all (λ l. nat_le l limit) ms) k in
+    let parts = and_parts (nat_le m limit) (list_all (λ l. nat_le l limit) ms) k in
     go (nat_eq n m) refl e (leb-true m limit parts.0) (λ later. any_small n limit ms later parts.1)
   where
     go : (b : Bool) → nat_eq n m ≡ b → (b || list_any (nat_eq n) ms) ≡ true → m ≤ limit → (list_any (nat_eq n) ms ≡ true → n ≤ limit) → n ≤ limit
@@ -76,19 +71,12 @@ module _ (kind : List ℕ → Option Kind) (k : Kind) where
   put_in_front : (front : List (List ℕ)) (name : List ℕ) → IsInFront (front ++ name ∷ []) name
   put_in_front front name q absent same =
       let there : is_among (front ++ name ∷ []) q ≡ true =
-      list_any-append (bytes_eq q) front (name ∷ []) ∙ ap (λ n. is_among front q || (bytes_eq q n || false)) same ∙ ap (λ b. is_among front q || (b || false)) (own_bytes q) ∙ or_true (is_among front q) in
+      list_any-append (bytes_eq q) front (name ∷ []) ∙ ap (λ n. is_among front q || (bytes_eq q n || false)) same ∙ ap (λ b. is_among front q || (b || false)) (own_bytes q) ∙ (let found : (is_among front q || true) ≡ true = grind arith in found) in
       cc
-    where
-      or_true : (b : Bool) → (b || true) ≡ true
-      or_true true = refl
-      or_true false = refl
 
   stays_in_front : (front : List (List ℕ)) (name x : List ℕ) → IsInFront front name → IsInFront (front ++ x ∷ []) name
-  stays_in_front front name x there q absent = there q (first (is_among front q) (bytes_eq q x || false) (sym (list_any-append (bytes_eq q) front (x ∷ [])) ∙ absent))
-    where
-      first : (b c : Bool) → (b || c) ≡ false → b ≡ false
-      first false c e = refl
-      first true c e = absurd (cc)
+  stays_in_front front name x there q absent =
+      let first : is_among front q ≡ false = grind (arith, list_any-append (bytes_eq q) front (x ∷ []), absent) in there q first
 
   later_differ : (front : List (List ℕ)) (names : List Name) (name : List ℕ) → IsInFront front name → Each (IsGood kind) (names_behind k front names) → Each (λ n. name ≢ n.text) names
   later_differ front [] name there good = tt

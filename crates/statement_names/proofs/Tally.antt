@@ -7,27 +7,19 @@ use Rattle.quiver.specs.Declarations.{Declaration, object, arrow, object_count, 
 use Rattle.quiver.proofs.Counts.{object_count-append, map_count-append}
 use Rattle.statement_tokens.specs.declared.place.Spot.{Spot}
 use Rattle.statement_syntax.specs.declared.tree.Name.{Name}
-use Rattle.statement_syntax.specs.declared.tree.Number.{Number}
 use Rattle.statement_syntax.specs.declared.tree.Statement.{Statement}
 use Rattle.statement_syntax.specs.declared.tree.StatementKind.{StatementKind}
 use Rattle.statement_syntax.specs.declared.tree.StatementKind.TheVariants as statement
 use Rattle.adjoint_rules.specs.Limits.{shape_side_limit}
 use Rattle.word_orders.specs.Limits.{weight_limit}
 use Rattle.statement_names.specs.declared.kinds.Kind.TheVariants.{Object, Map}
-use Rattle.statement_names.specs.Uses.{Use, object_use, map_use}
-use Rattle.statement_names.specs.Occurrences.{Occurrence, declares_object, declares_map, uses, lists, counts, modulus, begins_order, begins_assumptions, begins_claim, begins_shape, names_behind, pairs_behind, used_names, sides_occurrences, kind_occurrences, statement_occurrences, occurrences_of}
+use Rattle.statement_names.specs.Uses.{object_use, map_use}
+use Rattle.statement_names.specs.Occurrences.{Occurrence, declares_object, declares_map, modulus, begins_order, begins_assumptions, begins_claim, begins_shape, names_behind, pairs_behind, used_names, sides_occurrences, kind_occurrences, statement_occurrences, occurrences_of}
 use Rattle.statement_names.specs.Faults.{objects_by, maps_by, assumptions_by, claims_by, shapes_by}
 use Rattle.statement_names.specs.Numbered.{objects_in, maps_in, declared_objects, declared_maps}
 use Rattle.statement_names.specs.Shapes.{shapes_in}
 use Rattle.statement_names.specs.Written.{equations_in, assumptions_of, claims_in, claims_of}
-use Rattle.statement_names.proofs.Quiet.{IsQuiet, sum_by-quiet, used_names-quiet, sides-quiet, names_behind-quiet, pairs_behind-quiet}
-
--- a count that leaves out names and literals
-pub record LeavesOut (by : Occurrence → ℕ) : Type 0 where
-  pub use_ : (u : Use) → by (uses u) ≡ 0
-  pub list_ : (front : List (List ℕ)) (u : Use) → by (lists front u) ≡ 0
-  pub count_ : (most : ℕ) (n : Number) → by (counts most n) ≡ 0
-  pub modulus_ : (n : Number) → by (modulus n) ≡ 0
+use Rattle.statement_names.proofs.Quiet.{IsUse, IsQuiet, sum_by-quiet, used_names-quiet, sides-quiet, names_behind-quiet, pairs_behind-quiet}
 
 abbrev made_objects : List Name → List Occurrence
 made_objects names = map (λ n. declares_object n) names
@@ -37,7 +29,6 @@ made_maps u v selfmade names = map (λ n. declares_map n u v selfmade) names
 
 -- what a statement adds to a count
 abbrev pub tally : (Occurrence → ℕ) → Spot → StatementKind → ℕ
-tally by at statement.Language = 0
 tally by at (statement.Objects names) = sum_by by (made_objects names)
 tally by at (statement.Maps names source target selfmade) = sum_by by (made_maps source.text target.text selfmade names)
 tally by at (statement.Assume left right) = by (begins_assumptions 1 at)
@@ -48,23 +39,21 @@ tally by at (statement.Inner a x) = by (begins_assumptions 1 at)
 tally by at (statement.Projection p) = by (begins_assumptions 2 at)
 tally by at statement.Degree = by (begins_order at)
 tally by at (statement.Weight pairs) = by (begins_order at)
-tally by at (statement.Solve names) = 0
 tally by at (statement.Eliminate names) = by (begins_order at)
 tally by at (statement.Shape m sides) = by (begins_shape at)
+tally by at k = 0
 
 plus_nothing : (n : ℕ) → n + 0 ≡ n
 plus_nothing n = omega arith
 
-module _ (by : Occurrence → ℕ) (out : LeavesOut by) where
+module _ (by : Occurrence → ℕ) (out : (o : Occurrence) → IsUse o → by o ≡ 0) where
   quiet : (os : List Occurrence) → IsQuiet os → sum_by by os ≡ 0
-  quiet os h = sum_by-quiet by out.use_ out.list_ out.count_ out.modulus_ os h
+  quiet os h = sum_by-quiet by out os h
 
   begins : (o : Occurrence) (os : List Occurrence) → IsQuiet os → sum_by by (o ∷ os) ≡ by o
   begins o os h = sum_by-cons by o os ∙ ap (λ n. by o + n) (quiet os h) ∙ plus_nothing (by o)
 
   pub tally-statement : (at : Spot) (k : StatementKind) → sum_by by (kind_occurrences at k) ≡ tally by at k
-  tally-statement at statement.Language = refl
-  tally-statement at (statement.Objects names) = refl
   tally-statement at (statement.Maps names source target selfmade) =
       let ends = used_names (object_use source ∷ object_use target ∷ []) in
       sum_by-append by (made_maps source.text target.text selfmade names) ends
@@ -72,15 +61,18 @@ module _ (by : Occurrence → ℕ) (out : LeavesOut by) where
       ∙ plus_nothing (sum_by by (made_maps source.text target.text selfmade names))
   tally-statement at (statement.Assume left right) = begins (begins_assumptions 1 at) (sides_occurrences left right) (sides-quiet left right)
   tally-statement at (statement.Claim left right) = begins (begins_claim at) (sides_occurrences left right) (sides-quiet left right)
-  tally-statement at (statement.Pinv a x) = begins (begins_assumptions 4 at) (used_names (map_use a ∷ map_use x ∷ [])) tt
-  tally-statement at (statement.Inverse a x) = begins (begins_assumptions 2 at) (used_names (map_use a ∷ map_use x ∷ [])) tt
-  tally-statement at (statement.Inner a x) = begins (begins_assumptions 1 at) (used_names (map_use a ∷ map_use x ∷ [])) tt
-  tally-statement at (statement.Projection p) = begins (begins_assumptions 2 at) (used_names (map_use p ∷ [])) tt
+  tally-statement at (statement.Pinv a x) = begins (begins_assumptions 4 at) (used_names (map_use a ∷ map_use x ∷ [])) (tt, (tt, tt))
+  tally-statement at (statement.Inverse a x) = begins (begins_assumptions 2 at) (used_names (map_use a ∷ map_use x ∷ [])) (tt, (tt, tt))
+  tally-statement at (statement.Inner a x) = begins (begins_assumptions 1 at) (used_names (map_use a ∷ map_use x ∷ [])) (tt, (tt, tt))
+  tally-statement at (statement.Projection p) = begins (begins_assumptions 2 at) (used_names (map_use p ∷ [])) (tt, tt)
   tally-statement at statement.Degree = begins (begins_order at) [] tt
   tally-statement at (statement.Weight pairs) = begins (begins_order at) (pairs_behind Map weight_limit [] pairs) (pairs_behind-quiet Map weight_limit [] pairs)
   tally-statement at (statement.Solve names) = quiet (names_behind Map [] names) (names_behind-quiet Map [] names)
   tally-statement at (statement.Eliminate names) = begins (begins_order at) (names_behind Map [] names) (names_behind-quiet Map [] names)
-  tally-statement at (statement.Shape m sides) = begins (begins_shape at) (modulus m ∷ pairs_behind Object shape_side_limit [] sides) (pairs_behind-quiet Object shape_side_limit [] sides)
+  tally-statement at (statement.Shape m sides) =
+      begins (begins_shape at) (modulus m ∷ pairs_behind Object shape_side_limit [] sides)
+      (tt, pairs_behind-quiet Object shape_side_limit [] sides)
+  tally-statement at k = refl
 
   -- a measure of statements that agrees with it
   pub tally-statements : (measure : Spot → StatementKind → ℕ) → ((at : Spot) (k : StatementKind) → measure at k ≡ tally by at k)
@@ -93,13 +85,10 @@ module _ (by : Occurrence → ℕ) (out : LeavesOut by) where
       ∙ sym (sum_by-append by (statement_occurrences s) (occurrences_of statements))
 
 -- what a list of declarations adds
-no_objects : (u v : List ℕ) (selfmade : Bool) (by : Occurrence → ℕ) → ((n : Name) → by (declares_map n u v selfmade) ≡ 0) → (names : List Name) → sum_by by (made_maps u v selfmade names) ≡ 0
-no_objects u v selfmade by none [] = refl
-no_objects u v selfmade by none (n ∷ names) = sum_by-cons by (declares_map n u v selfmade) (made_maps u v selfmade names) ∙ ap₂ (λ a b. a + b) (none n) (no_objects u v selfmade by none names)
-
-no_maps : (by : Occurrence → ℕ) → ((n : Name) → by (declares_object n) ≡ 0) → (names : List Name) → sum_by by (made_objects names) ≡ 0
-no_maps by none [] = refl
-no_maps by none (n ∷ names) = sum_by-cons by (declares_object n) (made_objects names) ∙ ap₂ (λ a b. a + b) (none n) (no_maps by none names)
+none_made : (by : Occurrence → ℕ) (make : Name → Occurrence) → ((n : Name) → by (make n) ≡ 0) → (names : List Name)
+    → sum_by by (map make names) ≡ 0
+none_made by make none [] = refl
+none_made by make none (n ∷ names) = sum_by-cons by (make n) (map make names) ∙ ap₂ (λ a b. a + b) (none n) (none_made by make none names)
 
 object_each : (names : List Name) → object_count (map (λ n. object n.text) names) ≡ sum_by objects_by (made_objects names)
 object_each [] = refl
@@ -110,44 +99,53 @@ map_each u v x y selfmade [] = refl
 map_each u v x y selfmade (n ∷ names) = ap (λ k. 1 + k) (map_each u v x y selfmade names) ∙ sym (sum_by-cons maps_by (declares_map n u v selfmade) (made_maps u v selfmade names))
 
 -- the counts
-objects_out : LeavesOut objects_by
-objects_out = record { use_ = λ u. refl; list_ = λ front u. refl; count_ = λ most n. refl; modulus_ = λ n. refl }
+objects_out : (o : Occurrence) → IsUse o → objects_by o ≡ 0
+objects_out (declares_object n) h = absurd h
+objects_out o h = refl
 
-maps_out : LeavesOut maps_by
-maps_out = record { use_ = λ u. refl; list_ = λ front u. refl; count_ = λ most n. refl; modulus_ = λ n. refl }
+maps_out : (o : Occurrence) → IsUse o → maps_by o ≡ 0
+maps_out (declares_map n u v selfmade) h = absurd h
+maps_out o h = refl
 
-assumptions_out : LeavesOut assumptions_by
-assumptions_out = record { use_ = λ u. refl; list_ = λ front u. refl; count_ = λ most n. refl; modulus_ = λ n. refl }
+assumptions_out : (o : Occurrence) → IsUse o → assumptions_by o ≡ 0
+assumptions_out (begins_assumptions count at) h = absurd h
+assumptions_out o h = refl
 
-claims_out : LeavesOut claims_by
-claims_out = record { use_ = λ u. refl; list_ = λ front u. refl; count_ = λ most n. refl; modulus_ = λ n. refl }
+claims_out : (o : Occurrence) → IsUse o → claims_by o ≡ 0
+claims_out (begins_claim at) h = absurd h
+claims_out o h = refl
 
-shapes_out : LeavesOut shapes_by
-shapes_out = record { use_ = λ u. refl; list_ = λ front u. refl; count_ = λ most n. refl; modulus_ = λ n. refl }
+shapes_out : (o : Occurrence) → IsUse o → shapes_by o ≡ 0
+shapes_out (begins_shape at) h = absurd h
+shapes_out o h = refl
 
 objects_same : (at : Spot) (k : StatementKind) → object_count (objects_in k) ≡ tally objects_by at k
 objects_same at (statement.Objects names) = object_each names
-objects_same at (statement.Maps names source target selfmade) = sym (no_objects source.text target.text selfmade objects_by (λ n. refl) names)
+objects_same at (statement.Maps names source target selfmade) =
+    sym (none_made objects_by (λ n. declares_map n source.text target.text selfmade) (λ n. refl) names)
 objects_same at k = refl
 
 maps_same : (objects : List Declaration) (at : Spot) (k : StatementKind) → map_count (maps_in objects k) ≡ tally maps_by at k
-maps_same objects at (statement.Objects names) = sym (no_maps maps_by (λ n. refl) names)
+maps_same objects at (statement.Objects names) = sym (none_made maps_by (λ n. declares_object n) (λ n. refl) names)
 maps_same objects at (statement.Maps names source target selfmade) = map_each source.text target.text _ _ selfmade names
 maps_same objects at k = refl
 
 assumptions_same : (ds : List Declaration) (at : Spot) (k : StatementKind) → length (equations_in ds at k) ≡ tally assumptions_by at k
-assumptions_same ds at (statement.Objects names) = sym (no_maps assumptions_by (λ n. refl) names)
-assumptions_same ds at (statement.Maps names source target selfmade) = sym (no_objects source.text target.text selfmade assumptions_by (λ n. refl) names)
+assumptions_same ds at (statement.Objects names) = sym (none_made assumptions_by (λ n. declares_object n) (λ n. refl) names)
+assumptions_same ds at (statement.Maps names source target selfmade) =
+    sym (none_made assumptions_by (λ n. declares_map n source.text target.text selfmade) (λ n. refl) names)
 assumptions_same ds at k = refl
 
 claims_same : (at : Spot) (k : StatementKind) → length (claims_in k) ≡ tally claims_by at k
-claims_same at (statement.Objects names) = sym (no_maps claims_by (λ n. refl) names)
-claims_same at (statement.Maps names source target selfmade) = sym (no_objects source.text target.text selfmade claims_by (λ n. refl) names)
+claims_same at (statement.Objects names) = sym (none_made claims_by (λ n. declares_object n) (λ n. refl) names)
+claims_same at (statement.Maps names source target selfmade) =
+    sym (none_made claims_by (λ n. declares_map n source.text target.text selfmade) (λ n. refl) names)
 claims_same at k = refl
 
 shapes_same : (ds : List Declaration) (at : Spot) (k : StatementKind) → length (shapes_in ds k) ≡ tally shapes_by at k
-shapes_same ds at (statement.Objects names) = sym (no_maps shapes_by (λ n. refl) names)
-shapes_same ds at (statement.Maps names source target selfmade) = sym (no_objects source.text target.text selfmade shapes_by (λ n. refl) names)
+shapes_same ds at (statement.Objects names) = sym (none_made shapes_by (λ n. declares_object n) (λ n. refl) names)
+shapes_same ds at (statement.Maps names source target selfmade) =
+    sym (none_made shapes_by (λ n. declares_map n source.text target.text selfmade) (λ n. refl) names)
 shapes_same ds at k = refl
 
 pub object_count-statements : (statements : List Statement) → object_count (declared_objects statements) ≡ sum_by objects_by (occurrences_of statements)
