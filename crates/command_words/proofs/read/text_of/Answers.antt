@@ -1,4 +1,4 @@
-use Rattle.std.proofs.Common.{rules, ◌≡◌, ◌∙◌, ap, sym, Some, List, ℕ}
+use Rattle.std.proofs.Common.{◌≡◌, ◌∙◌, ap, sym, Some, List, ℕ}
 use Rattle.std.specs.Prelude.{option_map}
 use Rattle.std.specs.Borrow.{Bor}
 use Rattle.clap.specs.Words.{rows_of, found_of, first_of}
@@ -14,6 +14,5 @@ pub returns : goal.returns
 returns c =
     let read : option_map (λ (s : Bor (List ℕ)). s.now) c.get_str.result ≡ first_of c.args.id.now (rows_of (found_of c.args.matches.now)) =
     c.get_str.ensures ∙ first_value-rows (found_of c.args.matches.now) c.args.id.now in
-    let some : c.get_str.result ≡ Some c.unwrap-text.result = search rules in
-    let text : c.unwrap-text.result.now ≡ c.from_string.result = search rules in
-    sym read ∙ ap (option_map (λ (s : Bor (List ℕ)). s.now)) some ∙ ap Some text
+    sym read ∙ ap (option_map (λ (s : Bor (List ℕ)). s.now)) c.unwrap-text.ensures
+    ∙ ap Some (sym (c.from_string.ensures ∙ c.in_ok-from_str.ensures.ok))
