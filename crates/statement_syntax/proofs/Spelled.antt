@@ -20,8 +20,8 @@ use Rattle.statement_tokens.specs.declared.language.Language.TheVariants.{First,
 use Rattle.statement_tokens.specs.Language.{language_of}
 use Rattle.statement_tokens.specs.Pieces.{starts_name, is_digit}
 use Rattle.statement_tokens.specs.Tokens.{end_of, right_of, below}
-use Rattle.statement_tokens.specs.Items.{item_at, sign_at, caret_in, begins_with, name_of, literal_of}
-use Rattle.statement_tokens.proofs.Reading.{tokens_from, placed}
+use Rattle.statement_tokens.specs.Items.{item_at, item_in, sign_at, caret_in, begins_with, name_of, literal_of}
+use Rattle.statement_tokens.specs.Reading.{tokens_from, placed}
 use Rattle.statement_tokens.specs.Limits.{name_limit}
 use Rattle.statement_tokens.proofs.EachCharacter.{EachIs, EachIs-take_while, and_first, and_second}
 use Rattle.statement_syntax.proofs.LastToken.{scan_ok, tokens_is}
@@ -134,7 +134,7 @@ module _ (before : List Token) where
       by_test (c == 94) _ _ (λ e. caret_makes (language_of before)) (no_fault BadToken)))))))))
 
   item_makes : (c : ℕ) (rest : List ℕ) → scalars (c ∷ rest) ≡ true → Makes (item_at before c rest)
-  unfolding item_at
+  unfolding item_in
   item_makes c rest scalar =
       by_test (c == 10) _ _ (λ e. no_token) (
       by_test ((c == 32) || (c == 9) || ((c == 13) && begins_with 10 rest)) _ _ (λ e. no_gap 0) (

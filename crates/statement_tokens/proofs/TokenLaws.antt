@@ -18,7 +18,8 @@ use Rattle.statement_tokens.specs.Tokens.{sign_fault, fault_of, AreGood, AreToke
 use Rattle.statement_tokens.specs.Laws.{HasTokensOrFault, EachTextHasTokensOrFault, TokensAreUnique, FirstScanFaultsAreUnique}
 use Rattle.statement_tokens.specs.Laws.{TokensHaveNoFault}
 use Rattle.statement_tokens.specs.Tokens.{end_of}
-use Rattle.statement_tokens.proofs.Reading.{tokens_from, tokens_of, with_front}
+use Rattle.statement_tokens.specs.Scanned.{Tells}
+use Rattle.statement_tokens.specs.Reading.{tokens_from, tokens_of, with_front}
 use Rattle.statement_tokens.proofs.Longest.{Longest, begins_with_longest}
 use Rattle.statement_tokens.proofs.Pieces.{Read, front_none, reads_piece, stops_piece, stops_none}
 
@@ -311,3 +312,7 @@ first_read text f at read = by (each_text_has_tokens_or_fault text)
     by (inr (g, there, first)) =
         let same = same_placed (record { fault = g; at = there }) (record { fault = f; at = at }) (sym (read_first text g there first) ∙ read) in
         subst (λ (p : Placed). IsFirstScanFault text p.fault p.at) same first
+
+pub tells : (text : List ℕ) (read : Read) → tokens_of text ≡ read → Tells text read
+tells text (Ok tokens) is = are_read text tokens is
+tells text (Err placed) is = first_read text placed.fault placed.at is

@@ -1,7 +1,6 @@
 -- The tokens of a text, with their places, and the first fault of a text that has none.
 use Rattle.std.specs.Prelude.{◌≡◌, ◌⊎◌, ℕ, zero, suc, ◌+◌, ◌-◌, ◌*◌, ◌^◌, nat_lt, nat_le, pos, if◌then◌else◌}
-use Rattle.std.specs.Prelude.{List, [], ◌∷◌, ◌++◌, length, Option, Some, None, Result, Ok, Err}
-use Rattle.std.specs.Global.{Vec}
+use Rattle.std.specs.Prelude.{List, [], ◌∷◌, ◌++◌, length, Option, Some, None}
 use Rattle.std.specs.Str.{encode_utf8_all}
 use Rattle.statement_tokens.specs.Limits.{name_limit}
 use Rattle.statement_tokens.specs.Language.{language_of}
@@ -13,8 +12,6 @@ use Rattle.statement_tokens.specs.declared.token.TokenKind.{TokenKind}
 use Rattle.statement_tokens.specs.declared.token.TokenKind.TheVariants as kind
 use Rattle.statement_tokens.specs.declared.language.Language.{Language}
 use Rattle.statement_tokens.specs.declared.language.Language.TheVariants.{First}
-use Rattle.statement_tokens.specs.declared.scan.ScanError.{ScanError}
-use Rattle.statement_tokens.specs.declared.scan.ScanError.TheVariants as error
 use Rattle.statement_tokens.specs.declared.scan.ScanFault.{ScanFault}
 use Rattle.statement_tokens.specs.declared.scan.ScanFault.TheVariants.{BadToken, LiteralTooLarge}
 
@@ -109,9 +106,3 @@ pub record IsFirstScanFault (text : List ℕ) (fault : ScanFault) (at : Spot) : 
   pub good : AreGood (language_of (tokens_in pieces)) pieces rest
   pub faulty : Begins (language_of (tokens_in pieces)) rest fault
   pub place : at ≡ place_behind pieces (record { line = 1; column = 1 })
-
--- the tokens of the text are given, or its first fault is told with its place; want of memory is the one free answer
-abbrev pub GivesTokens : List ℕ → Result (Vec Token) ScanError → Type 0
-GivesTokens text (Ok tokens) = AreTokens text tokens.items
-GivesTokens text (Err (error.Fault placed)) = IsFirstScanFault text placed.fault placed.at
-GivesTokens text (Err error.Memory) = Unit {0}
