@@ -1,5 +1,5 @@
 -- A turn of the scanner reads one item of what is left.
-use Rattle.std.proofs.Common.{◌≡◌, ℕ, zero, suc, ◌+◌, ◌-◌, ◌<◌, ◌≤◌, List, [], ◌∷◌, ◌++◌, length, drop, take, get_or, Option, Some, None, Result, Ok, Err, refl, sym, ap, ap₂, ◌∙◌, arith}
+use Rattle.std.proofs.Common.{◌≡◌, ℕ, zero, suc, ◌+◌, ◌*◌, ◌-◌, ◌<◌, ◌≤◌, List, [], ◌∷◌, ◌++◌, length, length-drop, drop, take, get_or, Option, Some, None, Result, Ok, Err, refl, sym, ap, ap₂, ◌∙◌, arith}
 use Rattle.std.specs.Prelude.{MatchOption}
 use Rattle.std.proofs.lemmas.List.{drop_more, take_rest}
 use Rattle.statement_tokens.specs.declared.place.Spot.{Spot}
@@ -12,7 +12,7 @@ use Rattle.statement_tokens.specs.declared.scan.Placed.{Placed}
 use Rattle.statement_tokens.specs.Tokens.{end_of}
 use Rattle.statement_tokens.specs.Items.{item_in}
 use Rattle.statement_tokens.specs.Language.{language_of}
-use Rattle.statement_tokens.specs.Scanned.{left, Hands}
+use Rattle.statement_tokens.specs.Scanned.{unread, Hands, Lessens, one_if_some, most_tokens}
 use Rattle.statement_tokens.specs.declared.language.Language.{Language}
 use Rattle.statement_tokens.specs.declared.scanner.Scanner.{Scanner}
 use Rattle.statement_tokens.specs.Reading.{◌>>=◌, tokens_from, placed, with_front}
@@ -37,6 +37,9 @@ cut n text = take (length text - n) (drop n text)
 
 cut-is : (n : ℕ) (text : List ℕ) → cut n text ≡ drop n text
 cut-is n text = rw take_rest refl
+
+pub cut_short : (n : ℕ) (text : List ℕ) → length (cut n text) ≤ length text
+cut_short n text = omega (arith, ap length (cut-is n text), length-drop n text)
 
 pub first_is : (text : List ℕ) (first : ℕ) → 0 < length text → first ≡ get_or text 0 first → text ≡ first ∷ cut 1 text
 first_is text first some e = drop_more text 0 first some ∙ ap₂ (λ x xs. x ∷ xs) (sym e) (sym (cut-is 1 text))
@@ -81,12 +84,14 @@ module _ (before : List Token) (text : List ℕ) (first : ℕ) (rest : List ℕ)
   turn_fault f given = by_item (Err f) given
 
 -- behind the last character the line that is read ends
-pub turn_end : (before : List Token) (old here new : Scanner) (end : Option Token) → left before old ≡ left before here → here.text.now ≡ []
+pub turn_end : (before : List Token) (old here new : Scanner) (end : Option Token) → unread before old ≡ unread before here → here.text.now ≡ []
     → new.text.now ≡ [] → new.past ≡ 0
     → MatchOption end (end_of here.at.line here.past ≡ []) (λ token. end_of here.at.line here.past ≡ token ∷ []) → Hands before old (Ok end) new
 unfolding tokens_from
-turn_end before old here new None same none more past is =
-    same ∙ ap (λ cs. tokens_from before cs 0 here.at here.past) none ∙ ap (λ (ts : List Token). Ok ts) is
+turn_end before old here new None same none more past is = (
+  same ∙ ap (λ cs. tokens_from before cs 0 here.at here.past) none ∙ ap (λ (ts : List Token). Ok ts) is,
+  ap₂ (λ cs p. tokens_from before cs 0 new.at p) more past,
+)
 turn_end before old here new (Some token) same none more past is =
     same
     ∙ ap (λ cs. tokens_from before cs 0 here.at here.past) none
@@ -96,3 +101,18 @@ turn_end before old here new (Some token) same none more past is =
 pub none_left : (text : List ℕ) → length text < 1 → text ≡ []
 none_left [] short = refl
 none_left (c ∷ cs) short = absurd (omega (arith, short))
+
+-- a line that has an end has a token
+has_token : (line past : ℕ) (token : Token) → end_of line past ≡ token ∷ [] → one_if_some past ≡ 1
+has_token line zero token is = absurd cc
+has_token line (suc n) token is = refl
+
+pub at_most_one : (n : ℕ) → one_if_some n ≤ 1
+at_most_one zero = omega arith
+at_most_one (suc n) = omega arith
+
+pub end_lessens : (most : ℕ) (here : Scanner) (end : Option Token) → most_tokens here ≤ most
+    → MatchOption end (end_of here.at.line here.past ≡ []) (λ token. end_of here.at.line here.past ≡ token ∷ [])
+    → Lessens most (length here.text.now * 2 + 0) (Ok end)
+end_lessens most here None fewer is = tt
+end_lessens most here (Some token) fewer is = let had = has_token here.at.line here.past token is in omega (arith, fewer, had)

@@ -130,7 +130,7 @@ are_good before more (piece ∷ pieces) rest at past good =
           (are_good (before ++ here) more pieces rest (behind piece at) (past_behind piece at past) good.2),
     )
 
-fronts : (a b : List Token) (r : Read) → with_front a (with_front b r) ≡ with_front (a ++ b) r
+pub fronts : (a b : List Token) (r : Read) → with_front a (with_front b r) ≡ with_front (a ++ b) r
 fronts a b (Ok ts) = ap (λ (x : List Token). Ok x) (sym (append_assoc a b ts))
 fronts a b (Err e) = refl
 

@@ -4,7 +4,7 @@ ghost use Rattle.std.specs.Prelude.{◌≡◌, ◌<◌, List, [], ◌∷◌, len
 ghost use Rattle.statement_tokens.specs.declared.token.Token as code_token;
 ghost use Rattle.statement_tokens.specs.Tokens.{end_of};
 ghost use Rattle.statement_tokens.specs.Language.{language_of};
-ghost use Rattle.statement_tokens.specs.Scanned.{Tells, Hands, left};
+ghost use Rattle.statement_tokens.specs.Scanned.{Tells, Hands, Lessens, most_tokens, unread};
 
 use crate::language::Language;
 use crate::place::Spot;
@@ -17,7 +17,7 @@ impl<'a> Scanner<'a> {
     /// Before the first character of a text.
     pub fn new(text: &'a [char]) -> Scanner<'a>
         requires { length text.now < 4294967295 }
-        ensures { Tells text.now (left [] result) }
+        ensures { Tells text.now (unread [] result) }
     {
         Scanner {
             text,
@@ -33,7 +33,9 @@ impl<'a> Scanner<'a> {
         alloc: Global,
         language: Language,
     ) -> Result<Option<Token>, ScanError>
-        ensures { (before : List code_token.Token) → language_of before ≡ language → Hands before self.old result self.new }
+        ensures hands { (before : List code_token.Token) → language_of before ≡ language → Hands before self.old result self.new }
+        // It ends.
+        ensures lessens { Lessens (most_tokens self.old) (most_tokens self.new) result }
     {
         while let [first, rest @ ..] = self.text {
             let at = self.at;

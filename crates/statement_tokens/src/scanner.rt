@@ -5,6 +5,7 @@ ghost use Rattle.std.specs.Prelude.{◌≤◌, ◌+◌, length};
 use crate::place::Spot;
 
 /// The characters of a text that have not been read, with their place.
+#[derive(Drop)]
 pub struct Scanner<'a> {
     pub(crate) text: &'a [char],
     pub(crate) at: Spot,
