@@ -85,11 +85,7 @@ fn first_statements(
 }
 
 // What has been read behind the first tokens of a file, which are all or tell its language.
-fn opened(
-    alloc: Global,
-    language: Language,
-    tokens: Vec<Token>,
-) -> Result<Progress, SyntaxFault>
+fn opened(alloc: Global, language: Language, tokens: Vec<Token>) -> Result<Progress, SyntaxFault>
     requires { language ≡ language_of tokens.items }
     ensures { IsReadSoFar tokens.items result }
 {

@@ -46,7 +46,7 @@ first_is text first some e = drop_more text 0 first some ∙ ap₂ (λ x xs. x �
 
 -- one turn at a text that begins so, behind tokens that tell the language
 module _ (before : List Token) (text : List ℕ) (first : ℕ) (rest : List ℕ) (at : Spot) (past : ℕ) (language : Language)
-  (split : text ≡ first ∷ rest) (same : language_of before ≡ language) where
+    (split : text ≡ first ∷ rest) (same : language_of before ≡ language) where
   abbrev whole : Result (List Token) Placed
   whole = tokens_from before text 0 at past
 

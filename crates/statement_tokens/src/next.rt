@@ -28,11 +28,7 @@ impl<'a> Scanner<'a> {
 
     /// The next token in a file of the language, which the tokens before it tell, or None behind the last one. A line that
     /// has a token ends with one just past its last.
-    pub fn next(
-        &mut self,
-        alloc: Global,
-        language: Language,
-    ) -> Result<Option<Token>, ScanError>
+    pub fn next(&mut self, alloc: Global, language: Language) -> Result<Option<Token>, ScanError>
         ensures hands { (before : List code_token.Token) → language_of before ≡ language → Hands before self.old result self.new }
         // It ends.
         ensures lessens { Lessens (most_tokens self.old) (most_tokens self.new) result }

@@ -15,7 +15,7 @@ returns-in-Err-Fault-clause-hands c before same =
     let fails = subst (λ e. FailsItem e (item_in c.args.language c.first-item.result rest)) c.in-Err-Fault.field-0-is c.in-Err-Fault.ensures.exact in
     c.loop-self.invariant.same before same
     ∙ rw c.in-Err-Fault.fault-is
-        (turn_fault before here.text.now c.first-item.result rest here.at here.past c.args.language split same c.in-Err-Fault.fault fails)
+    (turn_fault before here.text.now c.first-item.result rest here.at here.past c.args.language split same c.in-Err-Fault.fault fails)
 
 pub returns-in-Some-clause-hands : goal.returns-in-Some-clause-hands
 returns-in-Some-clause-hands c before same =
@@ -31,16 +31,16 @@ returns-in-Some-clause-hands c before same =
 pub loop-self-preserved-in_default-end : goal.loop-self-preserved-in_default-end
 loop-self-preserved-in_default-end c = record {
   same = λ before same.
-        let here = c.loop-self.self in
-        let rest = cut 1 here.text.now in
-        let split = first_is here.text.now c.first-item.result (omega (arith, c.in-len1-up.len_at_least)) c.first-item.is in
-        let turn = turn_new_line before here.text.now c.first-item.result rest here.at here.past c.args.language split same
-        (c.in-Ok.ensures.exact ∙ ap (λ x. Ok x) c.in-NewLine.is) in
-        c.loop-self.invariant.same before same
-        ∙ turn
-        ∙ ap (λ end. with_front end (tokens_from (before ++ end) rest 0 (spot (here.at.line + 1) 1) 0)) c.in_default-end.ensures
-        ∙ front_none _
-        ∙ ap (λ front. tokens_from front rest 0 (spot (here.at.line + 1) 1) 0) (append-nil before);
+      let here = c.loop-self.self in
+      let rest = cut 1 here.text.now in
+      let split = first_is here.text.now c.first-item.result (omega (arith, c.in-len1-up.len_at_least)) c.first-item.is in
+      let turn = turn_new_line before here.text.now c.first-item.result rest here.at here.past c.args.language split same
+      (c.in-Ok.ensures.exact ∙ ap (λ x. Ok x) c.in-NewLine.is) in
+      c.loop-self.invariant.same before same
+      ∙ turn
+      ∙ ap (λ end. with_front end (tokens_from (before ++ end) rest 0 (spot (here.at.line + 1) 1) 0)) c.in_default-end.ensures
+      ∙ front_none _
+      ∙ ap (λ front. tokens_from front rest 0 (spot (here.at.line + 1) 1) 0) (append-nil before);
   fewer =
       let here = c.loop-self.self in
       let split = first_is here.text.now c.first-item.result (omega (arith, c.in-len1-up.len_at_least)) c.first-item.is in
@@ -50,13 +50,13 @@ loop-self-preserved-in_default-end c = record {
 pub loop-self-preserved : goal.loop-self-preserved
 loop-self-preserved c = record {
   same = λ before same.
-        let here = c.loop-self.self in
-        let rest = cut 1 here.text.now in
-        let split = first_is here.text.now c.first-item.result (omega (arith, c.in-len1-up.len_at_least)) c.first-item.is in
-        let short : c.in-Gap.more ≤ length rest = subst (λ x. more_of x ≤ length rest) c.in-Gap.is c.in-Ok.ensures.within in
-        c.loop-self.invariant.same before same
-        ∙ turn_gap before here.text.now c.first-item.result rest here.at here.past c.args.language split same c.in-Gap.more short
-        (c.in-Ok.ensures.exact ∙ ap (λ x. Ok x) c.in-Gap.is);
+      let here = c.loop-self.self in
+      let rest = cut 1 here.text.now in
+      let split = first_is here.text.now c.first-item.result (omega (arith, c.in-len1-up.len_at_least)) c.first-item.is in
+      let short : c.in-Gap.more ≤ length rest = subst (λ x. more_of x ≤ length rest) c.in-Gap.is c.in-Ok.ensures.within in
+      c.loop-self.invariant.same before same
+      ∙ turn_gap before here.text.now c.first-item.result rest here.at here.past c.args.language split same c.in-Gap.more short
+      (c.in-Ok.ensures.exact ∙ ap (λ x. Ok x) c.in-Gap.is);
   fewer =
       let here = c.loop-self.self in
       let split = first_is here.text.now c.first-item.result (omega (arith, c.in-len1-up.len_at_least)) c.first-item.is in
