@@ -15,7 +15,7 @@ use Rattle.statement_tokens.specs.declared.scan.Item.TheVariants as item
 use Rattle.statement_tokens.specs.declared.scan.Placed.{Placed}
 use Rattle.statement_tokens.specs.Tokens.{end_of}
 use Rattle.statement_tokens.specs.Items.{item_at, item_in}
-use Rattle.statement_tokens.specs.Reading.{◌>>=◌, tokens_from, tokens_of, placed, with_front}
+use Rattle.statement_tokens.proofs.Reading.{◌>>=◌, tokens_from, tokens_of, placed, with_front}
 use Rattle.statement_syntax.specs.Grammar.{sign_token, Stated, listed, mapped, sides, paired, projected, by_degree, by_weight, modelled, second_language, stated_tokens, StatedLine, NamesLanguage, IsFileOf, file_tokens, FileFits}
 use Rattle.statement_syntax.specs.Tree.{stated_kind, file_tree}
 use Rattle.statement_syntax.specs.Fault.{HasText}

@@ -10,7 +10,7 @@ use Rattle.statement_tokens.specs.declared.scan.ScanFault.{ScanFault}
 use Rattle.statement_tokens.specs.declared.scan.Placed.{Placed}
 use Rattle.statement_tokens.specs.Tokens.{end_of, right_of, below}
 use Rattle.statement_tokens.specs.Items.{item_at}
-use Rattle.statement_tokens.specs.Reading.{◌>>=◌, tokens_from, placed}
+use Rattle.statement_tokens.proofs.Reading.{◌>>=◌, tokens_from, placed}
 use Rattle.statement_syntax.specs.Grammar.{sign_token}
 
 -- they end so, or there are none and there is no token before them in their line

@@ -18,7 +18,7 @@ use Rattle.statement_tokens.specs.Language.{language_of}
 use Rattle.statement_tokens.specs.Pieces.{is_digit}
 use Rattle.statement_tokens.specs.Tokens.{value_from}
 use Rattle.statement_tokens.specs.Items.{item_at, name_of}
-use Rattle.statement_tokens.specs.Reading.{◌>>=◌, tokens_from, placed, with_front}
+use Rattle.statement_tokens.proofs.Reading.{◌>>=◌, tokens_from, placed, with_front}
 use Rattle.statement_tokens.specs.Limits.{name_limit}
 use Rattle.statement_syntax.specs.Written.{opens, closes, kind_text, gap, text_from}
 use Rattle.statement_tokens.proofs.Scanning.{spot}

@@ -21,7 +21,7 @@ use Rattle.statement_tokens.specs.Language.{language_of}
 use Rattle.statement_tokens.specs.Pieces.{starts_name, is_digit}
 use Rattle.statement_tokens.specs.Tokens.{end_of, right_of, below}
 use Rattle.statement_tokens.specs.Items.{item_at, item_in, sign_in, caret_in, begins_with, name_of, literal_of}
-use Rattle.statement_tokens.specs.Reading.{tokens_from, placed}
+use Rattle.statement_tokens.proofs.Reading.{tokens_from, placed}
 use Rattle.statement_tokens.specs.Limits.{name_limit}
 use Rattle.statement_tokens.proofs.EachCharacter.{EachIs, EachIs-take_while, and_first, and_second}
 use Rattle.statement_syntax.proofs.LastToken.{scan_ok, tokens_is}

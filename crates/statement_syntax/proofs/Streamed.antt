@@ -10,10 +10,10 @@ use Rattle.statement_tokens.specs.declared.scan.ScanError.TheVariants as scan_er
 use Rattle.statement_tokens.specs.declared.scanner.Scanner.{Scanner}
 use Rattle.statement_tokens.specs.Language.{language_of}
 use Rattle.statement_tokens.specs.Tokens.{AreTokens}
-use Rattle.statement_tokens.specs.Reading.{with_front}
-use Rattle.statement_tokens.specs.Scanned.{Tells, Hands, unread}
+use Rattle.statement_tokens.specs.Scanned.{Tells, Leaves, HasWhole, Hands, with_front}
+use Rattle.statement_tokens.proofs.Reading.{unread}
 use Rattle.statement_tokens.proofs.Pieces.{front_none}
-use Rattle.statement_tokens.proofs.TokenLaws.{fronts}
+use Rattle.statement_tokens.proofs.TokenLaws.{fronts, leaves, leaves_unread, unread_is, handed}
 use Rattle.statement_syntax.specs.declared.tree.Statement.{Statement}
 use Rattle.statement_syntax.specs.declared.line.Line.TheVariants as line
 use Rattle.statement_syntax.specs.declared.read.Progress.{Progress}
@@ -26,7 +26,7 @@ use Rattle.std.specs.Result.{IsErrAnd, IfErr}
 use Rattle.std.specs.Str.{IsUtf8, chars}
 use Rattle.statement_syntax.specs.Grammar.{StatedLine}
 use Rattle.statement_syntax.specs.Tree.{file_tree}
-use Rattle.statement_syntax.specs.Stages.{first_statements, behind_first, begun, left, StoppedAt, Refused, IsReadSoFar, Goes, IsFault, IsFront, TextRead}
+use Rattle.statement_syntax.specs.Stages.{first_statements, behind_first, begun, left, StoppedAt, Refused, IsReadSoFar, Goes, IsFault, IsFront, LeavesFault, TextRead}
 use Rattle.statement_syntax.proofs.Stopping.{goes_on, stops_at, is_found, is_only, is_first, told_scanned}
 
 -- the tokens are three or more, and tell the language
@@ -118,37 +118,37 @@ pub record FrontRead (text : List ℕ) (scanner : Scanner) (language : Language)
   pub settled : IsLong front ⊎ (unread front scanner ≡ Ok [])
   pub so_far : IsReadSoFar front read
 
-pub begins : (text : List ℕ) (start scanner : Scanner) (ts : List Token) (read : Result Progress SyntaxFault) → Tells text (unread [] start)
-    → IsFront ts (unread [] start) (unread ts scanner) → IsReadSoFar ts read → FrontRead text scanner (language_of ts) read
-begins text start scanner ts read tells is so_far = record {
+pub begins : (text : List ℕ) (start scanner : Scanner) (ts : List Token) (read : Result Progress SyntaxFault) → HasWhole text start
+    → IsFront ts start scanner → IsReadSoFar ts read → FrontRead text scanner (language_of ts) read
+begins text start scanner ts read whole is so_far = record {
   front = ts;
-  tells = subst (Tells text) is.0 tells;
+  tells = whole (with_front ts (unread ts scanner)) (is.0 (unread ts scanner) (leaves_unread ts scanner));
   speaks = refl;
   settled = by is.1;
   so_far = so_far;
 }
   where
-    by : (length ts ≡ 3) ⊎ (unread ts scanner ≡ Ok []) → IsLong ts ⊎ (unread ts scanner ≡ Ok [])
+    by : (length ts ≡ 3) ⊎ Leaves ts scanner (Ok []) → IsLong ts ⊎ (unread ts scanner ≡ Ok [])
     by (inl three) = inl (three_long ts three)
-    by (inr all) = inr all
+    by (inr all) = inr (unread_is ts scanner (Ok []) all)
 
 pub goes_further : (text : List ℕ) (old new : Scanner) (language : Language) (t : Token) (read next : Result Progress SyntaxFault)
     → FrontRead text old language read → ((before : List Token) → language_of before ≡ language → Hands before old (Ok (Some t)) new)
     → Goes language read t next → FrontRead text new language next
 goes_further text old new language t read next is hands goes = by is.settled
   where
-    handed : unread is.front old ≡ with_front (t ∷ []) (unread (is.front ++ t ∷ []) new)
-    handed = hands is.front is.speaks
+    one : unread is.front old ≡ with_front (t ∷ []) (unread (is.front ++ t ∷ []) new)
+    one = handed is.front old (Ok (Some t)) new (hands is.front is.speaks)
 
     by : IsLong is.front ⊎ (unread is.front old ≡ Ok []) → FrontRead text new language next
     by (inl long) = record {
       front = is.front ++ t ∷ [];
-      tells = subst (Tells text) (ap (with_front is.front) handed ∙ fronts is.front (t ∷ []) (unread (is.front ++ t ∷ []) new)) is.tells;
+      tells = subst (Tells text) (ap (with_front is.front) one ∙ fronts is.front (t ∷ []) (unread (is.front ++ t ∷ []) new)) is.tells;
       speaks = language_more is.front (t ∷ []) long ∙ is.speaks;
       settled = inl (long_more is.front (t ∷ []) long);
       so_far = read_more is.front t long read next is.so_far (subst (λ l. Goes l read t next) (sym is.speaks) goes);
     }
-    by (inr all) = absurd (no_token t (unread (is.front ++ t ∷ []) new) (sym handed ∙ all))
+    by (inr all) = absurd (no_token t (unread (is.front ++ t ∷ []) new) (sym one ∙ all))
 
 -- the tokens are those of the text
 pub record AllTokens (text : List ℕ) (read : Result Progress SyntaxFault) : Type 0 where
@@ -160,7 +160,9 @@ pub ends : (text : List ℕ) (old new : Scanner) (language : Language) (read : R
     → ((before : List Token) → language_of before ≡ language → Hands before old (Ok None) new) → AllTokens text read
 ends text old new language read is hands = record {
   tokens = is.front;
-  are = subst (AreTokens text) (append-nil is.front) (subst (λ rest. Tells text (with_front is.front rest)) (hands is.front is.speaks).0 is.tells);
+  are =
+      let none = handed is.front old (Ok None) new (hands is.front is.speaks) in
+      subst (AreTokens text) (append-nil is.front) (subst (λ rest. Tells text (with_front is.front rest)) none.0 is.tells);
   so_far = is.so_far;
 }
 
@@ -173,7 +175,8 @@ ends_err text e all = inr (all.tokens, all.are, all.so_far)
 -- the fault that a scanner comes to is told
 pub is_fault : (whole : Result (List Token) Placed) (front : List Token) (old new : Scanner) (error : ScanError) (e : SyntaxFault)
     → whole ≡ with_front front (unread front old) → Hands front old (Err error) new → TellsScan error e → IsFault whole e
-is_fault whole ts old new (scan_error.Fault placed) e same hands tells = subst (IsFault whole) (sym tells) (placed, same ∙ ap (with_front ts) hands, refl)
+is_fault whole ts old new (scan_error.Fault placed) e same hands tells =
+    subst (IsFault whole) (sym tells) (placed, same ∙ ap (with_front ts) (handed ts old (Err (scan_error.Fault placed)) new hands), refl)
 is_fault whole ts old new scan_error.Memory (refusal.Memory e) same hands tells = tt
 is_fault whole ts old new scan_error.Memory (refusal.Fault code l column) same hands tells = absurd tells
 
@@ -210,6 +213,10 @@ pub record OpeningRead (start scanner : Scanner) (ts : List Token) (turns : ℕ)
 pub none_read : (start : Scanner) → OpeningRead start start [] 0
 none_read start = record { same = sym (front_none (unread [] start)); count = refl }
 
+pub front_left : (start scanner : Scanner) (ts : List Token) → unread [] start ≡ with_front ts (unread ts scanner) → (read : Result (List Token) Placed)
+    → Leaves ts scanner read → Leaves [] start (with_front ts read)
+front_left start scanner ts same read left = leaves [] start (with_front ts read) (same ∙ ap (with_front ts) (unread_is ts scanner read left))
+
 module _ (start old new : Scanner) (ts : List Token) (turns : ℕ) (few : turns < 3) (is : OpeningRead start old ts turns) where
   speaks_first : language_of ts ≡ First
   speaks_first = short_first ts (omega (arith, few, is.count))
@@ -217,17 +224,23 @@ module _ (start old new : Scanner) (ts : List Token) (turns : ℕ) (few : turns 
   pub opening_more : (t : Token) → ((before : List Token) → language_of before ≡ First → Hands before old (Ok (Some t)) new)
       → OpeningRead start new (ts ++ t ∷ []) (turns + 1)
   opening_more t hands = record {
-    same = is.same ∙ ap (with_front ts) (hands ts speaks_first) ∙ fronts ts (t ∷ []) (unread (ts ++ t ∷ []) new);
+    same = is.same ∙ ap (with_front ts) (handed ts old (Ok (Some t)) new (hands ts speaks_first)) ∙ fronts ts (t ∷ []) (unread (ts ++ t ∷ []) new);
     count = omega (arith, is.count, length-append ts (t ∷ []));
   }
 
   pub opening_all : ((before : List Token) → language_of before ≡ First → Hands before old (Ok None) new)
-      → IsFront ts (unread [] start) (unread ts new)
-  opening_all hands = let none = hands ts speaks_first in (is.same ∙ ap (with_front ts) (none.0 ∙ sym none.1), inr none.1)
+      → IsFront ts start new
+  opening_all hands =
+      let none = handed ts old (Ok None) new (hands ts speaks_first) in
+      (front_left start new ts (is.same ∙ ap (with_front ts) (none.0 ∙ sym none.1)), inr (leaves ts new (Ok []) none.1))
 
   pub opening_fault : (error : ScanError) (e : SyntaxFault) → ((before : List Token) → language_of before ≡ First → Hands before old (Err error) new)
-      → TellsScan error e → IsFault (unread [] start) e
-  opening_fault error e hands tells = is_fault (unread [] start) ts old new error e is.same (hands ts speaks_first) tells
+      → TellsScan error e → LeavesFault start e
+  opening_fault error e hands tells =
+      (unread [] start, leaves_unread [] start, is_fault (unread [] start) ts old new error e is.same (hands ts speaks_first) tells)
+
+pub whole_fault : (text : List ℕ) (start : Scanner) (e : SyntaxFault) → HasWhole text start → LeavesFault start e → TextRead text (Err e)
+whole_fault text start e whole (read, left, fault) = inl (read, whole read left, fault)
 
 pub if_err : {A : Type 0} (r : Result A SyntaxFault) (P Q : SyntaxFault → Type 0) → IsErrAnd r P → ((e : SyntaxFault) → P e → Q e) → IfErr r Q
 if_err (Ok x) P Q is goes = tt

@@ -19,8 +19,8 @@ use Rattle.statement_syntax.specs.Steps.{run, Fails}
 use Rattle.statement_syntax.specs.Lines.{file_step}
 use Rattle.statement_tokens.specs.Language.{language_of}
 use Rattle.statement_tokens.specs.Tokens.{AreTokens}
-use Rattle.statement_tokens.specs.Reading.{with_front}
-use Rattle.statement_tokens.specs.Scanned.{Tells}
+use Rattle.statement_tokens.specs.Scanned.{Tells, Leaves, with_front}
+use Rattle.statement_tokens.specs.declared.scanner.Scanner.{Scanner}
 use Rattle.statement_tokens.specs.declared.scan.Placed.{Placed}
 use Rattle.statement_syntax.specs.Fault.{TellsFirstFault, IsWantOfMemory, fault_at, scan_fault, misfit_fault}
 
@@ -83,9 +83,10 @@ Goes language (Ok p) token (Ok next) = file_step language p token ≡ Ok next
 Goes language (Ok p) token (Err e) = (error : ReadError) × Fails error (file_step language p token) × IsRefusal error token.at e
 Goes language (Err e) token read = read ≡ Err e
 
--- these three tokens stand before what is left, or all where there are fewer
-abbrev pub IsFront : List Token → Result (List Token) Placed → Result (List Token) Placed → Type 0
-IsFront ts whole rest = (whole ≡ with_front ts rest) × ((length ts ≡ 3) ⊎ (rest ≡ Ok []))
+-- these three tokens stand before what a scanner leaves, or all where there are fewer
+abbrev pub IsFront : List Token → Scanner → Scanner → Type 0
+IsFront ts start scanner =
+    ((read : Result (List Token) Placed) → Leaves ts scanner read → Leaves [] start (with_front ts read)) × ((length ts ≡ 3) ⊎ Leaves ts scanner (Ok []))
 
 -- the fault of the text is told
 abbrev pub IsFault : Result (List Token) Placed → SyntaxFault → Type 0
@@ -93,7 +94,12 @@ IsFault whole (refusal.Memory e) = Unit {0}
 IsFault whole (refusal.Fault code line column) =
     (placed : Placed) × (whole ≡ Err placed) × (refusal.Fault code line column ≡ fault_at (scan_fault placed.fault) placed.at)
 
+-- the fault that a scanner leaves is told
+abbrev pub LeavesFault : Scanner → SyntaxFault → Type 0
+LeavesFault scanner e = (whole : Result (List Token) Placed) × Leaves [] scanner whole × IsFault whole e
+
 -- its tokens are read, or the first that does not fit is told, or its first fault
 abbrev pub TextRead : List ℕ → Result (List Statement) SyntaxFault → Type 0
 TextRead text (Ok statements) = (ts : List Token) × AreTokens text ts × AllRead ts statements
-TextRead text (Err e) = ((whole : Result (List Token) Placed) × Tells text whole × IsFault whole e) ⊎ ((ts : List Token) × AreTokens text ts × Refused ts e)
+TextRead text (Err e) =
+    ((whole : Result (List Token) Placed) × Tells text whole × IsFault whole e) ⊎ ((ts : List Token) × AreTokens text ts × Refused ts e)

@@ -6,9 +6,8 @@ ghost use Rattle.statement_syntax.specs.Tree.{file_tree};
 ghost use Rattle.statement_syntax.specs.Fault.{IsStatements, IsTreeOf, TellsFirstFault, IsWantOfMemory};
 ghost use Rattle.statement_syntax.specs.Steps.{Turns};
 ghost use Rattle.statement_syntax.specs.Lines.{ended, file_step};
-ghost use Rattle.statement_syntax.specs.Stages.{CharactersRead, TextRead, IsReadSoFar, Goes, IsFront, IsFault, IsRefusal, first_statements, behind_first};
+ghost use Rattle.statement_syntax.specs.Stages.{CharactersRead, TextRead, IsReadSoFar, Goes, IsFront, LeavesFault, IsRefusal, first_statements, behind_first};
 ghost use Rattle.statement_tokens.specs.Language.{language_of};
-ghost use Rattle.statement_tokens.specs.Scanned.{unread};
 ghost use Rattle.std.specs.Vec.Iter.{into_iter_items, into_iter_len};
 
 use crate::expression::ReadError;
@@ -110,8 +109,8 @@ fn opened(alloc: Global, language: Language, tokens: Vec<Token>) -> Result<Progr
 
 // The first three tokens of a text, which tell its language, or all where there are fewer.
 fn opening(alloc: Global, scanner: &mut Scanner<'_>) -> Result<Vec<Token>, SyntaxFault>
-    ensures found { IfOk result (λ ts. IsFront ts.items (unread [] scanner.old) (unread ts.items scanner.new)) }
-    ensures fault { IfErr result (IsFault (unread [] scanner.old)) }
+    ensures found { IfOk result (λ ts. IsFront ts.items scanner.old scanner.new) }
+    ensures fault { IfErr result (LeavesFault scanner.old) }
 {
     let mut tokens = Vec::new(alloc);
     for _ in 0..3_usize {

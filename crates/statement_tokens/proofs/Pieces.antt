@@ -27,7 +27,7 @@ use Rattle.statement_tokens.specs.Tokens.{behind, tokens_with, past_behind, sign
 use Rattle.statement_tokens.specs.Pieces.{starts_name, is_digit, is_inside_line}
 use Rattle.statement_tokens.specs.Tokens.{value_from, right_of}
 use Rattle.statement_tokens.specs.Items.{item_at, item_in, begins_with, literal_of}
-use Rattle.statement_tokens.specs.Reading.{tokens_from, placed, with_front}
+use Rattle.statement_tokens.proofs.Reading.{tokens_from, placed, with_front}
 use Rattle.statement_tokens.proofs.Scanning.{skipped}
 use Rattle.statement_tokens.proofs.EachCharacter.{EachIs}
 use Rattle.statement_tokens.proofs.Rescan.{StopsAt, prefix_is, name_back, colon_back, equals_back, plus_back, open_back}

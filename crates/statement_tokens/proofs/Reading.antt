@@ -1,3 +1,41 @@
--- The scanner's function, for those who read it here.
-pub use Rattle.statement_tokens.specs.Reading.{◌>>=◌, placed, tokens_of, with_front}
-unfoldable pub use Rattle.statement_tokens.specs.Reading.{tokens_from}
+-- The scanner's function: it goes over the characters once, and reads an item after another.
+use Rattle.std.specs.Prelude.{◌≡◌, ℕ, zero, suc, ◌+◌, List, [], ◌∷◌, ◌++◌, Option, Some, None, Result, Ok, Err}
+use Rattle.statement_tokens.specs.Tokens.{right_of, below, end_of}
+use Rattle.statement_tokens.specs.Items.{item_at}
+pub use Rattle.statement_tokens.specs.Scanned.{◌>>=◌, with_front}
+use Rattle.statement_tokens.specs.declared.place.Spot.{Spot}
+use Rattle.statement_tokens.specs.declared.token.Token.{Token}
+use Rattle.statement_tokens.specs.declared.scan.Item.{Item}
+use Rattle.statement_tokens.specs.declared.scan.Item.TheVariants as item
+use Rattle.statement_tokens.specs.declared.scan.ScanFault.{ScanFault}
+use Rattle.statement_tokens.specs.declared.scan.Placed.{Placed}
+use Rattle.statement_tokens.specs.declared.scan.ScanError.{ScanError}
+use Rattle.statement_tokens.specs.declared.scan.ScanError.TheVariants as error
+use Rattle.statement_tokens.specs.declared.scanner.Scanner.{Scanner}
+
+abbrev pub placed : List Token → Result Item ScanFault → Spot → ℕ → (List Token → ℕ → Spot → ℕ → Result (List Token) Placed) → Result (List Token) Placed
+placed before (Err e) at past next = Err (record { fault = e; at = at })
+placed before (Ok item.NewLine) at past next = next (before ++ end_of at.line past) 0 (below at) 0 >>= λ ts. Ok (end_of at.line past ++ ts)
+placed before (Ok (item.Gap more)) at past next = next before more (right_of at 1) past
+placed before (Ok (item.Token k more)) at past next =
+    next (before ++ record { at = at; kind = k } ∷ []) more (right_of at 1) (at.column + 1 + more) >>= λ ts. Ok (record { at = at; kind = k } ∷ ts)
+
+-- behind these tokens; so many characters belong to what began before; past is the column past the last token of the line, 0 where it has none
+unfoldable pub tokens_from : List Token → List ℕ → ℕ → Spot → ℕ → Result (List Token) Placed
+tokens_from before [] skip at past = Ok (end_of at.line past)
+tokens_from before (c ∷ cs) (suc skip) at past = tokens_from before cs skip (right_of at 1) past
+tokens_from before (c ∷ cs) zero at past = placed before (item_at before c cs) at past (λ front skip to end. tokens_from front cs skip to end)
+
+abbrev pub tokens_of : List ℕ → Result (List Token) Placed
+tokens_of characters = tokens_from [] characters 0 (record { line = 1; column = 1 }) 0
+
+-- what a scanner that stands behind these tokens has not read: the tokens of the characters that are left, or their first fault
+abbrev pub unread : List Token → Scanner → Result (List Token) Placed
+unread before scanner = tokens_from before scanner.text.now 0 scanner.at scanner.past
+
+-- what is handed out, by the scanner's function
+abbrev pub HandsRead : List Token → Scanner → Result (Option Token) ScanError → Scanner → Type 0
+HandsRead before old (Ok (Some token)) new = unread before old ≡ with_front (token ∷ []) (unread (before ++ token ∷ []) new)
+HandsRead before old (Ok None) new = (unread before old ≡ Ok []) × (unread before new ≡ Ok [])
+HandsRead before old (Err (error.Fault placed)) new = unread before old ≡ Err placed
+HandsRead before old (Err error.Memory) new = Unit {0}

@@ -15,7 +15,7 @@ use Rattle.statement_tokens.specs.declared.language.Language.TheVariants.{Second
 use Rattle.statement_tokens.specs.Language.{language_of}
 use Rattle.statement_tokens.specs.Pieces.{starts_name, is_digit}
 use Rattle.statement_tokens.specs.Items.{item_at, item_in, begins_with, name_of}
-use Rattle.statement_tokens.specs.Reading.{◌>>=◌, tokens_from, placed}
+use Rattle.statement_tokens.proofs.Reading.{◌>>=◌, tokens_from, placed}
 use Rattle.statement_tokens.proofs.Scanning.{spot, skipped}
 use Rattle.statement_tokens.proofs.EachCharacter.{EachIs}
 

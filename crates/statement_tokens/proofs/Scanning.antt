@@ -12,10 +12,10 @@ use Rattle.statement_tokens.specs.declared.scan.Placed.{Placed}
 use Rattle.statement_tokens.specs.Tokens.{end_of}
 use Rattle.statement_tokens.specs.Items.{item_in}
 use Rattle.statement_tokens.specs.Language.{language_of}
-use Rattle.statement_tokens.specs.Scanned.{unread, Hands, Lessens, one_if_some, most_tokens}
+use Rattle.statement_tokens.specs.Scanned.{Lessens, one_if_some, most_tokens, with_front}
 use Rattle.statement_tokens.specs.declared.language.Language.{Language}
 use Rattle.statement_tokens.specs.declared.scanner.Scanner.{Scanner}
-use Rattle.statement_tokens.specs.Reading.{◌>>=◌, tokens_from, placed, with_front}
+use Rattle.statement_tokens.proofs.Reading.{◌>>=◌, tokens_from, placed, unread, HandsRead}
 
 abbrev pub spot : ℕ → ℕ → Spot
 spot line column = record { line = line; column = column }
@@ -86,7 +86,7 @@ module _ (before : List Token) (text : List ℕ) (first : ℕ) (rest : List ℕ)
 -- behind the last character the line that is read ends
 pub turn_end : (before : List Token) (old here new : Scanner) (end : Option Token) → unread before old ≡ unread before here → here.text.now ≡ []
     → new.text.now ≡ [] → new.past ≡ 0
-    → MatchOption end (end_of here.at.line here.past ≡ []) (λ token. end_of here.at.line here.past ≡ token ∷ []) → Hands before old (Ok end) new
+    → MatchOption end (end_of here.at.line here.past ≡ []) (λ token. end_of here.at.line here.past ≡ token ∷ []) → HandsRead before old (Ok end) new
 unfolding tokens_from
 turn_end before old here new None same none more past is = (
   same ∙ ap (λ cs. tokens_from before cs 0 here.at here.past) none ∙ ap (λ (ts : List Token). Ok ts) is,

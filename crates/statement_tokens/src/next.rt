@@ -4,7 +4,7 @@ ghost use Rattle.std.specs.Prelude.{◌≡◌, ◌<◌, List, [], ◌∷◌, len
 ghost use Rattle.statement_tokens.specs.declared.token.Token as code_token;
 ghost use Rattle.statement_tokens.specs.Tokens.{end_of};
 ghost use Rattle.statement_tokens.specs.Language.{language_of};
-ghost use Rattle.statement_tokens.specs.Scanned.{Tells, Hands, Lessens, most_tokens, unread};
+ghost use Rattle.statement_tokens.specs.Scanned.{HasWhole, Hands, Lessens, most_tokens};
 
 use crate::language::Language;
 use crate::place::Spot;
@@ -17,7 +17,7 @@ impl<'a> Scanner<'a> {
     /// Before the first character of a text.
     pub fn new(text: &'a [char]) -> Scanner<'a>
         requires { length text.now < 4294967295 }
-        ensures { Tells text.now (unread [] result) }
+        ensures { HasWhole text.now result }
     {
         Scanner {
             text,
