@@ -14,7 +14,7 @@ use Rattle.statement_syntax.specs.declared.tree.Statement.{Statement}
 use Rattle.statement_tokens.specs.declared.scan.Item.TheVariants as item
 use Rattle.statement_tokens.specs.declared.scan.Placed.{Placed}
 use Rattle.statement_tokens.specs.Tokens.{end_of}
-use Rattle.statement_tokens.specs.Items.{item_at}
+use Rattle.statement_tokens.specs.Items.{item_at, item_in}
 use Rattle.statement_tokens.proofs.Reading.{◌>>=◌, tokens_from, tokens_of, placed, with_front}
 use Rattle.statement_syntax.specs.Grammar.{sign_token, Stated, listed, mapped, sides, paired, projected, by_degree, by_weight, modelled, second_language, stated_tokens, StatedLine, NamesLanguage, IsFileOf, file_tokens, FileFits}
 use Rattle.statement_syntax.specs.Tree.{stated_kind, file_tree}
@@ -53,7 +53,7 @@ file-scalars language (l ∷ ls) all =
 
 -- the tokens
 new_line : (before : List Token) (rest : List ℕ) → item_at before 10 rest ≡ Ok item.NewLine
-unfolding item_at
+unfolding item_in
 new_line before rest = refl
 
 line_step : (before : List Token) (rest : List ℕ) (line column past : ℕ)

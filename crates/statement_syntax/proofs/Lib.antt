@@ -24,3 +24,4 @@ pub mod ReadBack
 pub mod FileBack
 pub mod Stopping
 pub mod EachText
+mod Streamed

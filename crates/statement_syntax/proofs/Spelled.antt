@@ -20,7 +20,7 @@ use Rattle.statement_tokens.specs.declared.language.Language.TheVariants.{First,
 use Rattle.statement_tokens.specs.Language.{language_of}
 use Rattle.statement_tokens.specs.Pieces.{starts_name, is_digit}
 use Rattle.statement_tokens.specs.Tokens.{end_of, right_of, below}
-use Rattle.statement_tokens.specs.Items.{item_at, sign_at, caret_in, begins_with, name_of, literal_of}
+use Rattle.statement_tokens.specs.Items.{item_at, item_in, sign_in, caret_in, begins_with, name_of, literal_of}
 use Rattle.statement_tokens.proofs.Reading.{tokens_from, placed}
 use Rattle.statement_tokens.specs.Limits.{name_limit}
 use Rattle.statement_tokens.proofs.EachCharacter.{EachIs, EachIs-take_while, and_first, and_second}
@@ -121,7 +121,7 @@ module _ (before : List Token) where
   literal_makes value more =
       by_test (nat_lt value (2 ^ 127)) _ _ (λ below. this_token _ _ (record { size = value; is = refl; below = ltb-true _ _ below })) (no_fault LiteralTooLarge)
 
-  sign_makes : (c : ℕ) → Makes (sign_at before c)
+  sign_makes : (c : ℕ) → Makes (sign_in (language_of before) c)
   sign_makes c =
       by_test (c == 58) _ _ (λ e. this_token _ _ tt) (
       by_test (c == 61) _ _ (λ e. this_token _ _ tt) (
@@ -134,7 +134,7 @@ module _ (before : List Token) where
       by_test (c == 94) _ _ (λ e. caret_makes (language_of before)) (no_fault BadToken)))))))))
 
   item_makes : (c : ℕ) (rest : List ℕ) → scalars (c ∷ rest) ≡ true → Makes (item_at before c rest)
-  unfolding item_at
+  unfolding item_in
   item_makes c rest scalar =
       by_test (c == 10) _ _ (λ e. no_token) (
       by_test ((c == 32) || (c == 9) || ((c == 13) && begins_with 10 rest)) _ _ (λ e. no_gap 0) (

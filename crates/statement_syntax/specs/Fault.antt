@@ -7,6 +7,8 @@ use Rattle.statement_tokens.specs.declared.token.Token.{Token}
 use Rattle.statement_syntax.specs.declared.tree.Statement.{Statement}
 use Rattle.statement_tokens.specs.declared.scan.ScanFault.{ScanFault}
 use Rattle.statement_tokens.specs.declared.scan.ScanFault.TheVariants as scan
+use Rattle.statement_tokens.specs.declared.scan.ScanError.{ScanError}
+use Rattle.statement_tokens.specs.declared.scan.ScanError.TheVariants as scan_error
 use Rattle.statement_syntax.specs.declared.expression.Misfit.{Misfit}
 use Rattle.statement_syntax.specs.declared.expression.Misfit.TheVariants as misfit
 use Rattle.statement_syntax.specs.declared.fault.Fault.{Fault}
@@ -93,3 +95,8 @@ scan_fault scan.LiteralTooLarge = fault.LiteralTooLarge
 abbrev pub misfit_fault : Misfit → Fault
 misfit_fault misfit.Expected = fault.Expected
 misfit_fault misfit.TooDeep = fault.TooDeep
+
+-- the refusal tells the scanner's error; want of memory is the one free answer
+abbrev pub TellsScan : ScanError → SyntaxFault → Type 0
+TellsScan (scan_error.Fault placed) refused = refused ≡ fault_at (scan_fault placed.fault) placed.at
+TellsScan scan_error.Memory refused = IsWantOfMemory refused

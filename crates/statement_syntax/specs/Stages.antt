@@ -1,5 +1,5 @@
 -- What the stages of reading come to, one after another.
-use Rattle.std.specs.Prelude.{◌≡◌, ℕ, List, [], ◌∷◌, ◌++◌, Result, Ok, Err, drop}
+use Rattle.std.specs.Prelude.{◌≡◌, ◌⊎◌, ℕ, length, List, [], ◌∷◌, ◌++◌, Result, Ok, Err, drop}
 use Rattle.std.specs.Global.{Vec}
 use Rattle.std.specs.Str.{IsUtf8, chars}
 use Rattle.statement_tokens.specs.declared.token.Token.{Token}
@@ -15,21 +15,24 @@ use Rattle.statement_syntax.specs.declared.read.Progress.{Progress}
 use Rattle.statement_syntax.specs.declared.line.Line.TheVariants as line
 use Rattle.statement_syntax.specs.declared.fault.SyntaxFault.{SyntaxFault}
 use Rattle.statement_syntax.specs.declared.fault.SyntaxFault.TheVariants as refusal
-use Rattle.statement_syntax.specs.Steps.{run}
+use Rattle.statement_syntax.specs.Steps.{run, Fails}
 use Rattle.statement_syntax.specs.Lines.{file_step}
 use Rattle.statement_tokens.specs.Language.{language_of}
 use Rattle.statement_tokens.specs.Tokens.{AreTokens}
-use Rattle.statement_syntax.specs.Fault.{TellsFirstFault, IsWantOfMemory, fault_at, misfit_fault}
+use Rattle.statement_tokens.specs.Scanned.{Tells, Leaves, with_front}
+use Rattle.statement_tokens.specs.declared.scanner.Scanner.{Scanner}
+use Rattle.statement_tokens.specs.declared.scan.Placed.{Placed}
+use Rattle.statement_syntax.specs.Fault.{TellsFirstFault, IsWantOfMemory, fault_at, scan_fault, misfit_fault}
 
 -- what is told of a step that fails at this place
 abbrev pub IsRefusal : ReadError → Spot → SyntaxFault → Type 0
 IsRefusal error.Memory at refused = IsWantOfMemory refused
 IsRefusal (error.Misfit f) at refused = refused ≡ fault_at (misfit_fault f) at
 
--- bytes to tokens
-abbrev pub TokensRead : List ℕ → Result (Vec Token) SyntaxFault → Type 0
-TokensRead bytes (Ok ts) = IsUtf8 bytes × AreTokens (chars bytes) ts.items
-TokensRead bytes (Err e) = TellsFirstFault bytes e
+-- bytes to characters
+abbrev pub CharactersRead : List ℕ → Result (Vec ℕ) SyntaxFault → Type 0
+CharactersRead bytes (Ok text) = IsUtf8 bytes × (text.items ≡ chars bytes)
+CharactersRead bytes (Err e) = TellsFirstFault bytes e
 
 -- the statement of the line that names the second language
 abbrev pub first_statements : Language → List Token → List Statement
@@ -69,7 +72,34 @@ abbrev pub Refused : List Token → SyntaxFault → Type 0
 Refused ts (refusal.Memory e) = Unit {0}
 Refused ts (refusal.Fault code line column) = StoppedAt ts (refusal.Fault code line column)
 
--- tokens to statements
-abbrev pub LinesRead : List Token → Result (List Statement) SyntaxFault → Type 0
-LinesRead ts (Ok statements) = AllRead ts statements
-LinesRead ts (Err e) = Refused ts e
+-- what has been read of a file that begins with these tokens: its lines, or why one of them stopped it
+abbrev pub IsReadSoFar : List Token → Result Progress SyntaxFault → Type 0
+IsReadSoFar ts (Ok p) = run (file_step (language_of ts)) (begun ts) (left ts) ≡ Ok p
+IsReadSoFar ts (Err e) = Refused ts e
+
+-- one token more, which nothing is told of where one before it stopped the file
+abbrev pub Goes : Language → Result Progress SyntaxFault → Token → Result Progress SyntaxFault → Type 0
+Goes language (Ok p) token (Ok next) = file_step language p token ≡ Ok next
+Goes language (Ok p) token (Err e) = (error : ReadError) × Fails error (file_step language p token) × IsRefusal error token.at e
+Goes language (Err e) token read = read ≡ Err e
+
+-- these three tokens stand before what a scanner leaves, or all where there are fewer
+abbrev pub IsFront : List Token → Scanner → Scanner → Type 0
+IsFront ts start scanner =
+    ((read : Result (List Token) Placed) → Leaves ts scanner read → Leaves [] start (with_front ts read)) × ((length ts ≡ 3) ⊎ Leaves ts scanner (Ok []))
+
+-- the fault of the text is told
+abbrev pub IsFault : Result (List Token) Placed → SyntaxFault → Type 0
+IsFault whole (refusal.Memory e) = Unit {0}
+IsFault whole (refusal.Fault code line column) =
+    (placed : Placed) × (whole ≡ Err placed) × (refusal.Fault code line column ≡ fault_at (scan_fault placed.fault) placed.at)
+
+-- the fault that a scanner leaves is told
+abbrev pub LeavesFault : Scanner → SyntaxFault → Type 0
+LeavesFault scanner e = (whole : Result (List Token) Placed) × Leaves [] scanner whole × IsFault whole e
+
+-- its tokens are read, or the first that does not fit is told, or its first fault
+abbrev pub TextRead : List ℕ → Result (List Statement) SyntaxFault → Type 0
+TextRead text (Ok statements) = (ts : List Token) × AreTokens text ts × AllRead ts statements
+TextRead text (Err e) =
+    ((whole : Result (List Token) Placed) × Tells text whole × IsFault whole e) ⊎ ((ts : List Token) × AreTokens text ts × Refused ts e)

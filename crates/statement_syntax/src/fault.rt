@@ -1,11 +1,11 @@
 //! What can be wrong with a text, with its place.
 
 ghost use Rattle.std.specs.Prelude.{◌≡◌};
-ghost use Rattle.statement_syntax.specs.Fault.{code_of, fault_at, scan_fault, misfit_fault};
+ghost use Rattle.statement_syntax.specs.Fault.{code_of, fault_at, scan_fault, misfit_fault, TellsScan, IsWantOfMemory};
 
 use crate::expression::Misfit;
-use statement_tokens::{ScanFault, Spot};
-use std::alloc::AllocError;
+use statement_tokens::{ScanError, ScanFault, Spot};
+use std::alloc::{AllocError, AllocFailed};
 use thiserror::Error;
 
 /// What can be wrong with a text. All that is not UTF-8 comes before all bad tokens and literals, and those before
@@ -34,6 +34,25 @@ pub enum SyntaxFault {
     /// Memory is short.
     #[error(transparent)]
     Memory(AllocError),
+}
+
+impl From<ScanError> for SyntaxFault {
+    ghost from_gives = { TellsScan };
+
+    fn from(error: ScanError) -> SyntaxFault {
+        match error {
+            ScanError::Fault(placed) => fault_at(scan_fault(placed.fault), placed.at),
+            ScanError::Memory => SyntaxFault::Memory(AllocError),
+        }
+    }
+}
+
+impl<T: Drop> From<AllocFailed<T>> for SyntaxFault {
+    ghost from_gives = { λ _ refused. IsWantOfMemory refused };
+
+    fn from(_failed: AllocFailed<T>) -> SyntaxFault {
+        SyntaxFault::Memory(AllocError)
+    }
 }
 
 fn code_of(fault: Fault) -> u32

@@ -1,22 +1,21 @@
 //! The tree of a text: its bytes, its tokens, its lines.
 
-ghost use Rattle.std.specs.Prelude.{◌≡◌, ◌<◌, ◌↔◌, ℕ, List, length, IfOk, IfErr, IsErr};
+ghost use Rattle.std.specs.Prelude.{◌≡◌, ◌<◌, ◌↔◌, ℕ, List, [], length, IfOk, IfErr, IsErr};
 ghost use Rattle.statement_syntax.specs.Grammar.{StatedLine};
 ghost use Rattle.statement_syntax.specs.Tree.{file_tree};
 ghost use Rattle.statement_syntax.specs.Fault.{IsStatements, IsTreeOf, TellsFirstFault, IsWantOfMemory};
 ghost use Rattle.statement_syntax.specs.Steps.{Turns};
 ghost use Rattle.statement_syntax.specs.Lines.{ended, file_step};
-ghost use Rattle.statement_syntax.specs.Stages.{TokensRead, LinesRead, IsRefusal, first_statements, behind_first};
+ghost use Rattle.statement_syntax.specs.Stages.{CharactersRead, TextRead, IsReadSoFar, Goes, IsFront, LeavesFault, IsRefusal, first_statements, behind_first};
+ghost use Rattle.statement_tokens.specs.Language.{language_of};
 ghost use Rattle.std.specs.Vec.Iter.{into_iter_items, into_iter_len};
 
 use crate::expression::ReadError;
-use crate::fault::{Fault, SyntaxFault, fault_at, misfit_fault, scan_fault};
+use crate::fault::{Fault, SyntaxFault, fault_at, misfit_fault};
 use crate::line::{Line, line_end, line_step};
 use crate::tree::{Statement, StatementKind, Tree};
 use lists::Listing;
-use statement_tokens::{
-    Language, ScanError, Spot, Token, TokenKind, characters, language_of, tokens,
-};
+use statement_tokens::{Language, Scanner, Spot, Token, TokenKind, characters, language_of};
 use std::alloc::{AllocError, Global};
 use std::mem;
 use std::vec::IntoIter;
@@ -84,10 +83,11 @@ fn first_statements(
     Ok(statements)
 }
 
-fn statements(alloc: Global, tokens: Vec<Token>) -> Result<Listing<Statement>, SyntaxFault>
-    ensures { LinesRead tokens.items result }
+// What has been read behind the first tokens of a file, which are all or tell its language.
+fn opened(alloc: Global, language: Language, tokens: Vec<Token>) -> Result<Progress, SyntaxFault>
+    requires { language ≡ language_of tokens.items }
+    ensures { IsReadSoFar tokens.items result }
 {
-    let language = language_of(&tokens);
     let mut tokens = tokens.into_iter();
     let statements = match first_statements(alloc, language, &mut tokens) {
         Ok(statements) => statements,
@@ -104,33 +104,69 @@ fn statements(alloc: Global, tokens: Vec<Token>) -> Result<Listing<Statement>, S
             return Err(refusal(error, at));
         }
     }
-    let Progress { statements, line } = progress;
+    Ok(progress)
+}
+
+// The first three tokens of a text, which tell its language, or all where there are fewer.
+fn opening(alloc: Global, scanner: &mut Scanner<'_>) -> Result<Vec<Token>, SyntaxFault>
+    ensures found { IfOk result (λ ts. IsFront ts.items scanner.old scanner.new) }
+    ensures fault { IfErr result (LeavesFault scanner.old) }
+{
+    let mut tokens = Vec::new(alloc);
+    for _ in 0..3_usize {
+        let Some(token) = scanner.next(alloc, Language::First)? else {
+            return Ok(tokens);
+        };
+        tokens.push(token)?;
+    }
+    Ok(tokens)
+}
+
+// A token more, of which nothing is told where one before it did not fit.
+fn go_on(alloc: Global, language: Language, read: &mut Result<Progress, SyntaxFault>, token: Token)
+    ensures { Goes language read.old token read.new }
+{
+    if let Ok(progress) = read {
+        let at = token.at;
+        if let Err(error) = file_step(alloc, language, progress, token) {
+            drop(mem::replace(read, Err(refusal(error, at))));
+        }
+    }
+}
+
+// A token that cannot be read comes before one that does not fit, so all are read.
+fn statements(alloc: Global, text: &[char]) -> Result<Listing<Statement>, SyntaxFault>
+    requires { length text.now < 4294967295 }
+    ensures { TextRead text.now result }
+{
+    let mut scanner = Scanner::new(text);
+    let opening = opening(alloc, &mut scanner)?;
+    let language = language_of(&opening);
+    let mut read = opened(alloc, language, opening);
+    while let Some(token) = scanner.next(alloc, language)? {
+        go_on(alloc, language, &mut read, token);
+    }
+    let Progress { statements, line } = read?;
     drop(line);
     Ok(statements)
 }
 
-fn token_list(alloc: Global, bytes: &[u8]) -> Result<Vec<Token>, SyntaxFault>
+fn characters_of(alloc: Global, bytes: &[u8]) -> Result<Vec<char>, SyntaxFault>
     requires { length bytes.now < 4294967295 }
-    ensures { TokensRead bytes.now result }
+    ensures { CharactersRead bytes.now result }
 {
-    let text = match std::str::from_utf8(bytes) {
-        Ok(text) => text,
+    match std::str::from_utf8(bytes) {
+        Ok(text) => match characters(alloc, text) {
+            Ok(text) => Ok(text),
+            Err(failed) => Err(SyntaxFault::Memory(failed)),
+        },
         Err(error) => {
             let at = Spot {
                 line: 0,
                 column: error.valid_up_to() as u32,
             };
-            return Err(fault_at(Fault::NotUtf8, at));
+            Err(fault_at(Fault::NotUtf8, at))
         }
-    };
-    let text = match characters(alloc, text) {
-        Ok(text) => text,
-        Err(failed) => return Err(SyntaxFault::Memory(failed)),
-    };
-    match tokens(alloc, &text) {
-        Ok(tokens) => Ok(tokens),
-        Err(ScanError::Fault(placed)) => Err(fault_at(scan_fault(placed.fault), placed.at)),
-        Err(ScanError::Memory) => Err(SyntaxFault::Memory(AllocError)),
     }
 }
 
@@ -146,7 +182,7 @@ pub fn read_tree(alloc: Global, bytes: &[u8]) -> Result<Tree, SyntaxFault>
     // Else the first fault is told, with its place.
     ensures first { IfErr result (TellsFirstFault bytes.now) }
 {
-    let tokens = token_list(alloc, bytes)?;
-    let statements = statements(alloc, tokens)?;
+    let text = characters_of(alloc, bytes)?;
+    let statements = statements(alloc, &text)?;
     Ok(Tree { statements })
 }

@@ -14,11 +14,9 @@ use Rattle.statement_tokens.specs.declared.scan.Item.TheVariants as item
 use Rattle.statement_tokens.specs.declared.scan.ItemError.{ItemError}
 use Rattle.statement_tokens.specs.declared.scan.ScanFault.{ScanFault}
 use Rattle.statement_tokens.specs.declared.scan.ScanFault.TheVariants.{BadToken, LiteralTooLarge}
-use Rattle.statement_tokens.specs.Items.{name_of, literal_of, caret_in, sign_at, more_of, GivesItem}
-use Rattle.statement_tokens.specs.Language.{language_of}
+use Rattle.statement_tokens.specs.Items.{name_of, literal_of, caret_in, sign_in, more_of, GivesItem}
 use Rattle.statement_tokens.specs.declared.language.Language.{Language}
 use Rattle.statement_tokens.specs.declared.language.Language.TheVariants.{First, Second}
-use Rattle.statement_tokens.specs.declared.token.Token.{Token}
 
 name_fits : (text : List ℕ) (more : ℕ) → length text ≤ name_limit → name_of text more ≡ Ok (item.Token (kind.Name text) more)
 name_fits text more short = ap (λ b. if b then Ok (item.Token (kind.Name text) more) else Err BadToken) (le-leb (length text) name_limit short)
@@ -50,8 +48,8 @@ caret_short : (n : ℕ) (l : Language) → IfOk (caret_in l) (λ i. more_of i �
 caret_short n First = tt
 caret_short n Second = omega arith
 
-pub sign_short : (n : ℕ) (before : List Token) (c : ℕ) → IfOk (sign_at before c) (λ i. more_of i ≤ n)
-sign_short n before c =
+pub sign_short : (n : ℕ) (l : Language) (c : ℕ) → IfOk (sign_in l c) (λ i. more_of i ≤ n)
+sign_short n l c =
     one_sign n (c == 58) kind.Colon _ (one_sign n (c == 61) kind.Equals _ (one_sign n (c == 43) kind.Plus _ (one_sign n (c == 40) kind.Open _
     (one_sign n (c == 41) kind.Close _ (one_sign n (c == 91) kind.OpenSquare _ (one_sign n (c == 93) kind.CloseSquare _ (one_sign n (c == 39) kind.Quote _
-    (chosen (λ i. more_of i ≤ n) (c == 94) (caret_in (language_of before)) (Err BadToken) (caret_short n (language_of before)) tt))))))))
+    (chosen (λ i. more_of i ≤ n) (c == 94) (caret_in l) (Err BadToken) (caret_short n l) tt))))))))

@@ -10,7 +10,7 @@ use Rattle.statement_tokens.specs.declared.token.TokenKind.TheVariants as kind
 use Rattle.statement_tokens.specs.declared.scan.Item.TheVariants as item
 use Rattle.statement_tokens.specs.Pieces.{is_digit, starts_name}
 use Rattle.statement_tokens.specs.Tokens.{value_from}
-use Rattle.statement_tokens.specs.Items.{item_at}
+use Rattle.statement_tokens.specs.Items.{item_at, item_in}
 use Rattle.statement_tokens.proofs.EachCharacter.{EachIs}
 use Rattle.statement_tokens.proofs.Rescan.{StopsAt, prefix_is}
 
@@ -75,7 +75,7 @@ plain_digit c known =
 
 pub literal_back : (before : List Token) (n c : ℕ) (cs rest : List ℕ) → n < 2 ^ 127 → value_from 0 (c ∷ cs) ≡ n → is_digit c ≡ true → EachIs is_digit cs → StopsAt is_digit rest
     → item_at before c (cs ++ rest) ≡ Ok (item.Token (kind.Literal (pos n)) (length cs))
-unfolding item_at
+unfolding item_in
 literal_back before n c cs rest below value digit each stops =
     let plain = plain_digit c digit in
     rw (plain.line, plain.blank, plain.tab, plain.return, plain.comment, plain.name, digit, prefix_is is_digit cs rest each stops, take_at cs rest (length cs) refl, value, lt-ltb n (2 ^ 127) below) refl

@@ -26,7 +26,7 @@ use Rattle.statement_tokens.specs.Pieces.{literal, sign, piece_text, is_piece, I
 use Rattle.statement_tokens.specs.Tokens.{behind, tokens_with, past_behind, sign_fault, fault_of}
 use Rattle.statement_tokens.specs.Pieces.{starts_name, is_digit, is_inside_line}
 use Rattle.statement_tokens.specs.Tokens.{value_from, right_of}
-use Rattle.statement_tokens.specs.Items.{item_at, begins_with, literal_of}
+use Rattle.statement_tokens.specs.Items.{item_at, item_in, begins_with, literal_of}
 use Rattle.statement_tokens.proofs.Reading.{tokens_from, placed, with_front}
 use Rattle.statement_tokens.proofs.Scanning.{skipped}
 use Rattle.statement_tokens.proofs.EachCharacter.{EachIs}
@@ -127,7 +127,7 @@ module _ (before : List Token) (c : ℕ) (cs later : List ℕ) (at : Spot) (past
 
 literal_read : (before : List Token) (c : ℕ) (cs rest : List ℕ) → is_digit c ≡ true → EachIs is_digit cs → StopsAt is_digit rest
     → item_at before c (cs ++ rest) ≡ literal_of (value_from 0 (c ∷ cs)) (length cs)
-unfolding item_at
+unfolding item_in
 literal_read before c cs rest digit each ends =
     let plain = plain_digit c digit in
     rw (
@@ -143,7 +143,7 @@ literal_read before c cs rest digit each ends =
     ) refl
 
 minus_read : (before : List Token) (rest : List ℕ) → begins_with 62 rest ≡ false → item_at before 45 rest ≡ Ok (item.Token kind.Minus 0)
-unfolding item_at
+unfolding item_in
 minus_read before rest given = rw (is_xid_start-ascii 45 (omega arith), given) refl
 
 kept : (b : Bool) (f : ScanFault) → (let o : Option ScanFault = (if b then None else Some f) in o) ≡ None → b ≡ true
@@ -182,7 +182,7 @@ reads_sign before kind.Caret later at past is good = token before 94 [] later at
 
 pub reads_piece : (before : List Token) (piece : Piece) (later : List ℕ) (at : Spot) (past : ℕ) → IsLongest piece later
     → fault_of (language_of before) piece ≡ None → ReadsPiece before piece later at past
-unfolding tokens_from item_at
+unfolding tokens_from item_in
 reads_piece before line_feed later at past is good = refl
 reads_piece before return_and_line_feed later at past is good = refl
 reads_piece before blank later at past is good = gap before 32 [] later at past refl
@@ -211,7 +211,7 @@ Stops before text at past f = tokens_from before text 0 at past ≡ Err (record 
 stops_sign : (before : List Token) (k : TokenKind) (later : List ℕ) (at : Spot) (past : ℕ) (f : ScanFault) (l : Language) → language_of before ≡ l
     → sign_fault k l ≡ Some f
     → Stops before (piece_text (sign k) ++ later) at past f
-unfolding item_at
+unfolding item_in
 stops_sign before kind.Caret later at past f First first is =
     let bad : BadToken ≡ f = cc in
     fault before 94 [] later at past f (rw (is_xid_start-ascii 94 (omega arith), first) (ap (λ x. Err x) bad))
@@ -245,7 +245,7 @@ stops_piece before (literal (c ∷ cs)) later at past f is faulty =
 stops_piece before (sign k) later at past f is faulty = stops_sign before k later at past f (language_of before) refl faulty
 
 pub stops_none : (before : List Token) (c : ℕ) (rest : List ℕ) (at : Spot) (past : ℕ) → BeginsNone (c ∷ rest) → Stops before (c ∷ rest) at past BadToken
-unfolding item_at
+unfolding item_in
 stops_none before c rest at past none =
     let lacks = no_test c rest none in
     fault before c [] rest at past BadToken

@@ -1,18 +1,17 @@
 -- The scanner's function: it goes over the characters once, and reads an item after another.
-use Rattle.std.specs.Prelude.{ℕ, zero, suc, ◌+◌, List, [], ◌∷◌, ◌++◌, Result, Ok, Err}
+use Rattle.std.specs.Prelude.{◌≡◌, ℕ, zero, suc, ◌+◌, List, [], ◌∷◌, ◌++◌, Option, Some, None, Result, Ok, Err}
 use Rattle.statement_tokens.specs.Tokens.{right_of, below, end_of}
 use Rattle.statement_tokens.specs.Items.{item_at}
+pub use Rattle.statement_tokens.specs.Scanned.{◌>>=◌, with_front}
 use Rattle.statement_tokens.specs.declared.place.Spot.{Spot}
 use Rattle.statement_tokens.specs.declared.token.Token.{Token}
 use Rattle.statement_tokens.specs.declared.scan.Item.{Item}
 use Rattle.statement_tokens.specs.declared.scan.Item.TheVariants as item
 use Rattle.statement_tokens.specs.declared.scan.ScanFault.{ScanFault}
 use Rattle.statement_tokens.specs.declared.scan.Placed.{Placed}
-
-infixl 10 ◌>>=◌
-abbrev pub ◌>>=◌ : {A B F : Type 0} → Result A F → (A → Result B F) → Result B F
-(Ok x) >>= f = f x
-(Err e) >>= f = Err e
+use Rattle.statement_tokens.specs.declared.scan.ScanError.{ScanError}
+use Rattle.statement_tokens.specs.declared.scan.ScanError.TheVariants as error
+use Rattle.statement_tokens.specs.declared.scanner.Scanner.{Scanner}
 
 abbrev pub placed : List Token → Result Item ScanFault → Spot → ℕ → (List Token → ℕ → Spot → ℕ → Result (List Token) Placed) → Result (List Token) Placed
 placed before (Err e) at past next = Err (record { fault = e; at = at })
@@ -30,6 +29,13 @@ tokens_from before (c ∷ cs) zero at past = placed before (item_at before c cs)
 abbrev pub tokens_of : List ℕ → Result (List Token) Placed
 tokens_of characters = tokens_from [] characters 0 (record { line = 1; column = 1 }) 0
 
--- tokens that stand before what is read
-abbrev pub with_front : List Token → Result (List Token) Placed → Result (List Token) Placed
-with_front front read = read >>= λ ts. Ok (front ++ ts)
+-- what a scanner that stands behind these tokens has not read: the tokens of the characters that are left, or their first fault
+abbrev pub unread : List Token → Scanner → Result (List Token) Placed
+unread before scanner = tokens_from before scanner.text.now 0 scanner.at scanner.past
+
+-- what is handed out, by the scanner's function
+abbrev pub HandsRead : List Token → Scanner → Result (Option Token) ScanError → Scanner → Type 0
+HandsRead before old (Ok (Some token)) new = unread before old ≡ with_front (token ∷ []) (unread (before ++ token ∷ []) new)
+HandsRead before old (Ok None) new = (unread before old ≡ Ok []) × (unread before new ≡ Ok [])
+HandsRead before old (Err (error.Fault placed)) new = unread before old ≡ Err placed
+HandsRead before old (Err error.Memory) new = Unit {0}

@@ -14,7 +14,7 @@ use Rattle.statement_tokens.specs.declared.scan.Placed.{Placed}
 use Rattle.statement_tokens.specs.declared.language.Language.TheVariants.{Second}
 use Rattle.statement_tokens.specs.Language.{language_of}
 use Rattle.statement_tokens.specs.Pieces.{starts_name, is_digit}
-use Rattle.statement_tokens.specs.Items.{item_at, begins_with, name_of}
+use Rattle.statement_tokens.specs.Items.{item_at, item_in, begins_with, name_of}
 use Rattle.statement_tokens.proofs.Reading.{◌>>=◌, tokens_from, placed}
 use Rattle.statement_tokens.proofs.Scanning.{spot, skipped}
 use Rattle.statement_tokens.proofs.EachCharacter.{EachIs}
@@ -58,12 +58,12 @@ one_token before c cs rest k line column past given =
     ∙ ap (λ x. tokens_from front x 0 (spot line (column + 1 + length cs)) (column + 1 + length cs)) (drop_at cs rest (length cs) refl))
 
 pub blank_back : (before : List Token) (rest : List ℕ) → item_at before 32 rest ≡ Ok (item.Gap 0)
-unfolding item_at
+unfolding item_in
 blank_back before rest = refl
 
 pub name_back : (before : List Token) (c : ℕ) (cs rest : List ℕ) → starts_name c ≡ true → EachIs is_xid_continue cs → StopsAt is_xid_continue rest
     → item_at before c (cs ++ rest) ≡ name_of (encode_utf8_all (c ∷ cs)) (length cs)
-unfolding item_at
+unfolding item_in
 name_back before c cs rest s e stop =
     let plain = plain_start c s in
     rw (plain.0, plain.1, plain.2, plain.3, plain.4, s, prefix_is is_xid_continue cs rest e stop, take_at cs rest (length cs) refl) refl
@@ -108,46 +108,46 @@ no_arrow [] given = refl
 no_arrow (c ∷ rest) given = ender_by (λ c. (c == 62) ≡ false) refl refl refl refl refl refl c given
 
 pub colon_back : (before : List Token) (rest : List ℕ) → item_at before 58 rest ≡ Ok (item.Token kind.Colon 0)
-unfolding item_at
+unfolding item_in
 colon_back before rest = rw (is_xid_start-ascii 58 (omega arith)) refl
 
 pub equals_back : (before : List Token) (rest : List ℕ) → item_at before 61 rest ≡ Ok (item.Token kind.Equals 0)
-unfolding item_at
+unfolding item_in
 equals_back before rest = rw (is_xid_start-ascii 61 (omega arith)) refl
 
 pub plus_back : (before : List Token) (rest : List ℕ) → item_at before 43 rest ≡ Ok (item.Token kind.Plus 0)
-unfolding item_at
+unfolding item_in
 plus_back before rest = rw (is_xid_start-ascii 43 (omega arith)) refl
 
 pub open_back : (before : List Token) (rest : List ℕ) → item_at before 40 rest ≡ Ok (item.Token kind.Open 0)
-unfolding item_at
+unfolding item_in
 open_back before rest = rw (is_xid_start-ascii 40 (omega arith)) refl
 
 pub close_back : (before : List Token) (rest : List ℕ) → item_at before 41 rest ≡ Ok (item.Token kind.Close 0)
-unfolding item_at
+unfolding item_in
 close_back before rest = rw (is_xid_start-ascii 41 (omega arith)) refl
 
 pub open_square_back : (before : List Token) (rest : List ℕ) → item_at before 91 rest ≡ Ok (item.Token kind.OpenSquare 0)
-unfolding item_at
+unfolding item_in
 open_square_back before rest = rw (is_xid_start-ascii 91 (omega arith)) refl
 
 pub close_square_back : (before : List Token) (rest : List ℕ) → item_at before 93 rest ≡ Ok (item.Token kind.CloseSquare 0)
-unfolding item_at
+unfolding item_in
 close_square_back before rest = rw (is_xid_start-ascii 93 (omega arith)) refl
 
 pub quote_back : (before : List Token) (rest : List ℕ) → item_at before 39 rest ≡ Ok (item.Token kind.Quote 0)
-unfolding item_at
+unfolding item_in
 quote_back before rest = rw (is_xid_start-ascii 39 (omega arith)) refl
 
 -- a caret is read where the tokens before it are of the second language
 pub caret_back : (before : List Token) (rest : List ℕ) → language_of before ≡ Second → item_at before 94 rest ≡ Ok (item.Token kind.Caret 0)
-unfolding item_at
+unfolding item_in
 caret_back before rest given = rw (is_xid_start-ascii 94 (omega arith), given) refl
 
 pub arrow_back : (before : List Token) (rest : List ℕ) → item_at before 45 (62 ∷ rest) ≡ Ok (item.Token kind.Arrow 1)
-unfolding item_at
+unfolding item_in
 arrow_back before rest = rw (is_xid_start-ascii 45 (omega arith)) refl
 
 pub minus_back : (before : List Token) (rest : List ℕ) → EndsBefore rest → item_at before 45 rest ≡ Ok (item.Token kind.Minus 0)
-unfolding item_at
+unfolding item_in
 minus_back before rest given = rw (is_xid_start-ascii 45 (omega arith), no_arrow rest given) refl

@@ -1,6 +1,6 @@
 -- Each text has one list of tokens or one first fault, and the scanner reads them.
 use Rattle.std.proofs.Common.{◌≡◌, ℕ, ◌≤◌, ◌&&◌, Bool, true, false, zero, suc, List, [], ◌∷◌, ◌++◌, length, Option}
-use Rattle.std.proofs.Common.{Some, None, Ok, Err, refl, sym, ap, subst, ◌∙◌, append_assoc, append-nil, length-append, arith, ◌⊎◌, inl, inr}
+use Rattle.std.proofs.Common.{Some, None, Result, Ok, Err, refl, sym, ap, subst, ◌∙◌, append_assoc, append-nil, length-append, arith, ◌⊎◌, inl, inr}
 use Rattle.std.specs.Prelude.{if◌then◌else◌}
 use Rattle.statement_tokens.specs.declared.place.Spot.{Spot}
 use Rattle.statement_tokens.specs.declared.token.Token.{Token}
@@ -14,11 +14,15 @@ use Rattle.statement_tokens.specs.Language.{is_language_word, is_two, is_end, la
 use Rattle.statement_tokens.specs.Pieces.{Piece, line_feed, return_and_line_feed, blank, tab, comment, name, literal}
 use Rattle.statement_tokens.specs.Pieces.{sign, piece_text, pieces_text, is_some, is_piece, IsLongest, BeginsNone}
 use Rattle.statement_tokens.specs.Tokens.{behind, place_behind, tokens_with, past_behind, tokens_at, tokens_in}
-use Rattle.statement_tokens.specs.Tokens.{sign_fault, fault_of, AreGood, AreTokens, Begins, IsFirstScanFault}
+use Rattle.statement_tokens.specs.Tokens.{sign_fault, fault_of, AreGood, AreTokens, AreTokensBehind, Begins, IsFirstScanFault, IsFaultBehind}
 use Rattle.statement_tokens.specs.Laws.{HasTokensOrFault, EachTextHasTokensOrFault, TokensAreUnique, FirstScanFaultsAreUnique}
 use Rattle.statement_tokens.specs.Laws.{TokensHaveNoFault}
 use Rattle.statement_tokens.specs.Tokens.{end_of}
-use Rattle.statement_tokens.proofs.Reading.{tokens_from, tokens_of, with_front}
+use Rattle.statement_tokens.specs.Scanned.{TellsBehind, Tells, Leaves, Hands, with_front}
+use Rattle.statement_tokens.specs.declared.scanner.Scanner.{Scanner}
+use Rattle.statement_tokens.specs.declared.scan.ScanError.{ScanError}
+use Rattle.statement_tokens.specs.declared.scan.ScanError.TheVariants as error
+use Rattle.statement_tokens.proofs.Reading.{tokens_from, tokens_of, unread, HandsRead}
 use Rattle.statement_tokens.proofs.Longest.{Longest, begins_with_longest}
 use Rattle.statement_tokens.proofs.Pieces.{Read, front_none, reads_piece, stops_piece, stops_none}
 
@@ -92,9 +96,10 @@ tokens_more (piece ∷ pieces) more at past =
     (tokens_at more (place_behind (piece ∷ pieces) at) (past_after (piece ∷ pieces) at past)))
 
 -- all tokens of pieces with which the text ends
-closed : (pieces : List Piece) → tokens_in (pieces ++ line_feed ∷ []) ≡ tokens_in pieces ++ end_of (place_behind pieces start).line (past_after pieces start 0)
-closed pieces = tokens_more pieces (line_feed ∷ []) start 0
-    ∙ ap (λ ts. tokens_in pieces ++ ts) (append-nil (end_of (place_behind pieces start).line (past_after pieces start 0)))
+closed : (pieces : List Piece) (at : Spot) (past : ℕ)
+    → tokens_at (pieces ++ line_feed ∷ []) at past ≡ tokens_at pieces at past ++ end_of (place_behind pieces at).line (past_after pieces at past)
+closed pieces at past = tokens_more pieces (line_feed ∷ []) at past
+    ∙ ap (λ ts. tokens_at pieces at past ++ ts) (append-nil (end_of (place_behind pieces at).line (past_after pieces at past)))
 
 -- each piece is the longest at its place, and good behind the tokens in front of it
 abbrev GoOn : List Token → List Piece → List ℕ → Spot → ℕ → Type 0
@@ -129,7 +134,7 @@ are_good before more (piece ∷ pieces) rest at past good =
           (are_good (before ++ here) more pieces rest (behind piece at) (past_behind piece at past) good.2),
     )
 
-fronts : (a b : List Token) (r : Read) → with_front a (with_front b r) ≡ with_front (a ++ b) r
+pub fronts : (a b : List Token) (r : Read) → with_front a (with_front b r) ≡ with_front (a ++ b) r
 fronts a b (Ok ts) = ap (λ (x : List Token). Ok x) (sym (append_assoc a b ts))
 fronts a b (Err e) = refl
 
@@ -153,16 +158,18 @@ ended : (front : List Token) (at : Spot) (past : ℕ) → tokens_from front [] 0
 unfolding tokens_from
 ended front at past = refl
 
-pub read_are : (text : List ℕ) (tokens : List Token) → AreTokens text tokens → tokens_of text ≡ Ok tokens
-read_are text tokens are =
-    let pieces = are.pieces in
-    let last = end_of (place_behind pieces start).line (past_after pieces start 0) in
-    let all : tokens ≡ tokens_in pieces ++ last = are.are ∙ closed pieces in
-    let good = go_on [] last pieces [] start 0 (subst (λ ts. AreGood (language_of ts) pieces []) all are.good) in
-    ap tokens_of (are.cut ∙ sym (append-nil (pieces_text pieces)))
-    ∙ reads [] pieces [] start 0 good
-    ∙ ap (with_front (tokens_in pieces)) (ended (tokens_in pieces) (place_behind pieces start) (past_after pieces start 0))
-    ∙ ap (λ ts. Ok ts) (sym all)
+module _ (before : List Token) (at : Spot) (past : ℕ) where
+  pub behind_are : (text : List ℕ) (tokens : List Token) → AreTokensBehind before at past text tokens → tokens_from before text 0 at past ≡ Ok tokens
+  behind_are text tokens are =
+      let pieces = are.pieces in
+      let front = tokens_at pieces at past in
+      let last = end_of (place_behind pieces at).line (past_after pieces at past) in
+      let all : tokens ≡ front ++ last = are.are ∙ closed pieces at past in
+      let good = go_on before last pieces [] at past (subst (λ ts. AreGood (language_of (before ++ ts)) pieces []) all are.good) in
+      ap (λ cs. tokens_from before cs 0 at past) (are.cut ∙ sym (append-nil (pieces_text pieces)))
+      ∙ reads before pieces [] at past good
+      ∙ ap (with_front front) (ended (before ++ front) (place_behind pieces at) (past_after pieces at past))
+      ∙ ap (λ ts. Ok ts) (sym all)
 
 stops_at : (before : List Token) (rest : List ℕ) (at : Spot) (past : ℕ) (f : ScanFault) → Begins (language_of before) rest f
     → tokens_from before rest 0 at past ≡ Err (record { fault = f; at = at })
@@ -172,15 +179,18 @@ stops_at before rest at past f (inr (c, later, text, none, bad)) =
     ap (λ cs. tokens_from before cs 0 at past) text ∙ stops_none before c later at past (subst BeginsNone text none)
     ∙ ap (λ f. Err (record { fault = f; at = at })) (sym bad)
 
-pub read_first : (text : List ℕ) (f : ScanFault) (at : Spot) → IsFirstScanFault text f at → tokens_of text ≡ Err (record { fault = f; at = at })
-read_first text f at first =
-    let pieces = first.pieces in
-    let front = tokens_in pieces in
-    let good = go_on [] [] pieces first.rest start 0 (subst (λ ts. AreGood (language_of ts) pieces first.rest) (sym (append-nil front)) first.good) in
-    ap tokens_of first.cut
-    ∙ reads [] pieces first.rest start 0 good
-    ∙ ap (with_front front) (stops_at front first.rest (place_behind pieces start) (past_after pieces start 0) f first.faulty)
-    ∙ ap (λ at. Err (record { fault = f; at = at })) (sym first.place)
+module _ (before : List Token) (at : Spot) (past : ℕ) where
+  behind_first : (text : List ℕ) (f : ScanFault) (there : Spot) → IsFaultBehind before at past text f there
+      → tokens_from before text 0 at past ≡ Err (record { fault = f; at = there })
+  behind_first text f there first =
+      let pieces = first.pieces in
+      let front = tokens_at pieces at past in
+      let good = go_on before [] pieces first.rest at past
+      (subst (λ ts. AreGood (language_of (before ++ ts)) pieces first.rest) (sym (append-nil front)) first.good) in
+      ap (λ cs. tokens_from before cs 0 at past) first.cut
+      ∙ reads before pieces first.rest at past good
+      ∙ ap (with_front front) (stops_at (before ++ front) first.rest (place_behind pieces at) (past_after pieces at past) f first.faulty)
+      ∙ ap (λ at. Err (record { fault = f; at = at })) (sym first.place)
 
 abbrev IsAtEnd : Language → List ℕ → Type 0
 IsAtEnd language rest = (rest ≡ []) ⊎ ((f : ScanFault) × Begins language rest f)
@@ -244,41 +254,128 @@ cut (suc n) (c ∷ rest) short before at past =
     (past_behind l.piece at past))
     (begins_with_longest c rest)
 
-told : (text : List ℕ) (c : Cut [] text start 0) → IsAtEnd (language_of (tokens_in c.pieces)) c.rest → HasTokensOrFault text
-told text c (inl none) =
-    let last = end_of (place_behind c.pieces start).line (past_after c.pieces start 0) in
-    let all = closed c.pieces in
-    inl (
-      tokens_in (c.pieces ++ line_feed ∷ []),
-      record {
-        pieces = c.pieces;
-        cut = c.cut ∙ ap (λ x. pieces_text c.pieces ++ x) none ∙ append-nil (pieces_text c.pieces);
-        good = subst (AreGood (language_of (tokens_in (c.pieces ++ line_feed ∷ []))) c.pieces) none
-            (subst (λ ts. AreGood (language_of ts) c.pieces c.rest) (sym all) (are_good [] last c.pieces c.rest start 0 c.good));
-        are = refl;
-      },
-    )
-told text c (inr (f, faulty)) = inr (
-  f,
-  place_behind c.pieces start,
-  record {
-    pieces = c.pieces;
-    rest = c.rest;
-    cut = c.cut;
-    good = subst (λ ts. AreGood (language_of ts) c.pieces c.rest) (append-nil (tokens_in c.pieces)) (are_good [] [] c.pieces c.rest start 0 c.good);
-    faulty = faulty;
-    place = refl;
-  },
-)
-
-pub each_text_has_tokens_or_fault : EachTextHasTokensOrFault
-each_text_has_tokens_or_fault text = let c = cut (length text) text (omega arith) [] start 0 in told text c c.end
+-- what a text has behind these tokens, from this place on: tokens or a first fault
+abbrev HasBehind : List Token → Spot → ℕ → List ℕ → Type 0
+HasBehind before at past text =
+    ((tokens : List Token) × AreTokensBehind before at past text tokens) ⊎ ((f : ScanFault) × (there : Spot) × IsFaultBehind before at past text f there)
 
 no_both : (tokens : List Token) (p : Placed) → (let r : Read = Ok tokens in r) ≡ Err p → ⊥
 no_both tokens p is = absurd cc
 
 same_placed : (p q : Placed) → (let r : Read = Err p in r) ≡ Err q → p ≡ q
 same_placed p q is = cc
+
+module _ (before : List Token) (at : Spot) (past : ℕ) where
+  told : (text : List ℕ) (c : Cut before text at past) → IsAtEnd (language_of (before ++ tokens_at c.pieces at past)) c.rest → HasBehind before at past text
+  told text c (inl none) =
+      let last = end_of (place_behind c.pieces at).line (past_after c.pieces at past) in
+      let all = closed c.pieces at past in
+      inl (
+        tokens_at (c.pieces ++ line_feed ∷ []) at past,
+        record {
+          pieces = c.pieces;
+          cut = c.cut ∙ ap (λ x. pieces_text c.pieces ++ x) none ∙ append-nil (pieces_text c.pieces);
+          good = subst (AreGood (language_of (before ++ tokens_at (c.pieces ++ line_feed ∷ []) at past)) c.pieces) none
+              (subst (λ ts. AreGood (language_of (before ++ ts)) c.pieces c.rest) (sym all) (are_good before last c.pieces c.rest at past c.good));
+          are = refl;
+        },
+      )
+  told text c (inr (f, faulty)) = inr (
+    f,
+    place_behind c.pieces at,
+    record {
+      pieces = c.pieces;
+      rest = c.rest;
+      cut = c.cut;
+      good = subst (λ ts. AreGood (language_of (before ++ ts)) c.pieces c.rest) (append-nil (tokens_at c.pieces at past))
+          (are_good before [] c.pieces c.rest at past c.good);
+      faulty = faulty;
+      place = refl;
+    },
+  )
+
+  has_behind : (text : List ℕ) → HasBehind before at past text
+  has_behind text = let c = cut (length text) text (omega arith) before at past in told text c c.end
+
+  are_behind : (text : List ℕ) (tokens : List Token) → tokens_from before text 0 at past ≡ Ok tokens → AreTokensBehind before at past text tokens
+  are_behind text tokens read = by (has_behind text)
+    where
+      by : HasBehind before at past text → AreTokensBehind before at past text tokens
+      by (inl (others, are)) =
+          let same : (let r : Read = Ok others in r) ≡ Ok tokens = sym (behind_are before at past text others are) ∙ read in
+          let one : others ≡ tokens = cc in
+          subst (AreTokensBehind before at past text) one are
+      by (inr (f, there, first)) = absurd (no_both tokens (record { fault = f; at = there }) (sym read ∙ behind_first before at past text f there first))
+
+  first_behind : (text : List ℕ) (f : ScanFault) (there : Spot) → tokens_from before text 0 at past ≡ Err (record { fault = f; at = there })
+      → IsFaultBehind before at past text f there
+  first_behind text f there read = by (has_behind text)
+    where
+      by : HasBehind before at past text → IsFaultBehind before at past text f there
+      by (inl (tokens, are)) = absurd (no_both tokens (record { fault = f; at = there }) (sym (behind_are before at past text tokens are) ∙ read))
+      by (inr (g, elsewhere, first)) =
+          let same = same_placed (record { fault = g; at = elsewhere }) (record { fault = f; at = there })
+          (sym (behind_first before at past text g elsewhere first) ∙ read) in
+          subst (λ (p : Placed). IsFaultBehind before at past text p.fault p.at) same first
+
+-- what the scanner's function tells is what the text has, and it alone
+module _ (before : List Token) (at : Spot) (past : ℕ) (text : List ℕ) where
+  told_behind : (read : Read) → tokens_from before text 0 at past ≡ read → TellsBehind before at past text read
+  told_behind (Ok tokens) is = are_behind before at past text tokens is
+  told_behind (Err placed) is = first_behind before at past text placed.fault placed.at is
+
+  behind_is : (read : Read) → TellsBehind before at past text read → tokens_from before text 0 at past ≡ read
+  behind_is (Ok tokens) tells = behind_are before at past text tokens tells
+  behind_is (Err placed) tells = behind_first before at past text placed.fault placed.at tells
+
+pub leaves : (before : List Token) (scanner : Scanner) (read : Read) → unread before scanner ≡ read → Leaves before scanner read
+leaves before scanner read is = told_behind before scanner.at scanner.past scanner.text.now read is
+
+pub leaves_unread : (before : List Token) (scanner : Scanner) → Leaves before scanner (unread before scanner)
+leaves_unread before scanner = leaves before scanner (unread before scanner) refl
+
+pub unread_is : (before : List Token) (scanner : Scanner) (read : Read) → Leaves before scanner read → unread before scanner ≡ read
+unread_is before scanner read left = behind_is before scanner.at scanner.past scanner.text.now read left
+
+pub token_hands : (before : List Token) (old : Scanner) (token : Token) (rest : List ℕ) (at : Spot) (past : ℕ)
+    → unread before old ≡ with_front (token ∷ []) (tokens_from (before ++ token ∷ []) rest 0 at past)
+    → (read : Read) → TellsBehind (before ++ token ∷ []) at past rest read → Leaves before old (with_front (token ∷ []) read)
+token_hands before old token rest at past is read tells =
+    leaves before old (with_front (token ∷ []) read)
+    (is ∙ ap (with_front (token ∷ [])) (behind_is (before ++ token ∷ []) at past rest read tells))
+
+-- what is handed out, by the scanner's function
+pub handed : (before : List Token) (old : Scanner) (out : Result (Option Token) ScanError) (new : Scanner) → Hands before old out new
+    → HandsRead before old out new
+handed before old (Ok (Some token)) new is =
+    let rest = unread (before ++ token ∷ []) new in
+    unread_is before old (with_front (token ∷ []) rest) (is rest (leaves_unread (before ++ token ∷ []) new))
+handed before old (Ok None) new is = (unread_is before old (Ok []) is.0, unread_is before new (Ok []) is.1)
+handed before old (Err (error.Fault placed)) new is = unread_is before old (Err placed) is
+handed before old (Err error.Memory) new is = tt
+
+pub hands : (before : List Token) (old : Scanner) (out : Result (Option Token) ScanError) (new : Scanner) → HandsRead before old out new
+    → Hands before old out new
+hands before old (Ok (Some token)) new is = token_hands before old token new.text.now new.at new.past is
+hands before old (Ok None) new is = (leaves before old (Ok []) is.0, leaves before new (Ok []) is.1)
+hands before old (Err (error.Fault placed)) new is = leaves before old (Err placed) is
+hands before old (Err error.Memory) new is = tt
+
+-- of a whole text
+pub each_text_has_tokens_or_fault : EachTextHasTokensOrFault
+each_text_has_tokens_or_fault text = has_behind [] start 0 text
+
+pub read_are : (text : List ℕ) (tokens : List Token) → AreTokens text tokens → tokens_of text ≡ Ok tokens
+read_are text tokens are = behind_are [] start 0 text tokens are
+
+pub read_first : (text : List ℕ) (f : ScanFault) (at : Spot) → IsFirstScanFault text f at → tokens_of text ≡ Err (record { fault = f; at = at })
+read_first text f at first = behind_first [] start 0 text f at first
+
+pub are_read : (text : List ℕ) (tokens : List Token) → tokens_of text ≡ Ok tokens → AreTokens text tokens
+are_read text tokens read = are_behind [] start 0 text tokens read
+
+pub first_read : (text : List ℕ) (f : ScanFault) (at : Spot) → tokens_of text ≡ Err (record { fault = f; at = at }) → IsFirstScanFault text f at
+first_read text f at read = first_behind [] start 0 text f at read
 
 pub tokens_are_unique : TokensAreUnique
 tokens_are_unique text tokens others one other =
@@ -293,21 +390,5 @@ first_scan_faults_are_unique text f g at there one other =
 pub tokens_have_no_fault : TokensHaveNoFault
 tokens_have_no_fault text tokens f at are first = no_both tokens (record { fault = f; at = at }) (sym (read_are text tokens are) ∙ read_first text f at first)
 
-pub are_read : (text : List ℕ) (tokens : List Token) → tokens_of text ≡ Ok tokens → AreTokens text tokens
-are_read text tokens read = by (each_text_has_tokens_or_fault text)
-  where
-    by : HasTokensOrFault text → AreTokens text tokens
-    by (inl (others, are)) =
-        let same : (let r : Read = Ok others in r) ≡ Ok tokens = sym (read_are text others are) ∙ read in
-        let one : others ≡ tokens = cc in
-        subst (AreTokens text) one are
-    by (inr (f, at, first)) = absurd (no_both tokens (record { fault = f; at = at }) (sym read ∙ read_first text f at first))
-
-pub first_read : (text : List ℕ) (f : ScanFault) (at : Spot) → tokens_of text ≡ Err (record { fault = f; at = at }) → IsFirstScanFault text f at
-first_read text f at read = by (each_text_has_tokens_or_fault text)
-  where
-    by : HasTokensOrFault text → IsFirstScanFault text f at
-    by (inl (tokens, are)) = absurd (no_both tokens (record { fault = f; at = at }) (sym (read_are text tokens are) ∙ read))
-    by (inr (g, there, first)) =
-        let same = same_placed (record { fault = g; at = there }) (record { fault = f; at = at }) (sym (read_first text g there first) ∙ read) in
-        subst (λ (p : Placed). IsFirstScanFault text p.fault p.at) same first
+pub tells : (text : List ℕ) (read : Read) → tokens_of text ≡ read → Tells text read
+tells text read is = told_behind [] start 0 text read is

@@ -42,9 +42,9 @@ abbrev pub caret_in : Language → Result Item ScanFault
 caret_in First = Err BadToken
 caret_in Second = Ok (item.Token kind.Caret 0)
 
--- a sign behind these tokens
-abbrev pub sign_at : List Token → ℕ → Result Item ScanFault
-sign_at before c =
+-- a sign of the language
+abbrev pub sign_in : Language → ℕ → Result Item ScanFault
+sign_in language c =
     if c == 58 then Ok (item.Token kind.Colon 0)
     else (if c == 61 then Ok (item.Token kind.Equals 0)
     else (if c == 43 then Ok (item.Token kind.Plus 0)
@@ -53,18 +53,22 @@ sign_at before c =
     else (if c == 91 then Ok (item.Token kind.OpenSquare 0)
     else (if c == 93 then Ok (item.Token kind.CloseSquare 0)
     else (if c == 39 then Ok (item.Token kind.Quote 0)
-    else (if c == 94 then caret_in (language_of before)
+    else (if c == 94 then caret_in language
     else Err BadToken))))))))
 
-unfoldable pub item_at : List Token → ℕ → List ℕ → Result Item ScanFault
-item_at before c rest =
+unfoldable pub item_in : Language → ℕ → List ℕ → Result Item ScanFault
+item_in language c rest =
     if c == 10 then Ok item.NewLine
     else (if (c == 32) || (c == 9) || ((c == 13) && begins_with 10 rest) then Ok (item.Gap 0)
     else (if c == 35 then Ok (item.Gap (prefix_len is_inside_line rest))
     else (if starts_name c then name_of (encode_utf8_all (c ∷ take_while is_xid_continue rest)) (prefix_len is_xid_continue rest)
     else (if is_digit c then literal_of (value_from 0 (c ∷ take_while is_digit rest)) (prefix_len is_digit rest)
     else (if c == 45 then (if begins_with 62 rest then Ok (item.Token kind.Arrow 1) else Ok (item.Token kind.Minus 0))
-    else sign_at before c)))))
+    else sign_in language c)))))
+
+-- behind these tokens, which tell the language
+abbrev pub item_at : List Token → ℕ → List ℕ → Result Item ScanFault
+item_at before c rest = item_in (language_of before) c rest
 
 abbrev pub FailsItem : ItemError → Result Item ScanFault → Type 0
 FailsItem item_error.Memory read = Unit {0}

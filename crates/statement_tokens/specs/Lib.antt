@@ -3,4 +3,5 @@ pub mod Language
 pub mod Pieces
 pub mod Tokens
 pub mod Items
+pub mod Scanned
 pub mod Laws

@@ -1,7 +1,6 @@
 -- The tokens of a text, with their places, and the first fault of a text that has none.
 use Rattle.std.specs.Prelude.{◌≡◌, ◌⊎◌, ℕ, zero, suc, ◌+◌, ◌-◌, ◌*◌, ◌^◌, nat_lt, nat_le, pos, if◌then◌else◌}
-use Rattle.std.specs.Prelude.{List, [], ◌∷◌, ◌++◌, length, Option, Some, None, Result, Ok, Err}
-use Rattle.std.specs.Global.{Vec}
+use Rattle.std.specs.Prelude.{List, [], ◌∷◌, ◌++◌, length, Option, Some, None}
 use Rattle.std.specs.Str.{encode_utf8_all}
 use Rattle.statement_tokens.specs.Limits.{name_limit}
 use Rattle.statement_tokens.specs.Language.{language_of}
@@ -13,8 +12,6 @@ use Rattle.statement_tokens.specs.declared.token.TokenKind.{TokenKind}
 use Rattle.statement_tokens.specs.declared.token.TokenKind.TheVariants as kind
 use Rattle.statement_tokens.specs.declared.language.Language.{Language}
 use Rattle.statement_tokens.specs.declared.language.Language.TheVariants.{First}
-use Rattle.statement_tokens.specs.declared.scan.ScanError.{ScanError}
-use Rattle.statement_tokens.specs.declared.scan.ScanError.TheVariants as error
 use Rattle.statement_tokens.specs.declared.scan.ScanFault.{ScanFault}
 use Rattle.statement_tokens.specs.declared.scan.ScanFault.TheVariants.{BadToken, LiteralTooLarge}
 
@@ -88,12 +85,17 @@ abbrev pub AreGood : Language → List Piece → List ℕ → Type 0
 AreGood language [] rest = Unit {0}
 AreGood language (piece ∷ pieces) rest = IsLongest piece (pieces_text pieces ++ rest) × (fault_of language piece ≡ None) × AreGood language pieces rest
 
--- the text is good pieces and no more, and these are their tokens; its end ends the last line
-pub record AreTokens (text : List ℕ) (tokens : List Token) : Type 0 where
+-- behind these tokens, of which past is the column past the last one of its line, the text from this place on is good pieces and no more,
+-- and these are their tokens; its end ends the last line
+pub record AreTokensBehind (before : List Token) (at : Spot) (past : ℕ) (text : List ℕ) (tokens : List Token) : Type 0 where
   pub pieces : List Piece
   pub cut : text ≡ pieces_text pieces
-  pub good : AreGood (language_of tokens) pieces []
-  pub are : tokens ≡ tokens_in (pieces ++ line_feed ∷ [])
+  pub good : AreGood (language_of (before ++ tokens)) pieces []
+  pub are : tokens ≡ tokens_at (pieces ++ line_feed ∷ []) at past
+
+-- the tokens of a text
+abbrev pub AreTokens : List ℕ → List Token → Type 0
+AreTokens text tokens = AreTokensBehind [] (record { line = 1; column = 1 }) 0 text tokens
 
 -- the longest piece that the text begins with has the fault in the language, or no piece begins with the character that stands there
 abbrev pub Begins : Language → List ℕ → ScanFault → Type 0
@@ -101,17 +103,15 @@ Begins language text fault =
     ((piece : Piece) × (rest : List ℕ) × (text ≡ piece_text piece ++ rest) × IsLongest piece rest × (fault_of language piece ≡ Some fault))
     ⊎ ((c : ℕ) × (rest : List ℕ) × (text ≡ c ∷ rest) × BeginsNone text × (fault ≡ BadToken))
 
--- the text is good pieces up to this place, where the fault is
-pub record IsFirstScanFault (text : List ℕ) (fault : ScanFault) (at : Spot) : Type 0 where
+-- behind these tokens, the text from this place on is good pieces up to the place of the fault
+pub record IsFaultBehind (before : List Token) (from : Spot) (past : ℕ) (text : List ℕ) (fault : ScanFault) (at : Spot) : Type 0 where
   pub pieces : List Piece
   pub rest : List ℕ
   pub cut : text ≡ pieces_text pieces ++ rest
-  pub good : AreGood (language_of (tokens_in pieces)) pieces rest
-  pub faulty : Begins (language_of (tokens_in pieces)) rest fault
-  pub place : at ≡ place_behind pieces (record { line = 1; column = 1 })
+  pub good : AreGood (language_of (before ++ tokens_at pieces from past)) pieces rest
+  pub faulty : Begins (language_of (before ++ tokens_at pieces from past)) rest fault
+  pub place : at ≡ place_behind pieces from
 
--- the tokens of the text are given, or its first fault is told with its place; want of memory is the one free answer
-abbrev pub GivesTokens : List ℕ → Result (Vec Token) ScanError → Type 0
-GivesTokens text (Ok tokens) = AreTokens text tokens.items
-GivesTokens text (Err (error.Fault placed)) = IsFirstScanFault text placed.fault placed.at
-GivesTokens text (Err error.Memory) = Unit {0}
+-- the first fault of a text, and its place
+abbrev pub IsFirstScanFault : List ℕ → ScanFault → Spot → Type 0
+IsFirstScanFault text fault at = IsFaultBehind [] (record { line = 1; column = 1 }) 0 text fault at

@@ -1,20 +1,19 @@
-//! Characters to tokens.
+//! What begins at a character.
 
-ghost use Rattle.std.specs.Prelude.{◌≡◌, ◌≤◌, ◌<◌, ◌+◌, ◌^◌, ◌++◌, ◌∷◌, length, IfOk, OnOk, SomeIff};
+ghost use Rattle.std.specs.Prelude.{◌≡◌, ◌≤◌, ◌<◌, ◌^◌, ◌∷◌, length, IfOk, SomeIff};
 ghost use Rattle.std.specs.List.{prefix_len, take_while};
 ghost use Rattle.std.specs.Str.{chars, encode_utf8_all};
 ghost use Rattle.statement_tokens.specs.Pieces.{is_digit, starts_name};
-ghost use Rattle.statement_tokens.specs.Tokens.{GivesTokens, value_from, end_of};
-ghost use Rattle.statement_tokens.specs.Items.{is_in, item_at, sign_at, caret_in, name_of, literal_of, begins_with, more_of, GivesItem};
+ghost use Rattle.statement_tokens.specs.Tokens.{value_from};
+ghost use Rattle.statement_tokens.specs.Items.{is_in, item_in, sign_in, caret_in, name_of, literal_of, begins_with, more_of, GivesItem};
 ghost use Rattle.unicode_ident.specs.Ident.{is_xid_continue};
 ghost use Rattle.statement_tokens.specs.declared.scan.ItemError.TheVariants as item_error;
-ghost use Rattle.statement_tokens.specs.declared.scan.ScanError.TheVariants as scan_error;
 
-use crate::language::{Language, language_of};
+use crate::language::Language;
 use crate::place::Spot;
-use crate::token::{Token, TokenKind};
+use crate::token::TokenKind;
 use lists::Text;
-use std::alloc::{AllocError, AllocFailed, Global};
+use std::alloc::{AllocError, Global};
 use thiserror::Error;
 
 /// What begins at a character, and how many more characters belong to it.
@@ -82,14 +81,6 @@ impl From<AllocError> for ItemError {
     }
 }
 
-impl<T: Drop> From<AllocFailed<T>> for ScanError {
-    ghost from_gives = { λ _ e. e ≡ scan_error.Memory };
-
-    fn from(_failed: AllocFailed<T>) -> ScanError {
-        ScanError::Memory
-    }
-}
-
 /// The characters that go on with a token or a comment.
 #[derive(Clone, Copy)]
 pub enum Class {
@@ -131,9 +122,9 @@ fn spelled(alloc: Global, first: char, more: &[char]) -> Result<Text, AllocError
     Ok(out)
 }
 
-// A caret is a sign in the second language alone, which the tokens before it tell.
-fn sign_at(before: &[Token], ch: char) -> Result<Item, ScanFault>
-    ensures { result ≡ sign_at before.now ch }
+// A caret is a sign in the second language alone.
+fn sign_in(language: Language, ch: char) -> Result<Item, ScanFault>
+    ensures { result ≡ sign_in language ch }
 {
     let kind = match ch {
         ':' => TokenKind::Colon,
@@ -144,7 +135,7 @@ fn sign_at(before: &[Token], ch: char) -> Result<Item, ScanFault>
         '[' => TokenKind::OpenSquare,
         ']' => TokenKind::CloseSquare,
         '\'' => TokenKind::Quote,
-        '^' => return caret_in(language_of(before)),
+        '^' => return caret_in(language),
         _ => return Err(ScanFault::BadToken),
     };
     Ok(Item::Token(kind, 0))
@@ -214,9 +205,15 @@ fn begins_with(ch: char, text: &[char]) -> bool
     }
 }
 
-#[tactic(auto, unfolding(crate::specs::Items::item_at))]
-fn item_at(alloc: Global, before: &[Token], first: char, rest: &[char]) -> Result<Item, ItemError>
-    ensures exact { GivesItem result (item_at before.now first rest.now) }
+/// What the first of these characters begins in a file of the language.
+#[tactic(auto, unfolding(crate::specs::Items::item_in))]
+pub fn item_in(
+    alloc: Global,
+    language: Language,
+    first: char,
+    rest: &[char],
+) -> Result<Item, ItemError>
+    ensures exact { GivesItem result (item_in language first rest.now) }
     ensures within { IfOk result (λ item. more_of item ≤ length rest.now) }
 {
     if first == '\n' {
@@ -236,7 +233,7 @@ fn item_at(alloc: Global, before: &[Token], first: char, rest: &[char]) -> Resul
             Ok(Item::Token(TokenKind::Minus, 0))
         }
     } else {
-        Ok(sign_at(before, first)?)
+        Ok(sign_in(language, first)?)
     }
 }
 
@@ -251,57 +248,4 @@ pub fn characters(alloc: Global, text: &str) -> Result<Vec<char>, AllocError>
     ensures { IfOk result (λ v. v.items ≡ chars text.now) }
 {
     text.chars().collect(alloc)
-}
-
-/// The tokens of a text, or its first fault with its place. A line that has a token ends with one just past its last.
-pub fn tokens(alloc: Global, text: &[char]) -> Result<Vec<Token>, ScanError>
-    requires { length text.now < 4294967295 }
-    ensures { GivesTokens text.now result }
-{
-    let mut out = Vec::new(alloc);
-    let mut place = 0;
-    let mut line = 1;
-    let mut column = 1;
-    let mut past = 0;
-    while place < text.len() {
-        let at = Spot { line, column };
-        let item = match item_at(alloc, &out, text[place], &text[place + 1..]) {
-            Ok(item) => item,
-            Err(ItemError::Memory) => return Err(ScanError::Memory),
-            Err(ItemError::Fault(fault)) => return Err(ScanError::Fault(Placed { fault, at })),
-        };
-        match item {
-            Item::NewLine => {
-                put_end(&mut out, line, past)?;
-                place += 1;
-                line += 1;
-                column = 1;
-                past = 0;
-            }
-            Item::Gap(more) => {
-                place += 1 + more;
-                column += 1 + more as u32;
-            }
-            Item::Token(kind, more) => {
-                out.push(Token { at, kind })?;
-                place += 1 + more;
-                column += 1 + more as u32;
-                past = column;
-            }
-        }
-    }
-    put_end(&mut out, line, past)?;
-    Ok(out)
-}
-
-fn put_end(out: &mut Vec<Token>, line: u32, past: u32) -> Result<(), AllocFailed<Token>>
-    ensures { OnOk result (out.new.items ≡ out.old.items ++ end_of line past) }
-{
-    if past != 0 {
-        out.push(Token {
-            at: Spot { line, column: past },
-            kind: TokenKind::End,
-        })?;
-    }
-    Ok(())
 }

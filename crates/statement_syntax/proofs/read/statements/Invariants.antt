@@ -1,12 +1,9 @@
-use Rattle.std.proofs.Common.{◌≡◌, ◌++◌, length}
-use Rattle.std.specs.Vec.Iter.{into_iter_items, into_iter_len}
-use Rattle.statement_syntax.specs.Stages.{left}
-use Rattle.statement_syntax.proofs.Stopping.{Runs}
+use Rattle.statement_tokens.specs.Scanned.{most_tokens}
+use Rattle.statement_syntax.proofs.Streamed.{FrontRead}
 use Rattle.statement_syntax.proofs.read.statements.Given as goal
 
-abbrev pub invariant-loop-token : goal.invariant-loop-token
-invariant-loop-token l = record {
-  splits : l.yielded ++ into_iter_items l.token-iterator ≡ left l.fn.tokens.items;
-  left : into_iter_len l.token-iterator ≡ length (into_iter_items l.token-iterator);
-  ran : Runs l.fn.tokens.items l.yielded l.progress;
-}
+abbrev pub invariant-loop-read : goal.invariant-loop-read
+invariant-loop-read l = FrontRead l.text l.scanner l.language l.read
+
+abbrev pub decreases-loop-read : goal.decreases-loop-read
+decreases-loop-read l = most_tokens l.scanner
