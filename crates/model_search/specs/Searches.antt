@@ -1,5 +1,6 @@
 -- What the parts of a search for breaking candidates find, for private functions.
-use Rattle.std.specs.Prelude.{◌≡◌, ◌<◌, ◌≤◌, ◌+◌, ◌↔◌, ℕ, Bool, true, false, List, length, get_or, Option, Some, None, IfSome, IsNone, IsTrue, MatchOption, Result, Ok, Err, IfOk}
+use Rattle.std.specs.Prelude.{◌≡◌, ◌<◌, ◌≤◌, ◌+◌, ◌↔◌, ℕ, Bool, true, false, List, length, get_or}
+use Rattle.std.specs.Prelude.{Option, Some, None, IfSome, IsNone, IsTrue, MatchOption, Result, Ok, Err, IfOk}
 use Rattle.std.specs.List.{All, AllByRecursion, AllZip, range_with_len}
 use Rattle.quiver.specs.Declarations.{quiver_of}
 use Rattle.matrix_models.specs.declared.model.Model.{Model}
@@ -53,13 +54,15 @@ flag_at place None = false
 flag_at place (Some flags) = get_or flags place false
 
 -- For each claim that has no candidate yet it is told whether the candidate with this number breaks it.
-pub record IsTested (problem : Problem) (seed number : ℕ) (claims : List ℕ) (found : List (Option Found)) (k : ℕ) (broken : Option (List Bool)) : Type 0 where
+pub record IsTested (problem : Problem) (seed number : ℕ) (claims : List ℕ) (found : List (Option Found)) (k : ℕ)
+    (broken : Option (List Bool)) : Type 0 where
   pub one_each : IfSome broken (λ flags. length flags ≡ length claims)
   pub each : (place : ℕ) → place < length claims → IsNone (get_or found place None)
       → TellsBreaks problem (get_or claims place 0) seed number k (flag_at place broken)
 
 -- so many candidates are tested, from this number on
-abbrev pub AreTested : {E : Type 0} → Problem → ℕ → ℕ → List ℕ → List (Option Found) → ℕ → ℕ → List (Result (Option (List Bool)) E) → Type 0
+abbrev pub AreTested : {E : Type 0} → Problem → ℕ → ℕ → List ℕ → List (Option Found) → ℕ → ℕ
+    → List (Result (Option (List Bool)) E) → Type 0
 AreTested problem seed number claims found first count answers =
     AllZip (λ k answer. IfOk answer (IsTested problem seed number claims found k)) (range_with_len first count) answers
 
@@ -83,7 +86,8 @@ pub record IsFirstBroken {E : Type 0} (place : ℕ) (answers : List (Result (Opt
   pub earlier : AreUnbroken place number answers
 
 -- The answers tell of the candidates from this number on whether they break the claim at this place.
-pub record AreTold {E : Type 0} (problem : Problem) (claim seed number first place : ℕ) (answers : List (Result (Option (List Bool)) E)) : Type 0 where
+pub record AreTold {E : Type 0} (problem : Problem) (claim seed number first place : ℕ)
+    (answers : List (Result (Option (List Bool)) E)) : Type 0 where
   pub flags : All (HasFlag place) answers
   pub each : (j : ℕ) → j < length answers
       → IfOk (get_or answers j (Ok None)) (λ broken. TellsBreaks problem claim seed number (first + j) (flag_at place broken))

@@ -1,5 +1,6 @@
 //! The search for candidates that break claims, on several threads.
-ghost use Rattle.std.specs.Prelude.{◌≡◌, ◌<◌, ◌≤◌, ◌+◌, ◌^◌, ℕ, length, get_or, is_none, replicate, None, MatchOption, IfSome, IfNone, IfOk, OnOk};
+ghost use Rattle.std.specs.Prelude.{◌≡◌, ◌<◌, ◌≤◌, ◌+◌, ◌^◌, ℕ, length, get_or, is_none, replicate, None, MatchOption};
+ghost use Rattle.std.specs.Prelude.{IfSome, IfNone, IfOk, OnOk};
 ghost use Rattle.std.specs.List.{All, AllZip, list_any, range_with_len};
 ghost use Rattle.in_order_parallel.specs.Limits.{worker_limit};
 ghost use Rattle.quiver.specs.Declarations.{quiver_of};
@@ -126,7 +127,8 @@ fn answers_of<R: Threads + Sync, G: Gate + Sync>(
     gate: &G,
 ) -> Result<Vec<Result<Broken, AllocError>>, AllocError>
     requires fits { first + count < 2 ^ 32 }
-    requires inside { (k : ℕ) → k < first + count → CanBeTested tester.now.pass.problem.now tester.now.pass.claims.now tester.now.pass.plan.now k }
+    requires inside { (k : ℕ) → k < first + count
+        → CanBeTested tester.now.pass.problem.now tester.now.pass.claims.now tester.now.pass.plan.now k }
     requires one_each { length tester.now.found.now ≡ length tester.now.pass.claims.now }
     requires some_worker { 0 < workers }
     requires few_workers { workers ≤ worker_limit }
@@ -162,7 +164,8 @@ fn first_broken(
     place: usize,
 ) -> Result<Option<usize>, AllocError>
     requires { All (HasFlag place) answers.now }
-    ensures { IfOk result (λ number. MatchOption number (AreUnbroken place (length answers.now) answers.now) (IsFirstBroken place answers.now)) }
+    ensures { IfOk result (λ number. MatchOption number (AreUnbroken place (length answers.now) answers.now)
+        (IsFirstBroken place answers.now)) }
 {
     for number in 0..answers.len() {
         if has_broken(&answers[number], place)? {
@@ -201,7 +204,8 @@ fn found_among(
     requires plan { IsPlan pass.now.problem.now pass.now.plan.now }
     requires place { place < length pass.now.claims.now }
     requires fits { first + length answers.now < 2 ^ 32 }
-    requires told { AreTold pass.now.problem.now (get_or pass.now.claims.now place 0) pass.now.seed pass.now.plan.now.number first place answers.now }
+    requires told { AreTold pass.now.problem.now (get_or pass.now.claims.now place 0) pass.now.seed pass.now.plan.now.number
+        first place answers.now }
     ensures { IfOk result (λ found. MatchOption found
         ((k : ℕ) → first ≤ k → k < first + length answers.now
         → NoneBreaksAt pass.now.problem.now (get_or pass.now.claims.now place 0) pass.now.seed pass.now.plan.now.number k)
@@ -222,9 +226,11 @@ fn note(
 ) -> Result<(), AllocError>
     requires plan { IsPlan pass.now.problem.now pass.now.plan.now }
     requires fits { first + length answers.now < 2 ^ 32 }
-    requires tested { AreTested pass.now.problem.now pass.now.seed pass.now.plan.now.number pass.now.claims.now found.old first (length answers.now) answers.now }
+    requires tested { AreTested pass.now.problem.now pass.now.seed pass.now.plan.now.number pass.now.claims.now
+        found.old first (length answers.now) answers.now }
     requires before { AreSearchedTo pass.now.problem.now pass.now.seed pass.now.plan.now.number first pass.now.claims.now found.old }
-    ensures { OnOk result (AreSearchedTo pass.now.problem.now pass.now.seed pass.now.plan.now.number (first + length answers.now) pass.now.claims.now found.new) }
+    ensures { OnOk result (AreSearchedTo pass.now.problem.now pass.now.seed pass.now.plan.now.number (first + length answers.now)
+        pass.now.claims.now found.new) }
 {
     for place in 0..pass.claims.len() {
         if found[place].is_none() {
@@ -254,7 +260,8 @@ fn search_shape<R: Threads + Sync, G: Gate + Sync>(
     requires before { AreSearchedTo pass.now.problem.now pass.now.seed pass.now.plan.now.number 0 pass.now.claims.now found.old.items }
     requires some_worker { 0 < workers }
     requires few_workers { workers ≤ worker_limit }
-    ensures { OnOk result (AreSearchedTo pass.now.problem.now pass.now.seed (pass.now.plan.now.number + 1) 0 pass.now.claims.now found.new.items) }
+    ensures { OnOk result (AreSearchedTo pass.now.problem.now pass.now.seed (pass.now.plan.now.number + 1) 0 pass.now.claims.now
+        found.new.items) }
 {
     let count = candidates(pass.problem, pass.plan.number);
     let mut first = 0;
@@ -314,7 +321,8 @@ pub fn search_each<R: Threads + Sync, G: Gate + Sync>(
     requires claims { All (IsClaimNumber problem.now) claims.now }
     requires some_worker { 0 < workers }
     requires few_workers { workers ≤ worker_limit }
-    ensures found { IfOk result (AllZip (λ claim found. IfSome found (λ f. IsLeastBreaking problem.now claim seed f.shape f.candidate f.model)) claims.now) }
+    ensures found { IfOk result (AllZip (λ claim found.
+        IfSome found (λ f. IsLeastBreaking problem.now claim seed f.shape f.candidate f.model)) claims.now) }
     ensures none { IfOk result (AllZip (λ claim found. IfNone found (NoneBreaks problem.now claim seed)) claims.now) }
 {
     let mut found = no_candidates(alloc, claims.len())?;
