@@ -4,7 +4,7 @@
 Gives PROGRAM, or the one that the variable OPPROVE names, or the one that is built, files that can't be read or change while they
 are read, outputs that are closed, full or not read, signals, and too little memory, and compares its status and what it wrote with
 the tables below. It prints a line for each trial; what a trial wants and isn't there (Linux, cc, strace, root) is skipped with a
-line. The status is 1 where an answer differs. With --long it refuses each allocation of runs that decide and search too, on 1 and 4
+line. The status is 1 where an answer differs. With --long it refuses allocations of runs that decide and search too, on 1 and 4
 threads, and goes through more address spaces.
 """
 from __future__ import annotations
@@ -40,6 +40,9 @@ FILES = {
     "c": "certificate 1\nclaim 1\ndenominator 1\nrow 1 () 1 (r)\nrow -1 (l) 2 ()\nrow 1 () 6 ()\nrow -1 () 8 ()\nend\n",
     "doubled": "object U\nmap x : U -> U\nassume 2 x = 0\nclaim x = 0\n",
     "one_sided": ONE_SIDED,
+    # a search of all numbers modulo 2, and one of drawn candidates that solves for a map
+    "numbered": "object U\nmap a b : U -> U\nassume a b = b\nclaim a = b\nmodel 2\n",
+    "drawn": "object U\nmap a b c : U -> U\nassume a b = c\nsolve c\nclaim a c = c a\nmodel 101 U 2\n",
     "power": f"object U\nmap a : U -> U\nassume {'a ' * 34}= 0\nclaim a = 0\n",
     "braid": f"{MAPS}assume b a b = a b a\nclaim a = b\n",
     "terms": f"{MAPS}claim {'(a + b) ' * 14}= 0\n",
@@ -353,6 +356,9 @@ void _exit(int status) {
 }
 """
 
+# Of a run with more allocations than this some are refused, evenly spread.
+REFUSED_MOST = 500
+
 # Words that decide and search, of which all but the first three are tried with --long alone.
 ALLOCATING = [
     CHECK,
@@ -360,6 +366,8 @@ ALLOCATING = [
     ["prove", "doubled", "--format", "1"],
     ["prove", "one_sided"],
     ["refute", "one_sided"],
+    ["refute", "numbered"],
+    ["refute", "drawn"],
     ["prove", "power", "--pairs", "33", "--no-models"],
 ]
 
@@ -375,14 +383,14 @@ def preload(place: Place) -> Path:
 
 
 def refused_in(place: Place, words: List[str]) -> Tuple[int, int]:
-    """How many allocations a run makes, and how many runs had one refused and gave their report all the same."""
+    """How many allocations a run makes, and how many runs had some refused and gave their report all the same."""
     variables = {"LD_PRELOAD": str(preload(place)), "COUNT_TO": str(place.folder / "count")}
     report = place.run(words, variables=variables)
     wanted(words, report, place.run(words))
     count, whole = int((place.folder / "count").read_text()), 0
     need(count > 0, "no allocation of the program was seen")
     for variable in ("FAIL_AT", "FAIL_FROM"):
-        for number in range(1, count + 1):
+        for number in range(1, count + 1, -(-count // REFUSED_MOST)):
             answer = place.run(words, variables={**variables, variable: str(number)})
             wanted((words, variable, number), answer, report, Answer(NO_MEMORY, b""))
             whole += answer == report
@@ -394,7 +402,8 @@ def refused_allocations(words: List[str]) -> Callable[[Place], str]:
         tries = [words] if words[0] == "check" else [[*words, "--workers", workers] for workers in ("1", "4")]
         found = [refused_in(place, each) for each in tries]
         counts, whole = (" and ".join(str(each[part]) for each in found) for part in (0, 1))
-        return f"{counts} allocations, each alone and all from each on: {NO_MEMORY} and nothing put, or the report {whole} times"
+        refused = f"up to {REFUSED_MOST} of them alone and all from there on"
+        return f"{counts} allocations, {refused}: {NO_MEMORY} and nothing put, or the report {whole} times"
 
     return trial
 

@@ -1,102 +1,77 @@
--- The answers to the tests of candidates in a row, and the first of them that has a model.
-use Rattle.std.proofs.Common.{◌≡◌, ℕ, zero, suc, ◌+◌, ◌<◌, ◌≤◌, List, [], ◌∷◌, ◌++◌, Option, Some, None, Result, Ok, IfOk, MatchOption, ◌⊎◌, inl, inr, refl, sym, ap, subst, ◌∙◌, append_assoc, arith}
-use Rattle.std.specs.List.{All, AllByRecursion, AllZip, range_with_len}
-use Rattle.std.proofs.lemmas.Bool.{cases_eq}
-use Rattle.std.proofs.lemmas.List.{append-nil}
-use Rattle.std.proofs.lemmas.List.Elements.{recursion_from_All, All-nil, All-push}
+-- The answers to the tests of candidates in a row, and the first of them that breaks a claim.
+use Rattle.std.proofs.Common.{◌≡◌, ℕ, zero, suc, ◌+◌, ◌-◌, ◌<◌, ◌≤◌, Bool, true, false, List, [], ◌∷◌, length, get_or, Option, Some, None, IsNone, Result, Ok, Err, IfOk, sym, subst, ◌∙◌, arith}
+use Rattle.std.specs.List.{AllZip, range_with_len}
+use Rattle.std.proofs.lemmas.List.FromFn.{length-range_with_len}
+use Rattle.std.proofs.lemmas.Slice.Zip.{AllZip-long}
 use Rattle.adjoint_rules.specs.declared.problem.Problem.{Problem}
 use Rattle.model_search.specs.declared.found.Found.{Found}
-use Rattle.model_search.specs.Searches.{NoneBreaksAt, IsFoundAt, IsTested, IsFirstFrom, IsFirstFound}
+use Rattle.model_search.specs.Searches.{BreaksAt, NoneBreaksAt, TellsBreaks, flag_at, IsTested, AreTested, HasFlag, IsFlag, AreUnbroken, IsFirstBroken, AreTold, IsFoundAt, IsFirstFrom}
 
-module _ (problem : Problem) (claim seed number : ℕ) {E : Type 0} where
-  abbrev pub Tells : ℕ → Result (Option Found) E → Type 0
-  Tells k answer = IfOk answer (IsTested problem claim seed number k)
+-- lists side by side
+at_place : {Y : Type 0} (R : ℕ → Y → Type 0) (ys : List Y) (first n : ℕ) → AllZip R (range_with_len first n) ys → (j : ℕ) (d : Y) → j < n
+    → R (first + j) (get_or ys j d)
+at_place R ys first zero zipped j d within = absurd (omega (arith, within))
+at_place R [] first (suc n) zipped j d within = absurd zipped
+at_place R (y ∷ ys) first (suc n) zipped zero d within = subst (λ k. R k y) (omega arith) zipped.0
+at_place R (y ∷ ys) first (suc n) zipped (suc j) d within =
+    subst (λ k. R k (get_or ys j d)) (omega arith) (at_place R ys (first + 1) n zipped.1 j d (omega (arith, within)))
 
-  abbrev IsNone : Result (Option Found) E → Type 0
-  IsNone answer = answer ≡ Ok None
-
-  none_at : (k : ℕ) (answer : Result (Option Found) E) → IsNone answer → Tells k answer → NoneBreaksAt problem claim seed number k
-  none_at k answer is tells = subst (Tells k) is tells
-
-  -- behind answers that are None
-  found_behind : (f : Found) (after before : List (Result (Option Found) E)) (first n : ℕ)
-      → AllZip Tells (range_with_len first n) (before ++ Ok (Some f) ∷ after) → AllByRecursion IsNone before
-      → IsFirstFrom problem claim seed number first f
-  found_behind f after [] first zero tells none = absurd tells
-  found_behind f after [] first (suc n) tells none =
-      let at : IsFoundAt problem claim seed number first f = tells.0 in
-      let here = at.candidate_is in
-      record {
-        found = subst (λ k. IsFoundAt problem claim seed number k f) (sym here) at;
-        least = omega (arith, here);
-        earlier = λ k from below. absurd (omega (arith, here, from, below));
-      }
-  found_behind f after (answer ∷ before) first zero tells none = absurd tells
-  found_behind f after (answer ∷ before) first (suc n) tells none =
-      let later = found_behind f after before (first + 1) n tells.1 none.1 in
-      record {
-        found = later.found;
-        least = omega (arith, later.least);
-        earlier = λ k from below. go later k from below (cases_eq k first);
-      }
-    where
-      go : IsFirstFrom problem claim seed number (first + 1) f → (k : ℕ) → first ≤ k → k < f.candidate → (k ≡ first) ⊎ (k ≡ first → ⊥)
-          → NoneBreaksAt problem claim seed number k
-      go later k from below (inl same) = subst (NoneBreaksAt problem claim seed number) (sym same) (none_at first answer none.0 tells.0)
-      go later k from below (inr other) = later.earlier k (omega (arith, from, other)) below
-
-  -- all are None
-  none_found : (answers : List (Result (Option Found) E)) (first n : ℕ) → AllZip Tells (range_with_len first n) answers
-      → AllByRecursion IsNone answers
-      → (k : ℕ) → first ≤ k → k < first + n → NoneBreaksAt problem claim seed number k
-  none_found answers first zero tells none k from below = absurd (omega (arith, from, below))
-  none_found [] first (suc n) tells none k from below = absurd tells
-  none_found (answer ∷ answers) first (suc n) tells none k from below = go (none_found answers (first + 1) n tells.1 none.1)
-      (cases_eq k first)
-    where
-      go : ((j : ℕ) → first + 1 ≤ j → j < first + 1 + n → NoneBreaksAt problem claim seed number j) → (k ≡ first) ⊎ (k ≡ first → ⊥)
-          → NoneBreaksAt problem claim seed number k
-      go later (inl same) = subst (NoneBreaksAt problem claim seed number) (sym same) (none_at first answer none.0 tells.0)
-      go later (inr other) = later k (omega (arith, from, other)) (omega (arith, below))
-
-  -- what a block finds
-  pub block_answer : (answers : List (Result (Option Found) E)) (first n : ℕ) → AllZip Tells (range_with_len first n) answers
-      → (found : Option Found)
-      → MatchOption found (All IsNone answers) (IsFirstFound answers)
-      → MatchOption found ((k : ℕ) → first ≤ k → k < first + n → NoneBreaksAt problem claim seed number k)
-      (IsFirstFrom problem claim seed number first)
-  block_answer answers first n tells None none = none_found answers first n tells (recursion_from_All IsNone answers none)
-  block_answer answers first n tells (Some f) is = found_behind f is.after is.before first n
-      (subst (AllZip Tells (range_with_len first n)) is.splits tells) (recursion_from_All IsNone is.before is.none)
-
--- what is left stands behind answers that are None
-pub record IsPassed {X E : Type 0} (answers rest : List (Result (Option X) E)) : Type 0 where
-  pub before : List (Result (Option X) E)
-  pub splits : answers ≡ before ++ rest
-  pub none : All (λ answer. answer ≡ Ok None) before
-
-module _ {X E : Type 0} where
-  pub passed_none : (answers rest : List (Result (Option X) E)) → rest ≡ answers → IsPassed answers rest
-  passed_none answers rest same = record { before = []; splits = sym same; none = All-nil (λ answer. answer ≡ Ok None) }
-
-  pub passed_one : (answers rest more : List (Result (Option X) E)) → IsPassed answers rest → rest ≡ Ok None ∷ more → IsPassed answers more
-  passed_one answers rest more passed next = record {
-    before = passed.before ++ Ok None ∷ [];
-    splits = passed.splits ∙ ap (λ xs. passed.before ++ xs) next ∙ sym (append_assoc passed.before (Ok None ∷ []) more);
-    none = All-push (λ answer. answer ≡ Ok None) passed.before (Ok None) passed.none refl;
+module _ {E : Type 0} (problem : Problem) (seed number : ℕ) where
+  -- what is told of a claim
+  pub told_from_tested : (claims : List ℕ) (found : List (Option Found)) (first place : ℕ) (answers : List (Result (Option (List Bool)) E))
+      → AreTested problem seed number claims found first (length answers) answers
+      → place < length claims → IsNone (get_or found place None) → AreTold problem (get_or claims place 0) seed number first place answers
+  told_from_tested claims found first place answers tested within free = record {
+    flags = λ j d inside. flag (first + j) (get_or answers j d) (at_place _ answers first (length answers) tested j d inside);
+    each = λ j inside. told (first + j) (get_or answers j (Ok None)) (at_place _ answers first (length answers) tested j (Ok None) inside);
   }
+    where
+      flag : (k : ℕ) (answer : Result (Option (List Bool)) E) → IfOk answer (IsTested problem seed number claims found k) → HasFlag place answer
+      flag k (Err e) is = tt
+      flag k (Ok None) is = tt
+      flag k (Ok (Some flags)) is = omega (arith, within, is.one_each)
 
-  pub found_next : (answers rest more : List (Result (Option X) E)) (x : X) → IsPassed answers rest → rest ≡ Ok (Some x) ∷ more
-      → IsFirstFound answers x
-  found_next answers rest more x passed next = record {
-    before = passed.before;
-    after = more;
-    splits = passed.splits ∙ ap (λ xs. passed.before ++ xs) next;
-    none = passed.none;
-  }
+      told : (k : ℕ) (answer : Result (Option (List Bool)) E) → IfOk answer (IsTested problem seed number claims found k)
+          → IfOk answer (λ broken. TellsBreaks problem (get_or claims place 0) seed number k (flag_at place broken))
+      told k (Err e) is = tt
+      told k (Ok broken) is = is.each place within free
 
-  pub passed_all : (answers rest : List (Result (Option X) E)) → IsPassed answers rest → rest ≡ []
-      → All (λ answer. answer ≡ Ok None) answers
-  passed_all answers rest passed empty =
-      let same = passed.splits ∙ ap (λ xs. passed.before ++ xs) empty ∙ append-nil passed.before in
-      subst (All (λ answer. answer ≡ Ok None)) (sym same) passed.none
+  module _ (claim first place : ℕ) (answers : List (Result (Option (List Bool)) E)) (told : AreTold problem claim seed number first place answers) where
+    flagged : (k : ℕ) (flag : Bool) (answer : Result (Option (List Bool)) E)
+        → IfOk answer (λ broken. TellsBreaks problem claim seed number k (flag_at place broken)) → IsFlag place flag answer
+        → TellsBreaks problem claim seed number k flag
+    flagged k flag (Err e) is here = absurd here
+    flagged k flag (Ok broken) is here = subst (TellsBreaks problem claim seed number k) here is
+
+    pub breaks_at_first : (j : ℕ) → IsFirstBroken place answers j → BreaksAt problem claim seed number (first + j)
+    breaks_at_first j is = flagged (first + j) true (get_or answers j (Ok None)) (told.each j is.within) is.broken
+
+    pub none_of_answers : (n : ℕ) → n ≤ length answers → AreUnbroken place n answers → (k : ℕ) → first ≤ k → k < first + n
+        → NoneBreaksAt problem claim seed number k
+    none_of_answers n few unbroken k from below =
+        let j = k - first in
+        let within : j < n = omega (arith, from, below) in
+        subst (NoneBreaksAt problem claim seed number) (omega (arith, from))
+        (flagged (first + j) false (get_or answers j (Ok None)) (told.each j (omega (arith, within, few))) (unbroken j within))
+
+    pub first_of_answers : (j : ℕ) (f : Found) → IsFirstBroken place answers j → IsFoundAt problem claim seed number (first + j) f
+        → IsFirstFrom problem claim seed number first f
+    first_of_answers j f is at = record {
+      found = subst (λ k. IsFoundAt problem claim seed number k f) (sym at.candidate_is) at;
+      least = omega (arith, at.candidate_is);
+      earlier = λ k from below. none_of_answers j (omega (arith, is.within)) is.earlier k from (omega (arith, below, at.candidate_is));
+    }
+
+  -- the answers, one for each candidate
+  pub answers_are : (claims : List ℕ) (found : List (Option Found)) (first n : ℕ) (answers : List (Result (Option (List Bool)) E))
+      → AreTested problem seed number claims found first n answers → length answers ≡ n
+  answers_are claims found first n answers tested = AllZip-long _ (range_with_len first n) answers tested ∙ length-range_with_len first n
+
+  -- the same answers
+  pub tested_moved : (claims : List ℕ) (found other : List (Option Found)) (first n : ℕ) (answers more : List (Result (Option (List Bool)) E))
+      → other ≡ found → more ≡ answers → AreTested problem seed number claims found first n answers
+      → AreTested problem seed number claims other first (length more) more
+  tested_moved claims found other first n answers more same_found same tested =
+      subst (λ fs. AreTested problem seed number claims fs first (length more) more) (sym same_found)
+      (subst (λ xs. AreTested problem seed number claims found first (length xs) xs) (sym same)
+      (subst (λ k. AreTested problem seed number claims found first k answers) (sym (answers_are claims found first n answers tested)) tested))

@@ -12,7 +12,7 @@ use Rattle.adjoint_rules.specs.Problem.{IsShape}
 use Rattle.adjoint_rules.proofs.Generators.{posed_quiver}
 use Rattle.model_checker.specs.Models.{IsModel, HaveMatrices, IsClaimNumber, IsFitting, Refutes}
 use Rattle.model_candidates.specs.Candidates.{entries_of, digit, digits, model_by, candidate_count, IsShapeOf, IsCandidate, naming, Breaks}
-use Rattle.model_search.specs.Searches.{NoneBreaksAt}
+use Rattle.model_search.specs.Searches.{BreaksAt, NoneBreaksAt}
 use Rattle.model_candidates.proofs.CandidateLaws.{candidate_is_unique}
 use Rattle.model_candidates.proofs.CandidateModels.{modulus_of_shape, model_by_is_model, model_by_has_matrices}
 use Rattle.model_candidates.proofs.NumberedShapes.{shape_is_one, shape_is}
@@ -130,3 +130,22 @@ breaking_model_is_one problem claim number seed k m n one other =
   where
     some_is : {x y : Model} → ◌≡◌ {A = Option Model} (Some x) (Some y) → x ≡ y
     some_is e = cc
+
+-- where one breaks the claim, the candidate is a model, and this breaks it
+module _ (problem : Problem) (claim number seed k : ℕ) (c : Option Model) (is : (s : Shape) → IsShapeOf problem number s → IsCandidate problem number s seed k c)
+    (breaks : BreaksAt problem claim seed number k) where
+  there : c ≡ Some breaks.1.candidate
+  there =
+      let b = breaks.1 in
+      candidate_is_unique problem number b.shape seed k c (Some b.candidate) (is b.shape b.numbered) b.is_candidate
+
+  pub some_where_one_breaks : c ≡ None → ⊥
+  some_where_one_breaks none = let other = sym none ∙ there in absurd (cc)
+
+  pub breaks_as_named : (m : Model) → c ≡ Some m → Breaks problem claim seed number k (naming claim m)
+  breaks_as_named m some =
+      let same : breaks.1.candidate ≡ m = some_is (sym there ∙ some) in
+      subst (Breaks problem claim seed number k) (breaks.1.named ∙ ap (naming claim) same) breaks.1
+    where
+      some_is : {x y : Model} → ◌≡◌ {A = Option Model} (Some x) (Some y) → x ≡ y
+      some_is e = cc

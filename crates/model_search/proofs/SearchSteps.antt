@@ -1,96 +1,172 @@
--- What is known behind each block of a shape, and behind each shape.
-use Rattle.std.proofs.Common.{◌≡◌, ℕ, ◌+◌, ◌<◌, ◌≤◌, length, Option, Some, None, MatchOption, ◌⊎◌, inl, inr, sym, subst, ◌∙◌, arith}
-use Rattle.std.proofs.lemmas.Bool.{cases_lt, cases_eq}
+-- What is known of claims behind each block of a shape, and behind each shape.
+use Rattle.std.proofs.Common.{◌≡◌, ℕ, ◌+◌, ◌<◌, ◌≤◌, List, [], ◌∷◌, ◌++◌, length, get_or, replicate, Option, Some, None, IfSome, IfNone, IsNone, MatchOption, ◌⊎◌, inl, inr, refl, sym, ap, subst, ◌∙◌, arith, suc, set, not, false, true≢false, is_none}
+use Rattle.std.specs.List.{AllZip, list_any}
+use Rattle.std.proofs.lemmas.List.{length-replicate, get_or-replicate, length-set, get_or-set_same, get_or-set_other}
+use Rattle.std.proofs.lemmas.List.Folds.{list_any_at}
+use Rattle.std.proofs.lemmas.Bool.{cases_lt}
 use Rattle.std.proofs.lemmas.Option.{slice_get_within}
 use Rattle.quiver.specs.Declarations.{quiver_of}
-use Rattle.matrix_models.specs.declared.model.Model.{Model}
 use Rattle.adjoint_rules.specs.declared.parts.Shape.{Shape}
 use Rattle.adjoint_rules.specs.declared.problem.Problem.{Problem}
 use Rattle.model_search.specs.declared.found.Found.{Found}
 use Rattle.model_candidates.specs.Candidates.{IsShapeOf, candidate_count, Breaks, IsEarlier, IsLeastBreaking, NoneBreaks}
-use Rattle.model_search.specs.Searches.{NoneBreaksAt, IsFirstFrom}
+use Rattle.model_search.specs.Searches.{NoneBreaksAt, IsFirstFrom, NoneBefore, IsSearchedTo, AreSearchedTo}
 
-module _ (problem : Problem) (claim seed number : ℕ) where
-  abbrev None_at : ℕ → Type 0
-  None_at k = NoneBreaksAt problem claim seed number k
-
-  -- what the search of so many candidates finds
-  abbrev pub BlockFinds : ℕ → ℕ → Option Found → Type 0
-  BlockFinds first n found = MatchOption found ((k : ℕ) → first ≤ k → k < first + n → None_at k)
-      (IsFirstFrom problem claim seed number first)
-
-  pub first_of_shape : (first n : ℕ) (found : Option Found) (f : Found) → found ≡ Some f → ((k : ℕ) → k < first → None_at k)
-      → BlockFinds first n found
-      → IsFirstFrom problem claim seed number 0 f
-  first_of_shape first n found f some none finds = record {
-    found = is.found;
-    least = omega arith;
-    earlier = λ k from below. go k below (cases_lt k first);
-  }
-    where
-      is : IsFirstFrom problem claim seed number first f
-      is = subst (BlockFinds first n) some finds
-
-      go : (k : ℕ) → k < f.candidate → (k < first) ⊎ (first ≤ k) → None_at k
-      go k below (inl before) = none k before
-      go k below (inr behind) = is.earlier k behind below
-
-  pub none_so_far : (first n : ℕ) (found : Option Found) → found ≡ None → ((k : ℕ) → k < first → None_at k) → BlockFinds first n found
-      → (k : ℕ) → k < first + n → None_at k
-  none_so_far first n found none before finds k below = go (cases_lt k first)
-    where
-      block : (k : ℕ) → first ≤ k → k < first + n → None_at k
-      block = subst (BlockFinds first n) none finds
-
-      go : (k < first) ⊎ (first ≤ k) → None_at k
-      go (inl h) = before k h
-      go (inr h) = block k h below
-
-  pub none_of_shape : (count : ℕ) → ((s : Shape) → IsShapeOf problem number s → count ≡ candidate_count (quiver_of problem.parts.quiver) s)
-      → ((k : ℕ) → k < count → None_at k) → (k : ℕ) → None_at k
-  none_of_shape count exact none k m b = none k (subst (λ n. k < n) (sym (exact b.shape b.numbered)) b.in_range) m b
-
--- shapes
 module _ (problem : Problem) (claim seed : ℕ) where
   abbrev None_in : ℕ → ℕ → Type 0
   None_in number k = NoneBreaksAt problem claim seed number k
 
-  -- what the search of a shape finds
-  abbrev pub ShapeFinds : ℕ → Option Found → Type 0
-  ShapeFinds number found = MatchOption found ((k : ℕ) → None_in number k) (IsFirstFrom problem claim seed number 0)
-
-  pub none_at_zero : (number k : ℕ) → number ≤ 0 → None_in number k
-  none_at_zero number k below m b = absurd (omega (arith, below, b.numbered.numbered))
-
-  pub none_with_shape : (before number : ℕ) (found : Option Found) → found ≡ None → number ≡ before + 1
-      → ((n k : ℕ) → n ≤ before → None_in n k) → ShapeFinds number found
-      → (n k : ℕ) → n ≤ before + 1 → None_in n k
-  none_with_shape before number found nothing is earlier finds n k below = go (cases_eq n number)
+  -- a block
+  none_further : (number first n : ℕ) → NoneBefore problem claim seed number first → ((k : ℕ) → first ≤ k → k < first + n → None_in number k)
+      → NoneBefore problem claim seed number (first + n)
+  none_further number first n before block i j (inl earlier) = before i j (inl earlier)
+  none_further number first n before block i j (inr same) = go (cases_lt j first)
     where
-      none : (k : ℕ) → None_in number k
-      none = subst (ShapeFinds number) nothing finds
+      go : (j < first) ⊎ (first ≤ j) → None_in i j
+      go (inl h) = before i j (inr (same.0, h))
+      go (inr h) = subst (λ x. None_in x j) (sym same.0) (block j h same.1)
 
-      go : (n ≡ number) ⊎ (n ≡ number → ⊥) → None_in n k
-      go (inl same) = subst (λ x. None_in x k) (sym same) (none k)
-      go (inr other) = earlier n k (omega (arith, is, below, other))
-
-  pub least_of_all : (before number : ℕ) (found : Option Found) (f : Found) → found ≡ Some f → number ≡ before + 1
-      → ((n k : ℕ) → n ≤ before → None_in n k) → ShapeFinds number found
+  least_here : (number first : ℕ) (f : Found) → NoneBefore problem claim seed number first → IsFirstFrom problem claim seed number first f
       → IsLeastBreaking problem claim seed f.shape f.candidate f.model
-  least_of_all before number found f some is earlier finds = record {
-    breaks = subst (λ n. Breaks problem claim seed n f.candidate f.model) (sym first.found.shape_is) first.found.breaks;
-    least = least;
+  least_here number first f before is = record {
+    breaks = subst (λ n. Breaks problem claim seed n f.candidate f.model) (sym is.found.shape_is) is.found.breaks;
+    least = λ i j m earlier. least i j (subst (λ n. IsEarlier i j n f.candidate) is.found.shape_is earlier) m;
   }
     where
-      first : IsFirstFrom problem claim seed number 0 f
-      first = subst (ShapeFinds number) some finds
+      least : (i j : ℕ) → IsEarlier i j number f.candidate → None_in i j
+      least i j (inl earlier) = before i j (inl earlier)
+      least i j (inr same) = go (cases_lt j first)
+        where
+          go : (j < first) ⊎ (first ≤ j) → None_in i j
+          go (inl h) = before i j (inr (same.0, h))
+          go (inr h) = subst (λ x. None_in x j) (sym same.0) (is.earlier j h same.1)
 
-      least : (n k : ℕ) (m : Model) → IsEarlier n k f.shape f.candidate → ¬ Breaks problem claim seed n k m
-      least n k m (inl h) b = earlier n k (omega (arith, is, h, first.found.shape_is)) m b
-      least n k m (inr same) b = first.earlier k (omega arith) same.1 m
-          (subst (λ x. Breaks problem claim seed x k m) (same.0 ∙ first.found.shape_is) b)
+  pub searched_further : (number first n : ℕ) (old new : Option Found) → IsNone old → IsSearchedTo problem claim seed number first old
+      → MatchOption new ((k : ℕ) → first ≤ k → k < first + n → None_in number k) (IsFirstFrom problem claim seed number first)
+      → IsSearchedTo problem claim seed number (first + n) new
+  searched_further number first n (Some f) new free before is = absurd (cc)
+  searched_further number first n None None free before is = none_further number first n before is
+  searched_further number first n None (Some f) free before is = least_here number first f before is
 
-  pub none_of_all : ((n k : ℕ) → n ≤ length problem.parts.shapes → None_in n k) → NoneBreaks problem claim seed
-  none_of_all none n k m b =
-      let inside = slice_get_within problem.parts.shapes b.numbered.before b.shape b.numbered.there in
-      none n k (omega (arith, b.numbered.numbered, inside)) m b
+  -- what is found stays
+  pub searched_once : (number k i j : ℕ) (found : Option Found) → (IsNone found → ⊥) → IsSearchedTo problem claim seed number k found
+      → IsSearchedTo problem claim seed i j found
+  searched_once number k i j None there is = absurd (there refl)
+  searched_once number k i j (Some f) there is = is
+
+  -- all candidates of a shape
+  pub searched_shape : (number count : ℕ) (found : Option Found)
+      → ((s : Shape) → IsShapeOf problem number s → count ≡ candidate_count (quiver_of problem.parts.quiver) s)
+      → IsSearchedTo problem claim seed number count found → IsSearchedTo problem claim seed (number + 1) 0 found
+  searched_shape number count (Some f) exact is = is
+  searched_shape number count None exact is = none
+    where
+      none : NoneBefore problem claim seed (number + 1) 0
+      none i j (inr same) = absurd (omega (arith, same.1))
+      none i j (inl earlier) = go (cases_lt i number)
+        where
+          go : (i < number) ⊎ (number ≤ i) → None_in i j
+          go (inl h) = is i j (inl h)
+          go (inr h) = λ m b.
+              let same : i ≡ number = omega (arith, h, earlier) in
+              let there : IsShapeOf problem number b.shape = subst (λ n. IsShapeOf problem n b.shape) same b.numbered in
+              is i j (inr (same, subst (λ n. j < n) (sym (exact b.shape there)) b.in_range)) m b
+
+  -- before all shapes, and behind them
+  pub none_searched : IsSearchedTo problem claim seed 1 0 None
+  none_searched i j (inr same) m b = absurd (omega (arith, same.1))
+  none_searched i j (inl earlier) m b = absurd (omega (arith, earlier, b.numbered.numbered))
+
+  pub least_found : (number k : ℕ) (found : Option Found) → IsSearchedTo problem claim seed number k found
+      → IfSome found (λ f. IsLeastBreaking problem claim seed f.shape f.candidate f.model)
+  least_found number k None is = tt
+  least_found number k (Some f) is = is
+
+  pub none_breaks : (number : ℕ) (found : Option Found) → length problem.parts.shapes < number → IsSearchedTo problem claim seed number 0 found
+      → IfNone found (NoneBreaks problem claim seed)
+  none_breaks number (Some f) past is = tt
+  none_breaks number None past is = none
+    where
+      none : NoneBreaks problem claim seed
+      none i j m b =
+          let inside = slice_get_within problem.parts.shapes b.numbered.before b.shape b.numbered.there in
+          is i j (inl (omega (arith, b.numbered.numbered, inside, past))) m b
+
+-- claims
+pub all_none : (problem : Problem) (seed : ℕ) (claims : List ℕ) (found : List (Option Found)) → found ≡ replicate (length claims) None
+    → AreSearchedTo problem seed 1 0 claims found
+all_none problem seed claims found is = record {
+  one_each = ap length is ∙ length-replicate (length claims) None;
+  each = λ place within. subst (IsSearchedTo problem (get_or claims place 0) seed 1 0)
+      (sym (ap (λ os. get_or os place None) is ∙ get_or-replicate (length claims) place None None within)) (none_searched problem (get_or claims place 0) seed);
+}
+
+pub zip_by_places : (R : ℕ → Option Found → Type 0) (claims : List ℕ) (found : List (Option Found)) → length found ≡ length claims
+    → ((place : ℕ) → place < length claims → R (get_or claims place 0) (get_or found place None)) → AllZip R claims found
+zip_by_places R [] [] long each = tt
+zip_by_places R [] (f ∷ found) long each = absurd (omega (arith, long))
+zip_by_places R (c ∷ claims) [] long each = absurd (omega (arith, long))
+zip_by_places R (c ∷ claims) (f ∷ found) long each =
+    (each 0 (omega arith), zip_by_places R claims found (omega (arith, long)) (λ place within. each (suc place) (omega (arith, within))))
+
+-- of lists of one item
+pub only_one : (R : ℕ → Option Found → Type 0) (claim : ℕ) (found front : List (Option Found)) (one : Option Found) → AllZip R (claim ∷ []) found
+    → found ≡ front ++ one ∷ [] → R claim one
+only_one R claim found front one zipped splits = go front (subst (AllZip R (claim ∷ [])) splits zipped)
+  where
+    go : (front : List (Option Found)) → AllZip R (claim ∷ []) (front ++ one ∷ []) → R claim one
+    go [] is = is.0
+    go (x ∷ []) is = absurd is.1
+    go (x ∷ y ∷ front) is = absurd is.1
+
+-- where no claim is without a candidate, all shapes are searched
+pub none_open : (found : List (Option Found)) → list_any is_none found ≡ false → (place : ℕ) → place < length found → IsNone (get_or found place None) → ⊥
+none_open found none place within free =
+    true≢false (sym (list_any_at is_none found place None within (ap not free)) ∙ none)
+
+pub searched_whole : (problem : Problem) (seed number k i j : ℕ) (claims : List ℕ) (found : List (Option Found)) → list_any is_none found ≡ false
+    → AreSearchedTo problem seed number k claims found → AreSearchedTo problem seed i j claims found
+searched_whole problem seed number k i j claims found none is = record {
+  one_each = is.one_each;
+  each = λ place within. searched_once problem (get_or claims place 0) seed number k i j (get_or found place None)
+      (none_open found none place (omega (arith, within, is.one_each))) (is.each place within);
+}
+
+-- claims that are noted one after the other
+pub record AreNoted (problem : Problem) (seed number to : ℕ) (claims : List ℕ) (old found : List (Option Found)) (count : ℕ) : Type 0 where
+  pub one_each : length found ≡ length claims
+  pub passed : (place : ℕ) → place < count → IsSearchedTo problem (get_or claims place 0) seed number to (get_or found place None)
+  pub others : (place : ℕ) → count ≤ place → get_or found place None ≡ get_or old place None
+
+module _ (problem : Problem) (seed number to : ℕ) (claims : List ℕ) (old found : List (Option Found)) (count : ℕ) (is : AreNoted problem seed number to claims old found count) where
+  pub noted_more : (new : List (Option Found)) (one : Option Found) → new ≡ set found count one → count < length claims
+      → IsSearchedTo problem (get_or claims count 0) seed number to one → AreNoted problem seed number to claims old new (count + 1)
+  noted_more new one made within searched = subst (λ os. AreNoted problem seed number to claims old os (count + 1)) (sym made) (record {
+    one_each = length-set found count one ∙ is.one_each;
+    passed = λ place below. go place below (cases_lt place count);
+    others = λ place past. get_or-set_other found count place one None (λ same. absurd (omega (arith, past, same))) ∙ is.others place (omega (arith, past));
+  })
+    where
+      go : (place : ℕ) → place < count + 1 → (place < count) ⊎ (count ≤ place)
+          → IsSearchedTo problem (get_or claims place 0) seed number to (get_or (set found count one) place None)
+      go place below (inl h) = subst (IsSearchedTo problem (get_or claims place 0) seed number to)
+          (sym (get_or-set_other found count place one None (λ same. absurd (omega (arith, h, same))))) (is.passed place h)
+      go place below (inr h) =
+          let same : count ≡ place = omega (arith, below, h) in
+          subst (λ p. IsSearchedTo problem (get_or claims p 0) seed number to (get_or (set found count one) p None)) same
+          (subst (IsSearchedTo problem (get_or claims count 0) seed number to)
+          (sym (get_or-set_same found count one None (omega (arith, within, is.one_each)))) searched)
+
+  pub noted_same : (new : List (Option Found)) → new ≡ found → IsSearchedTo problem (get_or claims count 0) seed number to (get_or found count None)
+      → AreNoted problem seed number to claims old new (count + 1)
+  noted_same new made searched = subst (λ os. AreNoted problem seed number to claims old os (count + 1)) (sym made) (record {
+    one_each = is.one_each;
+    passed = λ place below. go place below (cases_lt place count);
+    others = λ place past. is.others place (omega (arith, past));
+  })
+    where
+      go : (place : ℕ) → place < count + 1 → (place < count) ⊎ (count ≤ place)
+          → IsSearchedTo problem (get_or claims place 0) seed number to (get_or found place None)
+      go place below (inl h) = is.passed place h
+      go place below (inr h) =
+          subst (λ p. IsSearchedTo problem (get_or claims p 0) seed number to (get_or found p None)) (omega (arith, below, h)) searched

@@ -1,80 +1,112 @@
-//! The search for a candidate that breaks a claim, on several threads.
-ghost use Rattle.std.specs.Prelude.{◌≡◌, ◌<◌, ◌≤◌, ◌+◌, ◌^◌, ℕ, length, slice_get, Some, Ok, None, MatchOption, IfSome, IfNone, IfOk};
-ghost use Rattle.std.specs.List.{All, range_with_len};
+//! The search for candidates that break claims, on several threads.
+ghost use Rattle.std.specs.Prelude.{◌≡◌, ◌<◌, ◌≤◌, ◌+◌, ◌^◌, ℕ, length, get_or, is_none, replicate, None, MatchOption};
+ghost use Rattle.std.specs.Prelude.{IfSome, IfNone, IfOk, OnOk};
+ghost use Rattle.std.specs.List.{All, AllZip, list_any, range_with_len};
 ghost use Rattle.in_order_parallel.specs.Limits.{worker_limit};
 ghost use Rattle.quiver.specs.Declarations.{quiver_of};
-ghost use Rattle.adjoint_rules.specs.declared.parts.Shape.{Shape as ShapeValue};
-ghost use Rattle.model_checker.specs.Models.{IsClaimNumber};
-ghost use Rattle.model_candidates.specs.Candidates.{IsShapeOf, candidate_count, IsLeastBreaking, NoneBreaks};
+ghost use Rattle.model_checker.specs.Models.{IsModel, IsClaimNumber};
+ghost use Rattle.model_candidates.specs.Candidates.{IsLeastBreaking, NoneBreaks};
 ghost use Rattle.model_candidates.specs.Plans.{IsPlan};
-ghost use Rattle.model_search.specs.Searches.{CanBeTested, NoneBreaksAt, IsTested, IsFirstFrom, IsFirstFound};
+ghost use Rattle.model_search.specs.Searches.{CanBeTested, BreaksAt, NoneBreaksAt, IsBroken, AreBroken, IsTested, AreTested, AreTold};
+ghost use Rattle.model_search.specs.Searches.{IsFlag, HasFlag, AreUnbroken, IsFirstBroken, IsFoundAt, IsFirstFrom, AreSearchedTo};
 
 use crate::Found;
 use adjoint_rules::Problem;
 use in_order_parallel::{Gate, Job, map_in_order};
+use lists::Listing;
+use matrix_models::Model;
 use model_candidates::{Plan, candidate_by, candidates, plan_of};
-use model_checker::refutes;
+use model_checker::{ModelRefusal, confirm_model};
 use std::alloc::{AllocError, Global};
 use std::thread::Threads;
 
 // So many candidates are tested before the next ones are begun.
 const BLOCK: u32 = 256;
 
-// The test of the candidates of a shape.
+// The claims that are looked at, and the shape whose candidates are tested.
 #[derive(Clone, Copy)]
-struct Tester<'a> {
+struct Pass<'a> {
     alloc: Global,
     problem: &'a Problem,
     plan: &'a Plan,
-    claim: u32,
     seed: u64,
+    claims: &'a [u32],
 }
+
+// The test of candidates for the claims that none was found for.
+#[derive(Clone, Copy)]
+struct Tester<'a> {
+    pass: Pass<'a>,
+    found: &'a [Option<Found>],
+}
+
+// For each claim whether a candidate breaks it, or `None` where it breaks none.
+type Broken = Option<Listing<bool>>;
 
 impl Job for Tester<'_> {
     type In = u32;
 
-    type Out = Result<Option<Found>, AllocError>;
+    type Out = Result<Broken, AllocError>;
 
-    ghost can_go = { λ job k. CanBeTested job.problem.now job.claim job.plan.now k };
+    ghost can_go = { λ job k. CanBeTested job.pass.problem.now job.pass.claims.now job.pass.plan.now k
+        × (length job.found.now ≡ length job.pass.claims.now) };
 
-    ghost gives = { λ job k answer. IfOk answer (IsTested job.problem.now job.claim job.seed job.plan.now.number k) };
+    ghost gives = { λ job k answer. IfOk answer (IsTested job.pass.problem.now job.pass.seed job.pass.plan.now.number
+        job.pass.claims.now job.found.now k) };
 
-    fn go(&self, candidate: &u32) -> Result<Option<Found>, AllocError> {
-        test(self, *candidate)
+    fn go(&self, candidate: &u32) -> Result<Broken, AllocError> {
+        test(&self.pass, self.found, *candidate)
     }
 }
 
-// The candidate with this number, where it breaks the claim.
-fn test(tester: &Tester, candidate: u32) -> Result<Option<Found>, AllocError>
-    requires { CanBeTested tester.now.problem.now tester.now.claim tester.now.plan.now candidate }
-    ensures { IfOk result (IsTested tester.now.problem.now tester.now.claim tester.now.seed tester.now.plan.now.number candidate) }
+// For each claim with no candidate yet whether this one breaks it.
+fn test(pass: &Pass, found: &[Option<Found>], candidate: u32) -> Result<Broken, AllocError>
+    requires tested { CanBeTested pass.now.problem.now pass.now.claims.now pass.now.plan.now candidate }
+    requires one_each { length found.now ≡ length pass.now.claims.now }
+    ensures { IfOk result (IsTested pass.now.problem.now pass.now.seed pass.now.plan.now.number pass.now.claims.now found.now candidate) }
 {
-    let problem = tester.problem;
-    let Some(mut model) = candidate_by(tester.alloc, problem, tester.plan, tester.seed, candidate)?
-    else {
-        return Ok(None);
-    };
-    model.claim = tester.claim;
-    if !refutes(tester.alloc, problem, &model)? {
-        return Ok(None);
+    match candidate_by(pass.alloc, pass.problem, pass.plan, pass.seed, candidate)? {
+        Some(model) => broken_claims(pass, found, model),
+        None => Ok(None),
     }
-    Ok(Some(Found {
-        shape: tester.plan.number,
-        candidate,
-        model,
-    }))
 }
 
-// The first of the answers that isn't None. Memory that was short for a later one doesn't matter.
-fn first_found(answers: Vec<Result<Option<Found>, AllocError>>) -> Result<Option<Found>, AllocError>
-    ensures { IfOk result (λ found. MatchOption found (All (λ answer. answer ≡ Ok None) answers.items) (IsFirstFound answers.items)) }
+// For each claim with no candidate yet whether the model refutes it; `None` where an assumption isn't zero in the model.
+fn broken_claims(
+    pass: &Pass,
+    found: &[Option<Found>],
+    candidate: Model,
+) -> Result<Broken, AllocError>
+    requires one_each { length found.now ≡ length pass.now.claims.now }
+    requires model { IsModel (quiver_of pass.now.problem.now.parts.quiver) candidate }
+    ensures { IfOk result (AreBroken pass.now.problem.now candidate pass.now.claims.now found.now) }
 {
-    for answer in answers {
-        if let Some(found) = answer? {
-            return Ok(Some(found));
-        }
+    let mut model = candidate;
+    let mut broken = Listing::with_room(pass.alloc, pass.claims.len())?;
+    for place in 0..pass.claims.len() {
+        model.claim = pass.claims[place];
+        let Some(flag) = is_broken(pass, &found[place], &model)? else {
+            return Ok(None);
+        };
+        broken.push(flag)?;
     }
-    Ok(None)
+    Ok(Some(broken))
+}
+
+// Whether the model refutes the claim that it names, which has no candidate yet; `None` where an assumption isn't zero in it.
+fn is_broken(pass: &Pass, found: &Option<Found>, model: &Model) -> Result<Option<bool>, AllocError>
+    requires { IsModel (quiver_of pass.now.problem.now.parts.quiver) model.now }
+    ensures { IfOk result (IsBroken pass.now.problem.now model.now found.now) }
+{
+    if found.is_some() {
+        return Ok(Some(false));
+    }
+    match confirm_model(pass.alloc, pass.problem, model) {
+        Ok(()) => Ok(Some(true)),
+        Err(ModelRefusal::NotZero { assumption: _ }) => Ok(None),
+        Err(ModelRefusal::Memory(failed)) => Err(failed),
+        Err(_) => Ok(Some(false)),
+    }
 }
 
 // So many numbers, from `first` on.
@@ -85,54 +117,165 @@ fn numbers_from(alloc: Global, first: u32, count: u32) -> Result<Vec<u32>, Alloc
     (first..first + count).collect(alloc)
 }
 
-// The first of so many candidates, from `first` on, that breaks the claim.
-fn search_block<R: Threads + Sync, G: Gate + Sync>(
+// The answers to the tests of so many candidates, from `first` on.
+fn answers_of<R: Threads + Sync, G: Gate + Sync>(
     rt: &R,
     tester: &Tester,
     first: u32,
     count: u32,
     workers: u32,
     gate: &G,
-) -> Result<Option<Found>, AllocError>
+) -> Result<Vec<Result<Broken, AllocError>>, AllocError>
     requires fits { first + count < 2 ^ 32 }
-    requires inside { (k : ℕ) → k < first + count → CanBeTested tester.now.problem.now tester.now.claim tester.now.plan.now k }
+    requires inside { (k : ℕ) → k < first + count
+        → CanBeTested tester.now.pass.problem.now tester.now.pass.claims.now tester.now.pass.plan.now k }
+    requires one_each { length tester.now.found.now ≡ length tester.now.pass.claims.now }
     requires some_worker { 0 < workers }
     requires few_workers { workers ≤ worker_limit }
-    ensures { IfOk result (λ found. MatchOption found
-        ((k : ℕ) → first ≤ k → k < first + count
-        → NoneBreaksAt tester.now.problem.now tester.now.claim tester.now.seed tester.now.plan.now.number k)
-        (IsFirstFrom tester.now.problem.now tester.now.claim tester.now.seed tester.now.plan.now.number first)) }
+    ensures { IfOk result (λ answers. AreTested tester.now.pass.problem.now tester.now.pass.seed tester.now.pass.plan.now.number
+        tester.now.pass.claims.now tester.now.found.now first count answers.items) }
 {
-    let numbers = numbers_from(tester.alloc, first, count)?;
-    let answers = map_in_order(rt, tester.alloc, numbers.as_slice(), tester, workers, gate)?;
-    first_found(answers)
+    let numbers = numbers_from(tester.pass.alloc, first, count)?;
+    map_in_order(
+        rt,
+        tester.pass.alloc,
+        numbers.as_slice(),
+        tester,
+        workers,
+        gate,
+    )
 }
 
-// The first candidate of the shape that breaks the claim.
-fn search_shape<R: Threads + Sync, G: Gate + Sync>(
-    rt: &R,
-    tester: &Tester,
-    workers: u32,
-    gate: &G,
-) -> Result<Option<Found>, AllocError>
-    requires claim { IsClaimNumber tester.now.problem.now tester.now.claim }
-    requires plan { IsPlan tester.now.problem.now tester.now.plan.now }
-    requires some_worker { 0 < workers }
-    requires few_workers { workers ≤ worker_limit }
-    ensures { IfOk result (λ found. MatchOption found
-        ((k : ℕ) → NoneBreaksAt tester.now.problem.now tester.now.claim tester.now.seed tester.now.plan.now.number k)
-        (IsFirstFrom tester.now.problem.now tester.now.claim tester.now.seed tester.now.plan.now.number 0)) }
+// Whether the answer is that the claim at this place is broken.
+fn has_broken(answer: &Result<Broken, AllocError>, place: usize) -> Result<bool, AllocError>
+    requires { HasFlag place answer.now }
+    ensures { IfOk result (λ broken. IsFlag place broken answer.now) }
 {
-    let count = candidates(tester.problem, tester.plan.number);
-    let mut first = 0;
-    while first < count {
-        let size = BLOCK.min(count - first);
-        if let Some(found) = search_block(rt, tester, first, size, workers, gate)? {
-            return Ok(Some(found));
+    match answer {
+        Ok(Some(broken)) => Ok(*broken.at(place)),
+        Ok(None) => Ok(false),
+        Err(failed) => Err(*failed),
+    }
+}
+
+// The first of the answers by which the claim at this place is broken. Memory that was short for a later one doesn't matter.
+fn first_broken(
+    answers: &[Result<Broken, AllocError>],
+    place: usize,
+) -> Result<Option<usize>, AllocError>
+    requires { All (HasFlag place) answers.now }
+    ensures { IfOk result (λ number. MatchOption number (AreUnbroken place (length answers.now) answers.now)
+        (IsFirstBroken place answers.now)) }
+{
+    for number in 0..answers.len() {
+        if has_broken(&answers[number], place)? {
+            return Ok(Some(number));
         }
-        first += size;
     }
     Ok(None)
+}
+
+// The candidate with this number, which breaks the claim.
+fn found_at(pass: &Pass, claim: u32, candidate: u32) -> Result<Found, AllocError>
+    requires plan { IsPlan pass.now.problem.now pass.now.plan.now }
+    requires breaks { BreaksAt pass.now.problem.now claim pass.now.seed pass.now.plan.now.number candidate }
+    ensures { IfOk result (IsFoundAt pass.now.problem.now claim pass.now.seed pass.now.plan.now.number candidate) }
+{
+    match candidate_by(pass.alloc, pass.problem, pass.plan, pass.seed, candidate)? {
+        Some(mut model) => {
+            model.claim = claim;
+            Ok(Found {
+                shape: pass.plan.number,
+                candidate,
+                model,
+            })
+        }
+        None => unreachable!(),
+    }
+}
+
+// The first of the candidates with answers, from `first` on, that breaks the claim at this place.
+fn found_among(
+    pass: &Pass,
+    answers: &[Result<Broken, AllocError>],
+    first: u32,
+    place: usize,
+) -> Result<Option<Found>, AllocError>
+    requires plan { IsPlan pass.now.problem.now pass.now.plan.now }
+    requires place { place < length pass.now.claims.now }
+    requires fits { first + length answers.now < 2 ^ 32 }
+    requires told { AreTold pass.now.problem.now (get_or pass.now.claims.now place 0) pass.now.seed pass.now.plan.now.number
+        first place answers.now }
+    ensures { IfOk result (λ found. MatchOption found
+        ((k : ℕ) → first ≤ k → k < first + length answers.now
+        → NoneBreaksAt pass.now.problem.now (get_or pass.now.claims.now place 0) pass.now.seed pass.now.plan.now.number k)
+        (IsFirstFrom pass.now.problem.now (get_or pass.now.claims.now place 0) pass.now.seed pass.now.plan.now.number first)) }
+{
+    match first_broken(answers, place)? {
+        Some(number) => Ok(Some(found_at(pass, pass.claims[place], first + number as u32)?)),
+        None => Ok(None),
+    }
+}
+
+// Puts candidates in the places of claims that had none, by the answers to the tests from `first` on.
+fn note(
+    pass: &Pass,
+    answers: &[Result<Broken, AllocError>],
+    first: u32,
+    found: &mut [Option<Found>],
+) -> Result<(), AllocError>
+    requires plan { IsPlan pass.now.problem.now pass.now.plan.now }
+    requires fits { first + length answers.now < 2 ^ 32 }
+    requires tested { AreTested pass.now.problem.now pass.now.seed pass.now.plan.now.number pass.now.claims.now
+        found.old first (length answers.now) answers.now }
+    requires before { AreSearchedTo pass.now.problem.now pass.now.seed pass.now.plan.now.number first pass.now.claims.now found.old }
+    ensures { OnOk result (AreSearchedTo pass.now.problem.now pass.now.seed pass.now.plan.now.number (first + length answers.now)
+        pass.now.claims.now found.new) }
+{
+    for place in 0..pass.claims.len() {
+        if found[place].is_none() {
+            found[place] = found_among(pass, answers, first, place)?;
+        }
+    }
+    Ok(())
+}
+
+// Whether some claim has no candidate yet.
+fn is_open(found: &[Option<Found>]) -> bool
+    ensures { result ≡ list_any is_none found.now }
+{
+    found.iter().any(|one| one.is_none())
+}
+
+// Puts the first candidates of the shape that break claims in the places of those that had none.
+fn search_shape<R: Threads + Sync, G: Gate + Sync>(
+    rt: &R,
+    pass: &Pass,
+    found: &mut Vec<Option<Found>>,
+    workers: u32,
+    gate: &G,
+) -> Result<(), AllocError>
+    requires claims { All (IsClaimNumber pass.now.problem.now) pass.now.claims.now }
+    requires plan { IsPlan pass.now.problem.now pass.now.plan.now }
+    requires before { AreSearchedTo pass.now.problem.now pass.now.seed pass.now.plan.now.number 0 pass.now.claims.now found.old.items }
+    requires some_worker { 0 < workers }
+    requires few_workers { workers ≤ worker_limit }
+    ensures { OnOk result (AreSearchedTo pass.now.problem.now pass.now.seed (pass.now.plan.now.number + 1) 0 pass.now.claims.now
+        found.new.items) }
+{
+    let count = candidates(pass.problem, pass.plan.number);
+    let mut first = 0;
+    while first < count {
+        if !is_open(found) {
+            return Ok(());
+        }
+        let size = BLOCK.min(count - first);
+        let tester = Tester { pass: *pass, found };
+        let answers = answers_of(rt, &tester, first, size, workers, gate)?;
+        note(pass, &answers, first, found)?;
+        first += size;
+    }
+    Ok(())
 }
 
 /// The candidate of least shape and then least number that breaks the claim, with the claim's number; None exactly where no
@@ -155,18 +298,55 @@ pub fn search<R: Threads + Sync, G: Gate + Sync>(
     ensures found { IfOk result (λ found. IfSome found (λ f. IsLeastBreaking problem.now claim seed f.shape f.candidate f.model)) }
     ensures none { IfOk result (λ found. IfNone found (NoneBreaks problem.now claim seed)) }
 {
+    let found = search_each(rt, alloc, problem, &[claim], seed, workers, gate)?;
+    match found.into_vec().pop() {
+        Some(found) => Ok(found),
+        None => unreachable!(),
+    }
+}
+
+/// What `search` finds for each of these claims, in order. All of them are looked at in one pass of the candidates, each until a
+/// candidate breaks it, and behind a block with which each has one no other is begun.
+///
+/// It fails only where memory is short.
+pub fn search_each<R: Threads + Sync, G: Gate + Sync>(
+    rt: &R,
+    alloc: Global,
+    problem: &Problem,
+    claims: &[u32],
+    seed: u64,
+    workers: u32,
+    gate: &G,
+) -> Result<Listing<Option<Found>>, AllocError>
+    requires claims { All (IsClaimNumber problem.now) claims.now }
+    requires some_worker { 0 < workers }
+    requires few_workers { workers ≤ worker_limit }
+    ensures found { IfOk result (AllZip (λ claim found.
+        IfSome found (λ f. IsLeastBreaking problem.now claim seed f.shape f.candidate f.model)) claims.now) }
+    ensures none { IfOk result (AllZip (λ claim found. IfNone found (NoneBreaks problem.now claim seed)) claims.now) }
+{
+    let mut found = no_candidates(alloc, claims.len())?;
     for place in 0..problem.parts.shapes.len() {
         let plan = plan_of(alloc, problem, place as u32 + 1)?;
-        let tester = Tester {
+        let pass = Pass {
             alloc,
             problem,
             plan: &plan,
-            claim,
             seed,
+            claims,
         };
-        if let Some(found) = search_shape(rt, &tester, workers, gate)? {
-            return Ok(Some(found));
-        }
+        search_shape(rt, &pass, &mut found, workers, gate)?;
     }
-    Ok(None)
+    Ok(Listing::from_vec(found))
+}
+
+// No candidate for so many claims.
+fn no_candidates(alloc: Global, count: usize) -> Result<Vec<Option<Found>>, AllocError>
+    ensures { IfOk result (λ found. found.items ≡ replicate count None) }
+{
+    let mut found = Vec::with_capacity(alloc, count)?;
+    for _ in 0..count {
+        found.push(None)?;
+    }
+    Ok(found)
 }

@@ -1,12 +1,12 @@
-use Rattle.std.proofs.Common.{◌<◌, ◌≤◌, ◌-◌, ℕ}
-use Rattle.model_search.specs.Searches.{NoneBreaksAt}
+use Rattle.std.proofs.Common.{◌≤◌, ◌-◌}
+use Rattle.model_search.specs.Searches.{AreSearchedTo}
 use Rattle.model_search.proofs.candidate_search.search_shape.Given as goal
 
--- no candidate before this block breaks the claim
+-- the candidates before this block are searched
 abbrev pub invariant-loop-first : goal.invariant-loop-first
 invariant-loop-first g l = record {
   within : l.first ≤ l.count;
-  none : (k : ℕ) → k < l.first → NoneBreaksAt l.tester.problem.now l.tester.claim l.tester.seed l.tester.plan.now.number k;
+  searched : AreSearchedTo l.pass.problem.now l.pass.seed l.pass.plan.now.number l.first l.pass.claims.now l.found.items;
 }
 
 abbrev pub decreases-loop-first : goal.decreases-loop-first
