@@ -21,7 +21,7 @@ use Rattle.statement_syntax.specs.declared.fault.SyntaxFault.{SyntaxFault}
 use Rattle.statement_syntax.specs.declared.fault.SyntaxFault.TheVariants as refusal
 use Rattle.statement_syntax.specs.Steps.{run}
 use Rattle.statement_syntax.specs.Lines.{file_step}
-use Rattle.statement_syntax.specs.Fault.{IsStatements, IsTreeOf, TellsFirstFault, fault_at, scan_fault, TellsScan}
+use Rattle.statement_syntax.specs.Fault.{IsStatements, IsTreeOf, TellsFirstFault, IsWantOfMemory, fault_at, scan_fault, TellsScan}
 use Rattle.std.specs.Result.{IsErrAnd, IfErr}
 use Rattle.std.specs.Str.{IsUtf8, chars}
 use Rattle.statement_syntax.specs.Grammar.{StatedLine}
@@ -239,8 +239,9 @@ module _ (start old new : Scanner) (ts : List Token) (turns : ℕ) (few : turns 
   opening_fault error e hands tells =
       (unread [] start, leaves_unread [] start, is_fault (unread [] start) ts old new error e is.same (hands ts speaks_first) tells)
 
-pub whole_fault : (text : List ℕ) (start : Scanner) (e : SyntaxFault) → HasWhole text start → LeavesFault start e → TextRead text (Err e)
-whole_fault text start e whole (read, left, fault) = inl (read, whole read left, fault)
+pub memory_left : (start : Scanner) (e : SyntaxFault) → IsWantOfMemory e → LeavesFault start e
+memory_left start (refusal.Memory e) want = (unread [] start, leaves_unread [] start, tt)
+memory_left start (refusal.Fault code l column) want = absurd want
 
 pub if_err : {A : Type 0} (r : Result A SyntaxFault) (P Q : SyntaxFault → Type 0) → IsErrAnd r P → ((e : SyntaxFault) → P e → Q e) → IfErr r Q
 if_err (Ok x) P Q is goes = tt

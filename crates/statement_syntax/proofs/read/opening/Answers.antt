@@ -1,8 +1,8 @@
 use Rattle.std.proofs.Common.{◌≡◌, ◌∷◌, ◌++◌, [], Some, Ok, subst, rules, arith, inl}
 use Rattle.statement_tokens.specs.Scanned.{Hands}
-use Rattle.statement_syntax.specs.Fault.{TellsScan}
+use Rattle.statement_syntax.specs.Fault.{TellsScan, IsWantOfMemory}
 use Rattle.statement_syntax.specs.Stages.{LeavesFault}
-use Rattle.statement_syntax.proofs.Streamed.{OpeningRead, none_read, front_left, opening_more, opening_all, opening_fault, if_err}
+use Rattle.statement_syntax.proofs.Streamed.{OpeningRead, none_read, front_left, opening_more, opening_all, opening_fault, memory_left, if_err}
 use Rattle.statement_syntax.proofs.read.opening.Goals as goal
 
 pub loop-init : goal.loop-init
@@ -30,3 +30,8 @@ returns-in_err-token-clause-fault c =
     if_err c.from_residual.result (TellsScan c.in_err-token.field-0.0) (LeavesFault c.args.scanner.now) c.from_residual.ensures.1
     (λ e tells. opening_fault c.args.scanner.now c.loop.scanner c.next.new.self c.loop.tokens.items c.loop.counter c.loop-test.true c.loop.invariant
     c.in_err-token.field-0.0 e c.in_err-token.ensures.hands tells)
+
+pub returns-in_err-push-clause-fault : goal.returns-in_err-push-clause-fault
+returns-in_err-push-clause-fault c =
+    if_err c.from_residual-in_err-push.result IsWantOfMemory (LeavesFault c.args.scanner.now) c.from_residual-in_err-push.ensures.1
+    (memory_left c.args.scanner.now)

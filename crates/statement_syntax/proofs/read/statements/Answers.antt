@@ -1,7 +1,9 @@
-use Rattle.std.proofs.Common.{Some, Ok, subst, sym, ap, ◌∙◌}
+use Rattle.std.proofs.Common.{rules, Some, Ok, Err, subst, sym, ap, ◌∙◌}
 use Rattle.statement_tokens.specs.Language.{language_of}
 use Rattle.statement_tokens.specs.Scanned.{Hands}
-use Rattle.statement_syntax.proofs.Streamed.{FrontRead, begins, goes_further}
+use Rattle.statement_syntax.specs.Fault.{TellsScan}
+use Rattle.statement_syntax.specs.Stages.{TextRead}
+use Rattle.statement_syntax.proofs.Streamed.{FrontRead, AllTokens, begins, goes_further, ends, ends_ok, ends_err, faulted, err_read}
 use Rattle.statement_syntax.proofs.read.statements.Goals as goal
 
 pub loop-read-init : goal.loop-read-init
@@ -17,3 +19,25 @@ loop-read-preserved c =
     c.loop-read.invariant
     (λ before same. subst (λ o. Hands before c.loop-read.scanner (Ok o) c.next.new.self) c.in-Some.is (c.in_ok-token.ensures.hands before same))
     c.go_on.ensures
+
+pub returns-in_err-token : goal.returns-in_err-token
+returns-in_err-token c =
+    err_read c.args.text.now c.from_residual-in_err-token.result (TellsScan c.in_err-token.field-0.0) c.from_residual-in_err-token.ensures.1
+    (λ e tells. faulted c.args.text.now c.loop-read.scanner c.next.new.self c.language_of-language.result c.loop-read.read c.in_err-token.field-0.0 e
+    c.loop-read.invariant c.in_err-token.ensures.hands tells)
+
+pub returns-in_err-statements : goal.returns-in_err-statements
+returns-in_err-statements c =
+    let all : AllTokens c.args.text.now c.loop-read.read =
+    ends c.args.text.now c.loop-read.scanner c.next.new.self c.language_of-language.result c.loop-read.read c.loop-read.invariant
+    (λ before same. subst (λ o. Hands before c.loop-read.scanner (Ok o) c.next.new.self) c.in_default.is (c.in_ok-token.ensures.hands before same)) in
+    let told : TextRead c.args.text.now (Err c.in_err-statements.field-0.0) =
+    ends_err c.args.text.now c.in_err-statements.field-0.0 (subst (AllTokens c.args.text.now) c.in_err-statements.was all) in
+    search rules
+
+pub returns : goal.returns
+returns c =
+    let all : AllTokens c.args.text.now c.loop-read.read =
+    ends c.args.text.now c.loop-read.scanner c.next.new.self c.language_of-language.result c.loop-read.read c.loop-read.invariant
+    (λ before same. subst (λ o. Hands before c.loop-read.scanner (Ok o) c.next.new.self) c.in_default.is (c.in_ok-token.ensures.hands before same)) in
+    ends_ok c.args.text.now _ (subst (AllTokens c.args.text.now) c.in_ok-statements.was all)
