@@ -1,2 +1,3 @@
 mod OwnEvidence
+mod Said
 pub mod Answered

@@ -1,9 +1,9 @@
 //! What `refute` answers over a statement.
-ghost use Rattle.std.specs.Prelude.{◌<◌, ◌≤◌, IfOk, length};
+ghost use Rattle.std.specs.Prelude.{◌≡◌, ◌<◌, ◌≤◌, ℕ, IfOk};
 ghost use Rattle.std.specs.List.{All, AllZip};
 ghost use Rattle.in_order_parallel.specs.Limits.{worker_limit};
 ghost use Rattle.claim_decider.specs.Decided.{claim_numbers};
-ghost use Rattle.model_checker.specs.Models.{IsClaimNumber};
+ghost use Rattle.model_search.specs.LeastBreaking.{IsFoundFor};
 ghost use Rattle.report_text.specs.Report.{IsVerdictOver};
 ghost use Rattle.refute_command.specs.Answers.{IsSearchedOn, AnswersSearch};
 ghost use Rattle.command_shape.specs.Stop.{EndsAs};
@@ -13,7 +13,7 @@ use command_shape::{Ending, Stop};
 use in_order_parallel::Gate;
 use lists::Listing;
 use model_candidates::all_candidates;
-use model_search::search;
+use model_search::{Found, search_each};
 use report_text::{Verdict, report, status_of};
 use std::alloc::{AllocError, Global};
 use std::thread::Threads;
@@ -51,33 +51,31 @@ fn search_all<R: Threads + Sync, G: Gate + Sync>(
     ensures each { IfOk result (AllZip (IsSearchedOn problem.now seed) (claim_numbers problem.now)) }
     ensures over { IfOk result (All (IsVerdictOver problem.now.parts.quiver)) }
 {
-    let mut verdicts = Listing::new(alloc);
-    for place in 0..problem.parts.claims.len() {
-        let claim = place as u32 + 1;
-        verdicts.push(search_one(rt, alloc, problem, claim, seed, workers, gate)?)?;
+    let claims = claim_numbers(alloc, problem)?;
+    let found = search_each(rt, alloc, problem, claims.as_slice(), seed, workers, gate)?;
+    let mut verdicts = Listing::with_room(alloc, found.len())?;
+    for one in found.into_vec() {
+        verdicts.push(verdict_by(problem, one))?;
     }
     Ok(verdicts)
 }
 
-// What is said of the claim with this number.
-fn search_one<R: Threads + Sync, G: Gate + Sync>(
-    rt: &R,
-    alloc: Global,
-    problem: &Problem,
-    claim: u32,
-    seed: u64,
-    workers: u32,
-    gate: &G,
-) -> Result<Verdict, AllocError>
-    requires claim { IsClaimNumber problem.now claim }
-    requires some_worker { 0 < workers }
-    requires few_workers { workers ≤ worker_limit }
-    ensures { IfOk result (IsSearchedOn problem.now seed claim) }
+// The numbers of the claims.
+fn claim_numbers(alloc: Global, problem: &Problem) -> Result<Vec<u32>, AllocError>
+    ensures { IfOk result (λ numbers. numbers.items ≡ claim_numbers problem.now) }
 {
-    match search(rt, alloc, problem, claim, seed, workers, gate)? {
-        Some(found) => Ok(Verdict::Refuted(found.model)),
-        None => Ok(Verdict::NotRefuted {
+    let count = problem.parts.claims.len() as u32;
+    (1..count + 1).collect(alloc)
+}
+
+// What is said of a claim by the candidate that was found for it.
+fn verdict_by(problem: &Problem, found: Option<Found>) -> Verdict
+    ensures { (seed claim : ℕ) → IsFoundFor problem.now seed claim found → IsSearchedOn problem.now seed claim result }
+{
+    match found {
+        Some(found) => Verdict::Refuted(found.model),
+        None => Verdict::NotRefuted {
             candidates: all_candidates(problem),
-        }),
+        },
     }
 }

@@ -1,7 +1,12 @@
-use Rattle.std.specs.List.{AllZip, range_with_len}
-use Rattle.refute_command.specs.Answers.{IsSearchedOn}
+use Rattle.std.proofs.Common.{◌≡◌, length}
+use Rattle.std.specs.Vec.Iter.{into_iter_items, into_iter_len}
+use Rattle.claim_decider.specs.Decided.{claim_numbers}
+use Rattle.refute_command.proofs.Said.{SaidSoFar}
 use Rattle.refute_command.proofs.refute.search_all.Given as goal
 
 -- the first claims have their verdicts
-abbrev pub invariant-loop-place : goal.invariant-loop-place
-invariant-loop-place g l = AllZip (IsSearchedOn l.problem l.seed) (range_with_len 1 l.place) l.verdicts
+abbrev pub invariant-loop-one : goal.invariant-loop-one
+invariant-loop-one g l = record {
+  left : into_iter_len l.one-iterator ≡ length (into_iter_items l.one-iterator);
+  said : SaidSoFar l.problem l.seed (claim_numbers l.problem) l.verdicts (into_iter_items l.one-iterator);
+}
