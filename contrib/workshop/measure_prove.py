@@ -1,13 +1,15 @@
-"""The tables of `measure.py prove` and `measure.py workers`: runs of `prove` beside those of contrib/workshop/plain_run.rs.
+"""The tables of `measure.py prove`, `counts` and `workers`: runs of `prove` beside those of contrib/workshop/plain_run.rs.
 
 Ten problems of the examples and of the generators beside this file, each with so many pairs, in format 1, with one worker
 and without models. Both programs have to print the same head lines. What `prove` reads is the statement; the plain program
 reads the tree that tree.py makes of it. PAIRS behind the word makes the rows with so many pairs, and NAME those whose name
-begins so. `growth` is by how many times the seconds of `prove` grow from one number of pairs to the next.
+begins so. `growth` is by how many times the seconds of `prove` grow from one number of pairs to the next. `counts` has the
+instructions of both by valgrind's callgrind, which no other work on the machine changes.
 """
 from __future__ import annotations
 
 import itertools
+import re
 import sys
 from pathlib import Path
 from typing import Callable, Dict, List, Tuple
@@ -18,7 +20,7 @@ import presentations
 import tree
 from check import Problem
 from measuring import NO_MEMORY, OPPROVE, Text, Usage, bound, build, head, least, line, load, quotient, quotient_text, told, write
-from trying import EXAMPLES
+from trying import EXAMPLES, installed, need, run
 
 PAIRS = [1000, 5000, 20000]
 ENDED = (0, 10, 12)  # the statuses of proved, underivable and undecided claims
@@ -50,16 +52,22 @@ def prove_words(statement: Path, pairs: int, workers: int) -> List[str]:
     return [str(OPPROVE), "prove", str(statement), *f"--pairs {pairs} --workers {workers} --no-models --format 1".split()]
 
 
-def both(text: str, pairs: int, plain: str, folder: Path) -> Tuple[Usage, Usage]:
-    """The runs of both programs on a statement."""
-    statement, lines, out = folder / "statement.op", folder / "statement.tree", folder / "out"
+def calls(text: str, pairs: int, plain: str, folder: Path) -> Tuple[List[str], List[str]]:
+    """The calls of both programs on a statement."""
+    statement, lines = folder / "statement.op", folder / "statement.tree"
     write(statement, iter([text]))
     write(lines, (line + "\n" for line in tree.tree_lines(Problem(str(statement)))))
-    words = [plain, str(lines), "--pairs", str(pairs), "--format", "1"]
+    return prove_words(statement, pairs, 1), [plain, str(lines), "--pairs", str(pairs), "--format", "1"]
+
+
+def both(text: str, pairs: int, plain: str, folder: Path) -> Tuple[Usage, Usage]:
+    """The runs of both programs on a statement."""
+    out = folder / "out"
+    own_words, words = calls(text, pairs, plain, folder)
     other = least(words, out, lambda status, text: status == 0)
     want = heads(out.read_text(encoding="utf-8"))
     is_right = lambda status, text: status in ENDED and (other.status == NO_MEMORY or heads(text) == want)
-    return least(prove_words(statement, pairs, 1), out, is_right), other
+    return least(own_words, out, is_right), other
 
 
 def asked(words: List[str]) -> Tuple[List[int], List[str]]:
@@ -88,6 +96,31 @@ def rows(words: List[str], folder: Path) -> Text:
             yield line("mean; greatest", f"{pairs:,}", "", "", "", "", f"{sum(shares) / len(shares):.2f}; {max(shares):.2f}", "")
 
 
+def counted(words: List[str], folder: Path) -> int:
+    """The instructions of a run."""
+    answer = run(installed("valgrind"), "--tool=callgrind", f"--callgrind-out-file={folder / 'counts'}", *words, seconds=3600)
+    found = re.search("refs: +([0-9,]+)", answer.error)
+    need(answer.status in ENDED and found is not None, (words, answer))
+    return int(found.group(1).replace(",", ""))
+
+
+def count_rows(words: List[str], folder: Path) -> Text:
+    """The instructions of both programs, in millions."""
+    plain = build("plain_run", folder)
+    counts, names = asked(words)
+    before: Dict[str, int] = {}
+    yield head("pairs", "`prove`", "plain", "quotient", "growth")
+    for pairs in counts or PAIRS[:1]:
+        shares = []
+        for name in names:
+            own, other = (counted(call, folder) for call in calls(PROBLEMS[name](), pairs, plain, folder))
+            shares.append(own / other)
+            growth = f"{own / before[name]:.2f}" if name in before else ""
+            before[name] = own
+            yield line(name, f"{pairs:,}", f"{own / 1e6:,.0f}", f"{other / 1e6:,.0f}", f"{shares[-1]:.2f}", growth)
+        yield line("mean; greatest", f"{pairs:,}", "", "", f"{sum(shares) / len(shares):.2f}; {max(shares):.2f}", "")
+
+
 def worker_rows(words: List[str], folder: Path) -> Text:
     """Heavy reductions with one, two and four workers, which print the same bytes: seconds from start to end, and those of processors."""
     statement, out = folder / "statement.op", folder / "out"
@@ -106,5 +139,5 @@ def worker_rows(words: List[str], folder: Path) -> Text:
 
 
 if __name__ == "__main__":
-    print("usage: measure.py prove | workers", file=sys.stderr)
+    print("usage: measure.py prove | counts | workers", file=sys.stderr)
     sys.exit(1)
