@@ -121,7 +121,8 @@ fn sum(left: IntoIter<Term>, right: IntoIter<Term>) -> Result<Poly> {
     })
 }
 
-/// Tells of the terms for which there is no answer the canonically greatest one's fault, as the program does, whatever the order of the run.
+/// Tells of the terms for which there is no answer the canonically greatest one's fault, as the program does, whatever the
+/// order of the run.
 fn check_each<'a>(terms: impl Iterator<Item = &'a Term>, answer: impl Fn(&Term) -> Result<i128>) -> Result<()> {
     let canonically = |term: &&Term| (term.word.len(), term.word.clone());
     let faulty = terms.filter(|term| answer(term).is_err()).max_by_key(canonically);
