@@ -3,7 +3,8 @@
 
 usage: gate_time.py [COMMAND ..]
 
-Without a command it runs `bash .ci/run`. From nothing is a fresh clone on a machine where rt has kept nothing. Twice a second the processes
+Without a command it runs `bash .ci/run`. Behind the table stands the chain of libraries, each of which stands on the one before it by the
+crates.txt of this folder, that took longest. From nothing is a fresh clone on a machine where rt has kept nothing. Twice a second the processes
 that the command has started are looked up in /proc (so this wants Linux), and the time of the prover's is counted by the crate and the pass
 that they work at. What a process does in its last half second isn't seen. A processor of a shared machine may be half as fast in one hour as in
 another, and slow while a new machine gets its memory: run what is to be compared at one time, on as many processors each, or compare crates
@@ -92,6 +93,37 @@ def print_table(total: Counter) -> None:
     print(f"\n{sum(sums) / 60:.1f} processor minutes of the prover")
 
 
+def crates_below() -> Dict[str, List[str]]:
+    """The crates of this folder's crates.txt, each with those that it names."""
+    try:
+        lines = Path("crates.txt").read_text().splitlines()
+    except OSError:
+        return {}
+    halves = [line.partition(":") for line in lines if line[:1].isalpha()]
+    named = {front.split()[0]: back.split() for front, _, back in halves}
+    return {crate: [name for name in names if name in named] for crate, names in named.items()}
+
+
+def longest_chain(seconds: Dict[str, float], below: Dict[str, List[str]]) -> Tuple[float, List[str]]:
+    """The seconds of the longest chain of crates, and its crates, the lowest first."""
+    chains: Dict[str, Tuple[float, List[str]]] = {}
+
+    def chain_of(crate: str) -> Tuple[float, List[str]]:
+        if crate not in chains:
+            front = max((chain_of(name) for name in below.get(crate, [])), default=(0.0, []))
+            chains[crate] = (front[0] + seconds[crate], front[1] + [crate])
+        return chains[crate]
+
+    return max((chain_of(crate) for crate in below), default=(0.0, []))
+
+
+def print_chain(total: Counter) -> None:
+    seconds: Counter = Counter({crate: spent for (crate, what), spent in total.items() if what == "library"})
+    length, chain = longest_chain(seconds, crates_below())
+    if length:
+        print(f"the longest chain of libraries took {length:,.0f} seconds: {', '.join(chain)}")
+
+
 def main(words: List[str]) -> int:
     if not Path("/proc/self/stat").exists():
         print("gate_time.py: there is no /proc to look processes up in", file=sys.stderr)
@@ -107,6 +139,7 @@ def main(words: List[str]) -> int:
         look(str(gate.pid), seen, total)
         time.sleep(0.5)
     print_table(total)
+    print_chain(total)
     return gate.returncode
 
 

@@ -347,8 +347,9 @@ def gate_time() -> str:
     work = "import time\nwhile time.process_time() < 2: pass"
     answer = run(sys.executable, CONTRIB / "workshop" / "gate_time.py", sys.executable, "-c", work, "--crate-name", "lists")
     row = re.search(r"^\| `lists` \| [12] \|  \|  \|$", answer.out, re.MULTILINE)
-    need(answer.status == 0 and not answer.error and bool(row), answer)
-    return "the time of a process is counted by its crate"
+    chain = re.search(r"^the longest chain of libraries took [12] seconds: .*\blists\b", answer.out, re.MULTILINE)
+    need(answer.status == 0 and not answer.error and bool(row) and bool(chain), answer)
+    return "the time of a process is counted by its crate, and the longest chain by crates.txt"
 
 
 def trusted_files() -> str:
