@@ -15,7 +15,7 @@ use Rattle.cancel_rules.proofs.Unique.{cancellation_refusal_is_unique}
 use Rattle.cancellation_text.specs.Cancellations.{IsCancellations, IsFirstFault}
 use Rattle.cancellation_text.proofs.EachText as texts
 use Rattle.cancellation_text.proofs.Readable.{proofs_are_readable}
-use Rattle.check_command.proofs.Answered as check
+use Rattle.certificate_causes.proofs.Told as causes
 use Rattle.command_shape.specs.Ending.{Ending}
 use Rattle.command_shape.proofs.BlockTexts.{IsKind, text_answered, text_answered_once, text_status, first_answered, all_first}
 use Rattle.command_shape.proofs.Statements.{stated_leads}
@@ -27,12 +27,12 @@ use Rattle.cancel_command.proofs.Means.{each_means}
 
 -- the texts of refusals
 has_text : (ds : List Declaration) (r : CancelRefusal) → (IsMemory r → ⊥) → (cause : List ℕ) × (refusal_text ds r ≡ Some cause)
-has_text ds (refusal.Common e) h = check.refusal_text ds e h
+has_text ds (refusal.Common e) h = causes.refusal_text ds e h
 has_text ds other h = (_, refl)
 
 -- a refusal that has a line is no want of memory
 told : (ds : List Declaration) (r : CancelRefusal) (cause : List ℕ) → refusal_text ds r ≡ Some cause → IsMemory r → ⊥
-told ds (refusal.Common e) cause is memory = check.told ds e cause is memory
+told ds (refusal.Common e) cause is memory = causes.told ds e cause is memory
 told ds other cause is memory = memory
 
 -- no cause begins as the text of an accepted proof

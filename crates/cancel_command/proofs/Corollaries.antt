@@ -7,7 +7,7 @@ use Rattle.cancellation_text.specs.Cancellations.{IsCancellations}
 use Rattle.command_shape.specs.Statement.{faulty, stated}
 use Rattle.command_shape.proofs.Statements.{over_problem}
 use Rattle.command_shape.proofs.BlockTexts.{passing_answered, zero_answered, text_status}
-use Rattle.check_command.proofs.Corollaries.{not_three}
+use Rattle.certificate_causes.proofs.Told.{not_three}
 use Rattle.cancel_command.specs.Answers.{AnswersCancellations}
 use Rattle.cancel_command.specs.Laws.{AcceptedAreAnswered, ZeroIsAccepted, ZeroMeans, FaultsAreAnswered, ThreeIsFaulty}
 use Rattle.cancel_command.proofs.Answered.{proofs_are_judged}

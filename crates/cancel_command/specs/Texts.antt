@@ -4,8 +4,8 @@ use Rattle.std.specs.List.{flat_map}
 use Rattle.word_core.specs.declared.letter.Letter.{Letter}
 use Rattle.quiver.specs.Declarations.{Declaration}
 use Rattle.block_text.specs.Written.{letter_text}
-use Rattle.check_command.specs.Refusals.{claim_text, cause_text}
-use Rattle.check_command.specs.Letters.{HasLetters}
+use Rattle.certificate_causes.specs.Refusals.{claim_text, cause_text}
+use Rattle.certificate_causes.specs.Letters.{HasLetters}
 use Rattle.cancel_rules.specs.declared.cancellation.Cancellation.{Cancellation}
 use Rattle.cancel_rules.specs.declared.refusal.CancelRefusal.{CancelRefusal}
 use Rattle.cancel_rules.specs.declared.refusal.CancelRefusal.TheVariants as refusal

@@ -1,13 +1,13 @@
 //! What accepting a proof says: its claim, its denominator, and the letters that it calls monic and epic.
 ghost use Rattle.std.specs.Prelude.{◌≡◌, ◌++◌, All, IfOk, OnOk};
 ghost use Rattle.quiver.specs.Declarations.{letter_count};
-ghost use Rattle.check_command.specs.Refusals.{claim_text};
+ghost use Rattle.certificate_causes.specs.Refusals.{claim_text};
 ghost use Rattle.cancel_rules.specs.Acceptance.{IsLetterOf, IsReadableCancellation};
 ghost use Rattle.cancel_command.specs.Texts.{name_text, names_text, called_text, letters_text};
 
 use block_text::{put, put_letter};
 use cancel_rules::Cancellation;
-use check_command::put_claim;
+use certificate_causes::put_claim;
 use cofactor_checker::Accepted;
 use quiver::Quiver;
 use std::alloc::{AllocError, Global};

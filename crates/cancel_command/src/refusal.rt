@@ -4,7 +4,7 @@ ghost use Rattle.command_shape.specs.Judged.{Puts};
 ghost use Rattle.cancel_command.specs.Texts.{refusal_text, HasRefusalLetters};
 
 use cancel_rules::CancelRefusal;
-use check_command::put_cause;
+use certificate_causes::put_cause;
 use command_shape::put_labelled;
 use quiver::Quiver;
 use std::alloc::{AllocError, Global};

@@ -1,5 +1,5 @@
 -- What `check` owes, and what an accepted certificate means.
-use Rattle.std.proofs.Common.{◌≡◌, ℕ, List, [], ◌∷◌, ◌++◌, Some, length, get_or, codes, refl, ap, arith}
+use Rattle.std.proofs.Common.{◌≡◌, ℕ, List, ◌++◌, length, get_or, codes, refl, ap, arith}
 use Rattle.std.specs.List.{AllByRecursion}
 use Rattle.definitions.specs.Category.{Structure, PreadditiveLaws}
 use Rattle.definitions.specs.Soundness.{IsSound}
@@ -7,22 +7,21 @@ use Rattle.representations.specs.Evidence.{IsEvidenceSound}
 use Rattle.cofactor_trace.specs.declared.evidence.Evidence.{Evidence}
 use Rattle.cofactor_trace.specs.declared.evidence.Evidence.TheVariants.{Plain, Lemmas}
 use Rattle.cofactor_trace.specs.declared.evidence.Format.TheVariants as format
-use Rattle.cofactor_checker.specs.declared.refusal.Refusal.{Refusal}
-use Rattle.cofactor_checker.specs.declared.refusal.Refusal.TheVariants as refusal
 use Rattle.cofactor_checker.specs.Acceptance.{IsMemory}
 use Rattle.cofactor_checker.specs.Rows.{IsNumberUpTo}
 use Rattle.cofactor_checker.specs.LemmaAcceptance.{all_polynomials}
 use Rattle.cofactor_checker.specs.Evidence.{ShowsClaim}
+use Rattle.cofactor_checker.proofs.Descending.{weaker}
 use Rattle.cofactor_checker.proofs.Shown.{accepted_evidence_adds_up}
 use Rattle.cofactor_checker.proofs.EvidenceUnique.{evidence_refusal_is_unique, accepted_evidence_is_not_refused}
 use Rattle.cofactor_checker.proofs.EvidenceJudged.{evidence_is_judged}
-use Rattle.quiver.specs.Declarations.{Declaration}
 use Rattle.adjoint_rules.specs.declared.problem.Problem.{Problem}
 use Rattle.adjoint_rules.specs.Problem.{polynomials}
 use Rattle.certificate_text.specs.Evidence.{IsEvidence, IsFirstFault}
 use Rattle.certificate_text.proofs.EachText.{each_text_is_read, evidence_is_unique, first_fault_is_unique, evidence_has_no_fault}
 use Rattle.command_shape.specs.Ending.{Ending}
-use Rattle.check_command.specs.Refusals.{cause_text}
+use Rattle.certificate_causes.specs.Refusals.{cause_text}
+use Rattle.certificate_causes.proofs.Told.{told, refusal_text}
 use Rattle.command_shape.specs.Statement.{IsStated}
 use Rattle.outcome_laws.specs.Meanings.{EvidenceAddsUp}
 use Rattle.outcome_laws.proofs.ProvedMeans.{proved_means}
@@ -31,16 +30,6 @@ use Rattle.check_command.specs.Says.{AcceptedMeans, SaysChecked}
 use Rattle.command_shape.proofs.BlockTexts.{IsKind, text_answered, text_answered_once, text_status, first_answered}
 use Rattle.command_shape.proofs.Statements.{stated_leads}
 use Rattle.command_shape.proofs.Owed.{OwesEnding, owed_over, zero_or_past}
-
--- a refusal that has a line is no want of memory
-pub told : (ds : List Declaration) (r : Refusal) (cause : List ℕ) → cause_text ds r ≡ Some cause → IsMemory r → ⊥
-told ds (refusal.Memory failed) cause is memory = absurd cc
-told ds other cause is memory = memory
-
--- a refusal that isn't want of memory has a text
-pub refusal_text : (ds : List Declaration) (r : Refusal) → (IsMemory r → ⊥) → (cause : List ℕ) × (cause_text ds r ≡ Some cause)
-refusal_text ds (refusal.Memory failed) h = absurd (h tt)
-refusal_text ds other h = (_, refl)
 
 -- no cause begins as the text of an accepted certificate
 other_text : (e : Evidence) (cause more : List ℕ) → codes "refused " ++ cause ≡ named_text e ++ more → ⊥
@@ -85,21 +74,16 @@ module _ {Object Arrow : Type 0} {s : Structure Object Arrow} (laws : Preadditiv
   adds_up (Plain c) shows = record { claim = refl; combination = shows }
   adds_up (Lemmas c) shows = record { claim = refl; lemmas = all_polynomials (polynomials problem.generators) c; evidence = shows }
 
-  pub accepted_means : (e : Evidence) → IsAccepted problem e → AcceptedMeans s problem e
+  accepted_means : (e : Evidence) → IsAccepted problem e → AcceptedMeans s problem e
   accepted_means e accepted =
       let named = names e accepted in
       proved_means laws sound with_lemmas problem (claim_number e) e named.least named.most (adds_up e (accepted_evidence_adds_up (polynomials problem.parts.claims) (polynomials problem.generators) e accepted))
-
--- what each of them means
-pub each : (P Q : Evidence → Type 0) → ((e : Evidence) → P e → Q e) → (es : List Evidence) → AllByRecursion P es → AllByRecursion Q es
-each P Q one [] all = tt
-each P Q one (e ∷ es) all = (one e all.0, each P Q one es all.1)
 
 pub says_checked : {Object Arrow : Type 0} {s : Structure Object Arrow} → PreadditiveLaws s → IsSound s → IsEvidenceSound s → (statement evidence : List ℕ) (ending : Ending)
     → AnswersCheck statement evidence ending → SaysChecked s statement evidence ending.report
 says_checked {s} laws sound with_lemmas statement evidence ending answers = record {
   each = λ problem first others rest is evidence_is begins.
-      each (IsAccepted problem) (AcceptedMeans s problem) (accepted_means laws sound with_lemmas problem) first (told_accepted statement evidence ending problem is first others rest evidence_is begins answers);
+      weaker (accepted_means laws sound with_lemmas problem) first (told_accepted statement evidence ending problem is first others rest evidence_is begins answers);
 }
 
 -- what is owed

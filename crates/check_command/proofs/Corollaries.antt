@@ -7,6 +7,7 @@ use Rattle.cofactor_trace.specs.declared.evidence.Format.TheVariants as format
 use Rattle.certificate_text.specs.Evidence.{IsEvidence}
 use Rattle.command_shape.specs.Statement.{faulty, stated}
 use Rattle.command_shape.proofs.Statements.{over_problem}
+use Rattle.certificate_causes.proofs.Told.{not_three}
 use Rattle.check_command.specs.Answers.{AnswersEvidence}
 use Rattle.check_command.specs.Laws.{AcceptedAreAnswered, ZeroIsAccepted, ZeroMeans, FaultsAreAnswered, ThreeIsFaulty}
 use Rattle.command_shape.proofs.BlockTexts.{passing_answered, zero_answered, text_status}
@@ -36,11 +37,6 @@ zero_means s statement evidence ending answers says is_zero =
 -- statements
 pub faults_are_answered : FaultsAreAnswered
 faults_are_answered statement evidence text refused = faulty text refused refl
-
--- 0 and 7 are not 3
-pub not_three : (n : ℕ) → (n ≡ 0) ⊎ (n ≡ 7) → n ≡ 3 → ⊥
-not_three n (inl is) three = omega arith
-not_three n (inr is) three = omega arith
 
 pub three_is_faulty : ThreeIsFaulty
 three_is_faulty statement evidence ending (faulty text refused ends) is_three = (text, refused, ends)

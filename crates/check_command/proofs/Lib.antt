@@ -1,4 +1,3 @@
-pub mod Letters
 pub mod Readable
 pub mod Answered
 pub mod Corollaries

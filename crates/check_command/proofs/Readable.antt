@@ -12,7 +12,7 @@ use Rattle.cofactor_checker.specs.Lemmas.{row_count}
 use Rattle.cofactor_checker.specs.LemmaAcceptance.{IsRanged}
 use Rattle.cofactor_checker.specs.Evidence.{IsReadableEvidence, NamesClaim}
 use Rattle.certificate_text.specs.Evidence.{IsCheckableLemma, IsCheckableEvidence}
-use Rattle.check_command.specs.Refusals.{claim_text}
+use Rattle.certificate_causes.specs.Refusals.{claim_text}
 use Rattle.check_command.specs.Answers.{named_text}
 
 row_count-flat : (lemmas : List Lemma) → row_count lemmas ≡ length (flat_map (λ l. l.rows) lemmas)

@@ -1,5 +1,3 @@
-pub mod Refusals
-pub mod Letters
 pub mod Answers
 pub mod Says
 pub mod Laws

@@ -3,11 +3,9 @@
 
 mod check;
 mod laws;
-mod refusal;
 
-pub use check::{certificates_of, judge_evidence, put_claim};
+pub use check::judge_evidence;
 pub use laws::{
     a_faulty_statement_is_answered_by_3, accepted_certificates_are_answered_by_0,
     status_0_means_what_certificates_mean,
 };
-pub use refusal::{put_cause, put_overflow, put_past};

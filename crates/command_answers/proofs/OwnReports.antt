@@ -23,7 +23,7 @@ use Rattle.command_shape.proofs.BlockTexts.{passing_answered, text_answered_once
 use Rattle.prove_command.proofs.Answered.{claims_are_evidence}
 use Rattle.refute_command.proofs.Answered.{search_is_evidence}
 use Rattle.check_command.specs.Answers.{named_text, AcceptsCertificate, RefusesCertificate, accepted_lines, AnswersEvidence}
-use Rattle.check_command.specs.Refusals.{cause_text}
+use Rattle.certificate_causes.specs.Refusals.{cause_text}
 use Rattle.check_command.proofs.Answered.{certificates_are_judged}
 use Rattle.model_command.specs.Answers.{confirmed_lines, AnswersModelText}
 use Rattle.model_command.proofs.Answered.{models_are_judged}

@@ -15,7 +15,7 @@ use Rattle.prove_command.specs.declared.prove.Asked.{Asked}
 use Rattle.prove_command.specs.Answers.{AnswersClaims}
 use Rattle.refute_command.specs.Answers.{AnswersSearch}
 use Rattle.check_command.specs.Answers.{accepted_lines, AnswersCheck}
-use Rattle.check_command.specs.Refusals.{cause_text}
+use Rattle.certificate_causes.specs.Refusals.{cause_text}
 use Rattle.model_command.specs.Answers.{confirmed_lines, AnswersModel}
 
 -- what `prove`, whatever it is asked for, or `refute`, with whatever seed, reports on the problem of a statement

@@ -14,8 +14,10 @@ use Rattle.adjoint_rules.specs.declared.problem.Problem.{Problem}
 use Rattle.adjoint_rules.specs.Problem.{polynomials}
 use Rattle.certificate_text.specs.Evidence.{IsEvidence, IsFirstFault}
 use Rattle.certificate_text.proofs.EachText.{each_text_is_read, evidence_is_unique, first_fault_is_unique, evidence_has_no_fault}
-use Rattle.outcome_laws.specs.ProvedMeans.{MeansZero}
-use Rattle.outcome_laws.proofs.ProvedMeans.{means_zero}
+use Rattle.cofactor_checker.proofs.Descending.{weaker}
+use Rattle.cofactor_checker.proofs.Shown.{accepted_evidence_adds_up}
+use Rattle.outcome_laws.specs.ProvedMeans.{MeansZero, ProvedMeans}
+use Rattle.outcome_laws.proofs.ProvedMeans.{means_zero, proved_means}
 use Rattle.equation_chain.specs.declared.fault.ChainFault.{ChainFault}
 use Rattle.equation_chain.specs.declared.fault.ChainFault.TheVariants as fault
 use Rattle.equation_chain.specs.Lines.{lines_of}
@@ -31,7 +33,7 @@ use Rattle.command_shape.specs.Statement.{IsStated}
 use Rattle.command_shape.proofs.BlockTexts.{IsKind, text_answered, text_answered_once, text_status, first_answered}
 use Rattle.command_shape.proofs.Statements.{stated_leads}
 use Rattle.command_shape.proofs.Owed.{OwesEnding, owed_over, zero_or_past}
-use Rattle.check_command.proofs.Answered as check
+use Rattle.certificate_causes.proofs.Told as causes
 use Rattle.explain_command.specs.declared.refusal.ExplainRefusal.{ExplainRefusal}
 use Rattle.explain_command.specs.declared.refusal.ExplainRefusal.TheVariants.{HasLemmas, HasFault}
 use Rattle.explain_command.specs.Refusals.{IsRefused, IsMemory, fault_text, refusal_text}
@@ -65,7 +67,7 @@ module _ (problem : Problem) where
 
 -- the texts of refusals
 fault_has_text : (ds : List Declaration) (f : ChainFault) → (chain.IsMemory f → ⊥) → (cause : List ℕ) × (fault_text ds f ≡ Some cause)
-fault_has_text ds (fault.Refused refusal) h = check.refusal_text ds refusal h
+fault_has_text ds (fault.Refused refusal) h = causes.refusal_text ds refusal h
 fault_has_text ds (fault.Memory failed) h = absurd (h tt)
 fault_has_text ds other h = (_, refl)
 
@@ -75,7 +77,7 @@ has_text ds (HasFault f) h = fault_has_text ds f h
 
 -- a refusal that has a line is no want of memory
 fault_told : (ds : List Declaration) (f : ChainFault) (cause : List ℕ) → fault_text ds f ≡ Some cause → chain.IsMemory f → ⊥
-fault_told ds (fault.Refused refusal) cause is memory = check.told ds refusal cause is memory
+fault_told ds (fault.Refused refusal) cause is memory = causes.told ds refusal cause is memory
 fault_told ds (fault.Memory failed) cause is memory = absurd cc
 fault_told ds other cause is memory = memory
 
@@ -119,10 +121,17 @@ module _ {Object Arrow : Type 0} {s : Structure Object Arrow} (laws : Preadditiv
   each_line [] typed makes = tt
   each_line (l ∷ lines) typed makes = (means_zero laws problem (pos 1) l makes.0 typed.0, each_line lines typed.1 makes.1)
 
+  -- a certificate that is accepted names a claim, and adds up to it
+  accepted_means : (c : Certificate) → chain.IsAccepted problem c → ProvedMeans s problem c.claim (Plain c)
+  accepted_means c accepted =
+      let named = accepted.adds_up.begins.posed.claim in
+      let shows = accepted_evidence_adds_up (polynomials problem.parts.claims) (polynomials problem.generators) (Plain c) accepted in
+      proved_means laws sound with_lemmas problem c.claim (Plain c) named.least named.most (record { claim = refl; combination = shows })
+
   explained_means : (c : Certificate) → chain.IsExplained problem c → ExplainedMeans s problem c
   explained_means c explained = record {
     sum = steps_add_up problem c explained.accepted;
-    means = (check.accepted_means laws sound with_lemmas problem (Plain c) explained.accepted).means;
+    means = (accepted_means c explained.accepted).means;
     typed = steps_typed problem c;
     lines = lines_are_a_chain problem c explained;
     each = each_line (lines_of problem c) (lines_have_signatures problem c explained.accepted) (lines_vanish laws problem c explained.accepted);
@@ -136,7 +145,7 @@ pub says_explained : {Object Arrow : Type 0} {s : Structure Object Arrow} → Pr
     → AnswersExplain statement evidence ending → SaysExplained s statement evidence ending.report
 says_explained {s} laws sound with_lemmas statement evidence ending answers = record {
   each = λ problem first others rest is are begins.
-      check.each (IsExplained problem) (BlockMeans s problem) (block_means laws sound with_lemmas problem) first
+      weaker (block_means laws sound with_lemmas problem) first
       (first_answered (blocks_are_judged problem evidence) ending first others rest are begins (stated_leads statement (AnswersChains evidence) ending problem is answers));
 }
 

@@ -8,7 +8,7 @@ use Rattle.certificate_text.specs.Evidence.{IsEvidence}
 use Rattle.command_shape.specs.Statement.{faulty, stated}
 use Rattle.command_shape.proofs.Statements.{over_problem}
 use Rattle.command_shape.proofs.BlockTexts.{passing_answered, zero_answered, text_status}
-use Rattle.check_command.proofs.Corollaries.{not_three}
+use Rattle.certificate_causes.proofs.Told.{not_three}
 use Rattle.explain_command.specs.Answers.{AnswersChains}
 use Rattle.explain_command.specs.Laws.{ExplainedAreAnswered, ZeroIsExplained, ZeroMeans, FaultsAreAnswered, ThreeIsFaulty}
 use Rattle.explain_command.proofs.Answered.{blocks_are_judged}

@@ -8,7 +8,7 @@ use Rattle.certificate_text.specs.Evidence.{IsCheckable, IsCheckableEvidence}
 use Rattle.equation_chain.specs.declared.fault.ChainFault.{ChainFault}
 use Rattle.equation_chain.specs.declared.fault.ChainFault.TheVariants as fault
 use Rattle.equation_chain.specs.Faults.{IsFirstFault}
-use Rattle.check_command.proofs.Letters.{refused_letters}
+use Rattle.certificate_causes.proofs.Letters.{refused_letters}
 use Rattle.explain_command.specs.declared.refusal.ExplainRefusal.{ExplainRefusal}
 use Rattle.explain_command.specs.declared.refusal.ExplainRefusal.TheVariants.{HasLemmas, HasFault}
 use Rattle.explain_command.specs.Refusals.{IsRefused, HasFaultLetters, HasRefusalLetters}

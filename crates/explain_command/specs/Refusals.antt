@@ -9,8 +9,8 @@ use Rattle.equation_chain.specs.declared.fault.ChainFault.{ChainFault}
 use Rattle.equation_chain.specs.declared.fault.ChainFault.TheVariants as fault
 use Rattle.equation_chain.specs.Limits.{letter_limit}
 use Rattle.equation_chain.specs.Faults.{IsFirstFault, IsMemory as IsMemoryFault}
-use Rattle.check_command.specs.Refusals.{operation_text, cause_text}
-use Rattle.check_command.specs.Letters.{HasLetters}
+use Rattle.certificate_causes.specs.Refusals.{operation_text, cause_text}
+use Rattle.certificate_causes.specs.Letters.{HasLetters}
 use Rattle.explain_command.specs.declared.refusal.ExplainRefusal.{ExplainRefusal}
 use Rattle.explain_command.specs.declared.refusal.ExplainRefusal.TheVariants.{HasLemmas, HasFault}
 

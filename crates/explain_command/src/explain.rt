@@ -9,7 +9,7 @@ ghost use Rattle.explain_command.specs.Answers.{ExplainsBlock, RefusesToExplain,
 use crate::chain::write_chain;
 use crate::refusal::{ExplainRefusal, refusal_text};
 use adjoint_rules::Problem;
-use check_command::certificates_of;
+use certificate_causes::certificates_of;
 use cofactor_trace::Evidence;
 use command_shape::{Ending, Judge, Judged, Stop, judge_blocks};
 use std::alloc::{AllocError, Global};

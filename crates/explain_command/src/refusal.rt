@@ -4,7 +4,7 @@ ghost use Rattle.command_shape.specs.Judged.{Puts};
 ghost use Rattle.explain_command.specs.Refusals.{fault_text, refusal_text, HasFaultLetters, HasRefusalLetters};
 
 use block_text::put;
-use check_command::{put_cause, put_overflow, put_past};
+use certificate_causes::{put_cause, put_overflow, put_past};
 use command_shape::put_labelled;
 use equation_chain::{ChainFault, LETTER_LIMIT};
 use quiver::Quiver;

@@ -1,4 +1,4 @@
-use Rattle.check_command.proofs.Letters.{refused_letters}
+use Rattle.certificate_causes.proofs.Letters.{refused_letters}
 use Rattle.check_command.proofs.Readable.{readable}
 use Rattle.check_command.proofs.check.CertificateCheckerJudge.judge.Goals as goal
 

@@ -4,7 +4,7 @@ use Rattle.certificate_text.specs.Evidence.{IsFirstFault}
 use Rattle.command_shape.specs.Ending.{refused_evidence}
 use Rattle.command_shape.specs.Texts.{evidence_fault}
 use Rattle.command_shape.specs.Blocks.{faulty}
-use Rattle.check_command.proofs.check.certificates_of.Goals as goal
+use Rattle.certificate_causes.proofs.reading.certificates_of.Goals as goal
 
 -- the evidence has a fault
 pub returns-in_ok-ending-in-Err-Fault-clause-stopped : goal.returns-in_ok-ending-in-Err-Fault-clause-stopped

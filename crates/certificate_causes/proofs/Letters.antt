@@ -23,7 +23,7 @@ use Rattle.cofactor_checker.proofs.LetterSums.{is_over, AreOver, IsLemmaOver, St
 use Rattle.adjoint_rules.specs.declared.problem.Problem.{Problem}
 use Rattle.adjoint_rules.specs.Problem.{polynomials}
 use Rattle.certificate_text.specs.Evidence.{IsRowOver, IsLemmaRowOver, IsCheckable, IsCheckableLemma, IsCheckableByLemmas, IsCheckableEvidence}
-use Rattle.check_command.specs.Letters.{HasLetters}
+use Rattle.certificate_causes.specs.Letters.{HasLetters}
 
 -- the words that refusals name
 module _ (problem : Problem) where

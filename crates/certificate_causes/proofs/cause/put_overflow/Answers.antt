@@ -1,8 +1,8 @@
 use Rattle.std.proofs.Common.{rules, ◌≡◌, ◌++◌, ◌∙◌, ℕ, List, OnOk, codes, decimal, ap, refl, subst, append_assoc}
 use Rattle.std.specs.Fmt.{signed_decimal}
 use Rattle.block_text.proofs.Puts.{four_put}
-use Rattle.check_command.specs.Refusals.{operation_text}
-use Rattle.check_command.proofs.refusal.put_overflow.Goals as goal
+use Rattle.certificate_causes.specs.Refusals.{operation_text}
+use Rattle.certificate_causes.proofs.cause.put_overflow.Goals as goal
 
 grouped : (place number blank left operation right : List ℕ)
     → (((place ++ number) ++ (blank ++ left)) ++ operation) ++ right ≡ place ++ (number ++ (blank ++ (left ++ (operation ++ right))))

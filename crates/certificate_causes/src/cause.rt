@@ -1,16 +1,16 @@
-//! Why a certificate is refused.
+//! Why a certificate is refused, and what is said of one that is accepted.
 ghost use Rattle.std.specs.Prelude.{◌≡◌, ◌++◌, Some, IfOk, OnOk, codes, decimal};
 ghost use Rattle.std.specs.Fmt.{signed_decimal};
 ghost use Rattle.quiver.specs.Declarations.{letter_count};
 ghost use Rattle.word_core.specs.Letters.{IsOver};
 ghost use Rattle.block_text.specs.Written.{word_text};
 ghost use Rattle.command_shape.specs.Judged.{Puts};
-ghost use Rattle.check_command.specs.Letters.{HasLetters};
-ghost use Rattle.check_command.specs.Refusals.{operation_text, cause_text};
+ghost use Rattle.certificate_causes.specs.Letters.{HasLetters};
+ghost use Rattle.certificate_causes.specs.Refusals.{claim_text, operation_text, cause_text};
 
 use block_text::{put, put_integer, put_word};
 use coef_int::Overflow;
-use cofactor_checker::{KEPT_LIMIT, Refusal, SUM_LIMIT};
+use cofactor_checker::{Accepted, KEPT_LIMIT, Refusal, SUM_LIMIT};
 use command_shape::{put_labelled, put_signed};
 use quiver::Quiver;
 use std::alloc::{AllocError, Global};
@@ -117,4 +117,12 @@ fn put_indivisible(
     put(out, " word ")?;
     put_word(out, quiver, word)?;
     put_signed(out, " got ", got)
+}
+
+/// The claim and the denominator of what is accepted, behind bytes.
+pub fn put_claim(out: &mut Vec<u8>, accepted: &Accepted) -> Result<(), AllocError>
+    ensures { OnOk result (out.new.items ≡ out.old.items ++ claim_text accepted.now.claim accepted.now.denominator) }
+{
+    put_labelled(out, "accepted claim ", u128::from(accepted.claim))?;
+    put_signed(out, " denominator ", accepted.denominator)
 }

@@ -1,8 +1,8 @@
 use Rattle.std.proofs.Common.{[], rules}
 use Rattle.command_shape.specs.Judged.{Puts}
 use Rattle.command_shape.proofs.Told.{told_alone}
-use Rattle.check_command.specs.Refusals.{cause_text}
-use Rattle.check_command.proofs.refusal.cause_text.Goals as goal
+use Rattle.certificate_causes.specs.Refusals.{cause_text}
+use Rattle.certificate_causes.proofs.cause.cause_text.Goals as goal
 
 pub returns : goal.returns
 returns c =

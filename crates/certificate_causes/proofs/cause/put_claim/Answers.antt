@@ -1,7 +1,7 @@
 use Rattle.std.proofs.Common.{◌≡◌, ◌∙◌, ◌++◌, ℕ, List, OnOk, ap, codes, decimal, rules}
 use Rattle.std.specs.Fmt.{signed_decimal}
 use Rattle.command_shape.proofs.Told.{two_put}
-use Rattle.check_command.proofs.check.put_claim.Goals as goal
+use Rattle.certificate_causes.proofs.cause.put_claim.Goals as goal
 
 pub returns : goal.returns
 returns c =
