@@ -5,8 +5,8 @@ use Rattle.definitions.specs.Poly.{Term, SamePolynomial, poly_sum, poly_multiple
 use Rattle.nc_polynomial.specs.Arithmetic.{combined}
 use Rattle.nc_polynomial.specs.Product.{and_then}
 use Rattle.nc_polynomial.proofs.Chains.{sized-value}
-use Rattle.cofactor_trace.specs.declared.Row.{Row}
-use Rattle.cofactor_trace.specs.Traces.{origin_poly}
+use Rattle.traced_rows.specs.declared.Row.{Row}
+use Rattle.traced_rows.specs.Traces.{origin_poly}
 use Rattle.rule_reduce.specs.declared.rule.Rule.{Rule}
 use Rattle.rule_reduce.specs.RuleLists.{polynomials_of}
 use Rattle.ambiguities.specs.declared.ambiguity.Ambiguity.{Ambiguity}

@@ -6,7 +6,7 @@ use Rattle.nc_polynomial.specs.declared.fault.PolyFault.TheVariants as fault
 use Rattle.nc_polynomial.specs.Faults.{Explains}
 use Rattle.nc_polynomial.specs.Product.{moved_result, and_then}
 use Rattle.nc_polynomial.specs.Arithmetic.{combined}
-use Rattle.cofactor_trace.specs.declared.Row.{Row}
+use Rattle.traced_rows.specs.declared.Row.{Row}
 use Rattle.rule_reduce.specs.declared.rule.Rule.{Rule}
 use Rattle.rule_reduce.specs.RuleLists.{rule_at}
 use Rattle.rule_reduce.proofs.Numbers.{rule_at-polynomial}

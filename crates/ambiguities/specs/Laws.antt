@@ -6,8 +6,8 @@ use Rattle.definitions.specs.Quiver.{Quiver, IsPath, IsTyped}
 use Rattle.word_core.specs.Letters.{IsOver}
 use Rattle.word_orders.specs.Admissible.{Compare, IsAdmissible}
 use Rattle.word_orders.specs.Orders.{IsBelow}
-use Rattle.cofactor_trace.specs.declared.Row.{Row}
-use Rattle.cofactor_trace.specs.Traces.{origin_poly, traced_sum}
+use Rattle.traced_rows.specs.declared.Row.{Row}
+use Rattle.traced_rows.specs.Traces.{origin_poly, traced_sum}
 use Rattle.rule_reduce.specs.declared.rule.Rule.{Rule}
 use Rattle.rule_reduce.specs.RuleLists.{IsRule, polynomials_of}
 use Rattle.rule_reduce.specs.KeptWords.{IsTypedRule}

@@ -10,7 +10,7 @@ pub use Rattle.word_orders.specs.Orders
 pub use Rattle.nc_polynomial.specs.Faults
 pub use Rattle.nc_polynomial.specs.Product
 pub use Rattle.nc_polynomial.specs.Arithmetic
-pub use Rattle.cofactor_trace.specs.Traces
+pub use Rattle.traced_rows.specs.Traces
 pub use Rattle.rule_reduce.specs.RuleLists
 pub use Rattle.coef_int.specs.Divisor
 pub use Rattle.rule_reduce.specs.KeptWords

@@ -6,7 +6,7 @@ use Rattle.definitions.specs.Poly.{Poly}
 use Rattle.definitions.specs.Combination.{Row, IsCombinationBelow}
 use Rattle.word_orders.specs.Admissible.{Compare}
 use Rattle.word_orders.specs.Orders.{IsBelow}
-use Rattle.cofactor_trace.specs.Traces.{traced_sum}
+use Rattle.traced_rows.specs.Traces.{traced_sum}
 use Rattle.rule_reduce.specs.declared.rule.Rule.{Rule}
 use Rattle.rule_reduce.specs.RuleLists.{polynomials_of}
 use Rattle.ambiguities.specs.declared.ambiguity.Ambiguity.{Ambiguity}

@@ -3,7 +3,7 @@
 ghost use Rattle.std.specs.Prelude.{◌≡◌, ◌<ℤ◌, ◌≤◌, [], ◌∷◌, length, take, drop, pos, IfOk, MatchResult, Ok};
 ghost use Rattle.std.specs.List.{All};
 ghost use Rattle.coef_int.specs.Range.{IsCoefficient};
-ghost use Rattle.cofactor_trace.specs.declared.Origin.TheVariants as origin;
+ghost use Rattle.traced_rows.specs.declared.Origin.TheVariants as origin;
 ghost use Rattle.word_core.specs.Letters.{IsOver};
 ghost use Rattle.nc_polynomial.specs.Faults.{Explains};
 ghost use Rattle.ambiguities.specs.Ambiguities.{IsAmbiguity};
@@ -12,7 +12,7 @@ ghost use Rattle.ambiguities.specs.SPolynomials.{first_row, second_row, s_rows_o
 use crate::Ambiguity;
 use crate::factors::factors;
 use crate::overlap::make_word;
-use cofactor_trace::{Origin, Row};
+use traced_rows::{Origin, Row};
 use lists::Listing;
 use nc_polynomial::{Poly, PolyFault};
 use rule_reduce::{Rule, Rules, rule_with};

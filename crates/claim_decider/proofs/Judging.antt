@@ -8,10 +8,10 @@ use Rattle.word_orders.specs.Admissible.{Compare}
 use Rattle.word_orders.specs.declared.any.AnyOrder.{AnyOrder}
 use Rattle.word_orders.specs.declared.any.OrderSpec.{OrderSpec}
 use Rattle.word_orders.specs.Specified.{made_cmp, asked_cmp}
-use Rattle.cofactor_trace.specs.declared.Origin.{Origin}
-use Rattle.cofactor_trace.specs.declared.Origin.TheVariants as origin
-use Rattle.cofactor_trace.specs.declared.Row.{Row}
-use Rattle.cofactor_trace.specs.declared.Made.{Made}
+use Rattle.traced_rows.specs.declared.Origin.{Origin}
+use Rattle.traced_rows.specs.declared.Origin.TheVariants as origin
+use Rattle.traced_rows.specs.declared.Row.{Row}
+use Rattle.traced_rows.specs.declared.Made.{Made}
 use Rattle.cofactor_trace.specs.declared.evidence.Format.{Format}
 use Rattle.cofactor_trace.specs.declared.halt.Cause.{Cause}
 use Rattle.cofactor_trace.specs.declared.halt.Place.TheVariants as place

@@ -2,7 +2,7 @@
 use Rattle.std.specs.Prelude.{◌≡◌, ◌<◌, ℕ, zero, suc, pos, List, [], ◌∷◌, length, true, None, Result, Ok, Err}
 use Rattle.definitions.specs.Poly.{Term}
 use Rattle.nc_polynomial.specs.declared.poly.Poly.{Poly}
-use Rattle.cofactor_trace.specs.declared.Made.{Made}
+use Rattle.traced_rows.specs.declared.Made.{Made}
 use Rattle.cofactor_trace.specs.declared.Cofactors.{Cofactors}
 use Rattle.cofactor_trace.specs.declared.evidence.Evidence.{Evidence}
 use Rattle.cofactor_trace.specs.declared.evidence.Evidence.TheVariants as evidence

@@ -10,13 +10,13 @@ use Rattle.definitions.specs.Combination.{generator_at, row_sum, IsCombination}
 use Rattle.definitions.proofs.Coefficients.{coefficient_of-append, coefficient_of-multiple}
 use Rattle.definitions.proofs.Integers.{*ℤ_assoc, *ℤ-+ℤ, *ℤ-neg_ℤ, *ℤ_zero}
 use Rattle.nc_polynomial.proofs.Divisors.{quotient_times}
-use Rattle.cofactor_trace.specs.declared.Origin.{Origin}
-use Rattle.cofactor_trace.specs.declared.Row.{Row}
-use Rattle.cofactor_trace.specs.declared.Made.{Made}
+use Rattle.traced_rows.specs.declared.Origin.{Origin}
+use Rattle.traced_rows.specs.declared.Row.{Row}
+use Rattle.traced_rows.specs.declared.Made.{Made}
 use Rattle.cofactor_trace.specs.declared.CertRow.{CertRow}
 use Rattle.cofactor_trace.specs.declared.Cofactors.{Cofactors}
 use Rattle.cofactor_trace.specs.Rows.{rows_of}
-use Rattle.cofactor_trace.specs.Traces.{origin_poly, traced_poly, traced_sum}
+use Rattle.traced_rows.specs.Traces.{origin_poly, traced_poly, traced_sum}
 use Rattle.cofactor_trace.specs.Gathered.{gathered}
 use Rattle.cofactor_trace.specs.Expansion.{Known, denominators, common_denominator, share, joined_rows, joined, content_of, divided_row, primitive, record_expansion}
 use Rattle.cofactor_trace.specs.Laws.{Traces}

@@ -11,8 +11,8 @@ use Rattle.coef_int.specs.declared.Overflow.{Overflow}
 use Rattle.coef_int.specs.Range.{IsCoefficient, is_coefficient}
 use Rattle.coef_int.specs.Operations.{product_of, exact_value, first_overflow}
 use Rattle.coef_int.specs.Divisor.{gcd_of}
-use Rattle.cofactor_trace.specs.declared.Row.{Row}
-use Rattle.cofactor_trace.specs.declared.Made.{Made}
+use Rattle.traced_rows.specs.declared.Row.{Row}
+use Rattle.traced_rows.specs.declared.Made.{Made}
 use Rattle.cofactor_trace.specs.declared.evidence.LemmaRow.{LemmaRow}
 use Rattle.cofactor_trace.specs.declared.evidence.Lemma.{Lemma}
 use Rattle.cofactor_trace.specs.declared.evidence.LemmaCertificate.{LemmaCertificate}

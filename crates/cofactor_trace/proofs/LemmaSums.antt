@@ -5,11 +5,11 @@ use Rattle.std.proofs.lemmas.List.{append-nil}
 use Rattle.definitions.specs.Poly.{coefficient_of}
 use Rattle.definitions.proofs.Coefficients.{coefficient_of-multiple}
 use Rattle.definitions.proofs.Integers.{*ℤ_zero}
-use Rattle.cofactor_trace.specs.declared.Row.{Row}
-use Rattle.cofactor_trace.specs.declared.Made.{Made}
+use Rattle.traced_rows.specs.declared.Row.{Row}
+use Rattle.traced_rows.specs.declared.Made.{Made}
 use Rattle.cofactor_trace.specs.declared.evidence.Lemma.{Lemma}
 use Rattle.cofactor_trace.specs.Laws.{Traces}
-use Rattle.cofactor_trace.specs.Traces.{traced_sum}
+use Rattle.traced_rows.specs.Traces.{traced_sum}
 use Rattle.cofactor_trace.specs.LemmaRows.{AddsUpTo, AreOfLemmas}
 
 module _ (generators : List (List (ℤ × List ℕ))) where

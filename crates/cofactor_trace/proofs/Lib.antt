@@ -1,9 +1,7 @@
 mod Examples
 pub mod Divisors
-pub mod Lists
 pub mod Gathering
 pub mod Operations
-pub mod Numbers
 pub mod Halts
 pub mod SizeLaws
 pub mod TableLaws

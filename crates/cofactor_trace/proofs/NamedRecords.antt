@@ -9,7 +9,7 @@ use Rattle.coef_int.specs.Operations.{product_of, first_overflow}
 use Rattle.nc_polynomial.proofs.Steps.{drop_next}
 use Rattle.nc_polynomial.proofs.Chains.{first-fits}
 use Rattle.coef_int.specs.Divisor.{gcd_of}
-use Rattle.cofactor_trace.specs.declared.Made.{Made}
+use Rattle.traced_rows.specs.declared.Made.{Made}
 use Rattle.cofactor_trace.specs.Expansion.{lcm_of, common_multiple, multiple_products}
 use Rattle.cofactor_trace.proofs.Operations.{first-before}
 use Rattle.cofactor_trace.specs.Naming.{records}

@@ -5,14 +5,14 @@ use Rattle.std.proofs.lemmas.List.{reverse-append, drop_all}
 use Rattle.nc_polynomial.proofs.Steps.{drop_next}
 use Rattle.std.specs.BTreeMap.{insert_entry}
 use Rattle.std.specs.Ordering.{nat_cmp}
-use Rattle.cofactor_trace.specs.declared.Made.{Made}
+use Rattle.traced_rows.specs.declared.Made.{Made}
 use Rattle.cofactor_trace.specs.declared.Cofactors.{Cofactors}
 use Rattle.cofactor_trace.specs.Expansion.{record_expansion}
 use Rattle.cofactor_trace.specs.Needed.{Numbered, Expansions, is_rule, is_named, needed_from, needed_rules, known_from, and_then, expansion_from, expansion_of, IsAmongFirst}
 use Rattle.cofactor_trace.specs.Faults.{Explains}
 use Rattle.cofactor_trace.specs.declared.fault.ExpandFault.{ExpandFault}
-use Rattle.cofactor_trace.specs.declared.Origin.{Origin}
-use Rattle.cofactor_trace.specs.declared.Origin.TheVariants as origin
+use Rattle.traced_rows.specs.declared.Origin.{Origin}
+use Rattle.traced_rows.specs.declared.Origin.TheVariants as origin
 use Rattle.cofactor_trace.proofs.Halts.{explains-and_then}
 use Rattle.std.proofs.lemmas.Option.{slice_get_within, get_or_from_slice_get}
 

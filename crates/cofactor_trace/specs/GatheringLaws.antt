@@ -4,7 +4,7 @@ use Rattle.std.specs.List.{All}
 use Rattle.coef_int.specs.Range.{IsCoefficient}
 use Rattle.definitions.specs.Poly.{Poly}
 use Rattle.definitions.specs.Combination.{generator_at}
-use Rattle.cofactor_trace.specs.declared.Made.{Made}
+use Rattle.traced_rows.specs.declared.Made.{Made}
 use Rattle.cofactor_trace.specs.declared.evidence.CertFrom.{CertFrom}
 use Rattle.cofactor_trace.specs.declared.evidence.CertFrom.TheVariants as cert
 use Rattle.cofactor_trace.specs.declared.evidence.Lemma.{Lemma}

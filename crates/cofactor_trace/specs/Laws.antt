@@ -3,13 +3,13 @@ use Rattle.std.specs.Prelude.{◌≡◌, ◌≤◌, ℕ, suc, List, slice_get, l
 use Rattle.std.specs.List.{All}
 use Rattle.definitions.specs.Poly.{Poly, SamePolynomial, poly_multiple}
 use Rattle.definitions.specs.Combination.{generator_at, IsCombination}
-use Rattle.cofactor_trace.specs.declared.Origin.{Origin}
-use Rattle.cofactor_trace.specs.declared.Origin.TheVariants as origin
-use Rattle.cofactor_trace.specs.declared.Made.{Made}
+use Rattle.traced_rows.specs.declared.Origin.{Origin}
+use Rattle.traced_rows.specs.declared.Origin.TheVariants as origin
+use Rattle.traced_rows.specs.declared.Made.{Made}
 use Rattle.cofactor_trace.specs.declared.CertRow.{CertRow}
 use Rattle.cofactor_trace.specs.declared.Cofactors.{Cofactors}
 use Rattle.cofactor_trace.specs.Rows.{rows_of}
-use Rattle.cofactor_trace.specs.Traces.{traced_sum}
+use Rattle.traced_rows.specs.Traces.{traced_sum}
 use Rattle.cofactor_trace.specs.Expansion.{letter_count}
 use Rattle.cofactor_trace.specs.Needed.{IsRecord, AreRecords, expansion_of}
 use Rattle.nc_polynomial.specs.Limits.{word_limit}

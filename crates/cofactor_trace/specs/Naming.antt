@@ -3,8 +3,8 @@ use Rattle.std.specs.Prelude.{◌≡◌, ◌-◌, ◌<ℤ◌, pos, List, map, le
 use Rattle.std.specs.List.{AllByRecursion}
 use Rattle.std.specs.Borrow.{Bor}
 use Rattle.coef_int.specs.Range.{IsCoefficient}
-use Rattle.cofactor_trace.specs.declared.Origin.TheVariants as origin
-use Rattle.cofactor_trace.specs.declared.Made.{Made}
+use Rattle.traced_rows.specs.declared.Origin.TheVariants as origin
+use Rattle.traced_rows.specs.declared.Made.{Made}
 use Rattle.cofactor_trace.specs.declared.evidence.CertFrom.TheVariants as cert
 use Rattle.cofactor_trace.specs.declared.replacement.Replacement.{Replacement}
 use Rattle.cofactor_trace.specs.Needed.{needed_rules}

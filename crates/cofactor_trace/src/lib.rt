@@ -1,4 +1,4 @@
-//! Rows that add up to a multiple of a polynomial: over generators in certificates, over generators and rules in records.
+//! Rows over generators that add up to a multiple of a polynomial, and how they are made from records.
 #![tactic(auto)]
 
 mod divisor;
@@ -27,38 +27,8 @@ pub use lemmas::gather;
 use lists::{Duplicate, Listing};
 pub use size::{LETTER_LIMIT, ROW_LIMIT};
 use std::alloc::AllocError;
+pub use traced_rows::{Made, Origin, Row};
 use word_core::Word;
-
-/// What a row is over: a generator or a rule, with its number counted from 1.
-#[derive(Clone, Copy, Debug, PartialEq, Eq)]
-pub enum Origin {
-    /// The generator with this number.
-    Generator(u32),
-    /// The rule with this number.
-    Rule(u32),
-}
-
-/// The row c l g r of a sum: a coefficient, a word, a generator or a rule, and a word.
-#[derive(Drop)]
-pub struct Row {
-    /// The integer in front, from -(2^127 - 1) to 2^127 - 1 where a reduction made it.
-    pub coef: i128,
-    /// The word in front of the generator or rule.
-    pub left: Word,
-    /// The generator or the rule.
-    pub from: Origin,
-    /// The word behind it.
-    pub right: Word,
-}
-
-/// How a polynomial was made: the rows whose sum is the scale times the polynomial.
-#[derive(Drop)]
-pub struct Made {
-    /// The positive integer by which the polynomial is multiplied.
-    pub scale: i128,
-    /// The rows, in the order in which they are added up.
-    pub rows: Listing<Row>,
-}
 
 /// The row c l G r of a sum: a coefficient, a word, the number of a generator counted from 1, and a word.
 #[derive(Drop)]
@@ -91,26 +61,6 @@ pub struct Cofactors {
     pub denominator: i128,
     /// The rows, in the order in which they are added up.
     pub rows: Listing<CertRow>,
-}
-
-impl Duplicate for Row {
-    fn duplicate(&self) -> Result<Row, AllocError> {
-        Ok(Row {
-            coef: self.coef,
-            left: self.left.copy()?,
-            from: self.from,
-            right: self.right.copy()?,
-        })
-    }
-}
-
-impl Duplicate for Made {
-    fn duplicate(&self) -> Result<Made, AllocError> {
-        Ok(Made {
-            scale: self.scale,
-            rows: self.rows.duplicate()?,
-        })
-    }
 }
 
 impl Duplicate for CertRow {

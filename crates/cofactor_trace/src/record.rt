@@ -3,7 +3,7 @@ ghost use Rattle.std.specs.Prelude.{◌≡◌, ◌<ℤ◌, pos, [], None, Ok, If
 ghost use Rattle.std.specs.List.{All};
 ghost use Rattle.std.specs.Map.{values_of};
 ghost use Rattle.coef_int.specs.Range.{IsCoefficient};
-ghost use Rattle.cofactor_trace.specs.declared.Origin.TheVariants as origin;
+ghost use Rattle.traced_rows.specs.declared.Origin.TheVariants as origin;
 ghost use Rattle.cofactor_trace.specs.Expansion as expansion;
 ghost use Rattle.cofactor_trace.specs.Expansion.{overflow_in, multiple_products, denominators, joined, joined_rows, joined_products};
 ghost use Rattle.cofactor_trace.specs.Expansion.{row_products, limit_fault, record_expansion};

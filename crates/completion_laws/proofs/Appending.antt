@@ -9,11 +9,11 @@ use Rattle.definitions.specs.Combination.{generator_at}
 use Rattle.definitions.proofs.Coefficients.{coefficient_of-multiple}
 use Rattle.word_core.specs.Occurrence.{OccursNowhere}
 use Rattle.word_orders.specs.Admissible.{Compare, IsAdmissible}
-use Rattle.cofactor_trace.specs.declared.Origin.{Origin}
-use Rattle.cofactor_trace.specs.declared.Origin.TheVariants as origin
-use Rattle.cofactor_trace.specs.declared.Row.{Row}
-use Rattle.cofactor_trace.specs.declared.Made.{Made}
-use Rattle.cofactor_trace.specs.Traces.{traced_sum}
+use Rattle.traced_rows.specs.declared.Origin.{Origin}
+use Rattle.traced_rows.specs.declared.Origin.TheVariants as origin
+use Rattle.traced_rows.specs.declared.Row.{Row}
+use Rattle.traced_rows.specs.declared.Made.{Made}
+use Rattle.traced_rows.specs.Traces.{traced_sum}
 use Rattle.cofactor_trace.specs.Laws.{Traces, AreTraces}
 use Rattle.rule_reduce.specs.declared.rule.Rule.{Rule}
 use Rattle.rule_reduce.specs.RuleLists.{IsRule, rule_at, polynomials_of}

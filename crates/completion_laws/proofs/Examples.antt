@@ -12,8 +12,8 @@ use Rattle.word_orders.specs.Admissible.{IsAdmissible}
 use Rattle.word_orders.specs.Rank.{rank_of}
 use Rattle.word_core.proofs.CanonicalLaws.{word_cmp-admissible}
 use Rattle.nc_polynomial.specs.Shape.{IsShaped, IsCanonical}
-use Rattle.cofactor_trace.specs.declared.Made.{Made}
-use Rattle.cofactor_trace.specs.declared.Origin.TheVariants as origin
+use Rattle.traced_rows.specs.declared.Made.{Made}
+use Rattle.traced_rows.specs.declared.Origin.TheVariants as origin
 use Rattle.rule_reduce.specs.declared.rule.Rule.{Rule}
 use Rattle.rule_reduce.specs.declared.state.State.{State}
 use Rattle.rule_reduce.specs.RuleLists.{IsRule, rule_at, polynomials_of}

@@ -5,8 +5,8 @@ use Rattle.definitions.specs.Poly.{poly_multiple, poly_between}
 use Rattle.definitions.specs.Combination.{generator_at}
 use Rattle.word_orders.specs.Admissible.{Compare, IsAdmissible}
 use Rattle.coef_int.specs.Divisor.{gcd_of}
-use Rattle.cofactor_trace.specs.declared.Origin.TheVariants as origin
-use Rattle.cofactor_trace.specs.declared.Row.{Row}
+use Rattle.traced_rows.specs.declared.Origin.TheVariants as origin
+use Rattle.traced_rows.specs.declared.Row.{Row}
 use Rattle.rule_reduce.specs.declared.rule.Rule.{Rule}
 use Rattle.rule_reduce.specs.RuleLists.{IsRule, rule_at, polynomials_of}
 use Rattle.rule_reduce.proofs.Numbers.{rule_at-polynomial}

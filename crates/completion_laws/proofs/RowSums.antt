@@ -10,10 +10,10 @@ use Rattle.definitions.specs.Combination.{generator_at}
 use Rattle.definitions.proofs.Coefficients.{coefficient_of-append, coefficient_of-multiple}
 use Rattle.definitions.proofs.Integers.{*ℤ_assoc, *ℤ-+ℤ}
 use Rattle.word_orders.specs.Admissible.{Compare}
-use Rattle.cofactor_trace.specs.declared.Origin.{Origin}
-use Rattle.cofactor_trace.specs.declared.Origin.TheVariants as origin
-use Rattle.cofactor_trace.specs.declared.Row.{Row}
-use Rattle.cofactor_trace.specs.Traces.{origin_poly, traced_poly, traced_sum}
+use Rattle.traced_rows.specs.declared.Origin.{Origin}
+use Rattle.traced_rows.specs.declared.Origin.TheVariants as origin
+use Rattle.traced_rows.specs.declared.Row.{Row}
+use Rattle.traced_rows.specs.Traces.{origin_poly, traced_poly, traced_sum}
 use Rattle.rule_reduce.specs.declared.rule.Rule.{Rule}
 use Rattle.rule_reduce.specs.declared.state.State.{State}
 use Rattle.rule_reduce.specs.RuleLists.{polynomials_of}

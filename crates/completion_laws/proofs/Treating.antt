@@ -6,8 +6,8 @@ use Rattle.definitions.specs.Poly.{Word, Term, SamePolynomial, coefficient_of}
 use Rattle.word_orders.specs.Admissible.{Compare, IsAdmissible}
 use Rattle.word_orders.specs.Orders.{Order}
 use Rattle.word_orders.proofs.Orders.{order_from_laws}
-use Rattle.cofactor_trace.specs.declared.Row.{Row}
-use Rattle.cofactor_trace.specs.declared.Made.{Made}
+use Rattle.traced_rows.specs.declared.Row.{Row}
+use Rattle.traced_rows.specs.declared.Made.{Made}
 use Rattle.rule_reduce.specs.declared.rule.Rule.{Rule}
 use Rattle.rule_reduce.specs.declared.state.State.{State}
 use Rattle.rule_reduce.specs.RuleLists.{IsRule}

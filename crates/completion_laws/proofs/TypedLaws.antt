@@ -10,8 +10,8 @@ use Rattle.definitions.specs.Poly.{Word, Term, coefficient_of, poly_between}
 use Rattle.definitions.specs.Quiver.{Quiver, IsPath}
 use Rattle.definitions.proofs.Coefficients.{coefficient_of-multiple}
 use Rattle.word_orders.specs.Admissible.{Compare}
-use Rattle.cofactor_trace.specs.declared.Row.{Row}
-use Rattle.cofactor_trace.specs.declared.Made.{Made}
+use Rattle.traced_rows.specs.declared.Row.{Row}
+use Rattle.traced_rows.specs.declared.Made.{Made}
 use Rattle.rule_reduce.specs.declared.rule.Rule.{Rule}
 use Rattle.rule_reduce.specs.RuleLists.{IsRule, rule_at}
 use Rattle.rule_reduce.specs.KeptWords.{IsTypedRule, IsInPlay, IsPolyInPlay}

@@ -5,7 +5,7 @@ use Rattle.definitions.specs.Poly.{Term, SamePolynomial, coefficient_of}
 use Rattle.definitions.specs.Combination.{Row as Multiple, generator_at, IsCombination}
 use Rattle.word_core.specs.Occurrence.{OccursNowhere}
 use Rattle.word_orders.specs.Admissible.{Compare, IsAdmissible}
-use Rattle.cofactor_trace.specs.declared.Made.{Made}
+use Rattle.traced_rows.specs.declared.Made.{Made}
 use Rattle.cofactor_trace.specs.Laws.{AreTraces}
 use Rattle.rule_reduce.specs.declared.rule.Rule.{Rule}
 use Rattle.rule_reduce.specs.declared.state.State.{State}

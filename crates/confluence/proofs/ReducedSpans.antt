@@ -8,7 +8,7 @@ use Rattle.definitions.proofs.Coefficients.{coefficient_of-append, coefficient_o
 use Rattle.word_orders.specs.Admissible.{Compare, IsAdmissible}
 use Rattle.word_orders.specs.Orders.{Order, IsBelow}
 use Rattle.word_orders.proofs.Orders.{order_from_laws, below_less}
-use Rattle.cofactor_trace.specs.Traces.{traced_sum}
+use Rattle.traced_rows.specs.Traces.{traced_sum}
 use Rattle.rule_reduce.specs.declared.rule.Rule.{Rule}
 use Rattle.rule_reduce.specs.declared.state.State.{State}
 use Rattle.rule_reduce.specs.RuleLists.{IsRule, polynomials_of}

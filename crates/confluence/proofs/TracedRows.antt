@@ -5,10 +5,10 @@ use Rattle.std.specs.List.{All, AllByRecursion}
 use Rattle.definitions.specs.Poly.{Word, Term, coefficient_of, poly_between}
 use Rattle.definitions.specs.Combination.{generator_at}
 use Rattle.definitions.proofs.Coefficients.{coefficient_of-append, coefficient_of-multiple}
-use Rattle.cofactor_trace.specs.declared.Origin.{Origin}
-use Rattle.cofactor_trace.specs.declared.Origin.TheVariants as origin
-use Rattle.cofactor_trace.specs.declared.Row.{Row}
-use Rattle.cofactor_trace.specs.Traces.{origin_poly, traced_poly, traced_sum}
+use Rattle.traced_rows.specs.declared.Origin.{Origin}
+use Rattle.traced_rows.specs.declared.Origin.TheVariants as origin
+use Rattle.traced_rows.specs.declared.Row.{Row}
+use Rattle.traced_rows.specs.Traces.{origin_poly, traced_poly, traced_sum}
 use Rattle.rule_reduce.specs.Laws.{IsByRule}
 use Rattle.confluence.proofs.Spans.{Span, nothing, more}
 use Rattle.confluence.proofs.SumRows.{Numbered}

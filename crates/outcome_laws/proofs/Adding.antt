@@ -9,8 +9,8 @@ use Rattle.word_orders.specs.Admissible.{Compare}
 use Rattle.nc_polynomial.specs.Shape.{IsShaped}
 use Rattle.nc_polynomial.proofs.Distinct.{distinct-descending, words_listed, first_coefficient}
 use Rattle.nc_polynomial.proofs.Shapes.{recursion_from_IsDescending}
-use Rattle.cofactor_trace.specs.declared.Row.{Row}
-use Rattle.cofactor_trace.specs.declared.Made.{Made}
+use Rattle.traced_rows.specs.declared.Row.{Row}
+use Rattle.traced_rows.specs.declared.Made.{Made}
 use Rattle.rule_reduce.specs.declared.rule.Rule.{Rule}
 use Rattle.confluence.specs.Reductions.{IsNonzero}
 use Rattle.completion_laws.specs.Rests.{IsMadeOf, IsAppended, nothing_left, rule_made}

@@ -11,10 +11,10 @@ use Rattle.coef_int.specs.declared.Overflow.{Overflow}
 use Rattle.coef_int.specs.Range.{IsCoefficient}
 use Rattle.definitions.proofs.UnitSound.{all-append}
 use Rattle.coef_int.specs.Operations.{product_of, sum_of, first_overflow}
-use Rattle.cofactor_trace.specs.declared.Origin.{Origin}
-use Rattle.cofactor_trace.specs.declared.Origin.TheVariants as origin
-use Rattle.cofactor_trace.specs.declared.Row.{Row}
-use Rattle.cofactor_trace.specs.declared.Made.{Made}
+use Rattle.traced_rows.specs.declared.Origin.{Origin}
+use Rattle.traced_rows.specs.declared.Origin.TheVariants as origin
+use Rattle.traced_rows.specs.declared.Row.{Row}
+use Rattle.traced_rows.specs.declared.Made.{Made}
 use Rattle.cofactor_trace.specs.declared.CertRow.{CertRow}
 use Rattle.cofactor_trace.specs.declared.Cofactors.{Cofactors}
 use Rattle.cofactor_trace.specs.declared.evidence.Lemma.{Lemma}

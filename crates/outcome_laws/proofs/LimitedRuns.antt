@@ -13,10 +13,10 @@ use Rattle.definitions.specs.Combination.{generator_at}
 use Rattle.nc_polynomial.proofs.Divisors.{abs_positive}
 use Rattle.nc_polynomial.specs.declared.poly.Poly.{Poly}
 use Rattle.word_orders.specs.Admissible.{Compare}
-use Rattle.cofactor_trace.specs.declared.Origin.{Origin}
-use Rattle.cofactor_trace.specs.declared.Origin.TheVariants as origin
-use Rattle.cofactor_trace.specs.declared.Row.{Row}
-use Rattle.cofactor_trace.specs.declared.Made.{Made}
+use Rattle.traced_rows.specs.declared.Origin.{Origin}
+use Rattle.traced_rows.specs.declared.Origin.TheVariants as origin
+use Rattle.traced_rows.specs.declared.Row.{Row}
+use Rattle.traced_rows.specs.declared.Made.{Made}
 use Rattle.cofactor_trace.specs.Laws.{IsUpTo, NamesUpTo}
 use Rattle.cofactor_trace.specs.Needed.{IsAmongFirst, IsRecord, AreRecords}
 use Rattle.cofactor_trace.proofs.NeededLaws.{among_more}

@@ -11,7 +11,7 @@ use Rattle.nc_polynomial.specs.Shape.{IsCanonical}
 use Rattle.nc_polynomial.specs.Content.{DividesEach}
 use Rattle.nc_polynomial.specs.declared.poly.Poly.{Poly}
 use Rattle.nc_polynomial.proofs.Divisors.{canonical_back}
-use Rattle.cofactor_trace.specs.declared.Made.{Made}
+use Rattle.traced_rows.specs.declared.Made.{Made}
 use Rattle.rule_reduce.specs.declared.rule.Rule.{Rule}
 use Rattle.rule_reduce.specs.Leading.{greatest_from, leading_term}
 use Rattle.rule_making.specs.Making.{Rest, leads_negative, negated_rows, IsMadeFrom}

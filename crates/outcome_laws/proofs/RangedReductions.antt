@@ -14,7 +14,7 @@ use Rattle.nc_polynomial.specs.Terms.{multiplied, multiplications, negated, shif
 use Rattle.nc_polynomial.specs.Faults.{unless_overflow, sized}
 use Rattle.nc_polynomial.proofs.Chains.{or_first, first-append}
 use Rattle.nc_polynomial.proofs.Shapes.{in_range-added}
-use Rattle.cofactor_trace.specs.declared.Row.{Row}
+use Rattle.traced_rows.specs.declared.Row.{Row}
 use Rattle.word_orders.specs.Admissible.{Compare}
 use Rattle.rule_reduce.specs.declared.rule.Rule.{Rule}
 use Rattle.rule_reduce.specs.declared.state.State.{State}

@@ -17,7 +17,7 @@ use Rattle.nc_polynomial.specs.Faults.{unless_overflow, has_long_word, size_faul
 use Rattle.nc_polynomial.proofs.Chains.{no_error}
 use Rattle.nc_polynomial.proofs.Shapes.{in_range-added}
 use Rattle.word_orders.specs.Admissible.{Compare}
-use Rattle.cofactor_trace.specs.declared.Row.{Row}
+use Rattle.traced_rows.specs.declared.Row.{Row}
 use Rattle.rule_reduce.specs.declared.rule.Rule.{Rule}
 use Rattle.rule_reduce.specs.declared.state.State.{State}
 use Rattle.rule_reduce.specs.declared.state.Choice.{Choice}

@@ -11,9 +11,9 @@ use Rattle.word_core.specs.Letters.{IsOver}
 use Rattle.definitions.specs.Combination.{generator_at}
 use Rattle.definitions.proofs.UnitSound.{all-append}
 use Rattle.nc_polynomial.specs.declared.fault.PolyFault.{PolyFault}
-use Rattle.cofactor_trace.specs.declared.Origin.TheVariants as origin
-use Rattle.cofactor_trace.specs.declared.Row.{Row}
-use Rattle.cofactor_trace.specs.declared.Made.{Made}
+use Rattle.traced_rows.specs.declared.Origin.TheVariants as origin
+use Rattle.traced_rows.specs.declared.Row.{Row}
+use Rattle.traced_rows.specs.declared.Made.{Made}
 use Rattle.cofactor_trace.specs.declared.halt.Halt.{Halt}
 use Rattle.rule_reduce.specs.declared.rule.Rule.{Rule}
 use Rattle.rule_reduce.specs.declared.state.State.{State}

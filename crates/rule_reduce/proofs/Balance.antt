@@ -9,8 +9,8 @@ use Rattle.definitions.proofs.Coefficients.{coefficient_of-append, coefficient_o
 use Rattle.nc_polynomial.specs.Terms.{multiplied, negated, shifted}
 use Rattle.nc_polynomial.proofs.CoefficientLaws.{coefficient_of-keep, coefficient_of-added, coefficient_of-scaled}
 use Rattle.nc_polynomial.proofs.Products.{scaled-between}
-use Rattle.cofactor_trace.specs.declared.Row.{Row}
-use Rattle.cofactor_trace.specs.Traces.{origin_poly, traced_poly, traced_sum}
+use Rattle.traced_rows.specs.declared.Row.{Row}
+use Rattle.traced_rows.specs.Traces.{origin_poly, traced_poly, traced_sum}
 use Rattle.rule_reduce.specs.declared.rule.Rule.{Rule}
 use Rattle.rule_reduce.specs.declared.state.State.{State}
 use Rattle.rule_reduce.specs.RuleLists.{polynomials_of}

@@ -5,7 +5,7 @@ use Rattle.definitions.specs.Poly.{Term}
 use Rattle.word_core.specs.Canonical.{word_cmp}
 use Rattle.word_orders.specs.Measured.{weight_cmp}
 use Rattle.nc_polynomial.specs.Shape.{IsCanonical}
-use Rattle.cofactor_trace.specs.declared.Origin.TheVariants as origin
+use Rattle.traced_rows.specs.declared.Origin.TheVariants as origin
 use Rattle.rule_reduce.specs.declared.rule.Rule.{Rule}
 use Rattle.rule_reduce.specs.declared.fault.ReduceFault.TheVariants as halt
 use Rattle.rule_reduce.specs.NormalForms.{normal_form_of}

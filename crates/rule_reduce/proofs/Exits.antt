@@ -17,7 +17,7 @@ use Rattle.nc_polynomial.proofs.Checked.{checked-fits}
 use Rattle.nc_polynomial.proofs.Shapes.{IsDescending-from_recursion, recursion_from_IsDescending, descending-scaled, nonzero-scaled, shaped-negated}
 use Rattle.nc_polynomial.proofs.Products.{shaped_shift}
 use Rattle.nc_polynomial.proofs.Chains.{shaped_add, ranged_multiply, first-fits, first-append, or_first, passes, explains-first, explains-last, none_overflows, value_is, ends, sized-value, no_error}
-use Rattle.cofactor_trace.specs.declared.Row.{Row}
+use Rattle.traced_rows.specs.declared.Row.{Row}
 use Rattle.rule_reduce.specs.declared.state.State.{State}
 use Rattle.rule_reduce.specs.Steps.{Move, moved, move_row, move_result, row_operations, multiplied_row, multiplied_state, state_operations, less_multiple, less_operations, if_sized, IsInRange}
 use Rattle.rule_reduce.proofs.LettersKept.{each-multiplied}

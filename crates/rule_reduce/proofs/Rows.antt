@@ -9,7 +9,7 @@ use Rattle.coef_int.specs.Operations.{product_of, first_overflow}
 use Rattle.nc_polynomial.specs.Faults.{checked, unless_overflow}
 use Rattle.nc_polynomial.proofs.Checked.{checked-fits}
 use Rattle.nc_polynomial.proofs.Chains.{first-fails}
-use Rattle.cofactor_trace.specs.declared.Row.{Row}
+use Rattle.traced_rows.specs.declared.Row.{Row}
 use Rattle.rule_reduce.specs.Steps.{row_operations, multiplied_row}
 
 abbrev pub join_rows : List Row → Result (List Row) PolyFault → Result (List Row) PolyFault

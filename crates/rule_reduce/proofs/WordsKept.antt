@@ -8,8 +8,8 @@ use Rattle.definitions.specs.Poly.{Term, word_eq, coefficient_of}
 use Rattle.definitions.proofs.Linear.{word_eq-true, coefficient_other}
 use Rattle.word_core.specs.Occurrence.{OccursAt}
 use Rattle.word_orders.specs.Admissible.{Compare}
-use Rattle.cofactor_trace.specs.declared.Row.{Row}
-use Rattle.cofactor_trace.specs.Traces.{origin_poly}
+use Rattle.traced_rows.specs.declared.Row.{Row}
+use Rattle.traced_rows.specs.Traces.{origin_poly}
 use Rattle.rule_reduce.specs.declared.rule.Rule.{Rule}
 use Rattle.rule_reduce.specs.declared.state.State.{State}
 use Rattle.rule_reduce.specs.declared.state.Choice.{Choice}

@@ -7,7 +7,7 @@ use Rattle.word_core.specs.Letters.{IsOver}
 use Rattle.word_orders.specs.Admissible.{Compare, IsAdmissible}
 use Rattle.word_orders.specs.Orders.{IsBelow}
 use Rattle.nc_polynomial.specs.Shape.{IsShaped}
-use Rattle.cofactor_trace.specs.Traces.{origin_poly}
+use Rattle.traced_rows.specs.Traces.{origin_poly}
 use Rattle.rule_reduce.specs.declared.rule.Rule.{Rule}
 use Rattle.rule_reduce.specs.declared.state.State.{State}
 use Rattle.rule_reduce.specs.RuleLists.{IsRule, polynomials_of}

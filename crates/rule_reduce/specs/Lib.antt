@@ -9,7 +9,7 @@ pub use Rattle.nc_polynomial.specs.Terms
 pub use Rattle.nc_polynomial.specs.Shape
 pub use Rattle.nc_polynomial.specs.Content
 pub use Rattle.nc_polynomial.specs.Faults
-pub use Rattle.cofactor_trace.specs.Traces
+pub use Rattle.traced_rows.specs.Traces
 pub use Rattle.rule_index.specs.Matches
 pub mod Leading
 pub mod RuleLists

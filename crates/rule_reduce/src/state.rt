@@ -1,6 +1,6 @@
 //! How far a reduction has come, and what its next step takes away.
 
-use cofactor_trace::Row;
+use traced_rows::Row;
 use lists::Listing;
 use word_core::Word;
 

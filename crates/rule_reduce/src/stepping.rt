@@ -15,7 +15,7 @@ use crate::parts::{back, front};
 use crate::rule::rule_with;
 use crate::state::{Choice, State};
 use coef_int::{divisor, quotient};
-use cofactor_trace::{Origin, Row};
+use traced_rows::{Origin, Row};
 use lists::Listing;
 use nc_polynomial::{Poly, PolyFault, multiply_terms, negate_terms, shift_terms};
 use std::alloc::{AllocError, Global};

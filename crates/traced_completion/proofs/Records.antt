@@ -1,9 +1,9 @@
 -- Rows of records name what is there before.
 use Rattle.std.proofs.Common.{◌≤◌, ℕ, ℤ, List, [], ◌∷◌, map, arith}
 use Rattle.std.proofs.lemmas.List.Elements.{All-weaker, All-map, All-append, All-from_recursion}
-use Rattle.cofactor_trace.specs.declared.Origin.{Origin}
-use Rattle.cofactor_trace.specs.declared.Origin.TheVariants as origin
-use Rattle.cofactor_trace.specs.declared.Row.{Row}
+use Rattle.traced_rows.specs.declared.Origin.{Origin}
+use Rattle.traced_rows.specs.declared.Origin.TheVariants as origin
+use Rattle.traced_rows.specs.declared.Row.{Row}
 use Rattle.cofactor_trace.specs.Needed.{IsAmongFirst}
 use Rattle.rule_reduce.specs.declared.state.State.{State}
 use Rattle.rule_reduce.specs.Steps.{multiplied_row}

@@ -14,7 +14,7 @@ use Rattle.nc_polynomial.specs.Arithmetic.{combined}
 use Rattle.nc_polynomial.specs.Product.{and_then}
 use Rattle.nc_polynomial.proofs.Chains.{sized-value, finished-value}
 use Rattle.nc_polynomial.proofs.Shapes.{all-scaled, all-totals, all-aligned}
-use Rattle.cofactor_trace.specs.declared.Made.{Made}
+use Rattle.traced_rows.specs.declared.Made.{Made}
 use Rattle.rule_reduce.specs.declared.rule.Rule.{Rule}
 use Rattle.rule_reduce.specs.declared.state.State.{State}
 use Rattle.rule_reduce.specs.declared.state.Choice.{Choice}

@@ -10,7 +10,7 @@ use Rattle.definitions.specs.Poly.{Term, poly_multiple}
 use Rattle.word_orders.specs.Admissible.{Compare, IsAdmissible}
 use Rattle.nc_polynomial.specs.Shape.{IsCanonical}
 use Rattle.nc_polynomial.specs.declared.poly.Poly.{Poly}
-use Rattle.cofactor_trace.specs.declared.Made.{Made}
+use Rattle.traced_rows.specs.declared.Made.{Made}
 use Rattle.cofactor_trace.specs.declared.halt.Cause.{Cause}
 use Rattle.cofactor_trace.specs.declared.halt.Place.TheVariants as place
 use Rattle.rule_reduce.specs.declared.rule.Rule.{Rule}

@@ -5,8 +5,8 @@ use Rattle.coef_int.specs.Operations.{first_overflow}
 use Rattle.definitions.specs.Poly.{Term}
 use Rattle.definitions.specs.Combination.{generator_at}
 use Rattle.word_orders.specs.Admissible.{Compare}
-use Rattle.cofactor_trace.specs.declared.Origin.TheVariants as origin
-use Rattle.cofactor_trace.specs.declared.Row.{Row}
+use Rattle.traced_rows.specs.declared.Origin.TheVariants as origin
+use Rattle.traced_rows.specs.declared.Row.{Row}
 use Rattle.rule_reduce.specs.declared.rule.Rule.{Rule}
 use Rattle.rule_reduce.specs.declared.state.State.{State}
 use Rattle.rule_reduce.specs.declared.fault.ReduceFault.{ReduceFault}

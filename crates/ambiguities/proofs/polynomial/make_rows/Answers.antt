@@ -1,11 +1,11 @@
 use Rattle.std.proofs.Common.{rules, ◌≡◌, ◌+◌, ◌-◌, pos, neg_ℤ, ◌<ℤ◌, int_div, subst, length, take, drop, Some, sym, ap₂, ◌∙◌, arith}
 use Rattle.std.proofs.lemmas.List.{take_rest}
-use Rattle.cofactor_trace.specs.declared.Origin.TheVariants as origin
-use Rattle.cofactor_trace.specs.declared.Row.{Row}
+use Rattle.traced_rows.specs.declared.Origin.TheVariants as origin
+use Rattle.traced_rows.specs.declared.Row.{Row}
 use Rattle.coef_int.specs.Range.{IsCoefficient}
 use Rattle.rule_reduce.proofs.Numbers.{rule_at-all}
 use Rattle.coef_int.specs.Divisor.{gcd_of}
-use Rattle.cofactor_trace.proofs.Numbers.{same_number}
+use Rattle.traced_rows.proofs.Numbers.{same_number}
 use Rattle.rule_reduce.specs.RuleLists.{rule_at}
 use Rattle.ambiguities.specs.Ambiguities.{overlap_word_of}
 use Rattle.ambiguities.specs.SPolynomials.{first_row, second_row}

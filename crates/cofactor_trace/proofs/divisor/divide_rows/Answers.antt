@@ -4,7 +4,7 @@ use Rattle.std.specs.Vec.Iter.{into_iter_items}
 use Rattle.std.proofs.lemmas.List.Elements.{All-tail}
 use Rattle.coef_int.specs.Range.{IsCoefficient}
 use Rattle.cofactor_trace.specs.Expansion.{divided_row}
-use Rattle.cofactor_trace.proofs.Lists.{all_push}
+use Rattle.traced_rows.proofs.Lists.{all_push}
 use Rattle.cofactor_trace.proofs.divisor.divide_rows.Goals as goal
 
 pub loop-row-init : goal.loop-row-init

@@ -4,10 +4,10 @@ use Rattle.std.proofs.lemmas.Grind.{common_steps}
 use Rattle.std.proofs.lemmas.List.{get_or_default}
 use Rattle.std.proofs.lemmas.List.Elements.{All-weaker}
 use Rattle.std.proofs.lemmas.Option.{slice_get_read}
-use Rattle.cofactor_trace.specs.declared.Row.{Row}
+use Rattle.traced_rows.specs.declared.Row.{Row}
 use Rattle.cofactor_trace.specs.Needed.{IsAmongFirst, IsRecord, is_rule}
-use Rattle.cofactor_trace.specs.declared.Made.{Made}
-use Rattle.cofactor_trace.proofs.Lists.{all_push, below}
+use Rattle.traced_rows.specs.declared.Made.{Made}
+use Rattle.traced_rows.proofs.Lists.{all_push, below}
 use Rattle.cofactor_trace.proofs.NeededLaws.{IsMarked, among_more, marked-start, marked-yes, marked-no}
 use Rattle.cofactor_trace.proofs.expansion.needed_numbers.Goals as goal
 

@@ -2,7 +2,7 @@ use Rattle.std.proofs.Common.{rules, ◌≡◌, pos, ◌++◌, ◌∷◌, [], dr
 use Rattle.std.proofs.lemmas.List.{drop_all}
 use Rattle.coef_int.specs.Range.{IsCoefficient}
 use Rattle.coef_int.specs.Operations.{first_overflow}
-use Rattle.cofactor_trace.specs.declared.Made.{Made}
+use Rattle.traced_rows.specs.declared.Made.{Made}
 use Rattle.cofactor_trace.specs.Expansion.{lcm_of, common_multiple, multiple_products}
 use Rattle.cofactor_trace.specs.Naming.{IsScaled, records}
 use Rattle.cofactor_trace.proofs.NamedRecords.{of_record, multiple_next, products_next, products_stop}

@@ -9,7 +9,7 @@ use Rattle.cofactor_trace.specs.Faults.{IsFirst, IsOverflowOf}
 use Rattle.cofactor_trace.specs.Needed.{known_from}
 use Rattle.cofactor_trace.specs.Table.{with_rows, rows_in}
 use Rattle.cofactor_trace.proofs.Divisors.{product_positive}
-use Rattle.cofactor_trace.proofs.Numbers.{same_number}
+use Rattle.traced_rows.proofs.Numbers.{same_number}
 use Rattle.cofactor_trace.proofs.RecordLaws.{IsCommon, Begins, AddsUp, at_common, at_denominator, at_limits, at_rows, at_gathering, at_end}
 use Rattle.cofactor_trace.proofs.record.expand_record.Goals as goal
 use Rattle.cofactor_trace.proofs.record.expand_record.Goals.{In_ok-denominator, In_ok-check_limits, In_ok-sums, After-from_residual, After-from_residual-in_err-check_limits, After-from_residual-in_err-sums, After-from_residual-in_err-gathered}

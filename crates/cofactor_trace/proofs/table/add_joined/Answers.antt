@@ -8,7 +8,7 @@ use Rattle.cofactor_trace.specs.declared.CertRow.{CertRow}
 use Rattle.cofactor_trace.specs.declared.fault.ExpandFault.TheVariants as fault
 use Rattle.cofactor_trace.specs.Expansion.{joined_row}
 use Rattle.cofactor_trace.specs.Table.{with_row, with_rows}
-use Rattle.cofactor_trace.proofs.Numbers.{same_number}
+use Rattle.traced_rows.proofs.Numbers.{same_number}
 use Rattle.cofactor_trace.proofs.Operations.{first_next, first_stops, first_none}
 use Rattle.cofactor_trace.proofs.table.add_joined.Goals as goal
 

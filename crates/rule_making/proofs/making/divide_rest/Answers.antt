@@ -4,7 +4,7 @@ use Rattle.std.specs.Int.RustNames.{unsigned_abs}
 use Rattle.nc_polynomial.specs.Content.{IsContent, DividesEach}
 use Rattle.std.specs.List.{All}
 use Rattle.coef_int.specs.Range.{IsCoefficient}
-use Rattle.cofactor_trace.specs.declared.Row.{Row}
+use Rattle.traced_rows.specs.declared.Row.{Row}
 use Rattle.definitions.specs.Poly.{poly_multiple}
 use Rattle.rule_making.specs.Making.{leads_negative, negated_rows}
 use Rattle.rule_making.proofs.Records.{AreNamed, negated_named}

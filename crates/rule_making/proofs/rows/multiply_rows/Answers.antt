@@ -4,7 +4,7 @@ use Rattle.std.proofs.lemmas.List.{drop_all}
 use Rattle.std.proofs.lemmas.List.Elements.{All-set}
 use Rattle.coef_int.specs.Range.{IsCoefficient}
 use Rattle.coef_int.specs.Operations.{first_overflow, product_of}
-use Rattle.cofactor_trace.specs.declared.Row.{Row}
+use Rattle.traced_rows.specs.declared.Row.{Row}
 use Rattle.rule_reduce.specs.Steps.{multiplied_row, row_operations}
 use Rattle.rule_making.proofs.RowLists.{written_more, all_written, still_there, none_before, overflow_at}
 use Rattle.rule_making.proofs.rows.multiply_rows.Goals as goal

@@ -2,7 +2,7 @@ use Rattle.std.proofs.Common.{rules, ◌≡◌, ◌<◌, get_or, length, sym, su
 use Rattle.std.specs.List.{All}
 use Rattle.std.proofs.lemmas.List.Elements.{All-set}
 use Rattle.coef_int.specs.Range.{IsCoefficient}
-use Rattle.cofactor_trace.specs.declared.Row.{Row}
+use Rattle.traced_rows.specs.declared.Row.{Row}
 use Rattle.rule_making.specs.Making.{negated_row}
 use Rattle.rule_making.proofs.RowLists.{written_more}
 use Rattle.rule_making.proofs.rows.negate_rows.Goals as goal

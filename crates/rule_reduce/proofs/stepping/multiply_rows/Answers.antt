@@ -7,7 +7,7 @@ use Rattle.coef_int.specs.Range.{IsCoefficient}
 use Rattle.coef_int.specs.Operations.{product_of}
 use Rattle.nc_polynomial.specs.declared.fault.PolyFault.TheVariants as fault
 use Rattle.nc_polynomial.specs.Faults.{checked}
-use Rattle.cofactor_trace.proofs.Lists.{all_push}
+use Rattle.traced_rows.proofs.Lists.{all_push}
 use Rattle.rule_reduce.specs.Steps.{row_operations, multiplied_row}
 use Rattle.rule_reduce.proofs.Rows.{join_rows, join_rows-none, row-fits, row-fails}
 use Rattle.rule_reduce.proofs.stepping.multiply_rows.Goals as goal

@@ -1,7 +1,7 @@
 use Rattle.std.proofs.Common.{rules, ◌≡◌, ◌+◌, ◌++◌, [], ◌∷◌, Ok, Err, sym, ap, ◌∙◌, subst}
 use Rattle.coef_int.specs.Range.{IsCoefficient}
-use Rattle.cofactor_trace.specs.declared.Row.{Row}
-use Rattle.cofactor_trace.proofs.Lists.{all_push}
+use Rattle.traced_rows.specs.declared.Row.{Row}
+use Rattle.traced_rows.proofs.Lists.{all_push}
 use Rattle.nc_polynomial.specs.Faults.{checked, Explains}
 use Rattle.rule_reduce.specs.Steps.{move_row, move_of, move_result, multiplied_state, state_operations, IsInRange}
 use Rattle.rule_reduce.proofs.Exits.{less, exit_multiplied, exit_subtracted, step_ends, memory-explains}

@@ -1,6 +1,6 @@
 use Rattle.std.proofs.Common.{rules, ◌≡◌, ◌<◌, ◌-◌, length, get_or, List, Err, sym, subst, arith}
 use Rattle.rule_reduce.specs.declared.fault.ReduceFault.TheVariants.{Memory}
-use Rattle.cofactor_trace.specs.declared.Row.{Row}
+use Rattle.traced_rows.specs.declared.Row.{Row}
 use Rattle.adjoint_rules.specs.Problem.{polynomials}
 use Rattle.rule_making.specs.Making.{Recorded, IsExtended}
 use Rattle.traced_completion.specs.Works.{generator_rows}

@@ -1,8 +1,8 @@
 -- Rows over generators and rules, and their sum.
 use Rattle.std.specs.Prelude.{List, [], ◌∷◌}
-use Rattle.cofactor_trace.specs.declared.Origin.{Origin}
-use Rattle.cofactor_trace.specs.declared.Origin.TheVariants as origin
-use Rattle.cofactor_trace.specs.declared.Row.{Row}
+use Rattle.traced_rows.specs.declared.Origin.{Origin}
+use Rattle.traced_rows.specs.declared.Origin.TheVariants as origin
+use Rattle.traced_rows.specs.declared.Row.{Row}
 use Rattle.definitions.specs.Poly.{Poly, poly_sum, poly_multiple, poly_between}
 use Rattle.definitions.specs.Combination.{generator_at}
 
