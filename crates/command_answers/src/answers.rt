@@ -56,7 +56,7 @@ fn write_statement(alloc: Global, call: &Call) -> Result<Vec<u8>, AllocError>
     ensures fits { IfOk result (λ text. length text.items ≤ statement_limit) }
 {
     match call {
-        Call::Bench(bench) => write_bench(alloc, bench.size as u32),
+        Call::Bench(bench) => write_bench(alloc, bench.size),
         _ => Ok(Vec::new(alloc)),
     }
 }
@@ -95,23 +95,22 @@ fn answer_problem<R: Threads + Sync, G: Gate + Sync>(
     match call {
         Call::Prove(call) => {
             let asked = asked_by(call);
-            let workers = call.workers as u32;
+            let workers = call.workers;
             report_claims(rt, alloc, problem, asked, Extent::Report, workers, gate)
         }
         Call::Check(_) => judge_evidence(alloc, problem, evidence),
         Call::Refute(call) => {
-            report_search(rt, alloc, problem, call.seed, call.workers as u32, gate)
+            report_search(rt, alloc, problem, call.seed, call.workers, gate)
         }
         Call::Model(_) => judge_models(alloc, problem, evidence),
         Call::Bench(call) => {
-            let workers = call.workers as u32;
             report_claims(
                 rt,
                 alloc,
                 problem,
                 ASKED_BY_BENCH,
                 Extent::Heads,
-                workers,
+                call.workers,
                 gate,
             )
         }

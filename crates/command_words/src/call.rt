@@ -7,15 +7,15 @@ pub struct ProveCall {
     /// The statement file.
     pub file: Text,
     /// How many ambiguities may be treated, from 1 to 1,000,000.
-    pub pairs: u64,
+    pub pairs: u32,
     /// How many steps a reduction may make, from 1 to 1,000,000.
-    pub steps: u64,
+    pub steps: u32,
     /// The number of threads, from 1 to 64.
-    pub workers: u64,
+    pub workers: u32,
     /// The seed of the search for models.
     pub seed: u64,
     /// The format of certificates, 1 or 2.
-    pub format: u64,
+    pub format: u32,
     /// Whether models are searched where a claim is left undecided.
     pub models: bool,
 }
@@ -26,7 +26,7 @@ pub struct RefuteCall {
     /// The statement file.
     pub file: Text,
     /// The number of threads, from 1 to 64.
-    pub workers: u64,
+    pub workers: u32,
     /// The seed of the search for models.
     pub seed: u64,
 }
@@ -35,9 +35,9 @@ pub struct RefuteCall {
 #[derive(Drop)]
 pub struct BenchCall {
     /// The size of the statement, from 1 to 60.
-    pub size: u64,
+    pub size: u32,
     /// The number of threads, from 1 to 64.
-    pub workers: u64,
+    pub workers: u32,
 }
 
 /// A command of a statement file and a file of evidence.

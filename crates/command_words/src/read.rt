@@ -27,6 +27,14 @@ fn number_of(matches: &ArgMatches, id: &str) -> u64
     matches.get_one::<u64>(id).unwrap()
 }
 
+// A number that 32 bits hold.
+fn small_number_of(matches: &ArgMatches, id: &str) -> u32
+    requires { HasNumber id.now 0 4294967295 (rows_of (found_of matches.now)) }
+    ensures { number_of id.now (rows_of (found_of matches.now)) ≡ Some result }
+{
+    number_of(matches, id) as u32
+}
+
 fn flag_of(matches: &ArgMatches, id: &str) -> bool
     requires { HasFlag id.now (rows_of (found_of matches.now)) }
     ensures { flag_of id.now (rows_of (found_of matches.now)) ≡ Some result }
@@ -40,11 +48,11 @@ fn prove_of(alloc: Global, matches: &ArgMatches) -> Result<ProveCall, AllocError
 {
     Ok(ProveCall {
         file: text_of(alloc, matches, "file")?,
-        pairs: number_of(matches, "pairs"),
-        steps: number_of(matches, "steps"),
-        workers: number_of(matches, "workers"),
+        pairs: small_number_of(matches, "pairs"),
+        steps: small_number_of(matches, "steps"),
+        workers: small_number_of(matches, "workers"),
         seed: number_of(matches, "seed"),
-        format: number_of(matches, "format"),
+        format: small_number_of(matches, "format"),
         models: !flag_of(matches, "no-models"),
     })
 }
@@ -55,7 +63,7 @@ fn refute_of(alloc: Global, matches: &ArgMatches) -> Result<RefuteCall, AllocErr
 {
     Ok(RefuteCall {
         file: text_of(alloc, matches, "file")?,
-        workers: number_of(matches, "workers"),
+        workers: small_number_of(matches, "workers"),
         seed: number_of(matches, "seed"),
     })
 }
@@ -65,8 +73,8 @@ fn bench_of(matches: &ArgMatches) -> BenchCall
     ensures { GivesBench (rows_of (found_of matches.now)) result }
 {
     BenchCall {
-        size: number_of(matches, "size"),
-        workers: number_of(matches, "workers"),
+        size: small_number_of(matches, "size"),
+        workers: small_number_of(matches, "workers"),
     }
 }
 

@@ -71,7 +71,7 @@ struct Said {
 }
 
 // The format with this number.
-fn format_of(number: u64) -> Format
+fn format_of(number: u32) -> Format
     ensures { result ≡ format_of number }
 {
     match number {
@@ -87,8 +87,8 @@ pub fn asked_by(call: &ProveCall) -> Asked
 {
     Asked {
         budget: Budget {
-            pairs: call.pairs as u32,
-            steps: call.steps as u32,
+            pairs: call.pairs,
+            steps: call.steps,
         },
         form: format_of(call.format),
         seed: call.seed,
