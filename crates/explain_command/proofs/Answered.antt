@@ -29,7 +29,6 @@ use Rattle.equation_chain.proofs.Sums.{steps_add_up}
 use Rattle.equation_chain.proofs.Typed.{steps_typed}
 use Rattle.equation_chain.proofs.Vanishing.{lines_vanish}
 use Rattle.command_shape.specs.Ending.{Ending}
-use Rattle.command_shape.specs.Statement.{IsStated}
 use Rattle.command_shape.proofs.BlockTexts.{IsKind, text_answered, text_answered_once, text_status, first_answered}
 use Rattle.command_shape.proofs.Statements.{stated_leads}
 use Rattle.command_shape.proofs.Owed.{OwesEnding, owed_over, zero_or_past}
@@ -38,7 +37,7 @@ use Rattle.explain_command.specs.declared.refusal.ExplainRefusal.{ExplainRefusal
 use Rattle.explain_command.specs.declared.refusal.ExplainRefusal.TheVariants.{HasLemmas, HasFault}
 use Rattle.explain_command.specs.Refusals.{IsRefused, IsMemory, fault_text, refusal_text}
 use Rattle.explain_command.specs.Texts.{explained_text}
-use Rattle.explain_command.specs.Answers.{IsExplained, AnswersChains, AnswersExplain, explained_lines}
+use Rattle.explain_command.specs.Answers.{IsExplained, AnswersChains, AnswersExplain}
 use Rattle.explain_command.specs.Says.{ExplainedMeans, BlockMeans, SaysExplained}
 
 -- one outcome for each block

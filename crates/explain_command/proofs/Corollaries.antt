@@ -1,5 +1,5 @@
 -- What users ask of `explain`.
-use Rattle.std.proofs.Common.{◌≡◌, ℕ, List, [], refl, sym, subst, ◌∙◌}
+use Rattle.std.proofs.Common.{List, [], refl, sym, subst, ◌∙◌}
 use Rattle.std.proofs.lemmas.List.{append-nil}
 use Rattle.definitions.specs.Category.{Structure}
 use Rattle.cofactor_trace.specs.declared.evidence.Evidence.{Evidence}

@@ -1,5 +1,4 @@
 -- Refusals name letters of the quiver alone.
-use Rattle.std.proofs.Common.{◌≡◌}
 use Rattle.cofactor_trace.specs.declared.Certificate.{Certificate}
 use Rattle.cofactor_trace.specs.declared.evidence.Evidence.{Evidence}
 use Rattle.cofactor_trace.specs.declared.evidence.Evidence.TheVariants.{Plain, Lemmas}

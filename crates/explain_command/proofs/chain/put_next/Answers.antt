@@ -1,8 +1,6 @@
-use Rattle.std.proofs.Common.{rules, ◌≡◌, ◌+◌, ◌++◌, ℕ, List, Some, true, false, sym, subst, ap, ◌∙◌}
-use Rattle.std.specs.List.{All}
+use Rattle.std.proofs.Common.{rules, ◌≡◌, ◌+◌, ◌++◌, ℕ, List, Some, false, sym, subst, ap, ◌∙◌}
 use Rattle.std.proofs.lemmas.List.Elements.{recursion_from_All}
 use Rattle.definitions.specs.Poly.{Term}
-use Rattle.cofactor_trace.specs.declared.CertRow.{CertRow}
 use Rattle.certificate_text.specs.Evidence.{IsRowOver}
 use Rattle.equation_chain.specs.Steps.{is_step}
 use Rattle.equation_chain.specs.Faults.{line_before}
