@@ -12,4 +12,5 @@ pub mod Exits
 pub mod Leads
 pub mod Occurrences
 pub mod Agreement
+pub mod Agreeing
 pub mod Marked
