@@ -4,14 +4,24 @@ use Rattle.std.proofs.lemmas.List.{take-append-drop, length-take-le, length-drop
 use Rattle.word_core.specs.Occurrence.{OccursAt}
 use Rattle.word_core.specs.Overlap.{OverlapsAt}
 use Rattle.ambiguities.specs.Agreement.{Agree}
-use Rattle.ambiguities.proofs.Occurrences.{front_is, occurs_by_letters, letters_by_occurrence}
+use Rattle.ambiguities.proofs.Occurrences.{front_is}
 
 module _ (word other : List ℕ) (place : ℕ) where
   pub occurs_by_agreement : place + length other ≤ length word → Agree word other place → OccursAt word other place
-  occurs_by_agreement fits agree = occurs_by_letters word other place fits (λ k inside. agree k (omega (arith, fits, inside)) inside)
+  occurs_by_agreement fits agree = record {
+    before = take place word;
+    after = drop (length other) (drop place word);
+    splits = sym (take-append-drop place word)
+        ∙ ap (λ rest. take place word ++ rest) (sym (take-append-drop (length other) (drop place word)) ∙ ap (λ front. front ++ drop (length other) (drop place word))
+        (front_is word other place fits (λ k inside. agree k (omega (arith, fits, inside)) inside)));
+    at_place = length-take-le place word (omega (arith, fits));
+  }
 
   pub agreement_by_occurrence : OccursAt word other place → Agree word other place
-  agreement_by_occurrence at k in_word in_other = letters_by_occurrence word other place at k in_other
+  agreement_by_occurrence at k in_word in_other =
+      ap₂ (λ w n. get_or w (n + k) 0) at.splits (sym at.at_place)
+      ∙ get_or-append-add at.before (other ++ at.after) k 0
+      ∙ get_or_append_left other at.after 0 k in_other
 
   pub overlaps_by_agreement : 0 < place → place < length word → length word < place + length other → Agree word other place → OverlapsAt word other place
   overlaps_by_agreement above inside longer agree = record {

@@ -1,8 +1,8 @@
 -- Lists with exactly the items that have a property, each before all later ones.
-use Rattle.std.proofs.Common.{◌≡◌, ◌↔◌, ◌⊎◌, inl, inr, ℕ, ◌+◌, ◌-◌, ◌<◌, ◌≤◌, List, [], ◌∷◌, ◌++◌, map, length, get_or, refl, sym, ap, ◌∙◌, subst, arith}
+use Rattle.std.proofs.Common.{◌≡◌, ◌↔◌, ◌⊎◌, inl, inr, ℕ, ◌+◌, ◌-◌, ◌<◌, ◌≤◌, List, [], ◌∷◌, ◌++◌, length, get_or, refl, sym, ap, ◌∙◌, subst, arith}
 use Rattle.std.specs.List.{All, AllPairs, Contains}
 use Rattle.std.proofs.lemmas.Bool.{cases_lt}
-use Rattle.std.proofs.lemmas.List.{append-nil, append_assoc, length-append, length-map, get_or_append_left, get_or-append_right, get_or-map}
+use Rattle.std.proofs.lemmas.List.{append-nil, append_assoc, length-append, get_or_append_left, get_or-append_right}
 use Rattle.std.proofs.lemmas.List.Elements.{Contains-append_left, Contains-append_right, Contains-append_cases, Contains-get_or, All-weaker, All-contains_itself}
 use Rattle.ambiguities.specs.declared.ambiguity.Ambiguity.{Ambiguity}
 use Rattle.ambiguities.specs.Listed.{IsBefore, ListsExactly, IsGrown}
@@ -67,66 +67,6 @@ module _ {X : Type 0} (Before : X → X → Type 0) where
   -- each item has what follows from the property
   pub exactly-all : (P Q : X → Type 0) (xs : List X) → ListsExactly Before P xs → ((x : X) → P x → Q x) → All Q xs
   exactly-all P Q xs exact follows = All-weaker (Contains xs) Q (λ x at. follows x ((exact.members x).0 at)) xs (All-contains_itself xs)
-
-  -- the images of a list of numbers, by a function that keeps the order
-  module _ (f : ℕ → X) where
-    contains-map : (xs : List ℕ) (n : ℕ) → Contains xs n → Contains (map f xs) (f n)
-    contains-map xs n at = (at.0, omega (arith, at.1, length-map xs f), get_or-map f xs at.0 n (f n) at.1 ∙ ap f at.2)
-
-    pub record Image (P : ℕ → Type 0) (x : X) : Type 0 where
-      pub number : ℕ
-      pub held : P number
-      pub same : f number ≡ x
-
-    image-contained : (P : ℕ → Type 0) (xs : List ℕ) → ((n : ℕ) → Contains xs n → P n) → (x : X) → Contains (map f xs) x → Image P x
-    image-contained P xs each x at =
-        let inside : at.0 < length xs = omega (arith, at.1, length-map xs f) in
-        record { number = get_or xs at.0 0; held = each (get_or xs at.0 0) (Contains-get_or xs at.0 0 inside); same = sym (get_or-map f xs at.0 0 x inside) ∙ at.2 }
-
-    pub exactly-map : (P : ℕ → Type 0) (Q : X → Type 0) (xs : List ℕ) → ListsExactly (λ m n. m < n) P xs → ((m n : ℕ) → m < n → Before (f m) (f n)) → ((n : ℕ) → P n → Q (f n)) → ((x : X) → Q x → Image P x)
-        → ListsExactly Before Q (map f xs)
-    exactly-map P Q xs exact keeps into back = record {
-      members = λ x. (λ at. from_image x (image-contained P xs (λ n. (exact.members n).0) x at), λ held. to_list x (back x held));
-      ascending = λ i j d before inside.
-          let j_in : j < length xs = omega (arith, inside, length-map xs f) in
-          let i_in : i < length xs = omega (arith, j_in, before) in
-          subst (λ (p : X × X). Before p.0 p.1) (λ n. (sym (get_or-map f xs i 0 d i_in) n, sym (get_or-map f xs j 0 d j_in) n)) (keeps (get_or xs i 0) (get_or xs j 0) (exact.ascending i j 0 before j_in));
-    }
-      where
-        from_image : (x : X) → Image P x → Q x
-        from_image x image = subst Q image.same (into image.number image.held)
-
-        to_list : (x : X) → Image P x → Contains (map f xs) x
-        to_list x image = subst (Contains (map f xs)) image.same (contains-map xs image.number ((exact.members image.number).1 image.held))
-
--- the numbers with a property, in turn
-module _ (P : ℕ → Type 0) where
-  abbrev pub PassedBy : ℕ → ℕ → Type 0
-  PassedBy n s = P s × (s < n)
-
-  pub passed-one : (n : ℕ) (xs : List ℕ) → P n → ListsExactly (λ (s t : ℕ). s < t) (PassedBy n) xs → ListsExactly (λ (s t : ℕ). s < t) (PassedBy (n + 1)) (xs ++ n ∷ [])
-  passed-one n xs held exact =
-      exactly-append (λ (s t : ℕ). s < t) (PassedBy n) (λ s. n ≡ s) (PassedBy (n + 1)) xs (n ∷ []) exact (exactly-one (λ (s t : ℕ). s < t) n)
-      (λ s t before same. omega (arith, before.1, same))
-      (λ s. (λ passed. split s passed (cases_lt s n), join s))
-    where
-      split : (s : ℕ) → PassedBy (n + 1) s → (s < n) ⊎ (n ≤ s) → PassedBy n s ⊎ (n ≡ s)
-      split s passed (inl less) = inl (passed.0, less)
-      split s passed (inr past) = inr (omega (arith, passed.1, past))
-
-      join : (s : ℕ) → PassedBy n s ⊎ (n ≡ s) → PassedBy (n + 1) s
-      join s (inl passed) = (passed.0, omega (arith, passed.1))
-      join s (inr same) = (subst P same held, omega (arith, same))
-
-  pub passed-none : (n : ℕ) (xs : List ℕ) → (P n → ⊥) → ListsExactly (λ (s t : ℕ). s < t) (PassedBy n) xs → ListsExactly (λ (s t : ℕ). s < t) (PassedBy (n + 1)) xs
-  passed-none n xs not_held exact = exactly-same (λ (s t : ℕ). s < t) (PassedBy n) (PassedBy (n + 1)) xs (λ s. (λ passed. before s passed (cases_lt s n), λ passed. (passed.0, omega (arith, passed.1)))) exact
-    where
-      before : (s : ℕ) → PassedBy (n + 1) s → (s < n) ⊎ (n ≤ s) → PassedBy n s
-      before s passed (inl less) = (passed.0, less)
-      before s passed (inr past) = let same : s ≡ n = omega (arith, passed.1, past) in absurd (not_held (subst P same passed.0))
-
-  pub passed-all : (n : ℕ) (xs : List ℕ) → ((s : ℕ) → P s → s < n) → ListsExactly (λ (s t : ℕ). s < t) (PassedBy n) xs → ListsExactly (λ (s t : ℕ). s < t) P xs
-  passed-all n xs bounded exact = exactly-same (λ (s t : ℕ). s < t) (PassedBy n) P xs (λ s. (λ held. (held, bounded s held), λ passed. passed.0)) exact
 
 -- lists that grow
 pub grown-append : (P Q R : Ambiguity → Type 0) (old mid new : List Ambiguity) → IsGrown P old mid → IsGrown Q mid new → ((a b : Ambiguity) → P a → Q b → IsBefore a b) → ((a : Ambiguity) → R a ↔ (P a ⊎ Q a))

@@ -10,6 +10,8 @@ pub mod Bounds
 pub mod Signatures
 pub mod Exits
 pub mod Leads
+pub mod Short
 pub mod Occurrences
 pub mod Agreement
+pub mod Agreeing
 pub mod Marked

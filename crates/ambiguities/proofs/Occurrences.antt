@@ -1,6 +1,6 @@
--- A word occurs at a place exactly where its letters do.
-use Rattle.std.proofs.Common.{◌≡◌, ℕ, ◌+◌, ◌<◌, ◌≤◌, List, ◌++◌, length, take, drop, get_or, sym, ap, ap₂, ◌∙◌, arith}
-use Rattle.std.proofs.lemmas.List.{take-append-drop, length-take-le, length-drop, length-append, same_lists, get_or-take, get_or-drop, get_or_default, get_or-append-add, get_or_append_left}
+-- Where a word can occur in another one, or overlap it.
+use Rattle.std.proofs.Common.{◌≡◌, ℕ, ◌+◌, ◌<◌, ◌≤◌, List, length, take, drop, get_or, ap, ◌∙◌, arith}
+use Rattle.std.proofs.lemmas.List.{length-take-le, length-drop, length-append, same_lists, get_or-take, get_or-drop, get_or_default}
 use Rattle.word_core.specs.Occurrence.{OccursAt}
 use Rattle.word_core.specs.Overlap.{OverlapsAt}
 use Rattle.word_core.proofs.Places.{OccursAt-length}
@@ -21,24 +21,14 @@ module _ (word sub : List ℕ) (place : ℕ) where
           ∙ agree k k_in
           ∙ get_or_default sub k 0 d k_in
 
-  pub occurs_by_letters : place + length sub ≤ length word → ((k : ℕ) → k < length sub → get_or word (place + k) 0 ≡ get_or sub k 0) → OccursAt word sub place
-  occurs_by_letters fits agree = record {
-    before = take place word;
-    after = drop (length sub) (drop place word);
-    splits = sym (take-append-drop place word)
-        ∙ ap (λ rest. take place word ++ rest) (sym (take-append-drop (length sub) (drop place word)) ∙ ap (λ front. front ++ drop (length sub) (drop place word)) (front_is fits agree));
-    at_place = length-take-le place word (omega (arith, fits));
-  }
-
-  pub letters_by_occurrence : OccursAt word sub place → (k : ℕ) → k < length sub → get_or word (place + k) 0 ≡ get_or sub k 0
-  letters_by_occurrence at k inside =
-      ap₂ (λ w n. get_or w (n + k) 0) at.splits (sym at.at_place)
-      ∙ get_or-append-add at.before (sub ++ at.after) k 0
-      ∙ get_or_append_left sub at.after 0 k inside
-
   pub occurs_within : OccursAt word sub place → place < length word + 1
   occurs_within at = omega (arith, OccursAt-length word sub place at)
 
 -- an overlap begins inside the left word
 pub overlaps_within : (p q : List ℕ) (place : ℕ) → OverlapsAt p q place → place < length p
 overlaps_within p q place at = omega (arith, ap length at.left_splits, length-append at.before at.shared, at.at_place, at.shared_letters)
+
+-- and the right word goes on behind it
+pub overlaps_past : (p q : List ℕ) (place : ℕ) → OverlapsAt p q place → length p < place + length q
+overlaps_past p q place at =
+    omega (arith, ap length at.left_splits, length-append at.before at.shared, at.at_place, ap length at.right_splits, length-append at.shared at.after, at.after_letters)

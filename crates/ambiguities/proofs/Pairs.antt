@@ -1,5 +1,5 @@
 -- The ambiguities of two rules: those of each kind, at their places.
-use Rattle.std.proofs.Common.{◌≡◌, ◌⊎◌, inl, inr, ℕ, ◌<◌, List, ◌++◌, map, Some, refl, sym, ap, ◌∙◌, subst, arith}
+use Rattle.std.proofs.Common.{◌≡◌, ◌≢◌, ◌⊎◌, inl, inr, ℕ, ◌+◌, ◌<◌, ◌≤◌, List, length, Some, refl, sym, ap, ◌∙◌, subst, arith}
 use Rattle.std.proofs.lemmas.Option.{same_Some}
 use Rattle.rule_reduce.specs.declared.rule.Rule.{Rule}
 use Rattle.rule_reduce.specs.RuleLists.{rule_at}
@@ -7,8 +7,12 @@ use Rattle.ambiguities.specs.declared.ambiguity.Kind.{Kind}
 use Rattle.ambiguities.specs.declared.ambiguity.Kind.TheVariants.{Overlap, Inclusion}
 use Rattle.ambiguities.specs.declared.ambiguity.Ambiguity.{Ambiguity}
 use Rattle.ambiguities.specs.Ambiguities.{MeetsAs}
-use Rattle.ambiguities.specs.Listed.{IsBefore, kind_number, ListsExactly, IsGrown, IsOfPair, ambiguity_at}
-use Rattle.ambiguities.proofs.Exactly.{exactly-map, grown-append, grown-same}
+use Rattle.ambiguities.specs.Listed.{IsBefore, kind_number, IsGrown, IsOfPair}
+use Rattle.ambiguities.specs.Agreement.{Agree, IsAgreement}
+use Rattle.word_core.proofs.Places.{OccursAt-length}
+use Rattle.ambiguities.proofs.Occurrences.{overlaps_within, overlaps_past}
+use Rattle.ambiguities.proofs.Agreement.{occurs_by_agreement, agreement_by_occurrence, overlaps_by_agreement, agreement_by_overlap}
+use Rattle.ambiguities.proofs.Exactly.{grown-append, grown-same}
 
 module _ (rules : List Rule) (i j : ℕ) (first second : Rule) (first_is : rule_at rules i ≡ Some first) (second_is : rule_at rules j ≡ Some second) where
   pub record OfKind (kind : Kind) (a : Ambiguity) : Type 0 where
@@ -18,13 +22,7 @@ module _ (rules : List Rule) (i j : ℕ) (first second : Rule) (first_is : rule_
   abbrev pub MeetAt : Kind → ℕ → Type 0
   MeetAt kind place = MeetsAs kind i j first.lead second.lead place
 
-  -- an ambiguity of the two rules, and where their words meet
-  made : (kind : Kind) (place : ℕ) → MeetAt kind place → OfKind kind (ambiguity_at i j kind place)
-  made kind place meets = record {
-    of_kind = refl;
-    of_pair = (record { first = first; second = second; first_numbered = first_is; second_numbered = second_is; meets = meets }, refl, refl);
-  }
-
+  -- where the two words meet
   met : (kind : Kind) (a : Ambiguity) → OfKind kind a → MeetAt kind a.place
   met kind a of =
       let is = of.of_pair.0 in
@@ -33,18 +31,46 @@ module _ (rules : List Rule) (i j : ℕ) (first second : Rule) (first_is : rule_
       subst (λ (t : Kind × ℕ × ℕ × Rule × Rule). MeetsAs t.0 t.1 t.2 t.3.lead t.4.lead a.place)
       (λ n. (of.of_kind n, of.of_pair.1 n, of.of_pair.2 n, same_first n, same_second n)) is.meets
 
-  itself : (kind : Kind) (a : Ambiguity) → OfKind kind a → ambiguity_at i j kind a.place ≡ a
-  itself kind a of = λ n. record { i = sym of.of_pair.1 n; j = sym of.of_pair.2 n; kind = sym of.of_kind n; place = a.place }
-
-  pub grown-kind : (kind : Kind) (places : List ℕ) (old new : List Ambiguity) → ListsExactly (λ s t. s < t) (MeetAt kind) places → new ≡ old ++ map (ambiguity_at i j kind) places → IsGrown (OfKind kind) old new
-  grown-kind kind places old new exact pushed = record {
-    more = map (ambiguity_at i j kind) places;
-    appended = pushed;
-    exact = exactly-map IsBefore (ambiguity_at i j kind) (MeetAt kind) (OfKind kind) places exact
-        (λ s t less. inr (refl, inr (refl, inr (refl, less))))
-        (made kind)
-        (λ a of. record { number = a.place; held = met kind a of; same = itself kind a of });
+  -- an ambiguity of the two rules where they do
+  made : (kind : Kind) (a : Ambiguity) → a.i ≡ i → a.j ≡ j → a.kind ≡ kind → MeetAt kind a.place → OfKind kind a
+  made kind a i_is j_is kind_is meets = record {
+    of_kind = kind_is;
+    of_pair = (
+      record {
+        first = first;
+        second = second;
+        first_numbered = ap (rule_at rules) i_is ∙ first_is;
+        second_numbered = ap (rule_at rules) j_is ∙ second_is;
+        meets = subst (λ (t : Kind × ℕ × ℕ). MeetsAs t.0 t.1 t.2 first.lead second.lead a.place) (λ n. (sym kind_is n, sym i_is n, sym j_is n)) meets;
+      },
+      i_is,
+      j_is,
+    );
   }
+
+  -- where the words agree at some places, and meet at no others
+  grown-kind : (kind : Kind) (low high : ℕ) (old new : List Ambiguity) → ((place : ℕ) → low ≤ place → place < high → Agree first.lead second.lead place → MeetAt kind place)
+      → ((place : ℕ) → MeetAt kind place → (low ≤ place) × (place < high) × Agree first.lead second.lead place)
+      → IsGrown (IsAgreement i j kind first.lead second.lead low high) old new → IsGrown (OfKind kind) old new
+  grown-kind kind low high old new into back grown = grown-same (IsAgreement i j kind first.lead second.lead low high) (OfKind kind) old new
+      (λ a. (λ of. found a of (back a.place (met kind a of)), λ is. made kind a is.first is.second is.of_kind (into a.place is.reached is.below is.agree))) grown
+    where
+      found : (a : Ambiguity) → OfKind kind a → (low ≤ a.place) × (a.place < high) × Agree first.lead second.lead a.place → IsAgreement i j kind first.lead second.lead low high a
+      found a of at = record { first = of.of_pair.1; second = of.of_pair.2; of_kind = of.of_kind; reached = at.0; below = at.1; agree = at.2 }
+
+  -- overlaps from the first place on from which the second word goes on behind the first
+  pub grown-overlaps : (low : ℕ) (old new : List Ambiguity) → 0 < low → length first.lead < low + length second.lead → ((n : ℕ) → 0 < n → length first.lead < n + length second.lead → low ≤ n)
+      → IsGrown (IsAgreement i j Overlap first.lead second.lead low (length first.lead)) old new → IsGrown (OfKind Overlap) old new
+  grown-overlaps low old new some longer least = grown-kind Overlap low (length first.lead) old new
+      (λ n reached below agree. overlaps_by_agreement first.lead second.lead n (omega (arith, some, reached)) below (omega (arith, longer, reached)) agree)
+      (λ n at. (least n (omega (arith, ap length at.left_splits, at.at_place, at.before_letters)) (overlaps_past first.lead second.lead n at), overlaps_within first.lead second.lead n at, agreement_by_overlap first.lead second.lead n at))
+
+  -- inclusions up to the last place from which it doesn't
+  pub grown-inclusions : (high : ℕ) (old new : List Ambiguity) → i ≢ j → ((n : ℕ) → n < high → n + length second.lead ≤ length first.lead) → ((n : ℕ) → n + length second.lead ≤ length first.lead → n < high)
+      → IsGrown (IsAgreement i j Inclusion first.lead second.lead 0 high) old new → IsGrown (OfKind Inclusion) old new
+  grown-inclusions high old new apart fits past = grown-kind Inclusion 0 high old new
+      (λ n _ below agree. (apart, occurs_by_agreement first.lead second.lead n (fits n below) agree))
+      (λ n meets. (omega arith, past n (omega (arith, OccursAt-length first.lead second.lead n meets.1)), agreement_by_occurrence first.lead second.lead n meets.1))
 
   overlaps_first : (a b : Ambiguity) → OfKind Overlap a → OfKind Inclusion b → IsBefore a b
   overlaps_first a b of_a of_b =

@@ -1,7 +1,10 @@
 //! Marks of the letters of a word, by which words with no letter in common are told apart at once.
-ghost use Rattle.std.specs.Prelude.{◌≡◌, ◌<◌, false, length};
-ghost use Rattle.ambiguities.specs.Agreement.{HasMarks, is_marked};
+ghost use Rattle.std.specs.Prelude.{◌≡◌, ◌<◌, length, map, IfOk};
+ghost use Rattle.std.specs.List.{All};
+ghost use Rattle.ambiguities.specs.Agreement.{HasMarks, first_of, is_marked};
 
+use rule_reduce::Rule;
+use std::alloc::{AllocError, Global};
 use word_core::Word;
 
 // The number of marks. A letter's mark is the remainder of its number by it.
@@ -18,9 +21,21 @@ pub(crate) fn marks_of(word: &Word) -> [bool; MARKS]
     marks
 }
 
-// Whether the word is empty or its first letter is marked.
-pub(crate) fn may_begin(marks: &[bool; MARKS], word: &Word) -> bool
-    ensures { result ≡ false → (0 < length word.now) × (is_marked marks.now word.now 0 ≡ false) }
+// Whether the letter with this number is marked.
+pub(crate) fn has_mark(marks: &[bool; MARKS], letter: u16) -> bool
+    ensures { result ≡ is_marked marks.now letter }
 {
-    word.len() == 0 || marks[word.letter(0).0 as usize % MARKS]
+    marks[letter as usize % MARKS]
+}
+
+// The first letter of each leading word.
+pub(crate) fn first_letters(alloc: Global, rules: &[Rule]) -> Result<Vec<u16>, AllocError>
+    requires { All (λ g. 0 < length g.lead) rules.now }
+    ensures { IfOk result (λ letters. letters.items ≡ map (λ g. first_of g.lead) rules.now) }
+{
+    let mut letters = Vec::with_capacity(alloc, rules.len())?;
+    for rule in rules {
+        letters.push(rule.lead.letter(0).0)?;
+    }
+    Ok(letters)
 }

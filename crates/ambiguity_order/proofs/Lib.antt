@@ -4,7 +4,6 @@ pub mod Meetings
 pub mod Comparing
 pub mod Lists
 pub mod Keys
-pub mod Short
 pub mod Cutting
 pub mod Fronts
 pub mod Picked

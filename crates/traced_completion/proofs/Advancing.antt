@@ -9,9 +9,9 @@ use Rattle.std.specs.declared.cmp.Ordering.{Ordering}
 use Rattle.std.specs.declared.cmp.Ordering.TheVariants.{Less, Equal, Greater}
 use Rattle.std.proofs.lemmas.Bool.{cases_lt}
 use Rattle.std.proofs.lemmas.Cmp.{tied_itself}
-use Rattle.std.proofs.lemmas.List.{take-append-drop, drop-append-le, get_or-take, get_or-drop, length-drop, length-map, get_or-map, get_or_default, length-take}
+use Rattle.std.proofs.lemmas.List.{take-append-drop, get_or-take, get_or-drop, length-drop, length-map, get_or-map, get_or_default, length-take}
 use Rattle.std.proofs.lemmas.List.Elements.{All-append, All-contains, All-map, All-take, Contains-append_left, Contains-append_right, Contains-append_cases, Contains-get_or}
-use Rattle.std.proofs.lemmas.List.Sorted.{IsPermutation-sym, Contains-permutation, sorted_far, ranks_by}
+use Rattle.std.proofs.lemmas.List.Sorted.{IsPermutation-sym, IsPermutation-trans, IsPermutation-append_right, Contains-permutation, sorted_far, ranks_by}
 use Rattle.word_orders.specs.Admissible.{Compare}
 use Rattle.rule_reduce.specs.declared.rule.Rule.{Rule}
 use Rattle.ambiguities.specs.declared.ambiguity.Ambiguity.{Ambiguity}
@@ -20,7 +20,7 @@ use Rattle.ambiguities.specs.Listed.{IsBefore, ListsExactly, IsAmbiguityFrom}
 use Rattle.ambiguities.proofs.Exactly.{exactly-append}
 use Rattle.traced_completion.specs.declared.pending.waiting.Waiting.{Waiting}
 use Rattle.traced_completion.specs.Pending.{IsBeforeInStore, IsPending, AreAllPending, IsNextStore, ambiguities_of}
-use Rattle.traced_completion.specs.StoreOrder.{waiting_cmp, waiting_of, IsExtended}
+use Rattle.traced_completion.specs.StoreOrder.{waiting_cmp, waiting_of, AreNew}
 use Rattle.traced_completion.proofs.Comparing.{waiting_cmp-total, not_before_itself, waiting-equal, before-unless_above, ambiguity_not_before_itself}
 use Rattle.traced_completion.proofs.Ascending.{drop-pairs}
 use Rattle.traced_completion.proofs.Sorting.{distinct-permutation}
@@ -218,13 +218,15 @@ module _ (compare : Compare) (total : IsTotalOrder compare) (same : (u v : List 
         listed w (inr at) = added-pending w at
 
   -- the store after a round
-  pub next-store : (rules : List Rule) (known taken : ℕ) (old extended new : List Waiting) → taken ≤ length old → IsExtended rules known old extended
-      → IsPermutation (drop taken extended) new → IsSorted (waiting_cmp compare) new → IsNextStore compare rules known taken old new
-  next-store rules known taken old extended new enough extends moved sorted treated each all =
+  pub next-store : (rules : List Rule) (known taken : ℕ) (old items new : List Waiting) → AreNew rules known items → IsPermutation (drop taken old ++ items) new
+      → IsSorted (waiting_cmp compare) new → IsNextStore compare rules known taken old new
+  next-store rules known taken old items new added moved sorted treated each all =
       subst (λ (rs : List Rule). AreAllPending compare rs (treated ++ ambiguities_of (take taken old)) new) parts
-      (next-all (take known rules) (drop known rules) known taken short whole old extends.found treated
-      (subst (λ (rs : List Rule). ListsExactly IsBefore (IsAmbiguityFrom (known + 1) rs) extends.found) (sym parts) extends.exact) each all new
-      (subst (λ (xs : List Waiting). IsPermutation xs new) extended_parts moved) sorted)
+      (next-all (take known rules) (drop known rules) known taken short whole old added.found treated
+      (subst (λ (rs : List Rule). ListsExactly IsBefore (IsAmbiguityFrom (known + 1) rs) added.found) (sym parts) added.exact) each all new
+      (subst (λ (rs : List Rule). IsPermutation (drop taken old ++ map (waiting_of rs) added.found) new) (sym parts)
+      (IsPermutation-trans (drop taken old ++ map (waiting_of rules) added.found) (drop taken old ++ items) new
+      (IsPermutation-append_right (drop taken old) (map (waiting_of rules) added.found) items added.moved) moved)) sorted)
     where
       parts : take known rules ++ drop known rules ≡ rules
       parts = take-append-drop known rules
@@ -234,8 +236,3 @@ module _ (compare : Compare) (total : IsTotalOrder compare) (same : (u v : List 
 
       whole : (n : ℕ) → n ≤ known → n ≤ length (take known rules ++ drop known rules) → n ≤ length (take known rules)
       whole n first second = let inside : n ≤ length rules = omega (arith, second, ap length parts) in omega (arith, first, inside, length-take known rules)
-
-      extended_parts : drop taken extended ≡ drop taken old ++ map (waiting_of (take known rules ++ drop known rules)) extends.found
-      extended_parts =
-          ap (drop taken) extends.appended ∙ drop-append-le taken old (map (waiting_of rules) extends.found) enough
-          ∙ ap (λ (rs : List Rule). drop taken old ++ map (waiting_of rs) extends.found) (sym parts)

@@ -339,12 +339,6 @@ front-taken blocks i tail count size rest parts =
 pub joined-cut : (blocks : List (List Waiting)) (i : ℕ) → joined blocks ≡ joined (take i blocks) ++ joined (drop i blocks)
 joined-cut blocks i = ap joined (sym (take-append-drop i blocks)) ∙ flat_map-append (λ (b : List Waiting). b) (take i blocks) (drop i blocks)
 
--- one block more
-pub length-joined-more : (blocks : List (List Waiting)) (i : ℕ) → i < length blocks → length (joined (take (i + 1) blocks)) ≡ length (joined (take i blocks)) + length (get_or blocks i [])
-length-joined-more blocks i inside =
-    ap (λ xs. length (joined xs)) (take_more blocks i [] inside) ∙ ap length (flat_map-append (λ (b : List Waiting). b) (take i blocks) (get_or blocks i [] ∷ []))
-    ∙ length-append (joined (take i blocks)) (get_or blocks i [] ++ []) ∙ ap (λ n. length (joined (take i blocks)) + n) (length-append (get_or blocks i []) [] ∙ omega arith)
-
 -- where some of the list are left, there is a further block
 pub further-block : (blocks : List (List Waiting)) (number rest count : ℕ) → number ≤ length blocks → length (joined (take number blocks)) + rest ≡ count
     → count ≤ length (joined blocks) → rest ≢ 0 → number < length blocks

@@ -2,8 +2,6 @@ pub mod Comparing
 pub mod Ascending
 pub mod Staying
 pub mod StoreLemmas
-pub mod Places
-pub mod Appending
 pub mod Sorting
 pub mod Advancing
 pub mod BlockLemmas

@@ -1,17 +1,16 @@
 -- The store after its blocks were renewed.
-use Rattle.std.proofs.Common.{◌≡◌, ℕ, ◌+◌, ◌≤◌, List, [], ◌++◌, length, map, drop, refl, sym, ap, ◌∙◌, subst, arith}
+use Rattle.std.proofs.Common.{◌≡◌, ℕ, ◌+◌, List, ◌++◌, drop, ap, ◌∙◌, arith}
 use Rattle.std.specs.Cmp.{IsTotalOrder}
 use Rattle.std.specs.List.{AllPairs}
 use Rattle.std.specs.List.Sorted.{IsPermutation, IsSorted}
 use Rattle.std.specs.Ordering.{is_lt, ordering_reverse}
 use Rattle.std.specs.declared.cmp.Ordering.TheVariants.{Equal}
-use Rattle.std.proofs.lemmas.List.{drop-append-le}
-use Rattle.std.proofs.lemmas.List.Sorted.{sorted_far, ranks_by, IsPermutation-append_right, IsPermutation-trans}
+use Rattle.std.proofs.lemmas.List.Sorted.{sorted_far, ranks_by}
 use Rattle.word_orders.specs.Admissible.{Compare}
 use Rattle.rule_reduce.specs.declared.rule.Rule.{Rule}
 use Rattle.traced_completion.specs.declared.pending.waiting.Waiting.{Waiting}
 use Rattle.traced_completion.specs.Pending.{IsNextStore, IsBeforeInStore}
-use Rattle.traced_completion.specs.StoreOrder.{IsExtended, waiting_cmp, waiting_of, IsUpTo}
+use Rattle.traced_completion.specs.StoreOrder.{AreNew, waiting_cmp, IsUpTo}
 use Rattle.traced_completion.proofs.Ascending.{drop-pairs}
 use Rattle.traced_completion.proofs.Comparing.{waiting_cmp-total, less-waiting}
 use Rattle.traced_completion.proofs.Advancing.{next-store}
@@ -28,14 +27,10 @@ module _ (compare : Compare) (total : IsTotalOrder compare) where
   before-up_to v w before = ap is_lt ((waiting_cmp-total compare total).antisymm w v ∙ ap ordering_reverse (less-waiting compare total v w before))
 
   module _ (same : (u v : List ℕ) → compare u v ≡ Equal → u ≡ v) where
-    pub renewed-store : (rules : List Rule) (known taken : ℕ) (old items others new : List Waiting) → taken ≤ length old → IsExtended rules known [] items → IsPermutation items others
-        → IsPermutation (drop taken old ++ others) new → (AllPairs (IsUpTo compare) (drop taken old) → AllPairs (IsUpTo compare) new) → IsNextStore compare rules known taken old new
-    renewed-store rules known taken old items others new enough extends permuted moved sorted treated each all =
-        next-store compare total same rules known taken old (old ++ map (waiting_of rules) extends.found) new enough
-        (record { found = extends.found; exact = extends.exact; appended = refl })
-        (subst (λ xs. IsPermutation xs new) (ap (λ xs. drop taken old ++ xs) extends.appended ∙ sym (drop-append-le taken old (map (waiting_of rules) extends.found) enough))
-        (IsPermutation-trans (drop taken old ++ items) (drop taken old ++ others) new (IsPermutation-append_right (drop taken old) items others permuted) moved))
-        (up_to-sorted new (sorted before)) treated each all
+    pub renewed-store : (rules : List Rule) (known taken : ℕ) (old others new : List Waiting) → AreNew rules known others → IsPermutation (drop taken old ++ others) new
+        → (AllPairs (IsUpTo compare) (drop taken old) → AllPairs (IsUpTo compare) new) → IsNextStore compare rules known taken old new
+    renewed-store rules known taken old others new added moved sorted treated each all =
+        next-store compare total same rules known taken old others new added moved (up_to-sorted new (sorted before)) treated each all
       where
         ascending : AllPairs (IsBeforeInStore compare) (drop taken old)
         ascending = drop-pairs (IsBeforeInStore compare) taken old all.ascending

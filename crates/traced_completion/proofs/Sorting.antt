@@ -1,24 +1,36 @@
--- Lists without repetitions, in whatever order, and lists sorted by what stands at places.
-use Rattle.std.proofs.Common.{◌≡◌, ◌≢◌, ◌==◌, ◌⊎◌, inl, inr, ℕ, zero, suc, ◌+◌, ◌-◌, ◌<◌, ◌≤◌, Bool, List, [], ◌∷◌, length, map, drop, get_or, Result, Ok, Err, IfOk, sym, ap, ap₂, ◌∙◌, subst, arith}
+-- Lists without repetitions, in whatever order, and new ambiguities sorted by their keys.
+use Rattle.std.proofs.Common.{◌≡◌, ◌≢◌, ◌⊎◌, inl, inr, ℕ, ◌+◌, ◌<◌, ◌≤◌, Bool, List, [], ◌∷◌, length, map, get_or, refl, sym, ap, ap₂, ◌∙◌, subst, arith}
 use Rattle.std.specs.Bool.{Decides}
-use Rattle.std.specs.List.{All, AllPairs, range_with_len}
-use Rattle.std.specs.List.Sorted.{IsPermutation, IsSorted, IsSortedByKey}
-use Rattle.std.specs.Ordering.{is_lt}
+use Rattle.std.specs.Cmp.{IsTotalOrder}
+use Rattle.std.specs.List.{All, AllPairs, Contains}
+use Rattle.std.specs.List.Sorted.{IsPermutation, IsSorted}
+use Rattle.std.specs.Ordering.{is_lt, nat_cmp, ordering_then}
 use Rattle.std.specs.declared.cmp.Ordering.{Ordering}
-use Rattle.std.proofs.lemmas.Bool.{cases_lt}
-use Rattle.std.proofs.lemmas.Bool.Decides.{Decides-eqb, same_from_decides}
-use Rattle.std.proofs.lemmas.List.{drop_all, drop_more, get_or-map, length-map, get_or_default}
-use Rattle.std.proofs.lemmas.List.FromFn.{length-range_with_len, get_or-range_with_len}
-use Rattle.std.proofs.lemmas.List.Sorted.{All-permutation, IsPermutation-map}
+use Rattle.std.specs.declared.cmp.Ordering.TheVariants.{Less, Equal, Greater}
+use Rattle.std.proofs.lemmas.Bool.Decides.{same_from_decides}
+use Rattle.std.proofs.lemmas.Cmp.{nat_cmp_total, on_total, then_total}
+use Rattle.std.proofs.lemmas.List.{length-map, get_or-map}
+use Rattle.std.proofs.lemmas.List.Elements.{All-map}
+use Rattle.std.proofs.lemmas.List.Sorted.{All-permutation, IsPermutation-map, IsPermutation-refl}
 use Rattle.std.proofs.lemmas.Map.Keys.{IsDistinct-IsPermutation}
 use Rattle.std.proofs.lemmas.Map.Made.{IsDistinct-from_AllPairs, AllPairs-from_IsDistinct}
-use Rattle.ambiguities.specs.declared.ambiguity.Kind.TheVariants.{Overlap}
+use Rattle.word_core.specs.Canonical.{word_cmp, word_cmp_total}
+use Rattle.word_core.specs.Letters.{IsOver}
+use Rattle.word_orders.specs.Admissible.{Compare}
+use Rattle.word_orders.specs.Measured.{measured_cmp}
+use Rattle.rule_reduce.specs.declared.rule.Rule.{Rule}
+use Rattle.rule_reduce.specs.RuleLists.{IsRule}
+use Rattle.ambiguities.specs.declared.ambiguity.Ambiguity.{Ambiguity}
+use Rattle.ambiguities.specs.Ambiguities.{overlap_word_of}
+use Rattle.ambiguities.specs.Listed.{IsBefore, IsAmbiguityFrom}
+use Rattle.ambiguities.proofs.Bounds.{over_overlap_word}
+use Rattle.ambiguities.proofs.Exactly.{exactly-all}
+use Rattle.ambiguities.proofs.Numbers.{rule_at-last}
 use Rattle.traced_completion.specs.declared.pending.waiting.Waiting.{Waiting}
-
--- two facts of what was made
-pub ok-both : {T E : Type 0} (r : Result T E) (P Q R : T → Type 0) → ((x : T) → P x → Q x → R x) → IfOk r P → IfOk r Q → IfOk r R
-ok-both (Ok x) P Q R both one other = both x one other
-ok-both (Err e) P Q R both one other = tt
+use Rattle.traced_completion.specs.declared.pending.key.Key.{Key}
+use Rattle.traced_completion.specs.StoreOrder.{ambiguity_cmp, waiting_cmp, waiting_of, AreNew}
+use Rattle.traced_completion.specs.Keys.{key_of, key_cmp}
+use Rattle.traced_completion.proofs.Comparing.{waiting_cmp-total}
 
 -- no two items are the same in another order either
 pub distinct-permutation : {K : Type 0} (e : K → K → Bool) → ((x y : K) → Decides (e x y) (x ≡ y)) → (xs ys : List K) → IsPermutation xs ys → AllPairs (λ x y. x ≢ y) xs → AllPairs (λ x y. x ≢ y) ys
@@ -27,66 +39,77 @@ distinct-permutation {K} e tells xs ys moved distinct = AllPairs-from_IsDistinct
     flips : (x y : K) → e x y ≡ e y x
     flips x y = same_from_decides (e x y) (e y x) (tells x y) (λ held. sym ((tells y x).0 held), λ same. (tells y x).1 (sym same))
 
--- places up to the end of a list
-range-within : (from n : ℕ) → All (λ place. place < n) (range_with_len from (n - from))
-range-within from n k d inside =
-    let count : k < n - from = omega (arith, inside, length-range_with_len from (n - from)) in
-    let item : get_or (range_with_len from (n - from)) k d ≡ from + k = get_or-range_with_len from (n - from) k d count in
-    subst (λ place. place < n) (sym item) (omega (arith, count))
+-- keys
+pub key_cmp-total : IsTotalOrder key_cmp
+key_cmp-total = then_total (on_total (λ (k : Key). k.measure) nat_cmp_total) (on_total (λ (k : Key). k.waiting) (waiting_cmp-total word_cmp word_cmp_total))
 
-range-distinct : (from n : ℕ) → AllPairs (λ p q. p ≢ q) (range_with_len from n)
-range-distinct from n i j d before inside same =
-    let count : j < n = omega (arith, inside, length-range_with_len from n) in
-    let one : get_or (range_with_len from n) i d ≡ from + i = get_or-range_with_len from n i d (omega (arith, before, count)) in
-    let other : get_or (range_with_len from n) j d ≡ from + j = get_or-range_with_len from n j d count in
-    omega (arith, one, other, same, before)
+-- one comparison after two others
+then_assoc : (o p q : Ordering) → ordering_then o (ordering_then p q) ≡ ordering_then (ordering_then o p) q
+then_assoc Less p q = refl
+then_assoc Equal p q = refl
+then_assoc Greater p q = refl
 
-module _ (from n : ℕ) (places : List ℕ) (moved : IsPermutation (range_with_len from (n - from)) places) where
-  pub places-within : All (λ place. place < n) places
-  places-within = All-permutation (λ place. place < n) (range_with_len from (n - from)) places moved (range-within from n)
+module _ (compare : Compare) (measure : List ℕ → ℕ) (by_measure : (u v : List ℕ) → compare u v ≡ measured_cmp measure u v) where
+  abbrev IsExact : Key → Type 0
+  IsExact k = k.measure ≡ measure k.waiting.word
 
-  pub places-distinct : AllPairs (λ p q. p ≢ q) places
-  places-distinct = distinct-permutation (λ p q. p == q) Decides-eqb (range_with_len from (n - from)) places moved (range-distinct from (n - from))
+  -- keys compare as their ambiguities do
+  keys_compare : (k l : Key) → IsExact k → IsExact l → key_cmp k l ≡ waiting_cmp compare k.waiting l.waiting
+  keys_compare k l one other =
+      let u = k.waiting.word in
+      let v = l.waiting.word in
+      let rest = ambiguity_cmp k.waiting.which l.waiting.which in
+      ap₂ (λ m n. ordering_then (nat_cmp m n) (ordering_then (word_cmp u v) rest)) one other
+      ∙ then_assoc (nat_cmp (measure u) (measure v)) (word_cmp u v) rest ∙ ap (λ o. ordering_then o rest) (sym (by_measure u v))
 
-items-from : (items : List Waiting) (d : Waiting) (n from : ℕ) → from + n ≡ length items → map (λ place. get_or items place d) (range_with_len from n) ≡ drop from items
-items-from items d zero from count = sym (drop_all from items (omega (arith, count)))
-items-from items d (suc n) from count =
-    ap (λ xs. get_or items from d ∷ xs) (items-from items d n (from + 1) (omega (arith, count)))
-    ∙ sym (drop_more items from d (omega (arith, count)))
+  module _ (rules : List Rule) (found : List Ambiguity) (keys : List Key) (moved : IsPermutation (map (key_of measure rules) found) keys) where
+    abbrev in_order : List Waiting
+    in_order = map (λ (k : Key). k.waiting) keys
 
--- the items from a place on
-pub items-at_range : (items : List Waiting) (d : Waiting) (from : ℕ) → map (λ place. get_or items place d) (range_with_len from (length items - from)) ≡ drop from items
-items-at_range items d from = go (cases_lt (length items) from)
-  where
-    go : (length items < from) ⊎ (from ≤ length items) → map (λ place. get_or items place d) (range_with_len from (length items - from)) ≡ drop from items
-    go (inl past) =
-        let none : length items - from ≡ 0 = omega (arith, past) in
-        ap (λ n. map (λ place. get_or items place d) (range_with_len from n)) none ∙ sym (drop_all from items (omega (arith, past)))
-    go (inr within) = items-from items d (length items - from) from (omega (arith, within))
+    unkeyed : (xs : List Ambiguity) → map (λ (k : Key). k.waiting) (map (key_of measure rules) xs) ≡ map (waiting_of rules) xs
+    unkeyed [] = refl
+    unkeyed (a ∷ xs) = ap (λ ys. waiting_of rules a ∷ ys) (unkeyed xs)
 
--- what stands at places in any order are the items in another one
-pub items-moved : (items : List Waiting) (d : Waiting) (from : ℕ) (places : List ℕ) → IsPermutation (range_with_len from (length items - from)) places
-    → IsPermutation (drop from items) (map (λ place. get_or items place d) places)
-items-moved items d from places moved =
-    subst (λ xs. IsPermutation xs (map (λ place. get_or items place d) places)) (items-at_range items d from)
-    (IsPermutation-map (λ place. get_or items place d) (range_with_len from (length items - from)) places moved)
+    pub keys-moved : IsPermutation (map (waiting_of rules) found) (map (λ (k : Key). k.waiting) keys)
+    keys-moved = subst (λ xs. IsPermutation xs in_order) (unkeyed found) (IsPermutation-map (λ (k : Key). k.waiting) (map (key_of measure rules) found) keys moved)
 
-module _ (by : Waiting → Waiting → Ordering) where
-  -- what stands past the end doesn't matter
-  pub sorted-any : (items : List Waiting) (from : ℕ) (places : List ℕ) (d e : Waiting) → IsPermutation (range_with_len from (length items - from)) places
-      → IsSortedByKey (λ place. get_or items place d) by places → IsSortedByKey (λ place. get_or items place e) by places
-  sorted-any items from places d e moved sorted k f low high =
-      let within = places-within from (length items) places moved in
-      let later : get_or items (get_or places (k + 1) f) d ≡ get_or items (get_or places (k + 1) f) e = get_or_default items (get_or places (k + 1) f) d e (within (k + 1) f high) in
-      let earlier : get_or items (get_or places k f) d ≡ get_or items (get_or places k f) e = get_or_default items (get_or places k f) d e (within k f (omega (arith, high))) in
-      ap₂ (λ x y. is_lt (by x y)) (sym later) (sym earlier) ∙ sorted k f low high
+    each-exact : All IsExact keys
+    each-exact = All-permutation IsExact (map (key_of measure rules) found) keys moved (All-map IsExact (key_of measure rules) found (λ k d inside. refl))
 
-  -- what stands at sorted places is sorted
-  pub sorted-map : (f : ℕ → Waiting) (places : List ℕ) → IsSortedByKey f by places → IsSorted by (map f places)
-  sorted-map f places sorted k d low high =
-      let inside : k + 1 < length places = omega (arith, high, length-map places f) in
-      ap₂ (λ x y. is_lt (by x y)) (get_or-map f places (k + 1) 0 d inside) (get_or-map f places k 0 d (omega (arith, inside))) ∙ sorted k 0 low inside
+    pub keys-sorted : IsSorted key_cmp keys → IsSorted (waiting_cmp compare) (map (λ (k : Key). k.waiting) keys)
+    keys-sorted sorted k d low high =
+        let e : Key = record { measure = 0; waiting = d } in
+        let inside : k + 1 < length keys = omega (arith, high, length-map keys (λ (k : Key). k.waiting)) in
+        let before : k < length keys = omega (arith, inside) in
+        let x = get_or keys (k + 1) e in
+        let y = get_or keys k e in
+        ap₂ (λ v w. is_lt (waiting_cmp compare v w)) (get_or-map (λ (k : Key). k.waiting) keys (k + 1) e d inside) (get_or-map (λ (k : Key). k.waiting) keys k e d before)
+        ∙ ap is_lt (sym (keys_compare x y (each-exact (k + 1) e inside) (each-exact k e before)))
+        ∙ sorted k e low inside
 
--- what stands where there is no item
-pub nothing : Waiting
-nothing = record { which = record { i = 0; j = 0; kind = Overlap; place = 0 }; word = [] }
+-- new ambiguities, with their overlap words
+module _ (rules : List Rule) (known : ℕ) where
+  -- where all rules are known, there are none
+  pub nothing-new : length rules ≤ known → AreNew rules known []
+  nothing-new past = record {
+    found = [];
+    exact = record { members = λ a. (λ at. absurd (none a at), λ from. absurd (no_rule a from)); ascending = λ i j d before inside. absurd (omega (arith, inside)) };
+    moved = IsPermutation-refl [];
+  }
+    where
+      none : (a : Ambiguity) → Contains [] a → ⊥
+      none a (k, inside, is) = omega (arith, inside)
+
+      no_rule : (a : Ambiguity) → IsAmbiguityFrom (known + 1) rules a → ⊥
+      no_rule a from = go from.1
+        where
+          go : (known + 1 ≤ a.i) ⊎ (known + 1 ≤ a.j) → ⊥
+          go (inl first) = omega (arith, first, past, rule_at-last rules a.i from.0.first from.0.first_numbered)
+          go (inr second) = omega (arith, second, past, rule_at-last rules a.j from.0.second from.0.second_numbered)
+
+  pub new-over : (letters : ℕ) (compare : Compare) → All (IsRule letters compare) rules → (items : List Waiting) → AreNew rules known items → All (λ (w : Waiting). IsOver letters w.word) items
+  new-over letters compare each items new =
+      let Over : Waiting → Type 0 = λ w. IsOver letters w.word in
+      All-permutation Over (map (waiting_of rules) new.found) items new.moved
+      (All-map Over (waiting_of rules) new.found
+      (exactly-all IsBefore (IsAmbiguityFrom (known + 1) rules) (λ a. IsOver letters (overlap_word_of rules a)) new.found new.exact (λ a from. over_overlap_word letters compare rules a each from.0)))

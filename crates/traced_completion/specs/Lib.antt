@@ -19,6 +19,7 @@ pub mod Works
 pub mod Reductions
 pub mod Pending
 pub mod StoreOrder
+pub mod Keys
 pub mod StoreLaws
 pub mod UnitsFirst
 pub mod PlainRun

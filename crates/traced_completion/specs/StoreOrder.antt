@@ -1,7 +1,8 @@
--- The order of the store as a comparison, and the store with the ambiguities of new rules at its end.
-use Rattle.std.specs.Prelude.{◌≡◌, ℕ, ◌+◌, List, ◌++◌, map, false, slice_index_or, length, ◌-◌}
+-- The order of the store as a comparison, and the ambiguities of new rules.
+use Rattle.std.specs.Prelude.{◌≡◌, ℕ, ◌+◌, List, map, false, slice_index_or, length, ◌-◌}
 use Rattle.std.specs.Ordering.{nat_cmp, then_cmp, on, is_lt}
 use Rattle.std.specs.declared.cmp.Ordering.{Ordering}
+use Rattle.std.specs.List.Sorted.{IsPermutation}
 use Rattle.word_orders.specs.Admissible.{Compare}
 use Rattle.ambiguities.specs.declared.ambiguity.Ambiguity.{Ambiguity}
 use Rattle.rule_reduce.specs.declared.rule.Rule.{Rule}
@@ -30,12 +31,8 @@ last_of items d = slice_index_or items (length items - 1) d
 abbrev pub waiting_of : List Rule → Ambiguity → Waiting
 waiting_of rules a = record { which = a; word = overlap_word_of rules a }
 
--- the list with these ambiguities at its end
-abbrev pub appended_waiting : List Rule → List Waiting → List Ambiguity → List Waiting
-appended_waiting rules old found = old ++ map (waiting_of rules) found
-
--- What is appended has exactly the ambiguities in which a rule after the known ones is.
-pub record IsExtended (rules : List Rule) (known : ℕ) (old new : List Waiting) : Type 0 where
+-- The list has exactly the ambiguities in which a rule after the known ones is, in whatever order.
+pub record AreNew (rules : List Rule) (known : ℕ) (items : List Waiting) : Type 0 where
   pub found : List Ambiguity
   pub exact : ListsExactly IsBefore (IsAmbiguityFrom (known + 1) rules) found
-  pub appended : new ≡ appended_waiting rules old found
+  pub moved : IsPermutation (map (waiting_of rules) found) items

@@ -2,10 +2,10 @@
 mod block;
 mod blocks;
 mod finding;
+mod key;
 mod laws;
-mod moving;
 mod order;
-mod places;
+mod sorting;
 mod store;
 mod waiting;
 

@@ -12,12 +12,13 @@ use super::finding::{block_for, first_above};
 use std::alloc::AllocError;
 use word_orders::WordOrder;
 
-// Puts an ambiguity where it belongs among the blocks from a number on. The answer is its block's number and its place.
-// Where memory is short, the blocks as they were.
+// Puts an ambiguity where it belongs among the blocks from a number on, which is looked for from the near block on. The
+// answer is its block's number and its place. Where memory is short, the blocks as they were.
 fn put<O: WordOrder>(
     order: &O,
     blocks: &mut Vec<Block>,
     from: usize,
+    near: usize,
     waiting: Waiting,
 ) -> Result<(usize, usize), AllocError>
     requires some { from < length blocks.old.items }
@@ -27,7 +28,7 @@ fn put<O: WordOrder>(
     ensures ok { IfOk result (IsPut (O.compare order.now) from waiting blocks.old.items blocks.new.items) }
     ensures err { OnErr result (blocks.new.items ≡ blocks.old.items) }
 {
-    let number = block_for(order, blocks.as_slice(), from, &waiting);
+    let number = block_for(order, blocks.as_slice(), from, near, &waiting);
     let place = first_above(order, blocks[number].as_slice(), &waiting);
     blocks[number].insert(place, waiting)?;
     Ok((number, place))
@@ -59,9 +60,13 @@ fn put_all<O: WordOrder>(
     ensures err { OnErr result (blocks.new.items ≡ blocks.old.items) }
 {
     let mut places = Vec::with_capacity(*items.allocator(), items.len())?;
+    let mut near = from;
     for waiting in items {
-        match put(order, blocks, from, waiting) {
-            Ok(place) => places.push_reserved(place),
+        match put(order, blocks, from, near, waiting) {
+            Ok(place) => {
+                near = place.0;
+                places.push_reserved(place);
+            }
             Err(failed) => {
                 take_out(blocks, places);
                 return Err(failed);

@@ -1,6 +1,7 @@
 //! Where an ambiguity belongs among waiting ones.
 ghost use Rattle.std.specs.Prelude.{◌≡◌, ◌-◌, ◌+◌, ◌<◌, ◌≤◌, [], length, slice_index_or};
 ghost use Rattle.std.specs.List.{All};
+ghost use Rattle.std.specs.Ordering.{is_lt};
 ghost use Rattle.std.specs.declared.cmp.Ordering.TheVariants.{Less};
 ghost use Rattle.word_core.specs.Letters.{IsOver};
 ghost use Rattle.traced_completion.specs.declared.pending.waiting.Waiting.{Waiting};
@@ -33,12 +34,51 @@ pub(super) fn first_above<O: WordOrder>(order: &O, items: &[Waiting], waiting: &
     low
 }
 
+// Whether the last ambiguity of the block is above the one that is given.
+fn is_last_above<O: WordOrder>(order: &O, block: &Block, waiting: &Waiting) -> bool
+    requires nonempty { 0 < length block.now }
+    requires over { All (λ w. IsOver (O.letters order.now) w.word) block.now }
+    requires waiting_over { IsOver (O.letters order.now) waiting.now.word }
+    ensures { (d : Waiting) → result ≡ is_lt (waiting_cmp (O.compare order.now) waiting.now (last_of block.now d)) }
+{
+    let items = block.as_slice();
+    compare(order, waiting, &items[items.len() - 1]).is_lt()
+}
+
+// A block from which on the ambiguity may belong: the near one, where the last ambiguity of the block before it isn't above
+// this one, and the first one otherwise.
+fn start_for<O: WordOrder>(
+    order: &O,
+    blocks: &[Block],
+    from: usize,
+    near: usize,
+    waiting: &Waiting,
+) -> usize
+    requires some { from < length blocks.now }
+    requires nonempty { All (λ b. 0 < length b) blocks.now }
+    requires over { All (All (λ w. IsOver (O.letters order.now) w.word)) blocks.now }
+    requires waiting_over { IsOver (O.letters order.now) waiting.now.word }
+    ensures reached { from ≤ result }
+    ensures within { result < length blocks.now }
+    ensures before { (d : Waiting) → from < result → IsUpTo (O.compare order.now) (last_of (slice_index_or blocks.now (result - 1) []) d) waiting.now }
+{
+    if near <= from || near >= blocks.len() {
+        return from;
+    }
+    if is_last_above(order, &blocks[near - 1], waiting) {
+        from
+    } else {
+        near
+    }
+}
+
 // The first block from a number on whose last ambiguity is above the one that is given, where all are in their order, or
-// the last block.
+// the last block. The steps from the near block on grow, so that a block close behind it is found by few comparisons.
 pub(super) fn block_for<O: WordOrder>(
     order: &O,
     blocks: &[Block],
     from: usize,
+    near: usize,
     waiting: &Waiting,
 ) -> usize
     requires some { from < length blocks.now }
@@ -51,12 +91,12 @@ pub(super) fn block_for<O: WordOrder>(
     ensures above { (d : Waiting) → result + 1 < length blocks.now
         → waiting_cmp (O.compare order.now) waiting.now (last_of (slice_index_or blocks.now result []) d) ≡ Less }
 {
-    let mut low = from;
+    let start = start_for(order, blocks, from, near, waiting);
+    let mut low = start;
     let mut high = blocks.len() - 1;
     while low < high {
-        let middle = low + (high - low) / 2;
-        let block = blocks[middle].as_slice();
-        if compare(order, waiting, &block[block.len() - 1]).is_lt() {
+        let middle = low + (low - start).min((high - low) / 2);
+        if is_last_above(order, &blocks[middle], waiting) {
             high = middle;
         } else {
             low = middle + 1;

@@ -1,5 +1,6 @@
 //! How two ambiguities of the store compare.
 ghost use Rattle.std.specs.Prelude.{◌≡◌};
+ghost use Rattle.word_core.specs.Canonical.{word_cmp};
 ghost use Rattle.word_core.specs.Letters.{IsOver};
 ghost use Rattle.ambiguities.specs.Listed.{kind_number};
 ghost use Rattle.traced_completion.specs.StoreOrder.{ambiguity_cmp, waiting_cmp};
@@ -16,6 +17,14 @@ pub(super) fn compare<O: WordOrder>(order: &O, left: &Waiting, right: &Waiting) 
     ensures { result ≡ waiting_cmp (O.compare order.now) left.now right.now }
 {
     let by_word = order.cmp(&left.word, &right.word);
+    by_word.then_with(|| compare_ambiguities(&left.which, &right.which))
+}
+
+// The same, where the words are compared canonically.
+pub(super) fn compare_canonically(left: &Waiting, right: &Waiting) -> Ordering
+    ensures { result ≡ waiting_cmp word_cmp left.now right.now }
+{
+    let by_word = left.word.cmp_degree(&right.word);
     by_word.then_with(|| compare_ambiguities(&left.which, &right.which))
 }
 

@@ -1,17 +1,14 @@
 //! The ordered store of pending ambiguities.
-ghost use Rattle.std.specs.Prelude.{◌≡◌, ◌<◌, ◌≤◌, [], length, map, take, IfOk, OnOk, OnErr, slice_get, Some};
+ghost use Rattle.std.specs.Prelude.{◌≡◌, ◌<◌, ◌≤◌, [], length, take, IfOk, OnOk, OnErr, slice_get, Some};
 ghost use Rattle.std.specs.List.{All};
 ghost use Rattle.std.specs.Option.{option_copied};
 ghost use Rattle.word_core.specs.Letters.{IsOver};
-ghost use Rattle.ambiguities.specs.Ambiguities.{IsAmbiguity};
 ghost use Rattle.traced_completion.specs.Pending.{IsNextStore, first_word};
-ghost use Rattle.traced_completion.specs.StoreOrder.{IsExtended, appended_waiting};
 
 use super::Waiting;
 use super::block::Block;
 use super::blocks::{at_place, renew};
-use super::moving::take_sorted;
-use ambiguities::{Ambiguity, between, overlap_word};
+use super::sorting::new_waiting;
 use rule_reduce::Rules;
 use std::alloc::{AllocError, Global};
 use std::marker::Model;
@@ -104,9 +101,7 @@ impl Pending {
         ensures over { OnOk result (All (λ w. IsOver (O.letters rules.now.order) w.word) self.new) }
         ensures err { OnErr result (self.new ≡ self.old) }
     {
-        let mut found = Vec::new(*self.blocks.allocator());
-        push_new(&mut found, rules, known)?;
-        let others = take_sorted(&rules.order, &mut found, 0)?;
+        let others = new_waiting(*self.blocks.allocator(), rules, known)?;
         let rest = self.count - taken;
         match rest.checked_add(others.len()) {
             Some(count) => {
@@ -117,44 +112,4 @@ impl Pending {
             None => Err(AllocError),
         }
     }
-}
-
-// Appends the ambiguities in which a rule after the known ones is.
-fn push_new<O: WordOrder>(
-    items: &mut Vec<Waiting>,
-    rules: &Rules<O>,
-    known: u32,
-) -> Result<(), AllocError>
-    requires over { All (λ w. IsOver (O.letters rules.now.order) w.word) items.old.items }
-    ensures ok { OnOk result (IsExtended rules.now.rules known items.old.items items.new.items) }
-    ensures over { OnOk result (All (λ w. IsOver (O.letters rules.now.order) w.word) items.new.items) }
-    ensures err { OnErr result (take (length items.old.items) items.new.items ≡ items.old.items) }
-{
-    if known as usize >= rules.rules.len() {
-        return Ok(());
-    }
-    let found = between(rules, known + 1)?;
-    push_waiting(items, rules, found.as_slice())
-}
-
-// Appends the ambiguities with their overlap words.
-fn push_waiting<O: WordOrder>(
-    items: &mut Vec<Waiting>,
-    rules: &Rules<O>,
-    found: &[Ambiguity],
-) -> Result<(), AllocError>
-    requires each { All (IsAmbiguity rules.now.rules) found.now }
-    requires over { All (λ w. IsOver (O.letters rules.now.order) w.word) items.old.items }
-    ensures ok { OnOk result (items.new.items ≡ appended_waiting rules.now.rules items.old.items found.now) }
-    ensures over { OnOk result (All (λ w. IsOver (O.letters rules.now.order) w.word) items.new.items) }
-    ensures err { OnErr result (take (length items.old.items) items.new.items ≡ items.old.items) }
-{
-    for which in found {
-        let word = overlap_word(rules, which)?;
-        items.push(Waiting {
-            which: *which,
-            word,
-        })?;
-    }
-    Ok(())
 }

@@ -1,10 +1,10 @@
-use Rattle.std.proofs.Common.{rules, ◌≡◌, ◌↔◌, ◌≤◌, List, Contains, IfOk, length, sym, subst}
+use Rattle.std.proofs.Common.{rules, ◌≡◌, ◌↔◌, ◌≤◌, ◌<◌, List, Contains, IfOk, length, sym, subst}
 use Rattle.std.specs.List.{All}
 use Rattle.std.proofs.lemmas.Result.{IfOk-weaker}
 use Rattle.rule_reduce.specs.declared.rule.Rule.{Rule}
 use Rattle.ambiguities.specs.declared.ambiguity.Ambiguity.{Ambiguity}
 use Rattle.ambiguities.specs.Listed.{IsBefore, ListsExactly, IsAmbiguityFrom}
-use Rattle.ambiguities.proofs.Leads.{short_leads}
+use Rattle.ambiguities.proofs.Leads.{short_leads, nonempty_leads}
 use Rattle.ambiguities.proofs.list.between.Goals as goal
 
 pub list_all-requires-clause-short : goal.list_all-requires-clause-short
@@ -12,6 +12,12 @@ list_all-requires-clause-short g c =
     let all = c.args.rules.now.rules in
     let same : c.as_slice.result.now ≡ all = search rules in
     subst (All (λ (f : Rule). length f.lead ≤ 500)) (sym same) (short_leads (g.O.WordOrder.letters c.args.rules.now.order) (g.O.WordOrder.compare c.args.rules.now.order) all c.args.rules.now.each)
+
+pub list_all-requires-clause-nonempty : goal.list_all-requires-clause-nonempty
+list_all-requires-clause-nonempty g c =
+    let all = c.args.rules.now.rules in
+    let same : c.as_slice.result.now ≡ all = search rules in
+    subst (All (λ (f : Rule). 0 < length f.lead)) (sym same) (nonempty_leads (g.O.WordOrder.letters c.args.rules.now.order) (g.O.WordOrder.compare c.args.rules.now.order) all c.args.rules.now.each)
 
 pub returns-clause-members : goal.returns-clause-members
 returns-clause-members g c =

@@ -1,6 +1,11 @@
-use Rattle.std.proofs.Common.{◌≡◌, ◌++◌, map, take}
-use Rattle.ambiguities.specs.Listed.{ambiguity_at}
+use Rattle.std.proofs.Common.{◌≡◌, ◌<◌}
+use Rattle.ambiguities.specs.Agreement.{IsAgreement}
+use Rattle.ambiguities.specs.Listed.{IsGrown}
 use Rattle.ambiguities.proofs.list.push_places.Given as goal
 
+-- those at the places that were passed
 abbrev pub invariant-loop-place : goal.invariant-loop-place
-invariant-loop-place l = l.found ≡ l.fn.found ++ map (ambiguity_at l.i l.j l.kind) (take l.place-index l.places)
+invariant-loop-place l = record {
+  nothing : l.high < l.low → l.place ≡ l.low;
+  grown : IsGrown (IsAgreement l.pair.i l.pair.j l.kind l.pair.word.now l.pair.other.now l.low l.place) l.fn.found l.found;
+}

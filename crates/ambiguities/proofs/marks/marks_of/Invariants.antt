@@ -1,4 +1,4 @@
-use Rattle.std.proofs.Common.{◌≡◌, ℕ, ◌<◌, true, length}
+use Rattle.std.proofs.Common.{◌≡◌, ℕ, ◌<◌, true, length, get_or}
 use Rattle.ambiguities.specs.Agreement.{is_marked}
 use Rattle.ambiguities.proofs.marks.marks_of.Given as goal
 
@@ -6,5 +6,5 @@ use Rattle.ambiguities.proofs.marks.marks_of.Given as goal
 abbrev pub invariant-loop-place : goal.invariant-loop-place
 invariant-loop-place l = record {
   sized : length l.marks ≡ 64;
-  marked : (k : ℕ) → k < l.place → is_marked l.marks l.word k ≡ true;
+  marked : (k : ℕ) → k < l.place → is_marked l.marks (get_or l.word k 0) ≡ true;
 }

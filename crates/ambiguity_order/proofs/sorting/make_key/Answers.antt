@@ -1,7 +1,7 @@
 use Rattle.std.proofs.Common.{◌≡◌, ◌≤◌, length, sym, subst}
 use Rattle.word_orders.specs.Limits.{measured_letters}
 use Rattle.ambiguities.specs.Ambiguities.{overlap_word_of}
-use Rattle.ambiguity_order.proofs.Short.{overlap_words-short}
+use Rattle.ambiguities.proofs.Short.{overlap_words-short}
 use Rattle.ambiguity_order.proofs.sorting.make_key.Goals as goal
 
 pub measure-requires : goal.measure-requires

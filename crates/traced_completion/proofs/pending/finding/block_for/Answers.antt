@@ -1,4 +1,4 @@
-use Rattle.std.proofs.Common.{◌≡◌, ℕ, ◌+◌, ◌-◌, ◌<◌, ◌/◌, List, [], length, get_or, false, sym, ap, ◌∙◌, subst, arith}
+use Rattle.std.proofs.Common.{◌≡◌, ℕ, ◌+◌, ◌-◌, ◌<◌, List, [], length, get_or, false, sym, ◌∙◌, subst, arith}
 use Rattle.std.specs.Ordering.{is_lt}
 use Rattle.std.specs.declared.cmp.Ordering.TheVariants.{Less}
 use Rattle.std.proofs.lemmas.List.{get_or_default}
@@ -12,22 +12,17 @@ loop-low-preserved g c =
     let compare = g.O.WordOrder.compare c.args.order.now in
     let blocks : List (List Waiting) = c.args.blocks.now in
     let waiting : Waiting = c.args.waiting.now in
-    let half : ℕ = c.loop-low.low + (c.loop-low.high - c.loop-low.low) / 2 in
-    let below : half < c.loop-low.high = omega (arith, c.loop-low-test.true) in
-    let inside : half < length blocks = omega (arith, below, kept.within) in
-    let same : half ≡ half + 1 - 1 = omega arith in
-    let block : List Waiting = c.as_slice-block.result.now in
-    let one : block ≡ get_or blocks half [] = c.as_slice-block.ensures ∙ c.index-blocks-middle.is ∙ get_or_default blocks half c.index-blocks-middle.result [] inside in
-    let filled : 0 < length (get_or blocks half []) = c.requires.nonempty half [] inside in
-    let last : length block - 1 < length block = omega (arith, ap length one, filled) in
-    let item : (d : Waiting) → c.index-block-block.result ≡ last_of (get_or blocks half []) d =
-    λ d. c.index-block-block.is ∙ get_or_default block (length block - 1) c.index-block-block.result d last ∙ ap (λ xs. last_of xs d) one in
-    let here : is_lt (waiting_cmp compare waiting c.index-block-block.result) ≡ false = sym (c.is_lt.ensures ∙ ap is_lt c.compare.ensures) ∙ c.if-is_lt.false in
+    let middle : ℕ = c.loop-low.low + c.min.result in
+    let below : middle < c.loop-low.high = omega (arith, c.loop-low-test.true, c.min.ensures) in
+    let inside : middle < length blocks = omega (arith, below, kept.within) in
+    let same : middle ≡ middle + 1 - 1 = omega arith in
+    let block : c.index-blocks-middle.result ≡ get_or blocks middle [] = c.index-blocks-middle.is ∙ get_or_default blocks middle c.index-blocks-middle.result [] inside in
+    let here : (d : Waiting) → is_lt (waiting_cmp compare waiting (last_of c.index-blocks-middle.result d)) ≡ false = λ d. sym (c.is_last_above.ensures d) ∙ c.if-is_last_above.false in
     record {
-      reached = omega (arith, kept.reached);
+      started = omega (arith, kept.started);
       ordered = omega (arith, below);
       within = kept.within;
-      before = λ d _. subst (λ n. IsUpTo compare (last_of (get_or blocks n []) d) waiting) same (subst (λ (x : Waiting). IsUpTo compare x waiting) (item d) here);
+      before = λ d _. subst (λ n. IsUpTo compare (last_of (get_or blocks n []) d) waiting) same (subst (λ (b : List Waiting). IsUpTo compare (last_of b d) waiting) block (here d));
       above = kept.above;
     }
 

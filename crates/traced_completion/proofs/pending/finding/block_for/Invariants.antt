@@ -7,7 +7,7 @@ use Rattle.traced_completion.proofs.pending.finding.block_for.Given as goal
 -- the last one of the block before the lower end isn't above, and that of the upper end's is
 abbrev pub invariant-loop-low : goal.invariant-loop-low
 invariant-loop-low g l = record {
-  reached : l.from ≤ l.low;
+  started : l.start ≤ l.low;
   ordered : l.low ≤ l.high;
   within : l.high < length l.blocks;
   before : (d : Waiting) → l.from < l.low → IsUpTo (g.O.WordOrder.compare l.order) (last_of (slice_index_or l.blocks (l.low - 1) []) d) l.waiting;

@@ -1,4 +1,4 @@
-use Rattle.std.proofs.Common.{rules, ◌≡◌, ◌≤◌, ◌+◌, ◌-◌, ◌++◌, List, [], length, drop, sym, ap, subst, ◌∙◌}
+use Rattle.std.proofs.Common.{rules, ◌≡◌, ◌+◌, ◌-◌, ◌++◌, List, length, drop, sym, ap, subst, ◌∙◌}
 use Rattle.std.specs.List.{All}
 use Rattle.std.specs.List.Sorted.{IsPermutation}
 use Rattle.std.proofs.lemmas.List.{length-append, length-drop}
@@ -7,20 +7,9 @@ use Rattle.std.proofs.lemmas.List.Sorted.{All-permutation, length_permutation}
 use Rattle.word_core.specs.Letters.{IsOver}
 use Rattle.traced_completion.specs.declared.pending.waiting.Waiting.{Waiting}
 use Rattle.traced_completion.specs.Pending.{IsNextStore}
-use Rattle.traced_completion.specs.StoreOrder.{IsExtended}
 use Rattle.traced_completion.specs.Blocks.{joined}
-use Rattle.traced_completion.proofs.Renewing.{sorted-up_to, renewed-store}
+use Rattle.traced_completion.proofs.Renewing.{renewed-store}
 use Rattle.traced_completion.proofs.pending.store.Pending.advance.Goals as goal
-
-pub renew-requires-clause-others_over : goal.renew-requires-clause-others_over
-renew-requires-clause-others_over g c =
-    let Over : Waiting → Type 0 = λ w. IsOver (g.O.WordOrder.letters c.args.rules.now.order) w.word in
-    All-permutation Over c.push_new.new.items.items c.in_ok-others.others.items c.in_ok-others.ensures.permutation c.in_ok-push_new.ensures.over
-
-pub renew-requires-clause-others_sorted : goal.renew-requires-clause-others_sorted
-renew-requires-clause-others_sorted g c =
-    let order = c.args.rules.now.order in
-    sorted-up_to (g.O.WordOrder.compare order) (g.met.O.WordOrder.admissible order).total c.in_ok-others.others.items c.in_ok-others.ensures.sorted
 
 pub invariant_of-self-in-Some : goal.invariant_of-self-in-Some
 invariant_of-self-in-Some g c =
@@ -33,23 +22,20 @@ invariant_of-self-in-Some g c =
     length_permutation (drop c.args.taken old ++ others) new moved ∙ length-append (drop c.args.taken old) others ∙ ap (λ n. n + length others) (length-drop c.args.taken old) in
     (added ∙ ap (λ n. (n - c.args.taken) + length others) c.self.invariant.0 ∙ sym size, c.renew.ensures.nonempty)
 
-pub returns-in-Some-clause-ok : goal.returns-in-Some-clause-ok
-returns-in-Some-clause-ok g c =
+pub returns-in_ok-renew-in-Some-clause-ok : goal.returns-in_ok-renew-in-Some-clause-ok
+returns-in_ok-renew-in-Some-clause-ok g c =
     let all = c.args.rules.now in
     let compare = g.O.WordOrder.compare all.order in
     let laws = g.met.O.WordOrder.admissible all.order in
     let old : List Waiting = joined c.self.inside.blocks.items in
-    let items : List Waiting = c.push_new.new.items.items in
     let others : List Waiting = c.in_ok-others.others.items in
     let new : List Waiting = joined c.renew.new.blocks.items in
     let view : old ≡ c.args.self.now = search rules in
-    let enough : c.args.taken ≤ length old = subst (λ xs. c.args.taken ≤ length xs) (sym view) c.requires.taken in
-    let extends : IsExtended all.rules c.args.known [] items = subst (λ xs. IsExtended all.rules c.args.known xs items) c.new-found.ensures.items c.in_ok-push_new.ensures.ok in
     subst (λ xs. IsNextStore compare all.rules c.args.known c.args.taken xs new) view
-    (renewed-store compare laws.total laws.same all.rules c.args.known c.args.taken old items others new enough extends c.in_ok-others.ensures.permutation c.in_ok-renew-in-Some.ensures.moved c.in_ok-renew-in-Some.ensures.sorted)
+    (renewed-store compare laws.total laws.same all.rules c.args.known c.args.taken old others new c.in_ok-others.ensures.new c.in_ok-renew-in-Some.ensures.moved c.in_ok-renew-in-Some.ensures.sorted)
 
-pub returns-in-Some-clause-over : goal.returns-in-Some-clause-over
-returns-in-Some-clause-over g c =
+pub returns-in_ok-renew-in-Some-clause-over : goal.returns-in_ok-renew-in-Some-clause-over
+returns-in_ok-renew-in-Some-clause-over g c =
     let Over : Waiting → Type 0 = λ w. IsOver (g.O.WordOrder.letters c.args.rules.now.order) w.word in
     let old : List Waiting = joined c.self.inside.blocks.items in
     let others : List Waiting = c.in_ok-others.others.items in
@@ -57,5 +43,4 @@ returns-in-Some-clause-over g c =
     let view : old ≡ c.args.self.now = search rules in
     let over : All Over old = subst (All Over) (sym view) c.requires.over in
     All-permutation Over (drop c.args.taken old ++ others) new c.in_ok-renew-in-Some.ensures.moved
-    (All-append Over (drop c.args.taken old) others (All-drop Over c.args.taken old over)
-    (All-permutation Over c.push_new.new.items.items others c.in_ok-others.ensures.permutation c.in_ok-push_new.ensures.over))
+    (All-append Over (drop c.args.taken old) others (All-drop Over c.args.taken old over) c.in_ok-others.ensures.over)

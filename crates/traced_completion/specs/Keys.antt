@@ -1,0 +1,18 @@
+-- The keys by which new ambiguities of the store are sorted.
+use Rattle.std.specs.Prelude.{ℕ, List}
+use Rattle.std.specs.Ordering.{nat_cmp, then_cmp, on}
+use Rattle.std.specs.declared.cmp.Ordering.{Ordering}
+use Rattle.word_core.specs.Canonical.{word_cmp}
+use Rattle.rule_reduce.specs.declared.rule.Rule.{Rule}
+use Rattle.ambiguities.specs.declared.ambiguity.Ambiguity.{Ambiguity}
+use Rattle.ambiguities.specs.Ambiguities.{overlap_word_of}
+use Rattle.traced_completion.specs.declared.pending.key.Key.{Key}
+use Rattle.traced_completion.specs.StoreOrder.{waiting_cmp, waiting_of}
+
+-- the ambiguity with its overlap word, and the number of that word which is compared first
+abbrev pub key_of : (List ℕ → ℕ) → List Rule → Ambiguity → Key
+key_of measure rules a = record { measure = measure (overlap_word_of rules a); waiting = waiting_of rules a }
+
+-- by that number, then by the word canonically, then as the ambiguities
+abbrev pub key_cmp : Key → Key → Ordering
+key_cmp = then_cmp (on (λ k. k.measure) nat_cmp) (on (λ k. k.waiting) (waiting_cmp word_cmp))
