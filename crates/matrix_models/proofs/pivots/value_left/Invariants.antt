@@ -1,6 +1,6 @@
 use Rattle.std.proofs.Common.{◌≡◌, ◌*◌, ◌%◌, ◌<◌, get_or}
 use Rattle.matrix_models.specs.Matrices.{total}
-use Rattle.matrix_models.proofs.greedy.value_left.Given as goal
+use Rattle.matrix_models.proofs.pivots.value_left.Given as goal
 
 -- the sum of the products so far, modulo the modulus
 abbrev pub invariant-loop-k : goal.invariant-loop-k
