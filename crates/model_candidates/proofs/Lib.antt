@@ -30,6 +30,7 @@ pub mod SolvedLetters
 pub mod AskedAssumptions
 pub mod NumberedShapes
 pub mod FiniteSearch
+pub mod Found
 pub mod CandidateLaws
 pub mod FactorRows
 pub mod SolvedPlaces

@@ -13,6 +13,7 @@ use Rattle.matrix_models.specs.Matrix.{Matrix, IsMatrix, entry_at}
 use Rattle.matrix_models.specs.Matrices.{matrices, total}
 use Rattle.matrix_models.specs.declared.model.Model.{Model}
 use Rattle.matrix_models.specs.declared.system.LinearRow.{LinearRow}
+use Rattle.matrix_models.specs.declared.system.System.{System}
 use Rattle.adjoint_rules.specs.declared.parts.Shape.{Shape}
 use Rattle.adjoint_rules.specs.declared.problem.Problem.{Problem}
 use Rattle.model_checker.specs.Models.{representation_of}
@@ -102,3 +103,11 @@ equations_of problem s m g =
     let flags = solved_flags q s problem.parts.solved in
     rows_with (set_count flags) (assumption_value problem m g)
     (solved_terms q s problem.parts.solved (unknown_numbers flags) m g.sig.source.0 (terms_of problem g))
+
+-- that these assumptions are
+abbrev pub system_in : Problem → Shape → Model → ℕ → List LinearAssumption → System
+system_in problem s m unknowns gs = record {
+  modulus = m.modulus;
+  unknowns = unknowns;
+  rows = flat_map (equations_of problem s m) gs;
+}

@@ -18,6 +18,7 @@ pub record IsKnown (k : Known) : Type 0 where
   pub shape : IsShape (object_count k.problem.now.parts.quiver) k.shape.now
   pub numbers : k.numbers.now ≡ numbers_of_letters (quiver_of k.problem.now.parts.quiver) k.shape.now k.problem.now.parts.solved
   pub model : IsModel (quiver_of k.problem.now.parts.quiver) k.model.now
+  pub modulus : k.model.now.modulus ≡ k.shape.now.modulus
   pub sides : k.model.now.sides ≡ k.shape.now.sides
   pub maps : HaveMatrices (quiver_of k.problem.now.parts.quiver) k.model.now (letters (quiver_of k.problem.now.parts.quiver))
   pub lists : AreOfModel (quiver_of k.problem.now.parts.quiver) k.model.now k.representation.now.objects k.representation.now.arrows

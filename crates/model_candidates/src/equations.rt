@@ -1,76 +1,75 @@
 //! The linear equations that the drawn entries leave for those that are solved for.
-ghost use Rattle.std.specs.Prelude.{◌≡◌, ◌++◌, IfNone, IfOk, IfSome, OnOk};
-ghost use Rattle.std.specs.List.{All, flat_map};
+ghost use Rattle.std.specs.Prelude.{◌≡◌, length, IfNone, IfOk, IfSome, IsTrue, IsFalse};
+ghost use Rattle.std.specs.List.{All};
 ghost use Rattle.quiver.specs.Declarations.{object_count, quiver_of};
 ghost use Rattle.adjoint_rules.specs.Problem.{IsShape};
+ghost use Rattle.matrix_models.specs.Systems.{HasNoSolution};
+ghost use Rattle.matrix_models.specs.Pivots.{Add, AreAgainst, StandFor};
 ghost use Rattle.model_candidates.specs.Candidates.{model_by};
 ghost use Rattle.model_candidates.specs.Unknowns.{set_count, solved_flags};
 ghost use Rattle.model_candidates.specs.Plans.{AreEntryValues, FitsShape, IsAssumption, IsZeroAtSignature};
 ghost use Rattle.model_candidates.specs.Equations.{system_for};
-ghost use Rattle.model_candidates.specs.Factors.{equations_of};
+ghost use Rattle.model_candidates.specs.Factors.{equations_of, system_in};
 ghost use Rattle.model_candidates.specs.Known.{IsKnown};
 
 use crate::conditions::are_zero;
-use crate::factor_rows::push_rows;
+use crate::factor_rows::add_rows;
 use crate::given_values::model_with;
 use crate::plan::{LinearAssumption, Plan};
 use crate::solved_terms::{Known, solved_terms};
 use crate::unknowns::{filled, unit_values};
 use adjoint_rules::{Problem, Shape};
-use lists::Listing;
-use matrix_models::{LinearRow, Matrices, System};
+use matrix_models::{Matrices, Pivots};
 use model_checker::representation_of;
 use representations::value_of;
 use std::alloc::{AllocError, Global};
 
 /// The equations for the entries that are solved for, where the others are drawn: each entry of each assumption is zero. `None`
-/// comes exactly where an assumption in which no solved map stands isn't zero.
-pub(crate) fn system_of(
+/// comes exactly where an assumption in which no solved map stands isn't zero, or else the equations have no solution.
+pub(crate) fn pivots_of(
     alloc: Global,
     problem: &Problem,
     shape: &Shape,
     plan: &Plan,
     drawn: &[u32],
-) -> Result<Option<System>, AllocError>
+) -> Result<Option<Pivots>, AllocError>
     requires shape { IsShape (object_count problem.now.parts.quiver) shape.now }
     requires plan { FitsShape problem.now shape.now plan.now }
     requires drawn { AreEntryValues problem.now shape.now drawn.now }
-    ensures none { IfOk result (λ found. IfNone found (¬ All (IsZeroAtSignature problem.now
-        (model_by (quiver_of problem.now.parts.quiver) shape.now 0 drawn.now)) plan.now.assumptions.conditions)) }
+    ensures none { IfOk result (λ found. IfNone found (All (IsZeroAtSignature problem.now
+        (model_by (quiver_of problem.now.parts.quiver) shape.now 0 drawn.now)) plan.now.assumptions.conditions
+        → HasNoSolution (system_for problem.now shape.now plan.now.solved plan.now.assumptions.equations drawn.now))) }
     ensures hold { IfOk result (λ found. IfSome found (λ _. All (IsZeroAtSignature problem.now
         (model_by (quiver_of problem.now.parts.quiver) shape.now 0 drawn.now)) plan.now.assumptions.conditions)) }
-    ensures system { IfOk result (λ found. IfSome found (λ system.
-        system ≡ system_for problem.now shape.now plan.now.solved plan.now.assumptions.equations drawn.now)) }
+    ensures pivots { IfOk result (λ found. IfSome found (λ pivots.
+        StandFor pivots (system_for problem.now shape.now plan.now.solved plan.now.assumptions.equations drawn.now))) }
 {
     let zeros = unit_values(alloc, plan.unknowns, plan.unknowns)?;
     let values = filled(alloc, plan.solved.as_slice(), drawn, zeros.as_slice())?;
-    match rows_for(alloc, problem, shape, plan, values.as_slice())? {
-        Some(rows) => Ok(Some(System {
-            modulus: shape.modulus,
-            unknowns: plan.unknowns,
-            rows,
-        })),
-        None => Ok(None),
-    }
+    pivots_at(alloc, problem, shape, plan, values.as_slice())
 }
 
-// The equations where the entries have these values, 0 for those that are solved for; `None` where a condition is not zero.
-fn rows_for(
+// The equations where the entries have these values, 0 for those that are solved for; `None` where a condition is not zero, or
+// else the equations have no solution.
+fn pivots_at(
     alloc: Global,
     problem: &Problem,
     shape: &Shape,
     plan: &Plan,
     values: &[u32],
-) -> Result<Option<Listing<LinearRow>>, AllocError>
+) -> Result<Option<Pivots>, AllocError>
     requires shape { IsShape (object_count problem.now.parts.quiver) shape.now }
     requires plan { FitsShape problem.now shape.now plan.now }
     requires values { AreEntryValues problem.now shape.now values.now }
-    ensures none { IfOk result (λ found. IfNone found (¬ All (IsZeroAtSignature problem.now
-        (model_by (quiver_of problem.now.parts.quiver) shape.now 0 values.now)) plan.now.assumptions.conditions)) }
+    ensures none { IfOk result (λ found. IfNone found (All (IsZeroAtSignature problem.now
+        (model_by (quiver_of problem.now.parts.quiver) shape.now 0 values.now)) plan.now.assumptions.conditions
+        → HasNoSolution (system_in problem.now shape.now (model_by (quiver_of problem.now.parts.quiver) shape.now 0 values.now)
+        plan.now.unknowns plan.now.assumptions.equations))) }
     ensures hold { IfOk result (λ found. IfSome found (λ _. All (IsZeroAtSignature problem.now
         (model_by (quiver_of problem.now.parts.quiver) shape.now 0 values.now)) plan.now.assumptions.conditions)) }
-    ensures rows { IfOk result (λ found. IfSome found (λ rows. rows ≡ flat_map (equations_of problem.now shape.now
-        (model_by (quiver_of problem.now.parts.quiver) shape.now 0 values.now)) plan.now.assumptions.equations)) }
+    ensures pivots { IfOk result (λ found. IfSome found (λ pivots. StandFor pivots
+        (system_in problem.now shape.now (model_by (quiver_of problem.now.parts.quiver) shape.now 0 values.now)
+        plan.now.unknowns plan.now.assumptions.equations))) }
 {
     let quiver = &problem.parts.quiver;
     let model = model_with(alloc, quiver, shape, 0, values)?;
@@ -87,35 +86,46 @@ fn rows_for(
         model: &model,
         representation: &representation,
     };
-    Ok(Some(rows_of(&known, plan)?))
+    pivots_with(&known, plan)
 }
 
-// The equations of all assumptions in which a solved map stands.
-fn rows_of(known: &Known, plan: &Plan) -> Result<Listing<LinearRow>, AllocError>
+// The equations of all assumptions in which a solved map stands, one assumption after another: the first of them that
+// contradicts those before it ends this, with `None`.
+fn pivots_with(known: &Known, plan: &Plan) -> Result<Option<Pivots>, AllocError>
     requires known { IsKnown known.now }
     requires plan { FitsShape known.now.problem.now known.now.shape.now plan.now }
-    ensures { IfOk result (λ rows. rows
-        ≡ flat_map (equations_of known.now.problem.now known.now.shape.now known.now.model.now) plan.now.assumptions.equations) }
+    ensures none { IfOk result (λ found. IfNone found (HasNoSolution (system_in known.now.problem.now known.now.shape.now
+        known.now.model.now plan.now.unknowns plan.now.assumptions.equations))) }
+    ensures pivots { IfOk result (λ found. IfSome found (λ pivots. StandFor pivots (system_in known.now.problem.now
+        known.now.shape.now known.now.model.now plan.now.unknowns plan.now.assumptions.equations))) }
 {
-    let mut rows = Listing::new(known.alloc);
+    let mut pivots = Pivots::new(known.alloc, known.shape.modulus, plan.unknowns)?;
     for assumption in plan.assumptions.equations.as_slice() {
-        push_equations(known, plan.unknowns, *assumption, &mut rows)?;
+        if !add_equations(known, plan.unknowns, *assumption, &mut pivots)? {
+            return Ok(None);
+        }
     }
-    Ok(rows)
+    Ok(Some(pivots))
 }
 
-// The equations that say that the assumption is zero, behind these.
-fn push_equations(
+// Adds the equations that say that the assumption is zero, up to the first that contradicts those before it, and tells whether
+// there is none such.
+fn add_equations(
     known: &Known,
     unknowns: u32,
     assumption: LinearAssumption,
-    rows: &mut Listing<LinearRow>,
-) -> Result<(), AllocError>
+    pivots: &mut Pivots,
+) -> Result<bool, AllocError>
     requires known { IsKnown known.now }
     requires unknowns { unknowns
         ≡ set_count (solved_flags (quiver_of known.now.problem.now.parts.quiver) known.now.shape.now known.now.problem.now.parts.solved) }
     requires assumption { IsAssumption known.now.problem.now 1 assumption }
-    ensures { OnOk result (rows.new ≡ rows.old ++ equations_of known.now.problem.now known.now.shape.now known.now.model.now assumption) }
+    requires size { length pivots.old.rows ≡ unknowns }
+    requires modulus { pivots.old.modulus ≡ known.now.model.now.modulus }
+    ensures added { IfOk result (λ fit. IsTrue fit
+        → Add (equations_of known.now.problem.now known.now.shape.now known.now.model.now assumption) pivots.old pivots.new) }
+    ensures against { IfOk result (λ fit. IsFalse fit
+        → AreAgainst (equations_of known.now.problem.now known.now.shape.now known.now.model.now assumption) pivots.old) }
 {
     let parts = &known.problem.parts;
     let category = Matrices {
@@ -132,5 +142,5 @@ fn push_equations(
         ends,
     )?;
     let terms = solved_terms(known, poly, ends)?;
-    push_rows(known.alloc, unknowns, &value, terms.as_slice(), rows)
+    add_rows(known.alloc, unknowns, &value, terms.as_slice(), pivots)
 }

@@ -7,13 +7,13 @@ ghost use Rattle.model_candidates.specs.Candidates.{IsCandidate, IsGreedy, IsSha
 ghost use Rattle.model_candidates.specs.Plans.{AreEntryValues, FitsShape, IsPlan};
 
 use crate::drawn_values::draws_of;
-use crate::equations::system_of;
+use crate::equations::pivots_of;
 use crate::given_values::{model_with, numbered_candidate};
 use crate::plan::{Plan, plan_of};
 use crate::unknowns::{filled, picked};
 use adjoint_rules::{Problem, Shape};
 use lists::Listing;
-use matrix_models::{Model, solve};
+use matrix_models::Model;
 use std::alloc::{AllocError, Global};
 
 /// Candidate k, counted from 0, of the shape with this number, counted from 1, for a seed; `None` exactly where the entries that
@@ -73,13 +73,11 @@ fn greedy_values(
     ensures none { IfOk result (λ found. IfNone found ((values : List ℕ) → ¬ IsSolution problem.now shape.now drawn.now values)) }
     ensures greedy { IfOk result (λ found. IfSome found (IsGreedy problem.now shape.now drawn.now)) }
 {
-    let Some(system) = system_of(alloc, problem, shape, plan, drawn)? else {
+    let Some(pivots) = pivots_of(alloc, problem, shape, plan, drawn)? else {
         return Ok(None);
     };
     let solved = plan.solved.as_slice();
     let prefer = picked(alloc, solved, drawn)?;
-    match solve(alloc, &system, prefer.as_slice())? {
-        Some(values) => Ok(Some(filled(alloc, solved, drawn, values.as_slice())?)),
-        None => Ok(None),
-    }
+    let values = pivots.values(alloc, prefer.as_slice())?;
+    Ok(Some(filled(alloc, solved, drawn, values.as_slice())?))
 }
