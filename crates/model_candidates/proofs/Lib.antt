@@ -16,9 +16,11 @@ pub mod MadeModels
 pub mod SolvedEntries
 pub mod DistinctEntries
 pub mod WordProducts
+pub mod WordRows
 pub mod ProductEntries
 pub mod UnitEntries
 pub mod LetterEntries
+pub mod LetterTables
 pub mod AssumptionEntries
 pub mod AssumptionFactors
 pub mod DrawnEntries

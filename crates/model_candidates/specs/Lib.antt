@@ -4,7 +4,9 @@ pub mod Candidates
 pub mod EntryPlaces
 pub mod Unknowns
 pub mod LetterNumbers
+pub mod LetterTables
 pub mod Plans
 pub mod Equations
 pub mod Factors
 pub mod Known
+pub mod WordRows

@@ -9,12 +9,14 @@ mod equations;
 mod factor_rows;
 mod given_values;
 mod letter_numbers;
+mod letter_tables;
 mod one_candidate;
 mod plan;
 mod shape_fault;
 mod shapes;
 mod solved_terms;
 mod unknowns;
+mod word_rows;
 
 pub use candidate_count::{all_candidates, candidates};
 pub use one_candidate::{candidate, candidate_by};
