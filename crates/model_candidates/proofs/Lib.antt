@@ -17,6 +17,7 @@ pub mod SolvedEntries
 pub mod DistinctEntries
 pub mod WordProducts
 pub mod WordRows
+pub mod ValueRows
 pub mod ProductEntries
 pub mod UnitEntries
 pub mod LetterEntries

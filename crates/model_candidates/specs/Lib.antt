@@ -5,6 +5,8 @@ pub mod EntryPlaces
 pub mod Unknowns
 pub mod LetterNumbers
 pub mod LetterTables
+pub mod Residues
+pub mod Tables
 pub mod Plans
 pub mod Equations
 pub mod Factors

@@ -1,6 +1,7 @@
 -- Rows of products of matrices by the values of the entries, for private functions.
-use Rattle.std.specs.Prelude.{◌≡◌, ℕ, ◌<◌, List, get_or}
+use Rattle.std.specs.Prelude.{◌≡◌, ℕ, ◌*◌, ◌<◌, ℤ, List, get_or}
 use Rattle.definitions.specs.Quiver.{Quiver}
+use Rattle.definitions.specs.Representation.{value_at}
 use Rattle.quiver.specs.Declarations.{object_count, quiver_of}
 use Rattle.matrix_models.specs.Matrix.{Matrix, entry_at}
 use Rattle.matrix_models.specs.Matrices.{matrices}
@@ -12,6 +13,7 @@ use Rattle.model_candidates.specs.Candidates.{model_by}
 use Rattle.model_candidates.specs.Factors.{letters_product}
 use Rattle.model_candidates.specs.LetterTables.{letter_tables}
 use Rattle.model_candidates.specs.Plans.{AreEntryValues}
+use Rattle.model_candidates.specs.Residues.{residue}
 
 -- The values are ones of the entries of the shape, and the tables are those of the letters.
 pub record AreTabled (x : EntryValues) : Type 0 where
@@ -32,6 +34,14 @@ matrix_in x a = arrow_of (quiver_in x) (model_in x) a
 
 abbrev pub product_in : EntryValues → ℕ → List ℕ → Matrix
 product_in x u w = letters_product (matrices x.shape.now.modulus) (representation_of (quiver_in x) (model_in x)) u w
+
+-- the value of a polynomial at the signature (u, v) in it
+abbrev pub value_in : EntryValues → ℕ → ℕ → List (ℤ × List ℕ) → Matrix
+value_in x u v p = value_at (matrices x.shape.now.modulus) (quiver_in x) (representation_of (quiver_in x) (model_in x)) u v p
+
+-- what a term adds to the entry in row i and column k of the value, up to multiples of the modulus
+abbrev pub term_entry : EntryValues → ℕ → ℕ → ℕ → ℤ × List ℕ → ℕ
+term_entry x u i k t = residue x.shape.now.modulus t.0 * entry_at (product_in x u t.1) i k
 
 -- the list begins with the entries in row i of a matrix with so many columns
 abbrev pub IsRow : Matrix → ℕ → ℕ → List ℕ → Type 0

@@ -15,11 +15,15 @@ mod plan;
 mod shape_fault;
 mod shapes;
 mod solved_terms;
+mod tables;
 mod unknowns;
+mod value_rows;
 mod word_rows;
 
 pub use candidate_count::{all_candidates, candidates};
+pub use letter_tables::LetterTable;
 pub use one_candidate::{candidate, candidate_by};
 pub use plan::{LinearAssumption, LinearAssumptions, Plan, plan_of};
 pub use shape_fault::ShapeFault;
 pub use shapes::check_shape;
+pub use tables::Tables;
