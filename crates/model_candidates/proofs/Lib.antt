@@ -16,9 +16,12 @@ pub mod MadeModels
 pub mod SolvedEntries
 pub mod DistinctEntries
 pub mod WordProducts
+pub mod WordRows
+pub mod ValueRows
 pub mod ProductEntries
 pub mod UnitEntries
 pub mod LetterEntries
+pub mod LetterTables
 pub mod AssumptionEntries
 pub mod AssumptionFactors
 pub mod DrawnEntries

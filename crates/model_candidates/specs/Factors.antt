@@ -1,6 +1,6 @@
 -- What each unknown adds to the entries of an assumption, for private functions: in each word with a solved letter the products of what
 -- stands before and behind the letter.
-use Rattle.std.specs.Prelude.{◌≡◌, ℕ, suc, ℤ, pos, negsuc, ◌+◌, ◌-◌, ◌*◌, ◌/◌, ◌%◌, ◌<◌, nat_eq, List, [], ◌∷◌, length, map, get_or}
+use Rattle.std.specs.Prelude.{◌≡◌, ℕ, ℤ, ◌+◌, ◌-◌, ◌*◌, ◌/◌, ◌%◌, ◌<◌, nat_eq, List, [], ◌∷◌, length, map, get_or}
 use Rattle.std.specs.Prelude.{take, drop, position, Option, Some, None, if◌then◌else◌}
 use Rattle.std.specs.List.{All, flat_map, range_with_len, sum_by}
 use Rattle.std.specs.Option.{option_map}
@@ -20,6 +20,7 @@ use Rattle.model_checker.specs.Models.{representation_of}
 use Rattle.model_candidates.specs.declared.plan.LinearAssumption.{LinearAssumption}
 use Rattle.model_candidates.specs.declared.solved_terms.SolvedTerm.{SolvedTerm}
 use Rattle.model_candidates.specs.Candidates.{is_solved}
+pub use Rattle.model_candidates.specs.Residues.{residue}
 use Rattle.model_candidates.specs.Unknowns.{solved_flags, set_count, unknown_numbers}
 use Rattle.model_candidates.specs.LetterNumbers.{letter_values}
 use Rattle.model_candidates.specs.Plans.{terms_of}
@@ -29,11 +30,6 @@ use Rattle.model_candidates.specs.Equations.{assumption_value}
 abbrev pub letters_product : {Object Arrow : Type 0} → Structure Object Arrow → Representation Object Arrow → ℕ → List ℕ → Arrow
 letters_product s f u [] = s.identity (f.object u)
 letters_product s f u (a ∷ w) = s.compose (f.arrow a) (letters_product s f u w)
-
--- the coefficient modulo m
-abbrev pub residue : ℕ → ℤ → ℕ
-residue m (pos n) = n % m
-residue m (negsuc n) = (m - suc n % m) % m
 
 -- What the solved letter at this place of the term's word has before and behind it.
 abbrev pub term_around : Quiver → Shape → List ℕ → Model → ℕ → ℤ × List ℕ → ℕ → SolvedTerm

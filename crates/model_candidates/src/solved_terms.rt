@@ -6,10 +6,11 @@ ghost use Rattle.word_core.specs.Letters.{IsOver};
 ghost use Rattle.matrix_models.specs.Matrices.{matrices};
 ghost use Rattle.model_checker.specs.Models.{representation_of};
 ghost use Rattle.model_candidates.specs.Candidates.{is_solved};
-ghost use Rattle.model_candidates.specs.Factors.{letters_product, residue, solved_term, solved_terms};
+ghost use Rattle.model_candidates.specs.Factors.{letters_product, solved_term, solved_terms};
 ghost use Rattle.model_candidates.specs.Known.{IsKnown, numbers_in};
 
 use crate::plan::is_solved;
+use crate::tables::residue_of;
 use adjoint_rules::{Problem, Shape};
 use category_laws::Category;
 use lists::{Duplicate, Listing};
@@ -150,18 +151,4 @@ fn product_of(
         product = category.compose(known.alloc, arrow, &product)?;
     }
     Ok(product)
-}
-
-// The coefficient modulo the modulus.
-fn residue_of(modulus: u32, coefficient: i128) -> u32
-    requires { 0 < modulus }
-    ensures value { result ≡ residue modulus coefficient }
-    ensures below { result < modulus }
-{
-    let rest = (coefficient.unsigned_abs() % u128::from(modulus)) as u32;
-    if coefficient < 0 {
-        (modulus - rest) % modulus
-    } else {
-        rest
-    }
 }
