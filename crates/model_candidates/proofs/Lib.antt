@@ -37,8 +37,8 @@ pub mod Found
 pub mod CandidateLaws
 pub mod FactorRows
 pub mod SolvedPlaces
-pub mod KnownProducts
 pub mod SolvedTerms
 pub mod TermSums
 pub mod AssumptionRows
 pub mod KnownTerms
+pub mod MatrixRows

@@ -11,17 +11,17 @@ ghost use Rattle.model_candidates.specs.Plans.{AreEntryValues, FitsShape, IsAssu
 ghost use Rattle.model_candidates.specs.Equations.{system_for};
 ghost use Rattle.model_candidates.specs.Factors.{equations_of, system_in};
 ghost use Rattle.model_candidates.specs.Known.{IsKnown};
+ghost use Rattle.model_candidates.specs.WordRows.{model_in, quiver_in};
 
 use crate::conditions::are_zero;
 use crate::factor_rows::add_rows;
-use crate::given_values::model_with;
 use crate::plan::{LinearAssumption, Plan};
 use crate::solved_terms::{Known, solved_terms};
 use crate::unknowns::{filled, unit_values};
+use crate::value_matrices::value_of;
+use crate::word_rows::EntryValues;
 use adjoint_rules::{Problem, Shape};
-use matrix_models::{Matrices, Pivots};
-use model_checker::representation_of;
-use representations::value_of;
+use matrix_models::Pivots;
 use std::alloc::{AllocError, Global};
 
 /// The equations for the entries that are solved for, where the others are drawn: each entry of each assumption is zero. `None`
@@ -71,21 +71,22 @@ fn pivots_at(
         (system_in problem.now shape.now (model_by (quiver_of problem.now.parts.quiver) shape.now 0 values.now)
         plan.now.unknowns plan.now.assumptions.equations))) }
 {
-    let quiver = &problem.parts.quiver;
-    let model = model_with(alloc, quiver, shape, 0, values)?;
-    let representation = representation_of(alloc, quiver, &model)?;
-    let conditions = plan.assumptions.conditions.as_slice();
-    if !are_zero(alloc, problem, conditions, &model, &representation)? {
-        return Ok(None);
-    }
-    let known = Known {
-        alloc,
+    let given = EntryValues {
         problem,
         shape,
-        numbers: plan.numbers.as_slice(),
-        model: &model,
-        representation: &representation,
+        tables: plan.tables.letters.as_slice(),
+        values,
     };
+    let known = Known {
+        alloc,
+        given,
+        numbers: plan.numbers.as_slice(),
+        coefficients: plan.tables.assumptions.as_slice(),
+    };
+    let conditions = plan.assumptions.conditions.as_slice();
+    if !are_zero(&known, conditions) {
+        return Ok(None);
+    }
     pivots_with(&known, plan)
 }
 
@@ -93,13 +94,13 @@ fn pivots_at(
 // contradicts those before it ends this, with `None`.
 fn pivots_with(known: &Known, plan: &Plan) -> Result<Option<Pivots>, AllocError>
     requires known { IsKnown known.now }
-    requires plan { FitsShape known.now.problem.now known.now.shape.now plan.now }
-    ensures none { IfOk result (λ found. IfNone found (HasNoSolution (system_in known.now.problem.now known.now.shape.now
-        known.now.model.now plan.now.unknowns plan.now.assumptions.equations))) }
-    ensures pivots { IfOk result (λ found. IfSome found (λ pivots. StandFor pivots (system_in known.now.problem.now
-        known.now.shape.now known.now.model.now plan.now.unknowns plan.now.assumptions.equations))) }
+    requires plan { FitsShape known.now.given.problem.now known.now.given.shape.now plan.now }
+    ensures none { IfOk result (λ found. IfNone found (HasNoSolution (system_in known.now.given.problem.now known.now.given.shape.now
+        (model_in known.now.given) plan.now.unknowns plan.now.assumptions.equations))) }
+    ensures pivots { IfOk result (λ found. IfSome found (λ pivots. StandFor pivots (system_in known.now.given.problem.now
+        known.now.given.shape.now (model_in known.now.given) plan.now.unknowns plan.now.assumptions.equations))) }
 {
-    let mut pivots = Pivots::new(known.alloc, known.shape.modulus, plan.unknowns)?;
+    let mut pivots = Pivots::new(known.alloc, known.given.shape.modulus, plan.unknowns)?;
     for assumption in plan.assumptions.equations.as_slice() {
         if !add_equations(known, plan.unknowns, *assumption, &mut pivots)? {
             return Ok(None);
@@ -118,29 +119,20 @@ fn add_equations(
 ) -> Result<bool, AllocError>
     requires known { IsKnown known.now }
     requires unknowns { unknowns
-        ≡ set_count (solved_flags (quiver_of known.now.problem.now.parts.quiver) known.now.shape.now known.now.problem.now.parts.solved) }
-    requires assumption { IsAssumption known.now.problem.now 1 assumption }
+        ≡ set_count (solved_flags (quiver_in known.now.given) known.now.given.shape.now known.now.given.problem.now.parts.solved) }
+    requires assumption { IsAssumption known.now.given.problem.now 1 assumption }
     requires size { length pivots.old.rows ≡ unknowns }
-    requires modulus { pivots.old.modulus ≡ known.now.model.now.modulus }
+    requires modulus { pivots.old.modulus ≡ known.now.given.shape.now.modulus }
     ensures added { IfOk result (λ fit. IsTrue fit
-        → Add (equations_of known.now.problem.now known.now.shape.now known.now.model.now assumption) pivots.old pivots.new) }
+        → Add (equations_of known.now.given.problem.now known.now.given.shape.now (model_in known.now.given) assumption) pivots.old pivots.new) }
     ensures against { IfOk result (λ fit. IsFalse fit
-        → AreAgainst (equations_of known.now.problem.now known.now.shape.now known.now.model.now assumption) pivots.old) }
+        → AreAgainst (equations_of known.now.given.problem.now known.now.given.shape.now (model_in known.now.given) assumption) pivots.old) }
 {
-    let parts = &known.problem.parts;
-    let category = Matrices {
-        modulus: known.model.modulus,
-    };
-    let poly = parts.assumptions.at(assumption.place as usize);
+    let place = assumption.place as usize;
+    let poly = known.given.problem.parts.assumptions.at(place);
+    let coefficients = known.coefficients[place].as_slice();
     let ends = assumption.sig;
-    let value = value_of(
-        known.alloc,
-        &category,
-        &parts.quiver,
-        known.representation,
-        poly,
-        ends,
-    )?;
-    let terms = solved_terms(known, poly, ends)?;
+    let value = value_of(known.alloc, &known.given, poly, coefficients, ends)?;
+    let terms = solved_terms(known, poly, coefficients, ends)?;
     add_rows(known.alloc, unknowns, &value, terms.as_slice(), pivots)
 }

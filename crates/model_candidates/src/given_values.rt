@@ -169,8 +169,8 @@ fn place_in_map(selfmade: bool, columns: u32, row: u32, column: u32) -> u32
     }
 }
 
-// The matrix with these entries, which fit it.
-fn matrix_of_entries(
+/// The matrix with these entries, which fit it.
+pub(crate) fn matrix_of_entries(
     alloc: Global,
     modulus: u32,
     rows: u32,

@@ -17,6 +17,7 @@ mod shapes;
 mod solved_terms;
 mod tables;
 mod unknowns;
+mod value_matrices;
 mod value_rows;
 mod word_rows;
 

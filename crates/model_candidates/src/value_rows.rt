@@ -18,17 +18,12 @@ use adjoint_rules::SHAPE_SIDE_LIMIT;
 use nc_polynomial::Poly;
 use quiver::Sig;
 
-// The entries in a row, up to multiples of the modulus.
-type Sums = [u64; SHAPE_SIDE_LIMIT as usize];
+/// The entries in a row, up to multiples of the modulus.
+pub(crate) type Sums = [u64; SHAPE_SIDE_LIMIT as usize];
 
 /// Whether the value of the polynomial at the signature is zero. Its rows are made one after another, up to the first that
 /// isn't zero.
-pub(crate) fn is_zero(
-    given: &EntryValues,
-    poly: &Poly,
-    coefficients: &[u32],
-    ends: Sig,
-) -> bool
+pub(crate) fn is_zero(given: &EntryValues, poly: &Poly, coefficients: &[u32], ends: Sig) -> bool
     requires given { AreTabled given.now }
     requires source { ends.source.0 < object_count given.now.problem.now.parts.quiver }
     requires target { ends.target.0 < object_count given.now.problem.now.parts.quiver }
@@ -46,13 +41,7 @@ pub(crate) fn is_zero(
 }
 
 // Whether this row of the value is zero.
-fn is_row_zero(
-    given: &EntryValues,
-    poly: &Poly,
-    coefficients: &[u32],
-    ends: Sig,
-    row: u32,
-) -> bool
+fn is_row_zero(given: &EntryValues, poly: &Poly, coefficients: &[u32], ends: Sig, row: u32) -> bool
     requires given { AreTabled given.now }
     requires source { ends.source.0 < object_count given.now.problem.now.parts.quiver }
     requires target { ends.target.0 < object_count given.now.problem.now.parts.quiver }
@@ -72,8 +61,8 @@ fn is_row_zero(
     true
 }
 
-// The entries in this row of the value, up to multiples of the modulus.
-fn row_sums(
+/// The entries in this row of the value, up to multiples of the modulus.
+pub(crate) fn row_sums(
     given: &EntryValues,
     poly: &Poly,
     coefficients: &[u32],

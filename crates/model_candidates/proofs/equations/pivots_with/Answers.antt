@@ -8,6 +8,7 @@ use Rattle.matrix_models.specs.Pivots.{Add, AreAgainst, StandFor}
 use Rattle.matrix_models.proofs.AddedEquations.{against-before}
 use Rattle.model_candidates.specs.declared.plan.LinearAssumption.{LinearAssumption}
 use Rattle.model_candidates.specs.Factors.{equations_of, system_in}
+use Rattle.model_candidates.specs.WordRows.{model_in}
 use Rattle.model_candidates.proofs.equations.pivots_with.Goals as goal
 
 abbrev no_assumption : LinearAssumption
@@ -34,33 +35,33 @@ all_more f gs k within =
 pub returns-then-not-branch-clause-none : goal.returns-then-not-branch-clause-none
 returns-then-not-branch-clause-none c =
     let known = c.args.known.now in
-    let m = known.model.now in
+    let m = model_in known.given in
     let n = c.args.plan.now.unknowns in
     let gs = c.args.plan.now.assumptions.equations in
     let same : c.as_slice-assumption-items.result.now ≡ gs = c.as_slice-assumption-items.ensures in
     let k = c.loop-assumption.assumption-index in
     let within : k < length gs = subst (λ xs. k < length xs) same c.loop-assumption-test.true in
-    let f : LinearAssumption → List LinearRow = equations_of known.problem.now known.shape.now m in
+    let f : LinearAssumption → List LinearRow = equations_of known.given.problem.now known.given.shape.now m in
     let rest : List LinearRow = flat_map f (drop (k + 1) gs) in
     let against : AreAgainst (f (get_or gs k no_assumption)) c.loop-assumption.pivots =
     subst (λ xs. AreAgainst (f (get_or xs k no_assumption)) c.loop-assumption.pivots) same
     (c.in_ok-add_equations.ensures.against c.if-not-branch.true) in
     subst (λ xs. HasNoSolution (record { modulus = m.modulus; unknowns = n; rows = xs })) (all_more f gs k within)
     (against-before (f (get_or gs k no_assumption)) rest c.loop-assumption.pivots against
-    (system_in known.problem.now known.shape.now m n (take k gs)) c.loop-assumption.invariant)
+    (system_in known.given.problem.now known.given.shape.now m n (take k gs)) c.loop-assumption.invariant)
 
 pub loop-assumption-preserved : goal.loop-assumption-preserved
 loop-assumption-preserved c =
     let known = c.args.known.now in
-    let m = known.model.now in
+    let m = model_in known.given in
     let n = c.args.plan.now.unknowns in
     let gs = c.args.plan.now.assumptions.equations in
     let same : c.as_slice-assumption-items.result.now ≡ gs = c.as_slice-assumption-items.ensures in
     let k = c.loop-assumption.assumption-index in
     let within : k < length gs = subst (λ xs. k < length xs) same c.loop-assumption-test.true in
-    let f : LinearAssumption → List LinearRow = equations_of known.problem.now known.shape.now m in
+    let f : LinearAssumption → List LinearRow = equations_of known.given.problem.now known.given.shape.now m in
     let added : Add (f (get_or gs k no_assumption)) c.loop-assumption.pivots c.add_equations.new.pivots =
     subst (λ xs. Add (f (get_or xs k no_assumption)) c.loop-assumption.pivots c.add_equations.new.pivots) same
     (c.in_ok-add_equations.ensures.added c.if-not-branch.false) in
     subst (λ xs. StandFor c.add_equations.new.pivots (record { modulus = m.modulus; unknowns = n; rows = xs })) (one_more f gs k within)
-    (added (system_in known.problem.now known.shape.now m n (take k gs)) c.loop-assumption.invariant)
+    (added (system_in known.given.problem.now known.given.shape.now m n (take k gs)) c.loop-assumption.invariant)
