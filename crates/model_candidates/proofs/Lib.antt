@@ -18,6 +18,7 @@ pub mod DistinctEntries
 pub mod WordProducts
 pub mod WordRows
 pub mod ValueRows
+pub mod TestedValues
 pub mod ProductEntries
 pub mod UnitEntries
 pub mod LetterEntries

@@ -23,12 +23,7 @@ type Sums = [u64; SHAPE_SIDE_LIMIT as usize];
 
 /// Whether the value of the polynomial at the signature is zero. Its rows are made one after another, up to the first that
 /// isn't zero.
-pub(crate) fn is_zero(
-    given: &EntryValues,
-    poly: &Poly,
-    coefficients: &[u32],
-    ends: Sig,
-) -> bool
+pub(crate) fn is_zero(given: &EntryValues, poly: &Poly, coefficients: &[u32], ends: Sig) -> bool
     requires given { AreTabled given.now }
     requires source { ends.source.0 < object_count given.now.problem.now.parts.quiver }
     requires target { ends.target.0 < object_count given.now.problem.now.parts.quiver }
@@ -46,13 +41,7 @@ pub(crate) fn is_zero(
 }
 
 // Whether this row of the value is zero.
-fn is_row_zero(
-    given: &EntryValues,
-    poly: &Poly,
-    coefficients: &[u32],
-    ends: Sig,
-    row: u32,
-) -> bool
+fn is_row_zero(given: &EntryValues, poly: &Poly, coefficients: &[u32], ends: Sig, row: u32) -> bool
     requires given { AreTabled given.now }
     requires source { ends.source.0 < object_count given.now.problem.now.parts.quiver }
     requires target { ends.target.0 < object_count given.now.problem.now.parts.quiver }
@@ -73,13 +62,7 @@ fn is_row_zero(
 }
 
 // The entries in this row of the value, up to multiples of the modulus.
-fn row_sums(
-    given: &EntryValues,
-    poly: &Poly,
-    coefficients: &[u32],
-    ends: Sig,
-    row: u32,
-) -> Sums
+fn row_sums(given: &EntryValues, poly: &Poly, coefficients: &[u32], ends: Sig, row: u32) -> Sums
     requires given { AreTabled given.now }
     requires source { ends.source.0 < object_count given.now.problem.now.parts.quiver }
     requires target { ends.target.0 < object_count given.now.problem.now.parts.quiver }
