@@ -1,5 +1,5 @@
 -- Values of candidates: which candidate they are, and what the tests of them tell.
-use Rattle.std.proofs.Common.{◌≡◌, ◌↔◌, ℕ, ℤ, ◌<◌, not, Bool, List, [], length, map, get_or, Option, None, Some, slice_get, option_map, IfNone, IfSome, IfOk, IsTrue, Result, Ok, Err, refl, sym, ap, ◌∙◌}
+use Rattle.std.proofs.Common.{◌≡◌, ◌↔◌, ℕ, not, List, [], map, get_or, Option, None, Some, slice_get, option_map, IfNone, IfSome, IfOk, IsTrue, Result, Ok, Err, refl, sym, ap, ◌∙◌}
 use Rattle.std.specs.List.{AllByRecursion}
 use Rattle.std.proofs.lemmas.List.{get_or-map}
 use Rattle.std.proofs.lemmas.List.Elements.{All-from_recursion}

@@ -1,9 +1,9 @@
-use Rattle.std.proofs.Common.{◌≡◌, ◌<◌, ◌≤◌, length, map, slice_get, Some, take, refl, sym, ap, subst, ◌∙◌, arith, true≢false}
+use Rattle.std.proofs.Common.{◌≤◌, length, refl, sym, ap, subst, ◌∙◌, arith, true≢false}
 use Rattle.std.specs.List.{AllByRecursion}
 use Rattle.std.proofs.lemmas.List.{length-map, take_all}
 use Rattle.std.proofs.lemmas.Slice.Zip.{AllZip-long}
 use Rattle.quiver.specs.Declarations.{quiver_of}
-use Rattle.adjoint_rules.specs.Problem.{HasObjects, IsTypedOf, polynomials}
+use Rattle.adjoint_rules.specs.Problem.{HasObjects, IsTypedOf}
 use Rattle.model_checker.specs.Models.{IsZeroIn, assumptions_of}
 use Rattle.model_checker.proofs.Places.{all_at, zip_at, one_more}
 use Rattle.model_candidates.specs.Candidates.{model_by}
