@@ -12,12 +12,12 @@ pub mod WordEntries
 pub mod WordFactors
 pub mod FactorSums
 pub mod LinearRows
-pub mod MadeModels
 pub mod SolvedEntries
 pub mod DistinctEntries
 pub mod WordProducts
 pub mod WordRows
 pub mod ValueRows
+pub mod TestedValues
 pub mod ProductEntries
 pub mod UnitEntries
 pub mod LetterEntries

@@ -16,6 +16,7 @@ mod shape_fault;
 mod shapes;
 mod solved_terms;
 mod tables;
+mod tested_values;
 mod unknowns;
 mod value_matrices;
 mod value_rows;
@@ -23,8 +24,9 @@ mod word_rows;
 
 pub use candidate_count::{all_candidates, candidates};
 pub use letter_tables::LetterTable;
-pub use one_candidate::{candidate, candidate_by};
+pub use one_candidate::{candidate, candidate_by, candidate_values};
 pub use plan::{LinearAssumption, LinearAssumptions, Plan, plan_of};
 pub use shape_fault::ShapeFault;
 pub use shapes::check_shape;
 pub use tables::Tables;
+pub use tested_values::{are_assumptions_zero, is_claim_zero};

@@ -1,10 +1,8 @@
-use Rattle.std.proofs.Common.{◌≡◌, ◌+◌, ◌*◌, ◌%◌, ◌<◌, ◌≤◌, ℕ, ℤ, List, get_or, length, take, sym, ap, ap₂, subst, ◌∙◌, arith}
+use Rattle.std.proofs.Common.{◌≡◌, ◌*◌, ◌%◌, ◌<◌, ◌≤◌, ℕ, ℤ, List, get_or, length, take, sym, ap, ap₂, subst, ◌∙◌, arith}
 use Rattle.std.specs.List.{sum_by}
 use Rattle.std.proofs.lemmas.List.{take_all}
 use Rattle.matrix_models.specs.Matrix.{entry_at}
 use Rattle.matrix_models.proofs.Congruences.{add_alike}
-use Rattle.model_candidates.specs.Candidates.{side_in}
-use Rattle.model_candidates.specs.Residues.{residue}
 use Rattle.model_candidates.specs.WordRows.{product_in, term_entry}
 use Rattle.model_candidates.proofs.SolvedTerms.{residue_below}
 use Rattle.model_candidates.proofs.ValueRows.{coefficient_at, path_at, paths_of, positive, sum_more, value_entry, whole_word, word_leads}
