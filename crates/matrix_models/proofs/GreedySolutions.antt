@@ -7,9 +7,10 @@ use Rattle.std.proofs.Math.Nat.{mod-eq_of_lt}
 use Rattle.matrix_models.specs.Matrices.{total}
 use Rattle.matrix_models.specs.Totals.{total_same}
 use Rattle.matrix_models.specs.declared.system.System.{System}
-use Rattle.matrix_models.specs.Systems.{Solves, IsSystem}
+use Rattle.matrix_models.specs.Systems.{Solves}
 use Rattle.matrix_models.specs.Greedy.{Extends, CanTake, IsGreedy}
-use Rattle.matrix_models.specs.Elimination.{MeetsAll, ArePivots, StandFor}
+use Rattle.matrix_models.specs.Elimination.{MeetsAll, ArePivots}
+use Rattle.matrix_models.specs.Pivots.{Pivots, StandFor}
 use Rattle.matrix_models.proofs.Congruences.{add_cancel}
 use Rattle.matrix_models.proofs.Primes.{field_positive}
 use Rattle.matrix_models.proofs.BackSolving.{IsSolvedTo, pivot_sum, meets-solved}
@@ -85,18 +86,18 @@ greedy-solved s pivots prefer values positive are_pivots solved meets solves = r
         let same = taken_is s pivots prefer values row place value positive are_pivots solved meets within found can in omega (arith, same)
 
 -- the values that the pivots of all equations leave
-pub greedy-left : (s : System) (pivots : List (Option (List ℕ))) (prefer values : List ℕ) → IsSystem s → StandFor s s.rows pivots
-    → IsSolvedTo s.modulus s.unknowns s.unknowns pivots prefer values → IsGreedy s prefer values
-greedy-left s pivots prefer values is_system stand solved =
-    greedy-solved s pivots prefer values (field_positive s.modulus is_system.modulus) stand.are_pivots solved meets (record {
+pub greedy-left : (s : System) (p : Pivots) (prefer values : List ℕ) → StandFor p s
+    → IsSolvedTo p.modulus (length p.rows) (length p.rows) p.rows prefer values → IsGreedy s prefer values
+greedy-left s p prefer values stand so_far =
+    greedy-solved s p.rows prefer values (field_positive s.modulus stand.is_system.modulus) stand.are_pivots solved
+    (λ others. meets-solution s others p stand) (record {
       are_values = record { one_each = solved.size; below = solved.below };
-      each_holds = holds_from_meets s values pivots is_system stand (meets-solved s.modulus s.unknowns pivots prefer values stand.are_pivots stand.size solved);
+      each_holds = holds_from_meets s values p stand (meets-solved s.modulus s.unknowns p.rows prefer values stand.are_pivots stand.size solved);
     })
   where
-    meets : (others : List ℕ) → Solves s others → MeetsAll s.modulus s.unknowns (λ k. get_or others k 0) pivots
-    meets others solves =
-        meets-solution s others (length s.rows) pivots is_system
-        (subst (λ xs. StandFor s xs pivots) (sym (take_all (length s.rows) s.rows (omega arith))) stand) solves
+    solved : IsSolvedTo s.modulus s.unknowns s.unknowns p.rows prefer values
+    solved = subst (λ n. IsSolvedTo s.modulus n n p.rows prefer values) stand.size
+        (subst (λ m. IsSolvedTo m (length p.rows) (length p.rows) p.rows prefer values) stand.modulus so_far)
 
 -- lists that agree at each place where they agree before it
 pub same_fronts : (values others : List ℕ) (n : ℕ) → n ≤ length values → n ≤ length others

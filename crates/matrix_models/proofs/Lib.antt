@@ -5,6 +5,7 @@ pub mod Primes
 pub mod Rows
 pub mod BackSolving
 pub mod Reduction
+pub mod AddedEquations
 pub mod GreedySolutions
 pub mod GreedyExistence
 mod Examples

@@ -1,8 +1,7 @@
--- What elimination keeps, for private functions: a row is a list of factors with the right side behind them.
-use Rattle.std.specs.Prelude.{◌≡◌, ◌↔◌, ℕ, ◌+◌, ◌*◌, ◌%◌, ◌<◌, List, [], ◌∷◌, ◌++◌, length, get_or, Option, Some, None, All}
+-- What elimination keeps: a row is a list of factors with the right side behind them.
+use Rattle.std.specs.Prelude.{◌≡◌, ◌↔◌, ℕ, ◌+◌, ◌-◌, ◌*◌, ◌%◌, ◌<◌, List, [], ◌∷◌, ◌++◌, take, length, get_or, Option, Some, None}
 use Rattle.matrix_models.specs.Matrices.{total}
 use Rattle.matrix_models.specs.declared.system.LinearRow.{LinearRow}
-use Rattle.matrix_models.specs.declared.system.System.{System}
 
 -- the equation of a row with n unknowns holds modulo m at these numbers
 abbrev pub Meets : ℕ → ℕ → (ℕ → ℕ) → List ℕ → Type 0
@@ -52,8 +51,6 @@ IsAgainst m n row pivots = (w : ℕ → ℕ) → MeetsAll m n w pivots → ¬ Me
 abbrev pub row_of : LinearRow → List ℕ
 row_of equation = equation.factors ++ equation.right ∷ []
 
--- The pivots say what these equations of the system do.
-pub record StandFor (s : System) (equations : List LinearRow) (pivots : List (Option (List ℕ))) : Type 0 where
-  pub size : length pivots ≡ s.unknowns
-  pub are_pivots : ArePivots s.unknowns pivots
-  pub same : (w : ℕ → ℕ) → MeetsAll s.modulus s.unknowns w pivots ↔ All (λ equation. Meets s.modulus s.unknowns w (row_of equation)) equations
+-- the equation of a row
+abbrev pub equation_of : List ℕ → LinearRow
+equation_of row = let n = length row - 1 in record { factors = take n row; right = get_or row n 0 }

@@ -7,3 +7,4 @@ pub mod Laws
 pub mod Systems
 pub mod Greedy
 pub mod Elimination
+pub mod Pivots

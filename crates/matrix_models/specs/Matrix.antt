@@ -1,5 +1,5 @@
 -- Matrices over the integers modulo a number.
-use Rattle.std.specs.Prelude.{◌≡◌, ℕ, ◌+◌, ◌*◌, ◌/◌, ◌%◌, ◌^◌, ◌<◌, ◌≤◌, List, length, get_or, map, nat_le, Option, position, All}
+use Rattle.std.specs.Prelude.{◌≡◌, ℕ, ◌+◌, ◌*◌, ◌/◌, ◌%◌, ◌<◌, ◌≤◌, List, length, get_or, map, nat_le, Option, position, All}
 use Rattle.std.specs.List.{range_with_len}
 use Rattle.matrix_models.specs.Limits.{side_limit, modulus_limit}
 

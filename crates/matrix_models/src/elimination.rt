@@ -18,6 +18,7 @@ pub(crate) fn insert(modulus: u32, pivots: &mut [Option<Listing<u32>>], mut row:
     ensures pivots { ArePivots (length pivots.old) pivots.new }
     ensures added { IsTrue result → IsAdded modulus (length pivots.old) row.items pivots.old pivots.new }
     ensures against { IsFalse result → IsAgainst modulus (length pivots.old) row.items pivots.old }
+    ensures unchanged { IsFalse result → pivots.new ≡ pivots.old }
 {
     match normalize(modulus, pivots, &mut row) {
         Some(place) => {
@@ -79,25 +80,40 @@ fn reduce(modulus: u32, pivots: &[Option<Listing<u32>>], row: &mut [u32]) -> Opt
 // Adds a multiple of another row.
 fn add_multiple(modulus: u32, row: &mut [u32], times: u32, other: &[u32])
     requires modulus { 0 < modulus }
+    requires below { All (λ entry. entry < modulus) row.old }
     requires size { length other.now ≡ length row.old }
     ensures len { length row.new ≡ length row.old }
     ensures each { (k : ℕ) → k < length row.old → get_or row.new k 0 ≡ (get_or row.old k 0 + times * get_or other.now k 0) % modulus }
 {
     for place in 0..row.len() {
-        let sum = u64::from(row[place]) + u64::from(times) * u64::from(other[place]);
-        row[place] = (sum % u64::from(modulus)) as u32;
+        row[place] = with_multiple(modulus, row[place], times, other[place]);
     }
 }
 
-// Multiplies a row.
+// The number with a multiple of another number, modulo the modulus. A multiple of 0 costs no division.
+pub(crate) fn with_multiple(modulus: u32, number: u32, times: u32, other: u32) -> u32
+    requires { number < modulus }
+    ensures value { result ≡ (number + times * other) % modulus }
+    ensures below { result < modulus }
+{
+    if other == 0 {
+        return number;
+    }
+    let sum = u64::from(number) + u64::from(times) * u64::from(other);
+    (sum % u64::from(modulus)) as u32
+}
+
+// Multiplies a row. What is 0 stays.
 fn scale(modulus: u32, row: &mut [u32], times: u32)
     requires { 0 < modulus }
     ensures len { length row.new ≡ length row.old }
     ensures each { (k : ℕ) → k < length row.old → get_or row.new k 0 ≡ (get_or row.old k 0 * times) % modulus }
 {
     for place in 0..row.len() {
-        let product = u64::from(row[place]) * u64::from(times);
-        row[place] = (product % u64::from(modulus)) as u32;
+        if row[place] > 0 {
+            let product = u64::from(row[place]) * u64::from(times);
+            row[place] = (product % u64::from(modulus)) as u32;
+        }
     }
 }
 

@@ -1,13 +1,12 @@
-//! The greedy solution of linear equations, by pivots and then from the first unknown to the last.
+//! The greedy solution of linear equations.
 
-ghost use Rattle.std.specs.Prelude.{◌≡◌, ◌↔◌, ◌+◌, ◌-◌, ◌*◌, ◌%◌, ◌<◌, length, get_or, replicate, None, IfOk, IfSome, IfNone};
-ghost use Rattle.matrix_models.specs.Matrices.{total};
+ghost use Rattle.std.specs.Prelude.{◌≡◌, ◌↔◌, None, IfOk, IfSome, IfNone};
 ghost use Rattle.matrix_models.specs.Systems.{IsSystem, AreValues, HasNoSolution};
 ghost use Rattle.matrix_models.specs.Greedy.{IsGreedy};
-ghost use Rattle.matrix_models.specs.Elimination.{row_of, StandFor};
+ghost use Rattle.matrix_models.specs.Elimination.{row_of};
+ghost use Rattle.matrix_models.specs.Pivots.{StandFor};
 
-use crate::elimination::insert;
-use crate::{LinearRow, System};
+use crate::{LinearRow, Pivots, System};
 use lists::Listing;
 use std::alloc::{AllocError, Global};
 
@@ -25,39 +24,25 @@ pub fn solve(
     ensures greedy { IfOk result (λ found. IfSome found (IsGreedy system.now prefer.now)) }
 {
     match pivots_of(alloc, system)? {
-        Some(pivots) => Ok(Some(values_of(alloc, system, &pivots, prefer)?)),
+        Some(pivots) => Ok(Some(pivots.values(alloc, prefer)?)),
         None => Ok(None),
     }
 }
 
 // Pivots that say what the equations do, and `None` where there is no solution.
-fn pivots_of(
-    alloc: Global,
-    system: &System,
-) -> Result<Option<Vec<Option<Listing<u32>>>>, AllocError>
+fn pivots_of(alloc: Global, system: &System) -> Result<Option<Pivots>, AllocError>
     requires { IsSystem system.now }
-    ensures pivots { IfOk result (λ found. IfSome found (λ v. StandFor system.now system.now.rows v.items)) }
+    ensures pivots { IfOk result (λ found. IfSome found (λ pivots. StandFor pivots system.now)) }
     ensures none { IfOk result (λ found. IfNone found (HasNoSolution system.now)) }
 {
-    let mut pivots = no_pivots(alloc, system.unknowns)?;
+    let mut pivots = Pivots::new(alloc, system.modulus, system.unknowns)?;
     for equation in system.rows.as_slice() {
         let row = row_of(alloc, equation)?;
-        if !insert(system.modulus, &mut pivots, row) {
+        if !pivots.add(row) {
             return Ok(None);
         }
     }
     Ok(Some(pivots))
-}
-
-// No pivot for any unknown.
-fn no_pivots(alloc: Global, unknowns: u32) -> Result<Vec<Option<Listing<u32>>>, AllocError>
-    ensures { IfOk result (λ v. v.items ≡ replicate unknowns None) }
-{
-    let mut pivots = Vec::with_capacity(alloc, unknowns as usize)?;
-    for _ in 0..unknowns {
-        pivots.push(None)?;
-    }
-    Ok(pivots)
 }
 
 // The factors, and the right side behind them.
@@ -67,46 +52,4 @@ fn row_of(alloc: Global, equation: &LinearRow) -> Result<Vec<u32>, AllocError>
     let mut row = Vec::from_slice(alloc, equation.factors.as_slice())?;
     row.push(equation.right)?;
     Ok(row)
-}
-
-// From the first unknown to the last: one with no pivot takes its preferred value, and one with a pivot the value that its
-// pivot leaves for it.
-fn values_of(
-    alloc: Global,
-    system: &System,
-    pivots: &[Option<Listing<u32>>],
-    prefer: &[u32],
-) -> Result<Listing<u32>, AllocError>
-    requires system { IsSystem system.now }
-    requires prefer { AreValues system.now prefer.now }
-    requires pivots { StandFor system.now system.now.rows pivots.now }
-    ensures { IfOk result (IsGreedy system.now prefer.now) }
-{
-    let modulus = system.modulus;
-    let mut values = Vec::with_capacity(alloc, pivots.len())?;
-    for place in 0..pivots.len() {
-        let value = match &pivots[place] {
-            Some(pivot) => value_left(modulus, pivot.as_slice(), values.as_slice()),
-            None => prefer[place],
-        };
-        values.push(value)?;
-    }
-    Ok(Listing::from_vec(values))
-}
-
-// What the values leave of the row's right side, which stands at its end.
-fn value_left(modulus: u32, row: &[u32], values: &[u32]) -> u32
-    requires modulus { 0 < modulus }
-    requires within { length values.now < length row.now }
-    ensures below { result < modulus }
-    ensures left { (total (length values.now) (λ k. get_or row.now k 0 * get_or values.now k 0) + result) % modulus
-        ≡ get_or row.now (length row.now - 1) 0 % modulus }
-{
-    let modulus = u64::from(modulus);
-    let mut sum = 0;
-    for k in 0..values.len() {
-        let product = u64::from(row[k]) * u64::from(values[k]);
-        sum = (sum + product) % modulus;
-    }
-    ((u64::from(row[row.len() - 1]) + modulus - sum) % modulus) as u32
 }

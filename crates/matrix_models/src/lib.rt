@@ -9,6 +9,7 @@ mod laws;
 mod matrices;
 mod matrix;
 mod model;
+mod pivots;
 mod system;
 
 pub use fault::MatrixFault;
@@ -17,4 +18,5 @@ pub use laws::{greedy_solution_is_unique, solvable_systems_have_a_greedy_solutio
 pub use matrices::Matrices;
 pub use matrix::{MODULUS_LIMIT, Matrix, SIDE_LIMIT};
 pub use model::Model;
+pub use pivots::Pivots;
 pub use system::{LinearRow, System};

@@ -35,7 +35,7 @@ map_range_same f g a (suc n) same =
     ap₂ ◌∷◌ (same a (omega arith) (omega arith))
     (map_range_same f g (a + 1) n (λ k least below. same k (omega (arith, least)) (omega (arith, below))))
 
-map_range_split : {X : Type 0} (f : ℕ → X) (a b : ℕ)
+pub map_range_split : {X : Type 0} (f : ℕ → X) (a b : ℕ)
     → map f (range_with_len 0 (a + b)) ≡ map f (range_with_len 0 a) ++ map (λ k. f (a + k)) (range_with_len 0 b)
 map_range_split f a zero =
     let none : a + 0 ≡ a = omega arith in

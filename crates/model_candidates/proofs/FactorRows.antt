@@ -1,18 +1,20 @@
 -- Sums modulo m that are taken term by term.
-use Rattle.std.proofs.Common.{◌≡◌, ℕ, suc, ◌+◌, ◌*◌, ◌/◌, ◌%◌, ◌<◌, ◌++◌, ◌∷◌, [], cond, nat_eq, List, length, get_or, set, map, take, ◌⊎◌, inl, inr, refl, sym, ap, ap₂, ◌∙◌, arith, eq-eqb, ne_eqb}
+use Rattle.std.proofs.Common.{◌≡◌, ℕ, suc, ◌+◌, ◌-◌, ◌*◌, ◌/◌, ◌%◌, ◌<◌, ◌++◌, ◌∷◌, [], cond, nat_eq, List, length, get_or, set, map, take, ◌⊎◌, inl, inr, refl, sym, ap, ap₂, ◌∙◌, arith, mod-lt}
+use Rattle.std.proofs.Common.{eq-eqb, ne_eqb}
 use Rattle.std.specs.List.{All, sum_by, range_with_len}
 use Rattle.std.proofs.Math.Nat.{mod-mod, mod-eq_of_lt}
 use Rattle.std.proofs.lemmas.Bool.{cases_eq}
 use Rattle.std.proofs.lemmas.Nat.{mul-mod_first}
 use Rattle.std.proofs.lemmas.List.{ext_get_or, get_or-set_same, get_or-set_other, take_more}
-use Rattle.std.proofs.lemmas.List.Elements.{All-get_or}
+use Rattle.std.proofs.lemmas.List.Elements.{All-get_or, All-map, All-from_get_or}
 use Rattle.std.proofs.lemmas.List.FromFn.{get_or-map-range_with_len, length-map-range_with_len}
 use Rattle.std.proofs.lemmas.List.Sums.{sum_by_push}
-use Rattle.matrix_models.specs.Matrix.{entry_at}
+use Rattle.matrix_models.specs.Matrix.{Matrix, entry_at}
 use Rattle.matrix_models.specs.Matrices.{total}
+use Rattle.matrix_models.specs.Systems.{IsEquation}
 use Rattle.matrix_models.proofs.Congruences.{add_alike}
 use Rattle.model_candidates.specs.declared.solved_terms.SolvedTerm.{SolvedTerm}
-use Rattle.model_candidates.specs.Factors.{place_factor, term_factor, terms_factor}
+use Rattle.model_candidates.specs.Factors.{place_factor, term_factor, terms_factor, row_with}
 
 -- Numbers below m, so many, that are what the unknowns add in these terms.
 pub record AreSums (m n : ℕ) (ts : List SolvedTerm) (i j : ℕ) (factors : List ℕ) : Type 0 where
@@ -93,3 +95,17 @@ residues m n f xs size below each =
     let within : k < n = omega (arith, inside, size) in
     sym (mod-eq_of_lt (All-get_or (λ x. x < m) xs k 0 inside below)) ∙ each k within
     ∙ sym (get_or-map-range_with_len (λ k. f k % m) 0 n k k 0 within (omega arith)))
+
+-- the row of an entry is one of an equation
+pub row_is_equation : (n : ℕ) (value : Matrix) (ts : List SolvedTerm) (place : ℕ) → 0 < value.modulus
+    → IsEquation value.modulus n (row_with n value ts place)
+row_is_equation n value ts place positive =
+    let i = place / value.columns in
+    let j = place % value.columns in
+    let f : ℕ → ℕ = λ k. terms_factor ts i j k % value.modulus in record {
+      one_each = length-map-range_with_len f 0 n;
+      factors_below = All-map (λ factor. factor < value.modulus) f (range_with_len 0 n)
+          (All-from_get_or (λ k. f k < value.modulus) (range_with_len 0 n) 0
+          (λ k inside. mod-lt (terms_factor ts i j (get_or (range_with_len 0 n) k 0)) positive));
+      right_below = mod-lt (value.modulus - entry_at value i j) positive;
+    }

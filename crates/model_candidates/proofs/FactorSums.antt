@@ -26,12 +26,12 @@ use Rattle.model_candidates.proofs.ProductEntries.{multiple_entry}
 use Rattle.model_candidates.proofs.WordFactors.{unknowns, unit, at, unit_below, factor_behind, factor_one, factor_none, factor_zero}
 
 -- multiples have the sides of the matrix
-multiple_rows : (m : ℕ) (k : ℤ) (a : Matrix) → (multiple (matrices m) k a).rows ≡ a.rows
+pub multiple_rows : (m : ℕ) (k : ℤ) (a : Matrix) → (multiple (matrices m) k a).rows ≡ a.rows
 multiple_rows m (pos zero) a = refl
 multiple_rows m (pos (suc n)) a = refl
 multiple_rows m (negsuc n) a = refl
 
-multiple_columns : (m : ℕ) (k : ℤ) (a : Matrix) → (multiple (matrices m) k a).columns ≡ a.columns
+pub multiple_columns : (m : ℕ) (k : ℤ) (a : Matrix) → (multiple (matrices m) k a).columns ≡ a.columns
 multiple_columns m (pos zero) a = refl
 multiple_columns m (pos (suc n)) a = refl
 multiple_columns m (negsuc n) a = refl

@@ -1,5 +1,5 @@
 -- The shape with a number, and the draws of its entries.
-use Rattle.std.proofs.Common.{◌≡◌, ℕ, ◌+◌, ◌-◌, ◌*◌, ◌%◌, ◌<◌, ◌≤◌, length, get_or, Some, None, slice_get, ◌⊎◌, inl, inr, sym, ap, ◌∙◌, arith, mod-lt}
+use Rattle.std.proofs.Common.{◌≡◌, ℕ, ◌+◌, ◌-◌, ◌*◌, ◌/◌, ◌%◌, ◌^◌, ◌<◌, ◌≤◌, length, get_or, Some, None, slice_get, ◌⊎◌, inl, inr, sym, ap, ◌∙◌, arith, mod-lt}
 use Rattle.std.specs.List.{range_with_len}
 use Rattle.std.proofs.lemmas.List.Elements.{All-map, All-from_get_or}
 use Rattle.std.proofs.lemmas.List.FromFn.{length-map-range_with_len}
@@ -8,7 +8,7 @@ use Rattle.quiver.specs.Declarations.{object_count, quiver_of}
 use Rattle.adjoint_rules.specs.declared.parts.Shape.{Shape}
 use Rattle.adjoint_rules.specs.declared.problem.Problem.{Problem}
 use Rattle.adjoint_rules.specs.Problem.{IsShape}
-use Rattle.model_candidates.specs.Candidates.{IsShapeOf, entries_of, draws, word_of_stream}
+use Rattle.model_candidates.specs.Candidates.{IsShapeOf, digit, digits, entries_of, draws, word_of_stream}
 use Rattle.model_candidates.specs.Plans.{AreEntryValues}
 use Rattle.model_checker.proofs.Places.{all_at}
 
@@ -34,6 +34,18 @@ draws_are_values problem s number seed k positive =
       below = All-map (λ value. value < s.modulus) draw (range_with_len 0 count)
           (All-from_get_or (λ j. draw j < s.modulus) (range_with_len 0 count) 0
           (λ i inside. mod-lt (word_of_stream seed number (k * count + get_or (range_with_len 0 count) i 0)) positive));
+    }
+
+-- the digits of a candidate's number
+pub digits_are_values : (problem : Problem) (s : Shape) (k : ℕ) → 1 ≤ s.modulus → AreEntryValues problem s (digits (quiver_of problem.parts.quiver) s k)
+digits_are_values problem s k positive =
+    let m = s.modulus in
+    let count = length (entries_of (quiver_of problem.parts.quiver) s) in
+    record {
+      one_each = length-map-range_with_len (digit m k) 0 count;
+      below = All-map (λ value. value < m) (digit m k) (range_with_len 0 count)
+          (All-from_get_or (λ j. digit m k j < m) (range_with_len 0 count) 0
+          (λ i inside. mod-lt (k / m ^ get_or (range_with_len 0 count) i 0) positive));
     }
 
 -- and no other

@@ -1,8 +1,8 @@
--- The equations of a plan: what is asked of them, and what their solutions are.
+-- The equations of a plan, and what their solutions are.
 use Rattle.std.proofs.Common.{◌≡◌, ℕ, ◌<◌, List, length, sym, ap, subst, ◌∙◌}
 use Rattle.std.specs.List.{All}
 use Rattle.quiver.specs.Declarations.{object_count, quiver_of}
-use Rattle.matrix_models.specs.Systems.{IsSystem, AreValues, HasNoSolution}
+use Rattle.matrix_models.specs.Systems.{AreValues, HasNoSolution}
 use Rattle.matrix_models.specs.Greedy as of_system
 use Rattle.adjoint_rules.specs.declared.parts.Shape.{Shape}
 use Rattle.adjoint_rules.specs.declared.problem.Problem.{Problem}
@@ -19,7 +19,7 @@ use Rattle.model_candidates.proofs.FilledValues.{length-filled, All-filled}
 use Rattle.model_candidates.proofs.KnownValues.{conditions_drawn, conditions_filled, conditions_of_solution}
 use Rattle.model_candidates.proofs.LinearRows.{unit_values_below}
 use Rattle.model_candidates.proofs.SolvedEntries.{length-picked, All-picked}
-use Rattle.model_candidates.proofs.SystemSolutions.{unit_of_each, is_system, are_values, solves_from, greedy_filled}
+use Rattle.model_candidates.proofs.SystemSolutions.{unit_of_each, are_values, solves_from, greedy_filled}
 
 module _ (problem : Problem) (s : Shape) (shape : IsShape (object_count problem.parts.quiver) s) (plan : Plan)
     (fits : FitsShape problem s plan) (drawn : List ℕ)
@@ -35,10 +35,6 @@ module _ (problem : Problem) (s : Shape) (shape : IsShape (object_count problem.
         one_each = length-filled plan.solved drawn unit same ∙ values.one_each;
         below = All-filled (λ value. value < s.modulus) plan.solved drawn unit values.below (unit_values_below s.modulus (set_count plan.solved) unknown least);
       }
-
-  pub plan_system : IsSystem (system_for problem s plan.solved plan.assumptions.equations drawn)
-  plan_system = subst (λ flags. IsSystem (system_for problem s flags plan.assumptions.equations drawn)) (sym fits.solved)
-      (is_system problem s shape drawn values.one_each values.below plan.assumptions.conditions plan.assumptions.equations fits.assumptions)
 
   pub value_of_each_flag : length drawn ≡ length plan.solved
   value_of_each_flag = values.one_each ∙ sym (flag_of_each (quiver_of problem.parts.quiver) s problem.parts.solved)

@@ -119,23 +119,6 @@ module _ (problem : Problem) (s : Shape) (shape : IsShape (object_count problem.
       length-entries problem s shape drawn count drawn_below gs linear (unit_values n (get_or (range_with_len 0 n) k 0))
       (unit_values n n) (unit_below (get_or (range_with_len 0 n) k 0)) (unit_below n)))
 
-  is_equation : (place : ℕ) → IsEquation s.modulus (length units) (row_by s.modulus (unit n) units place)
-  is_equation place = record {
-    one_each = length-map units (factor_by s.modulus (unit n) place);
-    factors_below = All-map (λ factor. factor < s.modulus) (factor_by s.modulus (unit n) place) units
-        (All-from_get_or (λ u. factor_by s.modulus (unit n) place u < s.modulus) units [] (λ k inside.
-        mod-lt (get_or (get_or units k []) place 0 + s.modulus - get_or (unit n) place 0) (omega (arith, least))));
-    right_below = mod-lt (s.modulus - get_or (unit n) place 0) (omega (arith, least));
-  }
-
-  pub is_system : IsSystem system
-  is_system = record {
-    modulus = shape.modulus;
-    rows = All-map (IsEquation s.modulus (length units)) (row_by s.modulus (unit n) units) (range_with_len 0 (length (unit n)))
-        (All-from_get_or (λ place. IsEquation s.modulus (length units) (row_by s.modulus (unit n) units place))
-        (range_with_len 0 (length (unit n))) 0 (λ k inside. is_equation (get_or (range_with_len 0 (length (unit n))) k 0)));
-  }
-
   pub are_values : (values : List ℕ) → length values ≡ n → All (λ value. value < s.modulus) values → AreValues system values
   are_values values one_each below = record { one_each = one_each ∙ sym unit_of_each; below = below }
 

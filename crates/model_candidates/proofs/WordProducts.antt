@@ -8,7 +8,7 @@ use Rattle.definitions.proofs.Values.{letter_is_arrow}
 use Rattle.model_candidates.specs.Factors.{letters_product}
 
 -- a letter of a path
-leads_of_path : (q : Quiver) (u v : ℕ) (w : List ℕ) → is_path q u v w ≡ true → leads q u v w ≡ true
+pub leads_of_path : (q : Quiver) (u v : ℕ) (w : List ℕ) → is_path q u v w ≡ true → leads q u v w ≡ true
 leads_of_path q u v [] path = absurd (cc)
 leads_of_path q u v (a ∷ w) path = path
 
@@ -52,7 +52,7 @@ module _ {Object Arrow : Type 0} {s : Structure Object Arrow} (laws : Preadditiv
   path_value-product u v a (b ∷ w) path =
       ap (s.compose (f.arrow a)) (path_value-product u (source q a) b w (step q u v a (b ∷ w) path).rest)
 
-  word_value-product : (u v : ℕ) (w : List ℕ) (none : Arrow) → is_path q u v w ≡ true → word_value s f none w ≡ letters_product s f u w
+  pub word_value-product : (u v : ℕ) (w : List ℕ) (none : Arrow) → is_path q u v w ≡ true → word_value s f none w ≡ letters_product s f u w
   word_value-product u v [] none path = absurd (cc)
   word_value-product u v (a ∷ w) none path = path_value-product u v a w path
 

@@ -1,6 +1,6 @@
 -- What each unknown adds to the entries of an assumption, for private functions: in each word with a solved letter the products of what
 -- stands before and behind the letter.
-use Rattle.std.specs.Prelude.{◌≡◌, ℕ, suc, ℤ, pos, negsuc, ◌+◌, ◌-◌, ◌*◌, ◌/◌, ◌%◌, ◌<◌, nat_eq, List, [], ◌∷◌, length, map, get_or}
+use Rattle.std.specs.Prelude.{◌≡◌, ℕ, ℤ, ◌+◌, ◌-◌, ◌*◌, ◌/◌, ◌%◌, ◌<◌, nat_eq, List, [], ◌∷◌, length, map, get_or}
 use Rattle.std.specs.Prelude.{take, drop, position, Option, Some, None, if◌then◌else◌}
 use Rattle.std.specs.List.{All, flat_map, range_with_len, sum_by}
 use Rattle.std.specs.Option.{option_map}
@@ -13,12 +13,14 @@ use Rattle.matrix_models.specs.Matrix.{Matrix, IsMatrix, entry_at}
 use Rattle.matrix_models.specs.Matrices.{matrices, total}
 use Rattle.matrix_models.specs.declared.model.Model.{Model}
 use Rattle.matrix_models.specs.declared.system.LinearRow.{LinearRow}
+use Rattle.matrix_models.specs.declared.system.System.{System}
 use Rattle.adjoint_rules.specs.declared.parts.Shape.{Shape}
 use Rattle.adjoint_rules.specs.declared.problem.Problem.{Problem}
 use Rattle.model_checker.specs.Models.{representation_of}
 use Rattle.model_candidates.specs.declared.plan.LinearAssumption.{LinearAssumption}
 use Rattle.model_candidates.specs.declared.solved_terms.SolvedTerm.{SolvedTerm}
 use Rattle.model_candidates.specs.Candidates.{is_solved}
+pub use Rattle.model_candidates.specs.Residues.{residue}
 use Rattle.model_candidates.specs.Unknowns.{solved_flags, set_count, unknown_numbers}
 use Rattle.model_candidates.specs.LetterNumbers.{letter_values}
 use Rattle.model_candidates.specs.Plans.{terms_of}
@@ -28,11 +30,6 @@ use Rattle.model_candidates.specs.Equations.{assumption_value}
 abbrev pub letters_product : {Object Arrow : Type 0} → Structure Object Arrow → Representation Object Arrow → ℕ → List ℕ → Arrow
 letters_product s f u [] = s.identity (f.object u)
 letters_product s f u (a ∷ w) = s.compose (f.arrow a) (letters_product s f u w)
-
--- the coefficient modulo m
-abbrev pub residue : ℕ → ℤ → ℕ
-residue m (pos n) = n % m
-residue m (negsuc n) = (m - suc n % m) % m
 
 -- What the solved letter at this place of the term's word has before and behind it.
 abbrev pub term_around : Quiver → Shape → List ℕ → Model → ℕ → ℤ × List ℕ → ℕ → SolvedTerm
@@ -102,3 +99,11 @@ equations_of problem s m g =
     let flags = solved_flags q s problem.parts.solved in
     rows_with (set_count flags) (assumption_value problem m g)
     (solved_terms q s problem.parts.solved (unknown_numbers flags) m g.sig.source.0 (terms_of problem g))
+
+-- that these assumptions are
+abbrev pub system_in : Problem → Shape → Model → ℕ → List LinearAssumption → System
+system_in problem s m unknowns gs = record {
+  modulus = m.modulus;
+  unknowns = unknowns;
+  rows = flat_map (equations_of problem s m) gs;
+}

@@ -4,7 +4,11 @@ pub mod Candidates
 pub mod EntryPlaces
 pub mod Unknowns
 pub mod LetterNumbers
+pub mod LetterTables
+pub mod Residues
+pub mod Tables
 pub mod Plans
 pub mod Equations
 pub mod Factors
 pub mod Known
+pub mod WordRows

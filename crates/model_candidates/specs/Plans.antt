@@ -17,6 +17,7 @@ use Rattle.model_checker.specs.Models.{representation_of, IsZeroIn}
 use Rattle.model_candidates.specs.Candidates.{IsShapeOf, entries_of, is_exhaustive, is_linear, solved_count}
 use Rattle.model_candidates.specs.Unknowns.{set_count, solved_flags}
 use Rattle.model_candidates.specs.LetterNumbers.{numbers_of_letters}
+use Rattle.model_candidates.specs.Tables.{AreTables}
 
 -- the polynomials of the assumptions that are linear in the solved maps
 abbrev pub linear_assumptions : Problem → List Poly
@@ -61,14 +62,15 @@ pub record AreAsked (problem : Problem) (known : Bool) (gs : List LinearAssumpti
   pub all : (m : Model) → All (IsZeroAtSignature problem m) gs → AllByRecursion (IsZeroIn problem m)
       (polynomials (filter (λ p. is_asked (quiver_of problem.parts.quiver) problem.parts.solved known p.terms) problem.parts.assumptions))
 
--- The plan fits the shape: whether all lists of values are tried, which entries are solved for and how many, the numbers of these, and
--- the linear assumptions.
+-- The plan fits the shape: whether all lists of values are tried, which entries are solved for and how many, the numbers of these,
+-- the linear assumptions, and the tables.
 pub record FitsShape (problem : Problem) (s : Shape) (plan : Plan) : Type 0 where
   pub exhaustive : plan.exhaustive ≡ is_exhaustive (quiver_of problem.parts.quiver) s
   pub solved : plan.solved ≡ solved_flags (quiver_of problem.parts.quiver) s problem.parts.solved
   pub unknowns : plan.unknowns ≡ set_count plan.solved
   pub numbers : plan.numbers ≡ numbers_of_letters (quiver_of problem.parts.quiver) s problem.parts.solved
   pub assumptions : AreLinearAssumptions problem plan.assumptions.conditions plan.assumptions.equations
+  pub tables : AreTables problem s plan.tables
 
 -- The plan is that of the shape with its number.
 pub record IsPlan (problem : Problem) (plan : Plan) : Type 0 where

@@ -1,136 +1,138 @@
 //! The linear equations that the drawn entries leave for those that are solved for.
-ghost use Rattle.std.specs.Prelude.{◌≡◌, ◌++◌, IfNone, IfOk, IfSome, OnOk};
-ghost use Rattle.std.specs.List.{All, flat_map};
+ghost use Rattle.std.specs.Prelude.{◌≡◌, length, IfNone, IfOk, IfSome, IsTrue, IsFalse};
+ghost use Rattle.std.specs.List.{All};
 ghost use Rattle.quiver.specs.Declarations.{object_count, quiver_of};
 ghost use Rattle.adjoint_rules.specs.Problem.{IsShape};
+ghost use Rattle.matrix_models.specs.Systems.{HasNoSolution};
+ghost use Rattle.matrix_models.specs.Pivots.{Add, AreAgainst, StandFor};
 ghost use Rattle.model_candidates.specs.Candidates.{model_by};
 ghost use Rattle.model_candidates.specs.Unknowns.{set_count, solved_flags};
 ghost use Rattle.model_candidates.specs.Plans.{AreEntryValues, FitsShape, IsAssumption, IsZeroAtSignature};
 ghost use Rattle.model_candidates.specs.Equations.{system_for};
-ghost use Rattle.model_candidates.specs.Factors.{equations_of};
+ghost use Rattle.model_candidates.specs.Factors.{equations_of, system_in};
 ghost use Rattle.model_candidates.specs.Known.{IsKnown};
+ghost use Rattle.model_candidates.specs.WordRows.{model_in, quiver_in};
 
 use crate::conditions::are_zero;
-use crate::factor_rows::push_rows;
-use crate::given_values::model_with;
+use crate::factor_rows::add_rows;
 use crate::plan::{LinearAssumption, Plan};
 use crate::solved_terms::{Known, solved_terms};
 use crate::unknowns::{filled, unit_values};
+use crate::value_matrices::value_of;
+use crate::word_rows::EntryValues;
 use adjoint_rules::{Problem, Shape};
-use lists::Listing;
-use matrix_models::{LinearRow, Matrices, System};
-use model_checker::representation_of;
-use representations::value_of;
+use matrix_models::Pivots;
 use std::alloc::{AllocError, Global};
 
 /// The equations for the entries that are solved for, where the others are drawn: each entry of each assumption is zero. `None`
-/// comes exactly where an assumption in which no solved map stands isn't zero.
-pub(crate) fn system_of(
+/// comes exactly where an assumption in which no solved map stands isn't zero, or else the equations have no solution.
+pub(crate) fn pivots_of(
     alloc: Global,
     problem: &Problem,
     shape: &Shape,
     plan: &Plan,
     drawn: &[u32],
-) -> Result<Option<System>, AllocError>
+) -> Result<Option<Pivots>, AllocError>
     requires shape { IsShape (object_count problem.now.parts.quiver) shape.now }
     requires plan { FitsShape problem.now shape.now plan.now }
     requires drawn { AreEntryValues problem.now shape.now drawn.now }
-    ensures none { IfOk result (λ found. IfNone found (¬ All (IsZeroAtSignature problem.now
-        (model_by (quiver_of problem.now.parts.quiver) shape.now 0 drawn.now)) plan.now.assumptions.conditions)) }
+    ensures none { IfOk result (λ found. IfNone found (All (IsZeroAtSignature problem.now
+        (model_by (quiver_of problem.now.parts.quiver) shape.now 0 drawn.now)) plan.now.assumptions.conditions
+        → HasNoSolution (system_for problem.now shape.now plan.now.solved plan.now.assumptions.equations drawn.now))) }
     ensures hold { IfOk result (λ found. IfSome found (λ _. All (IsZeroAtSignature problem.now
         (model_by (quiver_of problem.now.parts.quiver) shape.now 0 drawn.now)) plan.now.assumptions.conditions)) }
-    ensures system { IfOk result (λ found. IfSome found (λ system.
-        system ≡ system_for problem.now shape.now plan.now.solved plan.now.assumptions.equations drawn.now)) }
+    ensures pivots { IfOk result (λ found. IfSome found (λ pivots.
+        StandFor pivots (system_for problem.now shape.now plan.now.solved plan.now.assumptions.equations drawn.now))) }
 {
     let zeros = unit_values(alloc, plan.unknowns, plan.unknowns)?;
     let values = filled(alloc, plan.solved.as_slice(), drawn, zeros.as_slice())?;
-    match rows_for(alloc, problem, shape, plan, values.as_slice())? {
-        Some(rows) => Ok(Some(System {
-            modulus: shape.modulus,
-            unknowns: plan.unknowns,
-            rows,
-        })),
-        None => Ok(None),
-    }
+    pivots_at(alloc, problem, shape, plan, values.as_slice())
 }
 
-// The equations where the entries have these values, 0 for those that are solved for; `None` where a condition is not zero.
-fn rows_for(
+// The equations where the entries have these values, 0 for those that are solved for; `None` where a condition is not zero, or
+// else the equations have no solution.
+fn pivots_at(
     alloc: Global,
     problem: &Problem,
     shape: &Shape,
     plan: &Plan,
     values: &[u32],
-) -> Result<Option<Listing<LinearRow>>, AllocError>
+) -> Result<Option<Pivots>, AllocError>
     requires shape { IsShape (object_count problem.now.parts.quiver) shape.now }
     requires plan { FitsShape problem.now shape.now plan.now }
     requires values { AreEntryValues problem.now shape.now values.now }
-    ensures none { IfOk result (λ found. IfNone found (¬ All (IsZeroAtSignature problem.now
-        (model_by (quiver_of problem.now.parts.quiver) shape.now 0 values.now)) plan.now.assumptions.conditions)) }
+    ensures none { IfOk result (λ found. IfNone found (All (IsZeroAtSignature problem.now
+        (model_by (quiver_of problem.now.parts.quiver) shape.now 0 values.now)) plan.now.assumptions.conditions
+        → HasNoSolution (system_in problem.now shape.now (model_by (quiver_of problem.now.parts.quiver) shape.now 0 values.now)
+        plan.now.unknowns plan.now.assumptions.equations))) }
     ensures hold { IfOk result (λ found. IfSome found (λ _. All (IsZeroAtSignature problem.now
         (model_by (quiver_of problem.now.parts.quiver) shape.now 0 values.now)) plan.now.assumptions.conditions)) }
-    ensures rows { IfOk result (λ found. IfSome found (λ rows. rows ≡ flat_map (equations_of problem.now shape.now
-        (model_by (quiver_of problem.now.parts.quiver) shape.now 0 values.now)) plan.now.assumptions.equations)) }
+    ensures pivots { IfOk result (λ found. IfSome found (λ pivots. StandFor pivots
+        (system_in problem.now shape.now (model_by (quiver_of problem.now.parts.quiver) shape.now 0 values.now)
+        plan.now.unknowns plan.now.assumptions.equations))) }
 {
-    let quiver = &problem.parts.quiver;
-    let model = model_with(alloc, quiver, shape, 0, values)?;
-    let representation = representation_of(alloc, quiver, &model)?;
-    let conditions = plan.assumptions.conditions.as_slice();
-    if !are_zero(alloc, problem, conditions, &model, &representation)? {
-        return Ok(None);
-    }
-    let known = Known {
-        alloc,
+    let given = EntryValues {
         problem,
         shape,
-        numbers: plan.numbers.as_slice(),
-        model: &model,
-        representation: &representation,
+        tables: plan.tables.letters.as_slice(),
+        values,
     };
-    Ok(Some(rows_of(&known, plan)?))
-}
-
-// The equations of all assumptions in which a solved map stands.
-fn rows_of(known: &Known, plan: &Plan) -> Result<Listing<LinearRow>, AllocError>
-    requires known { IsKnown known.now }
-    requires plan { FitsShape known.now.problem.now known.now.shape.now plan.now }
-    ensures { IfOk result (λ rows. rows
-        ≡ flat_map (equations_of known.now.problem.now known.now.shape.now known.now.model.now) plan.now.assumptions.equations) }
-{
-    let mut rows = Listing::new(known.alloc);
-    for assumption in plan.assumptions.equations.as_slice() {
-        push_equations(known, plan.unknowns, *assumption, &mut rows)?;
+    let known = Known {
+        alloc,
+        given,
+        numbers: plan.numbers.as_slice(),
+        coefficients: plan.tables.assumptions.as_slice(),
+    };
+    let conditions = plan.assumptions.conditions.as_slice();
+    if !are_zero(&known, conditions) {
+        return Ok(None);
     }
-    Ok(rows)
+    pivots_with(&known, plan)
 }
 
-// The equations that say that the assumption is zero, behind these.
-fn push_equations(
+// The equations of all assumptions in which a solved map stands, one assumption after another: the first of them that
+// contradicts those before it ends this, with `None`.
+fn pivots_with(known: &Known, plan: &Plan) -> Result<Option<Pivots>, AllocError>
+    requires known { IsKnown known.now }
+    requires plan { FitsShape known.now.given.problem.now known.now.given.shape.now plan.now }
+    ensures none { IfOk result (λ found. IfNone found (HasNoSolution (system_in known.now.given.problem.now known.now.given.shape.now
+        (model_in known.now.given) plan.now.unknowns plan.now.assumptions.equations))) }
+    ensures pivots { IfOk result (λ found. IfSome found (λ pivots. StandFor pivots (system_in known.now.given.problem.now
+        known.now.given.shape.now (model_in known.now.given) plan.now.unknowns plan.now.assumptions.equations))) }
+{
+    let mut pivots = Pivots::new(known.alloc, known.given.shape.modulus, plan.unknowns)?;
+    for assumption in plan.assumptions.equations.as_slice() {
+        if !add_equations(known, plan.unknowns, *assumption, &mut pivots)? {
+            return Ok(None);
+        }
+    }
+    Ok(Some(pivots))
+}
+
+// Adds the equations that say that the assumption is zero, up to the first that contradicts those before it, and tells whether
+// there is none such.
+fn add_equations(
     known: &Known,
     unknowns: u32,
     assumption: LinearAssumption,
-    rows: &mut Listing<LinearRow>,
-) -> Result<(), AllocError>
+    pivots: &mut Pivots,
+) -> Result<bool, AllocError>
     requires known { IsKnown known.now }
     requires unknowns { unknowns
-        ≡ set_count (solved_flags (quiver_of known.now.problem.now.parts.quiver) known.now.shape.now known.now.problem.now.parts.solved) }
-    requires assumption { IsAssumption known.now.problem.now 1 assumption }
-    ensures { OnOk result (rows.new ≡ rows.old ++ equations_of known.now.problem.now known.now.shape.now known.now.model.now assumption) }
+        ≡ set_count (solved_flags (quiver_in known.now.given) known.now.given.shape.now known.now.given.problem.now.parts.solved) }
+    requires assumption { IsAssumption known.now.given.problem.now 1 assumption }
+    requires size { length pivots.old.rows ≡ unknowns }
+    requires modulus { pivots.old.modulus ≡ known.now.given.shape.now.modulus }
+    ensures added { IfOk result (λ fit. IsTrue fit
+        → Add (equations_of known.now.given.problem.now known.now.given.shape.now (model_in known.now.given) assumption) pivots.old pivots.new) }
+    ensures against { IfOk result (λ fit. IsFalse fit
+        → AreAgainst (equations_of known.now.given.problem.now known.now.given.shape.now (model_in known.now.given) assumption) pivots.old) }
 {
-    let parts = &known.problem.parts;
-    let category = Matrices {
-        modulus: known.model.modulus,
-    };
-    let poly = parts.assumptions.at(assumption.place as usize);
+    let place = assumption.place as usize;
+    let poly = known.given.problem.parts.assumptions.at(place);
+    let coefficients = known.coefficients[place].as_slice();
     let ends = assumption.sig;
-    let value = value_of(
-        known.alloc,
-        &category,
-        &parts.quiver,
-        known.representation,
-        poly,
-        ends,
-    )?;
-    let terms = solved_terms(known, poly, ends)?;
-    push_rows(known.alloc, unknowns, &value, terms.as_slice(), rows)
+    let value = value_of(known.alloc, &known.given, poly, coefficients, ends)?;
+    let terms = solved_terms(known, poly, coefficients, ends)?;
+    add_rows(known.alloc, unknowns, &value, terms.as_slice(), pivots)
 }

@@ -1,59 +1,86 @@
 //! The equations that say that a value is zero, by what each unknown adds to its entries.
-ghost use Rattle.std.specs.Prelude.{◌≡◌, ◌<◌, ◌+◌, ◌++◌, ◌%◌, ℕ, length, get_or, map, IfOk, OnOk};
+ghost use Rattle.std.specs.Prelude.{◌≡◌, ◌<◌, ◌+◌, ◌*◌, ◌%◌, ℕ, length, get_or, map, IfOk, IsTrue, IsFalse};
 ghost use Rattle.std.specs.List.{All, range_with_len};
 ghost use Rattle.matrix_models.specs.Matrix.{IsMatrix};
-ghost use Rattle.model_candidates.specs.Factors.{FitsTerm, HasSides, term_factor, terms_factor, rows_with};
+ghost use Rattle.matrix_models.specs.Elimination.{row_of};
+ghost use Rattle.matrix_models.specs.Pivots.{Add, AreAgainst};
+ghost use Rattle.model_candidates.specs.Factors.{FitsTerm, HasSides, term_factor, terms_factor, row_with, rows_with};
 
 use crate::solved_terms::SolvedTerm;
-use lists::Listing;
-use matrix_models::{LinearRow, Matrix};
+use matrix_models::{Matrix, Pivots};
 use std::alloc::{AllocError, Global};
 
-/// The equations that say that each entry of the value is zero, row by row, behind these: what the unknowns add to it is what
-/// they add in the terms.
-pub(crate) fn push_rows(
+/// Adds the equations that say that each entry of the value is zero, row by row, up to the first that contradicts those before
+/// it, and tells whether there is none such. What the unknowns add to an entry is what they add in the terms.
+pub(crate) fn add_rows(
     alloc: Global,
     unknowns: u32,
     value: &Matrix,
     terms: &[SolvedTerm],
-    rows: &mut Listing<LinearRow>,
-) -> Result<(), AllocError>
+    pivots: &mut Pivots,
+) -> Result<bool, AllocError>
     requires value { IsMatrix value.now.modulus value.now }
     requires terms { All (FitsTerm value.now.modulus unknowns) terms.now }
     requires sides { All (HasSides value.now.rows value.now.columns) terms.now }
-    ensures { OnOk result (rows.new ≡ rows.old ++ rows_with unknowns value.now terms.now) }
+    requires unknowns { length pivots.old.rows ≡ unknowns }
+    requires modulus { pivots.old.modulus ≡ value.now.modulus }
+    ensures unknowns { length pivots.new.rows ≡ length pivots.old.rows }
+    ensures modulus { pivots.new.modulus ≡ pivots.old.modulus }
+    ensures added { IfOk result (λ fit. IsTrue fit → Add (rows_with unknowns value.now terms.now) pivots.old pivots.new) }
+    ensures against { IfOk result (λ fit. IsFalse fit → AreAgainst (rows_with unknowns value.now terms.now) pivots.old) }
 {
-    let modulus = value.modulus();
     for place in 0..value.rows() * value.columns() {
-        let (row, column) = (place / value.columns(), place % value.columns());
-        let constant = value.entry(row, column);
-        let factors = factors_at(alloc, modulus, unknowns, terms, row, column)?;
-        let right = (modulus - constant) % modulus;
-        rows.push(LinearRow { factors, right })?;
+        let row = row_at(alloc, unknowns, value, terms, place)?;
+        if !pivots.add(row) {
+            return Ok(false);
+        }
     }
-    Ok(())
+    Ok(true)
 }
 
-// What each unknown adds to the entry in this row and column.
-fn factors_at(
+// The row of the equation that says that the entry at this place is zero: the right side stands behind the factors.
+fn row_at(
+    alloc: Global,
+    unknowns: u32,
+    value: &Matrix,
+    terms: &[SolvedTerm],
+    place: u32,
+) -> Result<Vec<u32>, AllocError>
+    requires value { IsMatrix value.now.modulus value.now }
+    requires terms { All (FitsTerm value.now.modulus unknowns) terms.now }
+    requires sides { All (HasSides value.now.rows value.now.columns) terms.now }
+    requires place { place < value.now.rows * value.now.columns }
+    ensures { IfOk result (λ row. row.items ≡ row_of (row_with unknowns value.now terms.now place)) }
+{
+    let modulus = value.modulus();
+    let (row, column) = (place / value.columns(), place % value.columns());
+    let constant = value.entry(row, column);
+    let factors = unknowns as usize;
+    let mut equation = sums_at(alloc, modulus, factors + 1, terms, row, column)?;
+    equation[factors] = (modulus - constant) % modulus;
+    Ok(equation)
+}
+
+// What each of so many unknowns adds to the entry in this row and column.
+fn sums_at(
     alloc: Global,
     modulus: u32,
-    unknowns: u32,
+    count: usize,
     terms: &[SolvedTerm],
     row: u32,
     column: u32,
-) -> Result<Listing<u32>, AllocError>
+) -> Result<Vec<u32>, AllocError>
     requires modulus { 0 < modulus }
-    requires terms { All (FitsTerm modulus unknowns) terms.now }
+    requires terms { All (FitsTerm modulus count) terms.now }
     requires row { All (λ t. row < t.left.rows) terms.now }
     requires column { All (λ t. column < t.right.columns) terms.now }
-    ensures { IfOk result (λ factors. factors ≡ map (λ k. terms_factor terms.now row column k % modulus) (range_with_len 0 unknowns)) }
+    ensures { IfOk result (λ sums. sums.items ≡ map (λ k. terms_factor terms.now row column k % modulus) (range_with_len 0 count)) }
 {
-    let mut factors = vec![in alloc; 0; unknowns as usize]?;
+    let mut sums = vec![in alloc; 0; count]?;
     for term in terms {
-        add_products(modulus, &mut factors, term, row, column);
+        add_products(modulus, &mut sums, term, row, column);
     }
-    Ok(Listing::from_vec(factors))
+    Ok(sums)
 }
 
 // Adds to the factor of each unknown what it adds to the entry in the term.

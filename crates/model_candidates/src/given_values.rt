@@ -56,21 +56,6 @@ pub(crate) fn model_with(
     })
 }
 
-/// The candidate with this number of a shape all of whose lists of values are tried.
-pub(crate) fn numbered_candidate(
-    alloc: Global,
-    quiver: &Quiver,
-    shape: &Shape,
-    candidate: u32,
-) -> Result<Model, AllocError>
-    requires quiver { IsQuiver (quiver_of quiver.now) }
-    requires shape { IsShape (object_count quiver.now) shape.now }
-    ensures { IfOk result (λ model. model ≡ model_by (quiver_of quiver.now) shape.now 0 (digits (quiver_of quiver.now) shape.now candidate)) }
-{
-    let values = digits_of(alloc, quiver, shape, candidate)?;
-    model_with(alloc, quiver, shape, 0, values.as_slice())
-}
-
 // The matrix of a declared map, whose first entry has the value at the place `first`.
 fn matrix_with(
     alloc: Global,
@@ -169,8 +154,8 @@ fn place_in_map(selfmade: bool, columns: u32, row: u32, column: u32) -> u32
     }
 }
 
-// The matrix with these entries, which fit it.
-fn matrix_of_entries(
+/// The matrix with these entries, which fit it.
+pub(crate) fn matrix_of_entries(
     alloc: Global,
     modulus: u32,
     rows: u32,

@@ -42,8 +42,8 @@ pub(crate) fn numbers_of_letters(
     Ok(numbers)
 }
 
-// The values in the matrix of a map or of an adjoint, row by row, by values of the entries.
-fn letter_values(
+/// The values in the matrix of a map or of an adjoint, row by row, by values of the entries.
+pub(crate) fn letter_values(
     alloc: Global,
     quiver: &Quiver,
     shape: &Shape,

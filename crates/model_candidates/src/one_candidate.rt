@@ -1,19 +1,20 @@
 //! The candidates of a shape.
 ghost use Rattle.std.specs.Prelude.{◌≤◌, ℕ, List, length, IfOk, IfSome, IfNone};
-ghost use Rattle.quiver.specs.Declarations.{object_count};
+ghost use Rattle.std.specs.Option.{option_map};
+ghost use Rattle.quiver.specs.Declarations.{object_count, quiver_of};
 ghost use Rattle.adjoint_rules.specs.Problem.{IsShape};
 ghost use Rattle.adjoint_rules.specs.declared.parts.Shape.{Shape as ShapeValue};
-ghost use Rattle.model_candidates.specs.Candidates.{IsCandidate, IsGreedy, IsShapeOf, IsSolution};
+ghost use Rattle.model_candidates.specs.Candidates.{IsCandidate, IsGreedy, IsShapeOf, IsSolution, model_by};
 ghost use Rattle.model_candidates.specs.Plans.{AreEntryValues, FitsShape, IsPlan};
 
-use crate::drawn_values::draws_of;
-use crate::equations::system_of;
-use crate::given_values::{model_with, numbered_candidate};
+use crate::drawn_values::{digits_of, draws_of};
+use crate::equations::pivots_of;
+use crate::given_values::model_with;
 use crate::plan::{Plan, plan_of};
 use crate::unknowns::{filled, picked};
 use adjoint_rules::{Problem, Shape};
 use lists::Listing;
-use matrix_models::{Model, solve};
+use matrix_models::Model;
 use std::alloc::{AllocError, Global};
 
 /// Candidate k, counted from 0, of the shape with this number, counted from 1, for a seed; `None` exactly where the entries that
@@ -47,16 +48,36 @@ pub fn candidate_by(
     ensures candidate { IfOk result (λ model. (s : ShapeValue) → IsShapeOf problem.now plan.now.number s
         → IsCandidate problem.now plan.now.number s seed k model) }
 {
+    let Some(values) = candidate_values(alloc, problem, plan, seed, k)? else {
+        return Ok(None);
+    };
+    let quiver = &problem.parts.quiver;
+    let shape = problem.parts.shapes.at(plan.number as usize - 1);
+    Ok(Some(model_with(alloc, quiver, shape, 0, values.as_slice())?))
+}
+
+/// The values of the entries in candidate k, counted from 0, of the plan's shape for a seed: the candidate is the model by them.
+/// `None` exactly where it has no model. It fails only where memory is short.
+pub fn candidate_values(
+    alloc: Global,
+    problem: &Problem,
+    plan: &Plan,
+    seed: u64,
+    k: u32,
+) -> Result<Option<Listing<u32>>, AllocError>
+    requires plan { IsPlan problem.now plan.now }
+    ensures candidate { IfOk result (λ found. (s : ShapeValue) → IsShapeOf problem.now plan.now.number s
+        → IsCandidate problem.now plan.now.number s seed k (option_map (model_by (quiver_of problem.now.parts.quiver) s 0) found)) }
+    ensures values { IfOk result (λ found. (s : ShapeValue) → IsShapeOf problem.now plan.now.number s
+        → IfSome found (AreEntryValues problem.now s)) }
+{
     let quiver = &problem.parts.quiver;
     let shape = problem.parts.shapes.at(plan.number as usize - 1);
     if plan.exhaustive {
-        return Ok(Some(numbered_candidate(alloc, quiver, shape, k)?));
+        return Ok(Some(digits_of(alloc, quiver, shape, k)?));
     }
     let drawn = draws_of(alloc, quiver, shape, plan.number, seed, k)?;
-    match greedy_values(alloc, problem, shape, plan, drawn.as_slice())? {
-        Some(values) => Ok(Some(model_with(alloc, quiver, shape, 0, values.as_slice())?)),
-        None => Ok(None),
-    }
+    greedy_values(alloc, problem, shape, plan, drawn.as_slice())
 }
 
 // The greedy solution of the linear assumptions where the entries that aren't solved for are drawn.
@@ -73,13 +94,11 @@ fn greedy_values(
     ensures none { IfOk result (λ found. IfNone found ((values : List ℕ) → ¬ IsSolution problem.now shape.now drawn.now values)) }
     ensures greedy { IfOk result (λ found. IfSome found (IsGreedy problem.now shape.now drawn.now)) }
 {
-    let Some(system) = system_of(alloc, problem, shape, plan, drawn)? else {
+    let Some(pivots) = pivots_of(alloc, problem, shape, plan, drawn)? else {
         return Ok(None);
     };
     let solved = plan.solved.as_slice();
     let prefer = picked(alloc, solved, drawn)?;
-    match solve(alloc, &system, prefer.as_slice())? {
-        Some(values) => Ok(Some(filled(alloc, solved, drawn, values.as_slice())?)),
-        None => Ok(None),
-    }
+    let values = pivots.values(alloc, prefer.as_slice())?;
+    Ok(Some(filled(alloc, solved, drawn, values.as_slice())?))
 }

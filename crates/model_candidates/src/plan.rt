@@ -12,6 +12,7 @@ ghost use Rattle.model_candidates.specs.Plans.{AreAsked, AreLinearAssumptions, I
 use crate::candidate_count::is_exhaustive;
 use crate::entries::{entry_count, is_declared, map_entry_count};
 use crate::letter_numbers::numbers_of_letters;
+use crate::tables::{Tables, tables_of};
 use crate::unknowns::{unknown_count, unknown_numbers};
 use adjoint_rules::{Problem, Shape};
 use lists::Listing;
@@ -53,6 +54,8 @@ pub struct Plan {
     pub numbers: Listing<Option<Listing<u32>>>,
     /// The linear assumptions.
     pub assumptions: LinearAssumptions,
+    /// What tests of values go by.
+    pub tables: Tables,
 }
 
 /// The plan of the shape with this number, counted from 1. There is such a shape. It fails only where memory is short.
@@ -70,6 +73,7 @@ pub fn plan_of(alloc: Global, problem: &Problem, shape: u32) -> Result<Plan, All
     let own = unknown_numbers(alloc, solved.as_slice(), unknowns)?;
     let numbers = numbers_of_letters(alloc, problem, form, own.as_slice())?;
     let assumptions = linear_assumptions(alloc, problem)?;
+    let tables = tables_of(alloc, problem, form)?;
     Ok(Plan {
         number: shape,
         exhaustive: is_exhaustive(form.modulus, entries),
@@ -77,6 +81,7 @@ pub fn plan_of(alloc: Global, problem: &Problem, shape: u32) -> Result<Plan, All
         solved,
         numbers,
         assumptions,
+        tables,
     })
 }
 

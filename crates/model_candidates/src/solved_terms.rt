@@ -3,20 +3,20 @@ ghost use Rattle.std.specs.Prelude.{◌≡◌, ◌<◌, ◌≤◌, true, ℕ, �
 ghost use Rattle.definitions.specs.Quiver.{IsTyped, is_path, leads};
 ghost use Rattle.quiver.specs.Declarations.{letter_count, object_count, quiver_of};
 ghost use Rattle.word_core.specs.Letters.{IsOver};
-ghost use Rattle.matrix_models.specs.Matrices.{matrices};
-ghost use Rattle.model_checker.specs.Models.{representation_of};
 ghost use Rattle.model_candidates.specs.Candidates.{is_solved};
-ghost use Rattle.model_candidates.specs.Factors.{letters_product, residue, solved_term, solved_terms};
+ghost use Rattle.model_candidates.specs.Factors.{solved_term, solved_terms};
 ghost use Rattle.model_candidates.specs.Known.{IsKnown, numbers_in};
+ghost use Rattle.model_candidates.specs.Residues.{residues};
+ghost use Rattle.model_candidates.specs.WordRows.{model_in, quiver_in};
 
 use crate::plan::is_solved;
-use adjoint_rules::{Problem, Shape};
-use category_laws::Category;
+use crate::value_matrices::product_of;
+use crate::word_rows::EntryValues;
+use adjoint_rules::Problem;
 use lists::{Duplicate, Listing};
-use matrix_models::{Matrices, Matrix, Model};
+use matrix_models::Matrix;
 use nc_polynomial::Poly;
 use quiver::Sig;
-use representations::Representation;
 use std::alloc::{AllocError, Global};
 use word_core::Word;
 
@@ -33,33 +33,35 @@ pub(crate) struct SolvedTerm {
     pub right: Matrix,
 }
 
-/// A model of a shape, with its representation and the numbers of the unknowns.
+/// Values of the entries of a shape, and what its candidates share.
 #[derive(Clone, Copy)]
 pub(crate) struct Known<'a> {
     pub alloc: Global,
-    pub problem: &'a Problem,
-    pub shape: &'a Shape,
+    pub given: EntryValues<'a>,
+    /// For each letter that is solved for the numbers of the unknowns in its matrix.
     pub numbers: &'a [Option<Listing<u32>>],
-    pub model: &'a Model,
-    pub representation: &'a Representation<Matrices>,
+    /// The coefficients of each assumption modulo the modulus.
+    pub coefficients: &'a [Listing<u32>],
 }
 
 /// The terms of the polynomial whose words have a solved letter.
 pub(crate) fn solved_terms(
     known: &Known,
     poly: &Poly,
+    coefficients: &[u32],
     ends: Sig,
 ) -> Result<Listing<SolvedTerm>, AllocError>
     requires known { IsKnown known.now }
-    requires source { ends.source.0 < object_count known.now.problem.now.parts.quiver }
-    requires target { ends.target.0 < object_count known.now.problem.now.parts.quiver }
-    requires typed { IsTyped (quiver_of known.now.problem.now.parts.quiver) ends.source.0 ends.target.0 poly.now.terms }
-    ensures { IfOk result (λ terms. terms ≡ solved_terms (quiver_of known.now.problem.now.parts.quiver) known.now.shape.now
-        known.now.problem.now.parts.solved (numbers_in known.now) known.now.model.now ends.source.0 poly.now.terms) }
+    requires source { ends.source.0 < object_count known.now.given.problem.now.parts.quiver }
+    requires target { ends.target.0 < object_count known.now.given.problem.now.parts.quiver }
+    requires typed { IsTyped (quiver_in known.now.given) ends.source.0 ends.target.0 poly.now.terms }
+    requires coefficients { coefficients.now ≡ residues known.now.given.shape.now.modulus poly.now.terms }
+    ensures { IfOk result (λ terms. terms ≡ solved_terms (quiver_in known.now.given) known.now.given.shape.now
+        known.now.given.problem.now.parts.solved (numbers_in known.now) (model_in known.now.given) ends.source.0 poly.now.terms) }
 {
     let mut terms = Listing::new(known.alloc);
     for place in 0..poly.terms() {
-        if let Some(term) = solved_term(known, poly, place, ends)? {
+        if let Some(term) = solved_term(known, poly, coefficients, place, ends)? {
             terms.push(term)?;
         }
     }
@@ -70,28 +72,30 @@ pub(crate) fn solved_terms(
 fn solved_term(
     known: &Known,
     poly: &Poly,
+    coefficients: &[u32],
     place: usize,
     ends: Sig,
 ) -> Result<Option<SolvedTerm>, AllocError>
     requires known { IsKnown known.now }
-    requires source { ends.source.0 < object_count known.now.problem.now.parts.quiver }
-    requires target { ends.target.0 < object_count known.now.problem.now.parts.quiver }
-    requires typed { IsTyped (quiver_of known.now.problem.now.parts.quiver) ends.source.0 ends.target.0 poly.now.terms }
+    requires source { ends.source.0 < object_count known.now.given.problem.now.parts.quiver }
+    requires target { ends.target.0 < object_count known.now.given.problem.now.parts.quiver }
+    requires typed { IsTyped (quiver_in known.now.given) ends.source.0 ends.target.0 poly.now.terms }
+    requires coefficients { coefficients.now ≡ residues known.now.given.shape.now.modulus poly.now.terms }
     requires place { place < length poly.now.terms }
     ensures { IfOk result (λ term. (t : ℤ × List ℕ) → slice_get poly.now.terms place ≡ Some t
-        → term ≡ solved_term (quiver_of known.now.problem.now.parts.quiver) known.now.shape.now
-        known.now.problem.now.parts.solved (numbers_in known.now) known.now.model.now ends.source.0 t) }
+        → term ≡ solved_term (quiver_in known.now.given) known.now.given.shape.now
+        known.now.given.problem.now.parts.solved (numbers_in known.now) (model_in known.now.given) ends.source.0 t) }
 {
-    let quiver = &known.problem.parts.quiver;
-    let (coefficient, word) = poly.term(place);
-    let Some(split) = solved_place(known.problem, word) else {
+    let given = &known.given;
+    let word = poly.term(place).1;
+    let Some(split) = solved_place(given.problem, word) else {
         return Ok(None);
     };
     let (letter, end) = (word.letter(split), word.len());
     let Some(numbers) = &known.numbers[usize::from(letter.0)] else {
         return Ok(None);
     };
-    let own = quiver.signature_of(letter);
+    let own = given.problem.parts.quiver.signature_of(letter);
     let before = Sig {
         source: own.target,
         target: ends.target,
@@ -101,10 +105,10 @@ fn solved_term(
         target: own.source,
     };
     Ok(Some(SolvedTerm {
-        coefficient: residue_of(known.model.modulus, coefficient),
+        coefficient: coefficients[place],
         numbers: numbers.duplicate()?,
-        left: product_of(known, word, 0, split, before)?,
-        right: product_of(known, word, split + 1, end, behind)?,
+        left: product_of(known.alloc, given, word, 0, split, before)?,
+        right: product_of(known.alloc, given, word, split + 1, end, behind)?,
     }))
 }
 
@@ -120,48 +124,4 @@ fn solved_place(problem: &Problem, word: &Word) -> Option<usize>
         }
     }
     None
-}
-
-// The product of the matrices of the letters from one place on to before another, which lead from the source to the target.
-fn product_of(
-    known: &Known,
-    word: &Word,
-    from: usize,
-    to: usize,
-    ends: Sig,
-) -> Result<Matrix, AllocError>
-    requires known { IsKnown known.now }
-    requires order { from ≤ to }
-    requires in_range { to ≤ length word.now }
-    requires source { ends.source.0 < object_count known.now.problem.now.parts.quiver }
-    requires leads { leads (quiver_of known.now.problem.now.parts.quiver) ends.source.0 ends.target.0 (drop from (take to word.now)) ≡ true }
-    ensures { IfOk result (λ product. product ≡ letters_product (matrices known.now.model.now.modulus)
-        (representation_of (quiver_of known.now.problem.now.parts.quiver) known.now.model.now) ends.source.0 (drop from (take to word.now))) }
-{
-    let category = Matrices {
-        modulus: known.model.modulus,
-    };
-    let object = known.representation.object(ends.source);
-    let mut product = category.identity(known.alloc, object)?;
-    let mut place = to;
-    while place > from {
-        place -= 1;
-        let arrow = known.representation.arrow(word.letter(place));
-        product = category.compose(known.alloc, arrow, &product)?;
-    }
-    Ok(product)
-}
-
-// The coefficient modulo the modulus.
-fn residue_of(modulus: u32, coefficient: i128) -> u32
-    requires { 0 < modulus }
-    ensures value { result ≡ residue modulus coefficient }
-    ensures below { result < modulus }
-{
-    let rest = (coefficient.unsigned_abs() % u128::from(modulus)) as u32;
-    if coefficient < 0 {
-        (modulus - rest) % modulus
-    } else {
-        rest
-    }
 }

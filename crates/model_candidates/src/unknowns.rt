@@ -88,8 +88,8 @@ pub(crate) fn unknown_numbers(
     filled(alloc, solved, others.as_slice(), own.as_slice())
 }
 
-// The numbers before this one, from 0 on.
-fn numbers_before(alloc: Global, count: u32) -> Result<Vec<u32>, AllocError>
+/// The numbers before this one, from 0 on.
+pub(crate) fn numbers_before(alloc: Global, count: u32) -> Result<Vec<u32>, AllocError>
     ensures { IfOk result (λ numbers. numbers.items ≡ range_with_len 0 count) }
 {
     (0..count).collect(alloc)

@@ -1,51 +1,64 @@
-use Rattle.std.proofs.Common.{◌≡◌, ◌+◌, ◌<◌, ◌≤◌, take, ◌∷◌, [], ◌++◌, length, get_or, sym, ap, subst, ◌∙◌}
-use Rattle.std.proofs.lemmas.List.{take_at, take_all, take_more}
-use Rattle.matrix_models.specs.Elimination.{ArePivots, IsAdded, IsAgainst, StandFor, row_of}
-use Rattle.matrix_models.proofs.Reduction.{stand_for-none, stand_for-more, no_solution}
+use Rattle.std.proofs.Common.{◌≡◌, ◌+◌, ◌<◌, ◌≤◌, ◌∷◌, [], All, length, get_or, take, sym, ap, subst, ◌∙◌}
+use Rattle.std.proofs.lemmas.List.{take_all}
+use Rattle.matrix_models.specs.Systems.{IsEquation, HasNoSolution}
+use Rattle.matrix_models.specs.Elimination.{equation_of}
+use Rattle.matrix_models.specs.Pivots.{StandFor, Add, AreAgainst}
+use Rattle.matrix_models.proofs.Reduction.{front, front_more, no_solution-front, length-row_of, row_of-below, equation_of-row_of}
 use Rattle.matrix_models.proofs.greedy.pivots_of.Goals as goal
 
 pub loop-equation-init : goal.loop-equation-init
-loop-equation-init c = subst (StandFor c.args.system.now []) (sym c.in_ok-pivots.ensures) (stand_for-none c.args.system.now)
+loop-equation-init c = c.in_ok-pivots.ensures
 
-pub insert-requires-clause-pivots : goal.insert-requires-clause-pivots
-insert-requires-clause-pivots c =
-    let stand = c.loop-equation.invariant in
-    subst (λ xs. ArePivots (length xs) xs) (sym c.deref_mut.ensures.value) (subst (λ n. ArePivots n c.loop-equation.pivots.items) (sym stand.size) stand.are_pivots)
-
-pub returns-then-not-insert-clause-none : goal.returns-then-not-insert-clause-none
-returns-then-not-insert-clause-none c =
+pub add-requires-clause-size : goal.add-requires-clause-size
+add-requires-clause-size c =
     let s = c.args.system.now in
     let i = c.loop-equation.equation-index in
     let equation = c.equation-item.result in
     let rows_are = c.as_slice-equation-items.ensures in
     let within = subst (λ xs. i < length xs) rows_are c.loop-equation-test.true in
     let item = subst (λ xs. equation ≡ get_or xs i equation) rows_are c.equation-item.is in
-    let against = subst (λ xs. IsAgainst s.modulus (length xs) (row_of equation) xs) c.deref_mut.ensures.value
-    (subst (λ r. IsAgainst s.modulus (length c.deref_mut.result.now) r c.deref_mut.result.now) c.in_ok-row.ensures (c.insert.ensures.against c.if-not-insert.true)) in
-    no_solution s i equation c.loop-equation.pivots.items c.requires c.loop-equation.invariant within item against
+    let is_equation = subst (IsEquation s.modulus s.unknowns) (sym item) (c.requires.rows i equation within) in
+    ap length c.in_ok-row.ensures ∙ length-row_of s.modulus s.unknowns equation is_equation ∙ ap (λ n. n + 1) (sym c.loop-equation.invariant.size)
+
+pub add-requires-clause-below : goal.add-requires-clause-below
+add-requires-clause-below c =
+    let s = c.args.system.now in
+    let i = c.loop-equation.equation-index in
+    let equation = c.equation-item.result in
+    let rows_are = c.as_slice-equation-items.ensures in
+    let within = subst (λ xs. i < length xs) rows_are c.loop-equation-test.true in
+    let item = subst (λ xs. equation ≡ get_or xs i equation) rows_are c.equation-item.is in
+    let is_equation = subst (IsEquation s.modulus s.unknowns) (sym item) (c.requires.rows i equation within) in
+    subst (λ m. All (λ entry. entry < m) c.in_ok-row.row.items) (sym c.loop-equation.invariant.modulus)
+    (subst (All (λ entry. entry < s.modulus)) (sym c.in_ok-row.ensures) (row_of-below s.modulus s.unknowns equation is_equation))
+
+pub returns-then-not-add-clause-none : goal.returns-then-not-add-clause-none
+returns-then-not-add-clause-none c =
+    let s = c.args.system.now in
+    let i = c.loop-equation.equation-index in
+    let equation = c.equation-item.result in
+    let rows_are = c.as_slice-equation-items.ensures in
+    let within = subst (λ xs. i < length xs) rows_are c.loop-equation-test.true in
+    let item = subst (λ xs. equation ≡ get_or xs i equation) rows_are c.equation-item.is in
+    let equation_is = ap equation_of c.in_ok-row.ensures ∙ equation_of-row_of equation in
+    let against = subst (λ e. AreAgainst (e ∷ []) c.loop-equation.pivots) equation_is (c.add.ensures.against c.if-not-add.true) in
+    no_solution-front s (i + 1) (subst HasNoSolution (front_more s i equation within item) (against (front i s) c.loop-equation.invariant))
 
 pub loop-equation-preserved : goal.loop-equation-preserved
 loop-equation-preserved c =
     let s = c.args.system.now in
-    let old = c.loop-equation.pivots.items in
-    let new = c.insert.new.pivots in
     let i = c.loop-equation.equation-index in
-    let stand = c.loop-equation.invariant in
     let equation = c.equation-item.result in
     let rows_are = c.as_slice-equation-items.ensures in
     let within = subst (λ xs. i < length xs) rows_are c.loop-equation-test.true in
     let item = subst (λ xs. equation ≡ get_or xs i equation) rows_are c.equation-item.is in
-    let more = take_more s.rows i equation within ∙ ap (λ e. take i s.rows ++ e ∷ []) (sym item) in
-    let size : length new ≡ length old = c.insert.ensures.len ∙ ap length c.deref_mut.ensures.value in
-    let are_pivots = subst (λ xs. ArePivots (length xs) new) c.deref_mut.ensures.value c.insert.ensures.pivots in
-    let added = subst (λ xs. IsAdded s.modulus (length xs) (row_of equation) xs new) c.deref_mut.ensures.value
-    (subst (λ r. IsAdded s.modulus (length c.deref_mut.result.now) r c.deref_mut.result.now new) c.in_ok-row.ensures (c.insert.ensures.added c.if-not-insert.false)) in
-    subst (λ xs. StandFor s (take (i + 1) s.rows) xs) (sym (take_at new _ _ (size ∙ sym c.loop-equation.pivots.ok.0)))
-    (subst (λ xs. StandFor s xs new) (sym more) (stand_for-more s (take i s.rows) equation old new stand size are_pivots added))
+    let equation_is = ap equation_of c.in_ok-row.ensures ∙ equation_of-row_of equation in
+    let added = subst (λ e. Add (e ∷ []) c.loop-equation.pivots c.add.new.self) equation_is (c.add.ensures.added c.if-not-add.false) in
+    subst (StandFor c.add.new.self) (front_more s i equation within item) (added (front i s) c.loop-equation.invariant)
 
 pub returns-clause-pivots : goal.returns-clause-pivots
 returns-clause-pivots c =
     let s = c.args.system.now in
-    let all : take c.loop-equation.equation-index s.rows ≡ s.rows =
-    take_all _ s.rows (subst (λ xs. length xs ≤ c.loop-equation.equation-index) c.as_slice-equation-items.ensures c.loop-equation-test.false) in
-    subst (λ xs. StandFor s xs c.loop-equation.pivots.items) all c.loop-equation.invariant
+    let i = c.loop-equation.equation-index in
+    let all : take i s.rows ≡ s.rows = take_all i s.rows (subst (λ xs. length xs ≤ i) c.as_slice-equation-items.ensures c.loop-equation-test.false) in
+    subst (λ xs. StandFor c.loop-equation.pivots (record { modulus = s.modulus; unknowns = s.unknowns; rows = xs })) all c.loop-equation.invariant

@@ -1,5 +1,11 @@
+use Rattle.std.proofs.Common.{◌^◌, nat_le, ap, subst, ◌∙◌}
+use Rattle.quiver.specs.Declarations.{quiver_of}
+use Rattle.model_candidates.specs.declared.plan.Plan.{Plan}
+use Rattle.model_candidates.specs.Limits.{exhaustive_limit}
+use Rattle.model_candidates.specs.Plans.{FitsShape}
+use Rattle.model_candidates.specs.Unknowns.{set_count, solved_flags}
 use Rattle.adjoint_rules.proofs.Generators.{posed_quiver}
-use Rattle.model_candidates.proofs.NumberedShapes.{posed_shape}
+use Rattle.model_candidates.proofs.NumberedShapes.{one_shape, posed_shape}
 use Rattle.model_candidates.proofs.plan.plan_of.Goals as goal
 
 pub entry_count-entries-requires-clause-quiver : goal.entry_count-entries-requires-clause-quiver
@@ -16,3 +22,33 @@ solved_flags-requires-clause-shape c = posed_shape c.args.problem.now _ c.at-for
 
 pub numbers_of_letters-requires-clause-shape : goal.numbers_of_letters-requires-clause-shape
 numbers_of_letters-requires-clause-shape c = posed_shape c.args.problem.now _ c.at-form.result.now c.at-form.ensures
+
+pub tables_of-requires : goal.tables_of-requires
+tables_of-requires c = posed_shape c.args.problem.now _ c.at-form.result.now c.at-form.ensures
+
+pub returns-clause-plan : goal.returns-clause-plan
+returns-clause-plan c =
+    let problem = c.args.problem.now in
+    let q = quiver_of problem.parts.quiver in
+    let form = c.at-form.result.now in
+    let plan : Plan = record {
+      number = c.args.shape;
+      exhaustive = c.is_exhaustive.result;
+      unknowns = c.unknown_count-unknowns.result;
+      solved = c.in_ok-solved.solved;
+      numbers = c.in_ok-numbers.numbers;
+      assumptions = c.in_ok-assumptions.assumptions;
+      tables = c.in_ok-tables.tables;
+    } in
+    record {
+      least = c.requires.least;
+      most = c.requires.most;
+      fits = λ s numbered. subst (λ t. FitsShape problem t plan) (one_shape problem c.args.shape form s c.at-form.ensures numbered) record {
+        exhaustive = c.is_exhaustive.ensures ∙ ap (λ n. nat_le (form.modulus ^ n) exhaustive_limit) c.entry_count-entries.ensures.count;
+        solved = c.in_ok-solved.ensures ∙ ap (solved_flags q form) c.as_slice.ensures;
+        unknowns = c.unknown_count-unknowns.ensures ∙ ap set_count c.as_slice-2.ensures;
+        numbers = c.in_ok-numbers.ensures;
+        assumptions = c.in_ok-assumptions.ensures;
+        tables = c.in_ok-tables.ensures;
+      };
+    }

@@ -10,34 +10,36 @@ use Rattle.representations.proofs.ValueLoop.{term_is_path}
 use Rattle.model_checker.specs.Models.{representation_of}
 use Rattle.model_candidates.specs.declared.solved_terms.SolvedTerm.{SolvedTerm}
 use Rattle.model_candidates.specs.Known.{numbers_in}
+use Rattle.model_candidates.specs.WordRows.{model_in}
 use Rattle.model_candidates.specs.LetterNumbers.{letter_numbers}
 use Rattle.model_candidates.specs.Factors.{letters_product, residue, term_around, solved_term}
 use Rattle.model_candidates.specs.LetterNumbers.{letter_values}
+use Rattle.model_candidates.proofs.ValueRows.{coefficient_at}
 use Rattle.model_candidates.proofs.SolvedTerms.{path_over, solved_at, numbers_there}
 use Rattle.model_candidates.proofs.solved_terms.solved_term.Goals as goal
 
 pub solved_place-requires : goal.solved_place-requires
 solved_place-requires c =
     let k = c.args.known.now in
-    let parts = k.problem.now.parts in
+    let parts = k.given.problem.now.parts in
     let q = quiver_of parts.quiver in
     let u = c.args.ends.source.0 in
     let v = c.args.ends.target.0 in
-    let w = c.term-coefficient.result.1.now in
-    let path = term_is_path q u v c.args.poly.now.terms c.args.poly.now.canonical c.requires.typed c.args.place (c.term-coefficient.result.0, w)
-    c.term-coefficient.ensures in
+    let w = c.term.result.1.now in
+    let path = term_is_path q u v c.args.poly.now.terms c.args.poly.now.canonical c.requires.typed c.args.place (c.term.result.0, w)
+    c.term.ensures in
     subst (λ n. All (λ a. a < n) w) (letters-quiver_of parts.quiver) (path_over q u v w path)
 
 pub signature_of-own-requires : goal.signature_of-own-requires
 signature_of-own-requires c =
     let k = c.args.known.now in
-    let parts = k.problem.now.parts in
+    let parts = k.given.problem.now.parts in
     let q = quiver_of parts.quiver in
     let u = c.args.ends.source.0 in
     let v = c.args.ends.target.0 in
-    let w = c.term-coefficient.result.1.now in
-    let path = term_is_path q u v c.args.poly.now.terms c.args.poly.now.canonical c.requires.typed c.args.place (c.term-coefficient.result.0, w)
-    c.term-coefficient.ensures in
+    let w = c.term.result.1.now in
+    let path = term_is_path q u v c.args.poly.now.terms c.args.poly.now.canonical c.requires.typed c.args.place (c.term.result.0, w)
+    c.term.ensures in
     let split = c.in-Some.split in
     let at = solved_at q parts.solved u v w split path (sym c.in-Some.ensures) in
     let letter_is : c.letter-letter.result.0 ≡ get_or w split 0 = search rules in
@@ -46,13 +48,13 @@ signature_of-own-requires c =
 pub product_of-requires-clause-leads : goal.product_of-requires-clause-leads
 product_of-requires-clause-leads c =
     let k = c.args.known.now in
-    let parts = k.problem.now.parts in
+    let parts = k.given.problem.now.parts in
     let q = quiver_of parts.quiver in
     let u = c.args.ends.source.0 in
     let v = c.args.ends.target.0 in
-    let w = c.term-coefficient.result.1.now in
-    let path = term_is_path q u v c.args.poly.now.terms c.args.poly.now.canonical c.requires.typed c.args.place (c.term-coefficient.result.0, w)
-    c.term-coefficient.ensures in
+    let w = c.term.result.1.now in
+    let path = term_is_path q u v c.args.poly.now.terms c.args.poly.now.canonical c.requires.typed c.args.place (c.term.result.0, w)
+    c.term.ensures in
     let split = c.in-Some.split in
     let at = solved_at q parts.solved u v w split path (sym c.in-Some.ensures) in
     let letter_is : c.letter-letter.result.0 ≡ get_or w split 0 = search rules in
@@ -62,13 +64,13 @@ product_of-requires-clause-leads c =
 pub product_of-requires-2-clause-leads : goal.product_of-requires-2-clause-leads
 product_of-requires-2-clause-leads c =
     let k = c.args.known.now in
-    let parts = k.problem.now.parts in
+    let parts = k.given.problem.now.parts in
     let q = quiver_of parts.quiver in
     let u = c.args.ends.source.0 in
     let v = c.args.ends.target.0 in
-    let w = c.term-coefficient.result.1.now in
-    let path = term_is_path q u v c.args.poly.now.terms c.args.poly.now.canonical c.requires.typed c.args.place (c.term-coefficient.result.0, w)
-    c.term-coefficient.ensures in
+    let w = c.term.result.1.now in
+    let path = term_is_path q u v c.args.poly.now.terms c.args.poly.now.canonical c.requires.typed c.args.place (c.term.result.0, w)
+    c.term.ensures in
     let split = c.in-Some.split in
     let at = solved_at q parts.solved u v w split path (sym c.in-Some.ensures) in
     let letter_is : c.letter-letter.result.0 ≡ get_or w split 0 = search rules in
@@ -80,24 +82,26 @@ product_of-requires-2-clause-leads c =
 pub returns : goal.returns
 returns c = λ t there.
     let k = c.args.known.now in
-    let parts = k.problem.now.parts in
+    let parts = k.given.problem.now.parts in
     let q = quiver_of parts.quiver in
     let u = c.args.ends.source.0 in
     let v = c.args.ends.target.0 in
-    let w = c.term-coefficient.result.1.now in
-    let path = term_is_path q u v c.args.poly.now.terms c.args.poly.now.canonical c.requires.typed c.args.place (c.term-coefficient.result.0, w)
-    c.term-coefficient.ensures in
+    let w = c.term.result.1.now in
+    let path = term_is_path q u v c.args.poly.now.terms c.args.poly.now.canonical c.requires.typed c.args.place (c.term.result.0, w)
+    c.term.ensures in
     let split = c.in-Some.split in
     let at = solved_at q parts.solved u v w split path (sym c.in-Some.ensures) in
     let letter_is : c.letter-letter.result.0 ≡ get_or w split 0 = search rules in
-    let s = k.shape.now in
-    let m = k.model.now in
+    let s = k.given.shape.now in
+    let m = model_in k.given in
     let numbers = numbers_in k in
-    let term : ℤ × List ℕ = (c.term-coefficient.result.0, w) in
+    let term : ℤ × List ℕ = (c.term.result.0, w) in
     let f = representation_of q m in
     let target_is : c.signature_of-own.result.target.0 ≡ target q (get_or w split 0) = c.signature_of-own.ensures.target ∙ ap (target q) letter_is in
     let all : take c.len-end.result w ≡ w = take_all c.len-end.result w (omega (arith, c.len-end.ensures.exact)) in
-    let coefficient_is : c.residue_of.result ≡ residue m.modulus c.term-coefficient.result.0 = search rules in
+    let coefficient_is : get_or c.args.coefficients.now c.args.place 0 ≡ residue s.modulus c.term.result.0 =
+    coefficient_at k.given c.requires.known.given u v c.requires.source c.requires.target c.args.poly.now.terms c.args.place term c.term.ensures
+    c.args.coefficients.now c.requires.coefficients in
     let values = letter_values q s numbers (get_or w split 0) in
     let found : get_or k.numbers.now c.from.result c.index-known-from.result ≡ Some values =
     numbers_there q s parts.solved k.numbers.now (get_or w split 0) c.from.result c.index-known-from.result c.requires.known.numbers
@@ -105,17 +109,17 @@ returns c = λ t there.
     let both : Some c.in-Some-numbers.numbers ≡ Some values = sym c.in-Some-numbers.is ∙ found in
     let values_are : c.in-Some-numbers.numbers ≡ values = cc in
     let numbers_is : c.in_ok-duplicate.field-0 ≡ values = c.in_ok-duplicate.ensures.same ∙ values_are in
-    let left_is = c.in_ok-product_of.ensures ∙ ap (λ x. letters_product (matrices m.modulus) f x (take split w)) target_is in
-    let right_is = c.in_ok-product_of-2.ensures ∙ ap (λ xs. letters_product (matrices m.modulus) f u (drop (split + 1) xs)) all in
+    let left_is = c.in_ok-product_of.ensures ∙ ap (λ x. letters_product (matrices s.modulus) f x (take split w)) target_is in
+    let right_is = c.in_ok-product_of-2.ensures ∙ ap (λ xs. letters_product (matrices s.modulus) f u (drop (split + 1) xs)) all in
     let made : SolvedTerm = record {
-      coefficient = c.residue_of.result;
+      coefficient = get_or c.args.coefficients.now c.args.place 0;
       numbers = c.in_ok-duplicate.field-0;
       left = c.in_ok-product_of.field-0;
       right = c.in_ok-product_of-2.field-0;
     } in
     let made_is : made ≡ term_around q s numbers m u term split =
     λ i. record { coefficient = coefficient_is i; numbers = numbers_is i; left = left_is i; right = right_is i } in
-    let same : Some term ≡ Some t = sym c.term-coefficient.ensures ∙ there in
+    let same : Some term ≡ Some t = sym c.term.ensures ∙ there in
     let term_is : term ≡ t = cc in
     subst (λ r. Some made ≡ solved_term q s parts.solved numbers m u r) term_is
     (ap Some made_is ∙ ap (option_map (term_around q s numbers m u term)) c.in-Some.ensures)
@@ -123,34 +127,34 @@ returns c = λ t there.
 pub bounds-known-from : goal.bounds-known-from
 bounds-known-from c =
     let k = c.args.known.now in
-    let parts = k.problem.now.parts in
+    let parts = k.given.problem.now.parts in
     let q = quiver_of parts.quiver in
     let u = c.args.ends.source.0 in
     let v = c.args.ends.target.0 in
-    let w = c.term-coefficient.result.1.now in
-    let path = term_is_path q u v c.args.poly.now.terms c.args.poly.now.canonical c.requires.typed c.args.place (c.term-coefficient.result.0, w)
-    c.term-coefficient.ensures in
+    let w = c.term.result.1.now in
+    let path = term_is_path q u v c.args.poly.now.terms c.args.poly.now.canonical c.requires.typed c.args.place (c.term.result.0, w)
+    c.term.ensures in
     let split = c.in-Some.split in
     let at = solved_at q parts.solved u v w split path (sym c.in-Some.ensures) in
     let letter_is : c.letter-letter.result.0 ≡ get_or w split 0 = search rules in
     let size : length k.numbers.now ≡ letters q =
-    ap length c.requires.known.numbers ∙ length-map-range_with_len (letter_numbers q k.shape.now parts.solved) 0 (letters q) in
+    ap length c.requires.known.numbers ∙ length-map-range_with_len (letter_numbers q k.given.shape.now parts.solved) 0 (letters q) in
     let inside : c.letter-letter.result.0 < length k.numbers.now = omega (arith, size, letter_is, at.fit.letter) in
     subst (λ n. n < length k.numbers.now) (sym c.from.ensures) inside
 
 pub returns-in_default-numbers : goal.returns-in_default-numbers
 returns-in_default-numbers c =
     let k = c.args.known.now in
-    let parts = k.problem.now.parts in
+    let parts = k.given.problem.now.parts in
     let q = quiver_of parts.quiver in
     let u = c.args.ends.source.0 in
     let v = c.args.ends.target.0 in
-    let w = c.term-coefficient.result.1.now in
-    let path = term_is_path q u v c.args.poly.now.terms c.args.poly.now.canonical c.requires.typed c.args.place (c.term-coefficient.result.0, w)
-    c.term-coefficient.ensures in
+    let w = c.term.result.1.now in
+    let path = term_is_path q u v c.args.poly.now.terms c.args.poly.now.canonical c.requires.typed c.args.place (c.term.result.0, w)
+    c.term.ensures in
     let split = c.in-Some.split in
     let at = solved_at q parts.solved u v w split path (sym c.in-Some.ensures) in
     let letter_is : c.letter-letter.result.0 ≡ get_or w split 0 = search rules in
-    let there = numbers_there q k.shape.now parts.solved k.numbers.now (get_or w split 0) c.from.result c.index-known-from.result
+    let there = numbers_there q k.given.shape.now parts.solved k.numbers.now (get_or w split 0) c.from.result c.index-known-from.result
     c.requires.known.numbers (c.from.ensures ∙ letter_is) at.fit.letter at.there in
     absurd (c.in_default-numbers.not-Some _ there)

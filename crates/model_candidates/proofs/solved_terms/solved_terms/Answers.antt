@@ -3,9 +3,9 @@ use Rattle.std.specs.List.{flat_map}
 use Rattle.std.proofs.lemmas.List.{append-nil, take_more}
 use Rattle.std.proofs.lemmas.Grind.{flat_map-append}
 use Rattle.std.proofs.lemmas.Option.{slice_get-get_or}
-use Rattle.quiver.specs.Declarations.{quiver_of}
 use Rattle.model_candidates.specs.declared.solved_terms.SolvedTerm.{SolvedTerm}
 use Rattle.model_candidates.specs.Known.{numbers_in}
+use Rattle.model_candidates.specs.WordRows.{model_in, quiver_in}
 use Rattle.model_candidates.specs.Factors.{solved_term, listed}
 use Rattle.model_candidates.proofs.solved_terms.solved_terms.Goals as goal
 use Rattle.model_candidates.proofs.solved_terms.solved_terms.Goals.{in-Some+in_ok-push, in_default}
@@ -21,7 +21,7 @@ loop-place-preserved c =
     let inside : place < length p = omega (arith, c.loop-place-test.true, c.terms-place-end.ensures) in
     let t = get_or p place no_term in
     let one : ℤ × List ℕ → Option SolvedTerm =
-    solved_term (quiver_of k.problem.now.parts.quiver) k.shape.now k.problem.now.parts.solved (numbers_in k) k.model.now c.args.ends.source.0 in
+    solved_term (quiver_in k.given) k.given.shape.now k.given.problem.now.parts.solved (numbers_in k) (model_in k.given) c.args.ends.source.0 in
     let f : ℤ × List ℕ → List SolvedTerm = λ r. listed (one r) in
     let term_is : c.in_ok-term.field-0 ≡ one t = c.in_ok-term.ensures t (slice_get-get_or p place no_term inside) in
     let more : c.loop-place.terms ++ f t ≡ flat_map f (take (place + 1) p) =

@@ -1,0 +1,65 @@
+-- Values of candidates: which candidate they are, and what the tests of them tell.
+use Rattle.std.proofs.Common.{◌≡◌, ◌↔◌, ℕ, not, List, [], map, get_or, Option, None, Some, slice_get, option_map, IfNone, IfSome, IfOk, IsTrue, Result, Ok, Err, refl, sym, ap, ◌∙◌}
+use Rattle.std.specs.List.{AllByRecursion}
+use Rattle.std.proofs.lemmas.List.{get_or-map}
+use Rattle.std.proofs.lemmas.List.Elements.{All-from_recursion}
+use Rattle.std.proofs.lemmas.Option.{get_or_from_slice_get, slice_get-map, slice_get_within}
+use Rattle.definitions.specs.Soundness.{HasValueZeroAt}
+use Rattle.nc_polynomial.specs.declared.poly.Poly.{Poly}
+use Rattle.quiver.specs.declared.named.Sig.{Sig}
+use Rattle.quiver.specs.Declarations.{quiver_of}
+use Rattle.matrix_models.specs.Matrices.{matrices}
+use Rattle.matrix_models.specs.declared.model.Model.{Model}
+use Rattle.adjoint_rules.specs.declared.parts.Shape.{Shape}
+use Rattle.adjoint_rules.specs.declared.problem.Problem.{Problem}
+use Rattle.adjoint_rules.specs.Problem.{HasObjects, IsTypedOf, polynomials}
+use Rattle.model_checker.specs.Models.{IsZeroIn, representation_of}
+use Rattle.model_checker.proofs.Places.{all_at}
+use Rattle.model_checker.proofs.Values.{zero_from_value}
+use Rattle.model_candidates.specs.Candidates.{IsCandidate, IsGreedy, IsSolution, draws, is_exhaustive, model_by}
+use Rattle.model_candidates.specs.Plans.{AreEntryValues}
+use Rattle.model_candidates.specs.Residues.{residues}
+
+-- the greedy values of draws
+module _ (problem : Problem) (number seed k : ℕ) (s : Shape) where
+  abbrev drawn : List ℕ
+  drawn = draws (quiver_of problem.parts.quiver) s number seed k
+
+  pub drawn_candidate : {E : Type 0} → IsTrue (not (is_exhaustive (quiver_of problem.parts.quiver) s)) → (r : Result (Option (List ℕ)) E)
+      → IfOk r (λ found. IfNone found ((values : List ℕ) → ¬ IsSolution problem s drawn values))
+      → IfOk r (λ found. IfSome found (IsGreedy problem s drawn))
+      → IfOk r (λ found. IsCandidate problem number s seed k (option_map (model_by (quiver_of problem.parts.quiver) s 0) found))
+  drawn_candidate other (Ok None) none greedy = IsCandidate.unsolvable other none refl
+  drawn_candidate other (Ok (Some values)) none greedy = IsCandidate.drawn other values greedy refl
+  drawn_candidate other (Err e) none greedy = tt
+
+pub greedy_are_values : (problem : Problem) (s : Shape) (drawn : List ℕ) (found : Option (List ℕ)) → IfSome found (IsGreedy problem s drawn)
+    → IfSome found (AreEntryValues problem s)
+greedy_are_values problem s _ None greedy = tt
+greedy_are_values problem s _ (Some values) greedy = record { one_each = greedy.solution.one_each; below = greedy.solution.below }
+
+-- the coefficients at the place of a polynomial
+pub residues_at : (m : ℕ) (ps : List Poly) (each : List (List ℕ)) (place : ℕ) (p : Poly) (x : List ℕ) → each ≡ map (λ r. residues m r.terms) ps
+    → slice_get ps place ≡ Some p → slice_get each place ≡ Some x → x ≡ residues m p.terms
+residues_at m ps each place p x are is_p is_x =
+    sym (get_or_from_slice_get each place x [] is_x) ∙ ap (λ xs. get_or xs place []) are
+    ∙ get_or-map (λ r. residues m r.terms) ps place p [] (slice_get_within ps place p is_p)
+    ∙ ap (λ r. residues m r.terms) (get_or_from_slice_get ps place p p is_p)
+
+module _ (problem : Problem) (m : Model) where
+  -- zero at its signature, or anywhere
+  pub zero_tells : (p : Poly) (sig : Sig) → IsTypedOf problem.parts.quiver p sig → HasObjects problem.parts.quiver sig
+      → (HasValueZeroAt (matrices m.modulus) (quiver_of problem.parts.quiver) (representation_of (quiver_of problem.parts.quiver) m)
+      sig.source.0 sig.target.0 p.terms) ↔ (IsZeroIn problem m p.terms)
+  zero_tells p sig typed ends = (
+    λ vanishes. zero_from_value (matrices m.modulus) (quiver_of problem.parts.quiver) (representation_of (quiver_of problem.parts.quiver) m) p.terms
+        p.canonical sig.source.0 sig.target.0 typed vanishes,
+    λ zero. zero.at sig.source.0 sig.target.0 ends.source ends.target typed,
+  )
+
+  -- one of those that are all zero
+  pub zero_at : (ps : List Poly) (place : ℕ) (p : Poly) → AllByRecursion (IsZeroIn problem m) (polynomials ps) → slice_get ps place ≡ Some p
+      → IsZeroIn problem m p.terms
+  zero_at ps place p all is =
+      all_at (IsZeroIn problem m) (polynomials ps) place p.terms (All-from_recursion (IsZeroIn problem m) (polynomials ps) all)
+      (slice_get-map (λ r. r.terms) ps place ∙ ap (option_map (λ r. r.terms)) is)

@@ -1,0 +1,130 @@
+-- The entries of a polynomial's value in the model by values, as sums over its terms.
+use Rattle.std.proofs.Common.{◌≡◌, ℕ, ℤ, ◌+◌, ◌*◌, ◌%◌, ◌<◌, cond, true, List, [], ◌∷◌, length, get_or, take, drop, Some, slice_get, sym, ap, ap₂, subst, ◌∙◌, arith}
+use Rattle.std.specs.List.{AllByRecursion, sum_by}
+use Rattle.std.proofs.lemmas.List.{take_all, get_or-map}
+use Rattle.std.proofs.lemmas.List.Sums.{sum_by_more, sum_by-cons}
+use Rattle.std.proofs.lemmas.Option.{get_or_from_slice_get, slice_get_within}
+use Rattle.std.proofs.lemmas.List.Elements.{recursion_from_All}
+use Rattle.std.proofs.Math.Nat.{mod-eq_of_lt}
+use Rattle.definitions.specs.Category.{IsArrow}
+use Rattle.definitions.specs.Quiver.{Quiver, leads, is_path, IsTyped}
+use Rattle.definitions.specs.Representation.{Representation, multiple, word_value}
+use Rattle.definitions.specs.Soundness.{HasValueZeroAt}
+use Rattle.nc_polynomial.specs.Shape.{IsCanonical}
+use Rattle.representations.proofs.TermSums.{value_is_arrow}
+use Rattle.representations.proofs.TypedTerms.{words_are_paths}
+use Rattle.matrix_models.specs.Matrix.{Matrix, entry_at}
+use Rattle.matrix_models.specs.Matrices.{matrices, matrix_sum, zero_matrix}
+use Rattle.matrix_models.specs.Entries.{entry_at-matrix_of, same_matrix}
+use Rattle.matrix_models.specs.Laws.{matrices_laws}
+use Rattle.matrix_models.specs.Totals.{add_mod}
+use Rattle.model_checker.specs.Models.{representation_of}
+use Rattle.model_checker.proofs.Places.{all_at}
+use Rattle.model_candidates.specs.declared.word_rows.EntryValues.{EntryValues}
+use Rattle.model_candidates.specs.Candidates.{side_in}
+use Rattle.model_candidates.specs.Residues.{residue, residues}
+use Rattle.model_candidates.specs.WordRows.{AreTabled, model_in, product_in, quiver_in, term_entry, value_in}
+use Rattle.model_candidates.proofs.CandidateModels.{side_is_object}
+use Rattle.model_candidates.proofs.FactorSums.{multiple_columns, multiple_rows}
+use Rattle.model_candidates.proofs.ProductEntries.{multiple_entry}
+use Rattle.model_candidates.proofs.WordProducts.{leads_of_path, word_value-product}
+use Rattle.model_candidates.proofs.WordRows.{is_modulus, product_ends, quiver, represented}
+
+-- all letters of a word
+pub whole_word : (w : List ℕ) (to : ℕ) → to ≡ length w → drop 0 (take to w) ≡ w
+whole_word w to all = take_all to w (omega (arith, all))
+
+module _ (x : EntryValues) (is : AreTabled x) (u v : ℕ) (in_u : u < (quiver_in x).objects) (in_v : v < (quiver_in x).objects) where
+  abbrev q : Quiver
+  q = quiver_in x
+
+  abbrev m : ℕ
+  m = x.shape.now.modulus
+
+  abbrev rows : ℕ
+  rows = side_in x.shape.now v
+
+  abbrev columns : ℕ
+  columns = side_in x.shape.now u
+
+  abbrev f : Representation ℕ Matrix
+  f = representation_of q (model_in x)
+
+  abbrev none : Matrix
+  none = zero_matrix m rows columns
+
+  pub positive : 0 < m
+  positive = let least = (is_modulus x is).at_least in omega (arith, least)
+
+  pub word_leads : (w : List ℕ) (to : ℕ) → to ≡ length w → is_path q u v w ≡ true → leads q u v (drop 0 (take to w)) ≡ true
+  word_leads w to all path = subst (λ xs. leads q u v xs ≡ true) (sym (whole_word w to all)) (leads_of_path q u v w path)
+
+  pub value_ends : (p : List (ℤ × List ℕ)) → IsArrow (matrices m) columns rows (value_in x u v p)
+  value_ends p = value_is_arrow (matrices_laws m) q f (represented x is) u v in_u in_v p
+
+  module _ (i k : ℕ) (in_rows : i < rows) (in_columns : k < columns) where
+    -- one term
+    word_entry : (w : List ℕ) → is_path q u v w ≡ true → (c : ℤ)
+        → entry_at (multiple (matrices m) c (word_value (matrices m) f none w)) i k ≡ (residue m c * entry_at (product_in x u w) i k) % m
+    word_entry w path c =
+        let ends = product_ends x is u v w in_u (leads_of_path q u v w path) in
+        ap (λ y. entry_at (multiple (matrices m) c y) i k) (word_value-product (matrices_laws m) q f (represented x is) u v w none path)
+        ∙ multiple_entry m c (product_in x u w) i k positive (subst (λ n. i < n) (sym ends.target) in_rows)
+        (subst (λ n. k < n) (sym ends.source) in_columns)
+
+    pub value_entry : (p : List (ℤ × List ℕ)) → AllByRecursion (λ t. is_path q u v t.1 ≡ true) p
+        → entry_at (value_in x u v p) i k ≡ sum_by (term_entry x u i k) p % m
+    value_entry [] paths = entry_at-matrix_of m rows columns (λ row column. 0) i k in_rows in_columns ∙ sym (mod-eq_of_lt positive)
+    value_entry (t ∷ p) paths =
+        let ends = product_ends x is u v t.1 in_u (leads_of_path q u v t.1 paths.0) in
+        let word = word_value (matrices m) f none t.1 in
+        let word_is = word_value-product (matrices_laws m) q f (represented x is) u v t.1 none paths.0 in
+        let a = multiple (matrices m) t.0 word in
+        let rest = value_in x u v p in
+        let rows_are : a.rows ≡ rows = multiple_rows m t.0 word ∙ ap (λ y. y.rows) word_is ∙ ends.target in
+        let columns_are : a.columns ≡ columns = multiple_columns m t.0 word ∙ ap (λ y. y.columns) word_is ∙ ends.source in
+        ap (λ b. entry_at (cond b (matrix_sum m a rest) rest) i k) paths.0
+        ∙ entry_at-matrix_of m a.rows a.columns (λ row column. (entry_at a row column + entry_at rest row column) % m) i k
+        (subst (λ n. i < n) (sym rows_are) in_rows) (subst (λ n. k < n) (sym columns_are) in_columns)
+        ∙ ap₂ (λ y z. (y + z) % m) (word_entry t.1 paths.0 t.0) (value_entry p paths.1)
+        ∙ add_mod m (term_entry x u i k t) (sum_by (term_entry x u i k) p)
+        ∙ ap (λ y. y % m) (sym (sum_by-cons (term_entry x u i k) t p))
+
+  -- the term at a place
+  module _ (p : List (ℤ × List ℕ)) (place : ℕ) (t : ℤ × List ℕ) (there : slice_get p place ≡ Some t) where
+    here : get_or p place t ≡ t
+    here = get_or_from_slice_get p place t t there
+
+    pub path_at : IsCanonical p → IsTyped q u v p → is_path q u v t.1 ≡ true
+    path_at canonical typed = all_at (λ y. is_path q u v y.1 ≡ true) p place t (words_are_paths q u v p canonical typed) there
+
+    pub coefficient_at : (coefficients : List ℕ) → coefficients ≡ residues m p → get_or coefficients place 0 ≡ residue m t.0
+    coefficient_at coefficients are =
+        ap (λ xs. get_or xs place 0) are ∙ get_or-map (λ y. residue m y.0) p place t 0 (slice_get_within p place t there)
+        ∙ ap (λ y. residue m y.0) here
+
+    pub sum_more : (i k : ℕ) → sum_by (term_entry x u i k) (take (place + 1) p) ≡ sum_by (term_entry x u i k) (take place p) + term_entry x u i k t
+    sum_more i k =
+        sum_by_more (term_entry x u i k) p place t (slice_get_within p place t there)
+        ∙ ap (λ y. sum_by (term_entry x u i k) (take place p) + term_entry x u i k y) here
+
+  pub paths_of : (p : List (ℤ × List ℕ)) → IsCanonical p → IsTyped q u v p → AllByRecursion (λ t. is_path q u v t.1 ≡ true) p
+  paths_of p canonical typed = recursion_from_All (λ t. is_path q u v t.1 ≡ true) p (words_are_paths q u v p canonical typed)
+
+  -- zero, where all entries are
+  abbrev IsZeroThere : List (ℤ × List ℕ) → Type 0
+  IsZeroThere p = HasValueZeroAt (matrices m) q f u v p
+
+  pub entry_of_zero : (p : List (ℤ × List ℕ)) → IsZeroThere p → (i k : ℕ) → i < rows → k < columns → entry_at (value_in x u v p) i k ≡ 0
+  entry_of_zero p zero i k in_rows in_columns =
+      ap (λ y. entry_at y i k) zero ∙ entry_at-matrix_of m rows columns (λ row column. 0) i k in_rows in_columns
+
+  pub zero_by_entries : (p : List (ℤ × List ℕ)) → ((i k : ℕ) → i < rows → k < columns → entry_at (value_in x u v p) i k ≡ 0) → IsZeroThere p
+  zero_by_entries p each =
+      let ends = value_ends p in
+      let zero = (matrices_laws m).zero_is_arrow columns rows (side_is_object q x.shape.now (quiver x is) is.shape u in_u)
+      (side_is_object q x.shape.now (quiver x is) is.shape v in_v) in
+      same_matrix m (value_in x u v p) none ends.arrow zero.arrow ends.target ends.source (λ i k in_rows in_columns.
+      each i k (subst (λ n. i < n) ends.target in_rows) (subst (λ n. k < n) ends.source in_columns)
+      ∙ sym (entry_at-matrix_of m rows columns (λ row column. 0) i k (subst (λ n. i < n) ends.target in_rows)
+      (subst (λ n. k < n) ends.source in_columns)))

@@ -1,0 +1,99 @@
+use Rattle.std.proofs.Common.{◌≡◌, ℕ, List, length, sym, ap, ap₂, subst, ◌∙◌}
+use Rattle.std.specs.List.{All, flat_map}
+use Rattle.std.proofs.lemmas.Result.{IfOk-weaker}
+use Rattle.std.proofs.lemmas.List.Elements.{recursion_from_All}
+use Rattle.quiver.specs.Declarations.{quiver_of}
+use Rattle.matrix_models.specs.declared.system.LinearRow.{LinearRow}
+use Rattle.matrix_models.specs.Systems.{HasNoSolution}
+use Rattle.matrix_models.specs.Pivots.{StandFor}
+use Rattle.model_candidates.specs.Candidates.{model_by}
+use Rattle.model_candidates.specs.Unknowns.{filled, set_count, unit_values}
+use Rattle.model_candidates.specs.Plans.{AreEntryValues, IsAssumption, IsZeroAtSignature}
+use Rattle.model_candidates.specs.Equations.{system_for}
+use Rattle.model_candidates.specs.Factors.{equations_of, system_in}
+use Rattle.model_candidates.proofs.AssumptionRows.{system_is}
+use Rattle.model_candidates.proofs.Found.{none_weaker, some_weaker}
+use Rattle.model_candidates.proofs.LinearRows.{length-unit_values}
+use Rattle.model_candidates.proofs.PlanSystems.{plan_filled, plan_hold, hold_filled}
+use Rattle.model_candidates.proofs.equations.pivots_of.Goals as goal
+
+pub filled-requires-clause-one_for_each : goal.filled-requires-clause-one_for_each
+filled-requires-clause-one_for_each c =
+    ap length (c.as_slice-2.ensures ∙ c.in_ok-zeros.ensures) ∙ length-unit_values c.args.plan.now.unknowns c.args.plan.now.unknowns
+    ∙ c.requires.plan.unknowns ∙ ap set_count (sym c.as_slice.ensures)
+
+pub pivots_at-requires-clause-values : goal.pivots_at-requires-clause-values
+pivots_at-requires-clause-values c =
+    let problem = c.args.problem.now in
+    let s = c.args.shape.now in
+    let plan = c.args.plan.now in
+    let drawn = c.args.drawn.now in
+    let zeros_are = c.as_slice-2.ensures ∙ c.in_ok-zeros.ensures ∙ ap (λ n. unit_values n n) c.requires.plan.unknowns in
+    let values_are : c.as_slice-3.result.now ≡ filled plan.solved drawn (unit_values (set_count plan.solved) (set_count plan.solved)) =
+    c.as_slice-3.ensures ∙ c.in_ok-values.ensures ∙ ap₂ (λ fs xs. filled fs drawn xs) c.as_slice.ensures zeros_are in
+    subst (AreEntryValues problem s) (sym values_are)
+    (plan_filled problem s c.requires.shape plan c.requires.plan drawn c.requires.drawn (set_count plan.solved))
+
+pub returns-clause-none : goal.returns-clause-none
+returns-clause-none c =
+    let problem = c.args.problem.now in
+    let s = c.args.shape.now in
+    let plan = c.args.plan.now in
+    let drawn = c.args.drawn.now in
+    let fits = c.requires.plan in
+    let gs = plan.assumptions.equations in
+    let zeros_are = c.as_slice-2.ensures ∙ c.in_ok-zeros.ensures ∙ ap (λ n. unit_values n n) fits.unknowns in
+    let values_are = c.as_slice-3.ensures ∙ c.in_ok-values.ensures ∙ ap₂ (λ fs xs. filled fs drawn xs) c.as_slice.ensures zeros_are
+    ∙ ap (λ fs. filled fs drawn (unit_values (set_count fs) (set_count fs))) fits.solved in
+    let equations_in : List ℕ → List LinearRow = λ xs.
+    flat_map (equations_of problem s (model_by (quiver_of problem.parts.quiver) s 0 xs)) gs in
+    let unknowns_are = fits.unknowns ∙ ap set_count fits.solved in
+    let system_same : system_in problem s (model_by (quiver_of problem.parts.quiver) s 0 c.as_slice-3.result.now) plan.unknowns gs
+    ≡ system_for problem s plan.solved gs drawn =
+    (λ i. record { modulus = s.modulus; unknowns = unknowns_are i; rows = equations_in c.as_slice-3.result.now })
+    ∙ system_is problem s c.requires.shape drawn c.requires.drawn.one_each c.requires.drawn.below gs
+    (recursion_from_All (IsAssumption problem 1) gs fits.assumptions.each) (equations_in c.as_slice-3.result.now) (ap equations_in values_are)
+    ∙ ap (λ fs. system_for problem s fs gs drawn) (sym fits.solved) in
+    let n = set_count plan.solved in
+    let filled_are : c.as_slice-3.result.now ≡ filled plan.solved drawn (unit_values n n) =
+    values_are ∙ ap (λ fs. filled fs drawn (unit_values (set_count fs) (set_count fs))) (sym fits.solved) in
+    IfOk-weaker c.pivots_at.result _ _ (λ found. none_weaker found _ _ (λ none hold. subst HasNoSolution system_same (none
+    (subst (λ xs. All (IsZeroAtSignature problem (model_by (quiver_of problem.parts.quiver) s 0 xs)) plan.assumptions.conditions) (sym filled_are)
+    (hold_filled problem s c.requires.shape plan c.requires.plan drawn c.requires.drawn (unit_values n n) hold))))) c.pivots_at.ensures.none
+
+pub returns-clause-hold : goal.returns-clause-hold
+returns-clause-hold c =
+    let problem = c.args.problem.now in
+    let s = c.args.shape.now in
+    let plan = c.args.plan.now in
+    let drawn = c.args.drawn.now in
+    let n = set_count plan.solved in
+    let zeros_are = c.as_slice-2.ensures ∙ c.in_ok-zeros.ensures ∙ ap (λ k. unit_values k k) c.requires.plan.unknowns in
+    let values_are : c.as_slice-3.result.now ≡ filled plan.solved drawn (unit_values n n) =
+    c.as_slice-3.ensures ∙ c.in_ok-values.ensures ∙ ap₂ (λ fs xs. filled fs drawn xs) c.as_slice.ensures zeros_are in
+    IfOk-weaker c.pivots_at.result _ _ (λ found. some_weaker found _ _ (λ _ hold.
+    plan_hold problem s c.requires.shape plan c.requires.plan drawn c.requires.drawn (unit_values n n)
+    (subst (λ xs. All (IsZeroAtSignature problem (model_by (quiver_of problem.parts.quiver) s 0 xs)) plan.assumptions.conditions) values_are hold)))
+    c.pivots_at.ensures.hold
+
+pub returns-clause-pivots : goal.returns-clause-pivots
+returns-clause-pivots c =
+    let problem = c.args.problem.now in
+    let s = c.args.shape.now in
+    let plan = c.args.plan.now in
+    let drawn = c.args.drawn.now in
+    let fits = c.requires.plan in
+    let gs = plan.assumptions.equations in
+    let zeros_are = c.as_slice-2.ensures ∙ c.in_ok-zeros.ensures ∙ ap (λ n. unit_values n n) fits.unknowns in
+    let values_are = c.as_slice-3.ensures ∙ c.in_ok-values.ensures ∙ ap₂ (λ fs xs. filled fs drawn xs) c.as_slice.ensures zeros_are
+    ∙ ap (λ fs. filled fs drawn (unit_values (set_count fs) (set_count fs))) fits.solved in
+    let equations_in : List ℕ → List LinearRow = λ xs.
+    flat_map (equations_of problem s (model_by (quiver_of problem.parts.quiver) s 0 xs)) gs in
+    let unknowns_are = fits.unknowns ∙ ap set_count fits.solved in
+    let system_same : system_in problem s (model_by (quiver_of problem.parts.quiver) s 0 c.as_slice-3.result.now) plan.unknowns gs
+    ≡ system_for problem s plan.solved gs drawn =
+    (λ i. record { modulus = s.modulus; unknowns = unknowns_are i; rows = equations_in c.as_slice-3.result.now })
+    ∙ system_is problem s c.requires.shape drawn c.requires.drawn.one_each c.requires.drawn.below gs
+    (recursion_from_All (IsAssumption problem 1) gs fits.assumptions.each) (equations_in c.as_slice-3.result.now) (ap equations_in values_are)
+    ∙ ap (λ fs. system_for problem s fs gs drawn) (sym fits.solved) in
+    IfOk-weaker c.pivots_at.result _ _ (λ found. some_weaker found _ _ (λ pivots. subst (StandFor pivots) system_same)) c.pivots_at.ensures.pivots

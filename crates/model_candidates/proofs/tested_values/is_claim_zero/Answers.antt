@@ -1,0 +1,86 @@
+use Rattle.std.proofs.Common.{◌-◌, length, sym, ap, subst, ◌∙◌, arith}
+use Rattle.std.proofs.lemmas.List.{length-map}
+use Rattle.std.proofs.lemmas.Slice.Zip.{AllZip-long}
+use Rattle.quiver.specs.Declarations.{quiver_of}
+use Rattle.adjoint_rules.specs.Problem.{HasObjects, IsTypedOf}
+use Rattle.model_checker.specs.Models.{IsZeroIn, claim_polynomial}
+use Rattle.model_checker.proofs.Places.{all_at, zip_at, generator_at-number}
+use Rattle.model_candidates.specs.Candidates.{model_by}
+use Rattle.model_candidates.specs.Residues.{residues}
+use Rattle.model_candidates.proofs.NumberedShapes.{posed_shape, shape_numbered, one_shape}
+use Rattle.model_candidates.proofs.TestedValues.{residues_at, zero_tells}
+use Rattle.model_candidates.proofs.tested_values.is_claim_zero.Goals as goal
+
+pub at-sig-requires : goal.at-sig-requires
+at-sig-requires c =
+    let parts = c.args.problem.now.parts in
+    let long = AllZip-long (IsTypedOf parts.quiver) parts.claims parts.claim_sigs c.args.problem.now.posed.claims_typed in
+    omega (arith, long, c.requires.claim.least, c.requires.claim.most)
+
+pub at-requires : goal.at-requires
+at-requires c =
+    let problem = c.args.problem.now in
+    let plan = c.args.plan.now in
+    let s = c.at-shape.result.now in
+    let fits = c.requires.plan.fits s (shape_numbered problem plan.number s c.requires.plan.least c.at-shape.ensures) in
+    let long = ap length fits.tables.claims ∙ length-map problem.parts.claims (λ p. residues s.modulus p.terms) in
+    omega (arith, long, c.requires.claim.least, c.requires.claim.most)
+
+pub is_zero-requires-clause-given : goal.is_zero-requires-clause-given
+is_zero-requires-clause-given c =
+    let problem = c.args.problem.now in
+    let plan = c.args.plan.now in
+    let s = c.at-shape.result.now in
+    let numbered = shape_numbered problem plan.number s c.requires.plan.least c.at-shape.ensures in
+    record {
+      shape = posed_shape problem _ s c.at-shape.ensures;
+      tables = c.as_slice-tables.ensures ∙ (c.requires.plan.fits s numbered).tables.letters;
+      values = c.requires.values s numbered;
+    }
+
+pub is_zero-requires-clause-source : goal.is_zero-requires-clause-source
+is_zero-requires-clause-source c =
+    let parts = c.args.problem.now.parts in
+    (all_at (HasObjects parts.quiver) parts.claim_sigs (c.args.claim - 1) c.at-sig.result.now c.args.problem.now.posed.claim_ends c.at-sig.ensures).source
+
+pub is_zero-requires-clause-target : goal.is_zero-requires-clause-target
+is_zero-requires-clause-target c =
+    let parts = c.args.problem.now.parts in
+    (all_at (HasObjects parts.quiver) parts.claim_sigs (c.args.claim - 1) c.at-sig.result.now c.args.problem.now.posed.claim_ends c.at-sig.ensures).target
+
+pub is_zero-requires-clause-typed : goal.is_zero-requires-clause-typed
+is_zero-requires-clause-typed c =
+    let parts = c.args.problem.now.parts in
+    zip_at (IsTypedOf parts.quiver) parts.claims parts.claim_sigs (c.args.claim - 1) c.at-poly.result.now c.at-sig.result.now
+    c.args.problem.now.posed.claims_typed c.at-poly.ensures c.at-sig.ensures
+
+pub is_zero-requires-clause-coefficients : goal.is_zero-requires-clause-coefficients
+is_zero-requires-clause-coefficients c =
+    let problem = c.args.problem.now in
+    let plan = c.args.plan.now in
+    let s = c.at-shape.result.now in
+    let fits = c.requires.plan.fits s (shape_numbered problem plan.number s c.requires.plan.least c.at-shape.ensures) in
+    c.as_slice-coefficients.ensures
+    ∙ residues_at s.modulus problem.parts.claims plan.tables.claims (c.args.claim - 1) c.at-poly.result.now c.at.result.now fits.tables.claims
+    c.at-poly.ensures c.at.ensures
+
+pub returns : goal.returns
+returns c = λ t numbered.
+    let problem = c.args.problem.now in
+    let parts = problem.parts in
+    let q = quiver_of parts.quiver in
+    let s = c.at-shape.result.now in
+    let p = c.at-poly.result.now in
+    let sig = c.at-sig.result.now in
+    let m = model_by q s 0 c.args.values.now in
+    let typed = zip_at (IsTypedOf parts.quiver) parts.claims parts.claim_sigs (c.args.claim - 1) p sig problem.posed.claims_typed c.at-poly.ensures
+    c.at-sig.ensures in
+    let ends = all_at (HasObjects parts.quiver) parts.claim_sigs (c.args.claim - 1) sig problem.posed.claim_ends c.at-sig.ensures in
+    let tells = zero_tells problem m p sig typed ends in
+    let is = generator_at-number parts.claims c.args.claim p c.requires.claim.least c.at-poly.ensures in
+    let same = one_shape problem c.args.plan.now.number s t c.at-shape.ensures numbered in (
+      λ true. subst (λ x. IsZeroIn problem (model_by q x 0 c.args.values.now) (claim_polynomial problem c.args.claim)) same
+          (subst (IsZeroIn problem m) (sym is) (tells.0 (c.is_zero.ensures.0 true))),
+      λ zero. c.is_zero.ensures.1 (tells.1 (subst (IsZeroIn problem m) is
+          (subst (λ x. IsZeroIn problem (model_by q x 0 c.args.values.now) (claim_polynomial problem c.args.claim)) (sym same) zero))),
+    )

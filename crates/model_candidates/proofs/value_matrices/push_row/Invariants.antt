@@ -1,0 +1,7 @@
+use Rattle.std.proofs.Common.{◌≡◌, ◌++◌, get_or, map}
+use Rattle.std.specs.List.{range_with_len}
+use Rattle.model_candidates.proofs.value_matrices.push_row.Given as goal
+
+-- with the numbers of the columns that were passed
+abbrev pub invariant-loop-column : goal.invariant-loop-column
+invariant-loop-column l = l.entries ≡ l.initial.entries ++ map (λ k. get_or l.row k 0) (range_with_len 0 l.column)

@@ -1,0 +1,15 @@
+use Rattle.std.proofs.Common.{◌≡◌, ◌*◌, ◌%◌, ◌<◌, ℕ, get_or, length}
+use Rattle.std.specs.List.{All}
+use Rattle.adjoint_rules.specs.Limits.{shape_side_limit}
+use Rattle.matrix_models.specs.Matrices.{total}
+use Rattle.model_candidates.specs.LetterTables.{value_in_table}
+use Rattle.model_candidates.proofs.word_rows.table_product.Given as goal
+
+-- the entries in the columns that were passed
+abbrev pub invariant-loop-column : goal.invariant-loop-column
+invariant-loop-column l = record {
+  size : length l.entries ≡ shape_side_limit;
+  below : All (λ entry. entry < l.fn.modulus) l.entries;
+  each : (k : ℕ) → k < l.column
+      → get_or l.entries k 0 ≡ total l.table.rows (λ j. get_or l.row j 0 * value_in_table l.values l.table j k) % l.fn.modulus;
+}
