@@ -61,7 +61,8 @@ module _ (problem : Problem) where
       All-cons (IsClaimNumber problem) claim (halted_from (claim + 1) os) (record { least = least; most = omega arith })
       (halted_are_claims (claim + 1) os (omega arith) (omega arith))
 
-  pub searched_are_claims : (models : Bool) (os : List Outcome) → length os ≡ length problem.parts.claims → All (IsClaimNumber problem) (searched_from models 1 os)
+  pub searched_are_claims : (models : Bool) (os : List Outcome) → length os ≡ length problem.parts.claims
+      → All (IsClaimNumber problem) (searched_from models 1 os)
   searched_are_claims false os each = All-nil (IsClaimNumber problem)
   searched_are_claims true os each = halted_are_claims 1 os (omega arith) (omega (arith, each))
 
@@ -130,14 +131,16 @@ module _ (problem : Problem) (asked : Asked) where
     found_for = are;
   }
 
-  module _ {outcomes : List Outcome} {verdicts : List Verdict} {left later : List Outcome} {found : List (Option Found)} (so_far : SaidSoFar outcomes verdicts left found) where
+  module _ {outcomes : List Outcome} {verdicts : List Verdict} {left later : List Outcome} {found : List (Option Found)}
+      (so_far : SaidSoFar outcomes verdicts left found) where
     -- one more has its verdict
     said_one : (o : Outcome) (v : Verdict) (rest : List (Option Found)) → left ≡ o ∷ later → IsVerdictOn problem asked so_far.claim o v
         → AreFoundFor (searched_from asked.models (so_far.claim + 1) later) rest → SaidSoFar outcomes (verdicts ++ v ∷ []) later rest
     said_one o v rest steps is are = record {
       claim = so_far.claim + 1;
       said = λ others all. subst (AreVerdictsOn problem asked (claim_numbers problem) outcomes) (sym (append_assoc verdicts (v ∷ []) others))
-          (so_far.said (v ∷ others) (subst (λ os. AreVerdictsOn problem asked (range_with_len so_far.claim (length os)) os (v ∷ others)) (sym steps) (is, all)));
+          (so_far.said (v ∷ others)
+          (subst (λ os. AreVerdictsOn problem asked (range_with_len so_far.claim (length os)) os (v ∷ others)) (sym steps) (is, all)));
       found_for = are;
     }
 

@@ -16,7 +16,8 @@ loop-place-preserved c =
       | in-Halted+in_ok-push w ↦
           let pushed : c.match-outcome.claims.items ≡ c.loop-place.claims.items ++ (place + 1) ∷ [] = search rules in
           let alone = ap (λ (one : Outcome). halted_from (place + 1) (one ∷ [])) w.in-Halted.is in
-          pushed ∙ ap (λ claims. claims ++ (place + 1) ∷ []) c.loop-place.invariant ∙ ap (λ claims. halted_from 1 before ++ claims) (sym alone) ∙ sym more
+          pushed ∙ ap (λ claims. claims ++ (place + 1) ∷ []) c.loop-place.invariant
+          ∙ ap (λ claims. halted_from 1 before ++ claims) (sym alone) ∙ sym more
       | in_default w ↦
           let none = not_halted (place + 1) o w.in_default.not-Halted in
           rw w.claims-is (c.loop-place.invariant ∙ sym (append-nil (halted_from 1 before)) ∙ ap (λ claims. halted_from 1 before ++ claims) (sym none) ∙ sym more)

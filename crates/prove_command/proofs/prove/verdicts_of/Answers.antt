@@ -1,6 +1,6 @@
 use Rattle.std.proofs.Common.{◌≡◌, ◌<◌, ◌++◌, ◌∷◌, [], length, sym, ap, subst, ◌∙◌, rules, arith}
 use Rattle.std.specs.Option.{option_flatten, option_to_list}
-use Rattle.std.specs.Vec.Iter.{into_iter_items, into_iter_len}
+use Rattle.std.specs.Vec.Iter.{into_iter_items}
 use Rattle.std.proofs.lemmas.List.{nil_from_length, length-append}
 use Rattle.prove_command.specs.Searched.{searched_from}
 use Rattle.prove_command.proofs.Said.{TakesNext, IsSaidBy, AreFoundFor, SaidSoFar, said_none, said_derived, said_closed, said_halted, said_all}
@@ -13,13 +13,14 @@ loop-outcome-init g c =
     c.into_iter-outcome-iterator.ensures.into_iter_gives.0 ∙ c.into_vec-outcome-items.ensures in
     let found : into_iter_items c.into_iter-found.result ≡ c.in_ok-found.found = search rules in
     let slice : c.as_slice.result.now ≡ c.args.outcomes = search rules in
-    let found_for : AreFoundFor c.args.problem.now c.args.asked (searched_from c.args.asked.models 1 c.args.outcomes) (into_iter_items c.into_iter-found.result) =
+    let asked = c.args.asked in
+    let found_for : AreFoundFor c.args.problem.now asked (searched_from asked.models 1 c.args.outcomes) (into_iter_items c.into_iter-found.result) =
     rw (found, ← slice) (c.in_ok-found.ensures.found, c.in_ok-found.ensures.none) in
     record {
       left = search rules;
       found_left = search rules;
       said = rw (c.in_ok-verdicts.ensures, outcomes)
-          (said_none c.args.problem.now c.args.asked c.args.outcomes (into_iter_items c.into_iter-found.result) c.requires.one_each found_for);
+          (said_none c.args.problem.now asked c.args.outcomes (into_iter_items c.into_iter-found.result) c.requires.one_each found_for);
     }
 
 -- one more claim has its verdict
