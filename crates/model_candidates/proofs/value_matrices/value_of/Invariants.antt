@@ -1,4 +1,3 @@
-use Rattle.std.proofs.Common.{◌≡◌}
 use Rattle.matrix_models.specs.Matrix.{entry_at}
 use Rattle.model_candidates.specs.WordRows.{value_in}
 use Rattle.model_candidates.proofs.MatrixRows.{AreRows}
