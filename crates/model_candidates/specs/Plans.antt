@@ -62,9 +62,10 @@ pub record AreAsked (problem : Problem) (known : Bool) (gs : List LinearAssumpti
   pub all : (m : Model) → All (IsZeroAtSignature problem m) gs → AllByRecursion (IsZeroIn problem m)
       (polynomials (filter (λ p. is_asked (quiver_of problem.parts.quiver) problem.parts.solved known p.terms) problem.parts.assumptions))
 
--- The plan fits the shape: whether all lists of values are tried, which entries are solved for and how many, the numbers of these,
--- the linear assumptions, and the tables.
+-- The plan fits the shape: how many entries there are, whether all lists of values are tried, which entries are solved for and how many,
+-- the numbers of these, the linear assumptions, and the tables.
 pub record FitsShape (problem : Problem) (s : Shape) (plan : Plan) : Type 0 where
+  pub entries : plan.entries ≡ length (entries_of (quiver_of problem.parts.quiver) s)
   pub exhaustive : plan.exhaustive ≡ is_exhaustive (quiver_of problem.parts.quiver) s
   pub solved : plan.solved ≡ solved_flags (quiver_of problem.parts.quiver) s problem.parts.solved
   pub unknowns : plan.unknowns ≡ set_count plan.solved

@@ -71,12 +71,12 @@ pub fn candidate_values(
     ensures values { IfOk result (λ found. (s : ShapeValue) → IsShapeOf problem.now plan.now.number s
         → IfSome found (AreEntryValues problem.now s)) }
 {
-    let quiver = &problem.parts.quiver;
     let shape = problem.parts.shapes.at(plan.number as usize - 1);
+    let (modulus, count) = (shape.modulus, plan.entries);
     if plan.exhaustive {
-        return Ok(Some(digits_of(alloc, quiver, shape, k)?));
+        return Ok(Some(digits_of(alloc, modulus, count, k)?));
     }
-    let drawn = draws_of(alloc, quiver, shape, plan.number, seed, k)?;
+    let drawn = draws_of(alloc, modulus, count, plan.number, seed, k)?;
     greedy_values(alloc, problem, shape, plan, drawn.as_slice())
 }
 

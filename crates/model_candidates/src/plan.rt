@@ -44,6 +44,8 @@ pub struct LinearAssumptions {
 pub struct Plan {
     /// The number of the shape, from 1.
     pub number: u32,
+    /// How many entries the shape has.
+    pub entries: u32,
     /// Whether all lists of values are tried.
     pub exhaustive: bool,
     /// How many entries are solved for.
@@ -76,6 +78,7 @@ pub fn plan_of(alloc: Global, problem: &Problem, shape: u32) -> Result<Plan, All
     let tables = tables_of(alloc, problem, form)?;
     Ok(Plan {
         number: shape,
+        entries,
         exhaustive: is_exhaustive(form.modulus, entries),
         unknowns,
         solved,

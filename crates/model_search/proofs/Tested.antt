@@ -1,5 +1,7 @@
 -- What the test of a candidate tells of claims, by its model.
-use Rattle.std.proofs.Common.{◌≡◌, ◌+◌, ◌<◌, ◌≤◌, ◌↔◌, ◌⊎◌, inl, inr, ℕ, Bool, true, false, List, [], ◌∷◌, ◌++◌, length, get_or, Option, Some, None, IsNone, IsTrue, refl, ap, subst, true≢false, sym, ◌∙◌, arith}
+use Rattle.std.proofs.Common.{◌≡◌, ◌+◌, ◌<◌, ◌≤◌, ◌↔◌, ◌⊎◌, inl, inr, ℕ, Bool, true, false, not, List, [], ◌∷◌, ◌++◌, length, get_or, Option, Some, None, IsNone, IsTrue, refl, ap, subst, true≢false, sym, ◌∙◌, arith}
+use Rattle.std.specs.List.{All, AllByRecursion}
+use Rattle.std.proofs.lemmas.List.Elements.{All-get_or}
 use Rattle.std.proofs.lemmas.Bool.{cases_lt}
 use Rattle.std.proofs.lemmas.List.{length_push, get_or_append_left, get_or_push}
 use Rattle.quiver.specs.Declarations.{quiver_of}
@@ -7,10 +9,10 @@ use Rattle.matrix_models.specs.declared.model.Model.{Model}
 use Rattle.adjoint_rules.specs.declared.parts.Shape.{Shape}
 use Rattle.adjoint_rules.specs.declared.problem.Problem.{Problem}
 use Rattle.model_search.specs.declared.found.Found.{Found}
-use Rattle.model_checker.specs.Models.{IsModel, Refutes}
+use Rattle.model_checker.specs.Models.{IsClaimNumber, IsZeroIn, assumptions_of, claim_polynomial, Refutes}
 use Rattle.model_candidates.specs.Candidates.{IsShapeOf, IsCandidate, candidate_count, naming}
-use Rattle.model_search.specs.Searches.{NoneBreaksAt, TellsBreaks, AreBroken, IsTested}
-use Rattle.model_search.proofs.Breaking.{named_model, breaks_where_it_refutes, none_where_it_does_not, none_without_model}
+use Rattle.model_search.specs.Searches.{NoneBreaksAt, TellsBreaks, AreBroken, AreFlags, AreOfClaims, IsTested}
+use Rattle.model_search.proofs.Breaking.{named_fits, breaks_where_it_refutes, none_where_it_does_not, none_without_model}
 
 module _ (problem : Problem) (seed number k : ℕ) (s : Shape) (of : IsShapeOf problem number s) (claims : List ℕ) (found : List (Option Found)) where
   none_tested : ((claim : ℕ) → NoneBreaksAt problem claim seed number k) → IsTested problem seed number claims found k None
@@ -20,12 +22,6 @@ module _ (problem : Problem) (seed number k : ℕ) (s : Shape) (of : IsShapeOf p
   tested_without_model is = none_tested (λ claim. none_without_model problem claim number seed k s of is)
 
   module _ (m : Model) (is : IsCandidate problem number s seed k (Some m)) where
-    -- its model is one, whatever claim is named
-    pub candidate_model : IsModel (quiver_of problem.parts.quiver) m
-    candidate_model =
-        let named = named_model problem 0 number seed k s of m is in
-        record { modulus = named.modulus; side_of_each = named.side_of_each; sides = named.sides; place_of_each = named.place_of_each }
-
     tells : (claim : ℕ) (flag : Bool) → k < candidate_count (quiver_of problem.parts.quiver) s → IsTrue flag ↔ Refutes problem (naming claim m)
         → TellsBreaks problem claim seed number k flag
     tells claim true in_range told = (naming claim m, breaks_where_it_refutes problem claim number seed k s of m is in_range (told.0 refl))
@@ -40,16 +36,24 @@ module _ (problem : Problem) (seed number k : ℕ) (s : Shape) (of : IsShapeOf p
       each = λ place within free. tells (get_or claims place 0) (get_or flags place false) in_range (told.each place within free);
     }
 
--- the model with another claim's number
-pub model_named : (problem : Problem) (claim : ℕ) (m : Model) → IsModel (quiver_of problem.parts.quiver) m
-    → IsModel (quiver_of problem.parts.quiver) (naming claim m)
-model_named problem claim m is = record { modulus = is.modulus; side_of_each = is.side_of_each; sides = is.sides; place_of_each = is.place_of_each }
+    -- where the assumptions are zero, a claim that isn't is refuted
+    pub flags_refute : All (IsClaimNumber problem) claims → AllByRecursion (IsZeroIn problem m) (assumptions_of problem) → (flags : List Bool)
+        → AreOfClaims problem m claims found flags → AreFlags problem m claims found flags
+    flags_refute numbers zero flags told = record {
+      one_each = told.one_each;
+      each = λ place within free.
+          let claim = get_or claims place 0 in
+          let fitting = named_fits problem claim number seed k s of m is (All-get_or (IsClaimNumber problem) claims place 0 within numbers) in (
+            λ flag. record { assumptions = record { fitting = fitting; zero = zero }; claim = (told.each place within free).0 flag },
+            λ refutes. (told.each place within free).1 refutes.claim,
+          );
+    }
 
 -- what is told of the first claims
 pub record TellFirst (problem : Problem) (m : Model) (claims : List ℕ) (found : List (Option Found)) (count : ℕ) (flags : List Bool) : Type 0 where
   pub size : length flags ≡ count
   pub each : (place : ℕ) → place < count → IsNone (get_or found place None)
-      → IsTrue (get_or flags place false) ↔ Refutes problem (naming (get_or claims place 0) m)
+      → IsTrue (get_or flags place false) ↔ (¬ IsZeroIn problem m (claim_polynomial problem (get_or claims place 0)))
 
 pub tell_none : (problem : Problem) (m : Model) (claims : List ℕ) (found : List (Option Found)) (flags : List Bool) → flags ≡ []
     → TellFirst problem m claims found 0 flags
@@ -58,7 +62,7 @@ tell_none problem m claims found flags none = record { size = ap length none; ea
 -- and of one more
 pub tell_more : (problem : Problem) (m : Model) (claims : List ℕ) (found : List (Option Found)) (count : ℕ) (flags : List Bool) (flag : Bool)
     → TellFirst problem m claims found count flags
-    → (IsNone (get_or found count None) → IsTrue flag ↔ Refutes problem (naming (get_or claims count 0) m))
+    → (IsNone (get_or found count None) → IsTrue flag ↔ (¬ IsZeroIn problem m (claim_polynomial problem (get_or claims count 0))))
     → TellFirst problem m claims found (count + 1) (flags ++ flag ∷ [])
 tell_more problem m claims found count flags flag before told = record {
   size = length_push flags flag ∙ ap (λ n. n + 1) before.size;
@@ -66,11 +70,16 @@ tell_more problem m claims found count flags flag before told = record {
 }
   where
     go : (place : ℕ) → IsNone (get_or found place None) → (place < count) ⊎ (count ≤ place) → place ≤ count
-        → IsTrue (get_or (flags ++ flag ∷ []) place false) ↔ Refutes problem (naming (get_or claims place 0) m)
+        → IsTrue (get_or (flags ++ flag ∷ []) place false) ↔ (¬ IsZeroIn problem m (claim_polynomial problem (get_or claims place 0)))
     go place free (inl h) last =
-        subst (λ b. IsTrue b ↔ Refutes problem (naming (get_or claims place 0) m))
+        subst (λ b. IsTrue b ↔ (¬ IsZeroIn problem m (claim_polynomial problem (get_or claims place 0))))
         (sym (get_or_append_left flags (flag ∷ []) false place (omega (arith, before.size, h)))) (before.each place h free)
     go place free (inr h) last =
         let same : count ≡ place = omega (arith, h, last) in
-        subst (λ b. IsTrue b ↔ Refutes problem (naming (get_or claims place 0) m)) (sym (get_or_push flags flag false place (before.size ∙ same)))
-        (subst (λ k. IsNone (get_or found k None) → IsTrue flag ↔ Refutes problem (naming (get_or claims k 0) m)) same told free)
+        subst (λ b. IsTrue b ↔ (¬ IsZeroIn problem m (claim_polynomial problem (get_or claims place 0)))) (sym (get_or_push flags flag false place (before.size ∙ same)))
+        (subst (λ k. IsNone (get_or found k None) → IsTrue flag ↔ (¬ IsZeroIn problem m (claim_polynomial problem (get_or claims k 0)))) same told free)
+
+-- a flag that is the opposite
+pub told_not : (b : Bool) (Z : Type 0) → IsTrue b ↔ Z → IsTrue (not b) ↔ (¬ Z)
+told_not true Z told = (λ other. absurd (true≢false (sym other)), λ none. absurd (none (told.0 refl)))
+told_not false Z told = (λ other zero. absurd (true≢false (sym (told.1 zero))), λ none. refl)

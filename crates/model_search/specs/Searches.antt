@@ -8,7 +8,7 @@ use Rattle.adjoint_rules.specs.declared.parts.Shape.{Shape}
 use Rattle.adjoint_rules.specs.declared.problem.Problem.{Problem}
 use Rattle.model_search.specs.declared.found.Found.{Found}
 use Rattle.model_candidates.specs.declared.plan.Plan.{Plan}
-use Rattle.model_checker.specs.Models.{IsClaimNumber, IsZeroIn, assumptions_of, Refutes}
+use Rattle.model_checker.specs.Models.{IsClaimNumber, IsZeroIn, assumptions_of, claim_polynomial, Refutes}
 use Rattle.model_candidates.specs.Plans.{IsPlan}
 use Rattle.model_candidates.specs.Candidates.{IsShapeOf, candidate_count, naming, Breaks, IsEarlier, IsLeastBreaking}
 
@@ -32,10 +32,11 @@ abbrev pub TellsBreaks : Problem → ℕ → ℕ → ℕ → ℕ → Bool → Ty
 TellsBreaks problem claim seed number k true = BreaksAt problem claim seed number k
 TellsBreaks problem claim seed number k false = NoneBreaksAt problem claim seed number k
 
--- Whether the model refutes the claim that it names, where this has no candidate yet; or some assumption isn't zero in the model.
-abbrev pub IsBroken : Problem → Model → Option Found → Option Bool → Type 0
-IsBroken problem m found None = ¬ AllByRecursion (IsZeroIn problem m) (assumptions_of problem)
-IsBroken problem m found (Some flag) = IsNone found → IsTrue flag ↔ Refutes problem m
+-- For each claim that has no candidate yet it is told whether it isn't zero in the model.
+pub record AreOfClaims (problem : Problem) (m : Model) (claims : List ℕ) (found : List (Option Found)) (flags : List Bool) : Type 0 where
+  pub one_each : length flags ≡ length claims
+  pub each : (place : ℕ) → place < length claims → IsNone (get_or found place None)
+      → IsTrue (get_or flags place false) ↔ (¬ IsZeroIn problem m (claim_polynomial problem (get_or claims place 0)))
 
 -- For each claim that has no candidate yet it is told whether the model refutes it.
 pub record AreFlags (problem : Problem) (m : Model) (claims : List ℕ) (found : List (Option Found)) (flags : List Bool) : Type 0 where

@@ -1,22 +1,23 @@
 //! The search for candidates that break claims, on several threads.
 ghost use Rattle.std.specs.Prelude.{◌≡◌, ◌<◌, ◌≤◌, ◌+◌, ◌^◌, ℕ, length, get_or, is_none, replicate, None, MatchOption};
-ghost use Rattle.std.specs.Prelude.{IfSome, IfNone, IfOk, OnOk};
+ghost use Rattle.std.specs.Prelude.{◌↔◌, IfSome, IfNone, IfOk, IsNone, IsTrue, OnOk};
 ghost use Rattle.std.specs.List.{All, AllZip, list_any, range_with_len};
 ghost use Rattle.in_order_parallel.specs.Limits.{worker_limit};
 ghost use Rattle.quiver.specs.Declarations.{quiver_of};
-ghost use Rattle.model_checker.specs.Models.{IsModel, IsClaimNumber};
-ghost use Rattle.model_candidates.specs.Candidates.{IsLeastBreaking, NoneBreaks};
-ghost use Rattle.model_candidates.specs.Plans.{IsPlan};
-ghost use Rattle.model_search.specs.Searches.{CanBeTested, BreaksAt, NoneBreaksAt, IsBroken, AreBroken, IsTested, AreTested, AreTold};
+ghost use Rattle.adjoint_rules.specs.declared.parts.Shape.{Shape as ShapeValue};
+ghost use Rattle.model_checker.specs.Models.{IsClaimNumber, IsZeroIn, claim_polynomial};
+ghost use Rattle.model_candidates.specs.Candidates.{IsLeastBreaking, IsShapeOf, NoneBreaks, model_by};
+ghost use Rattle.model_candidates.specs.Plans.{AreEntryValues, IsPlan};
+ghost use Rattle.model_search.specs.Searches.{CanBeTested, BreaksAt, NoneBreaksAt, AreOfClaims, IsTested, AreTested, AreTold};
 ghost use Rattle.model_search.specs.Searches.{IsFlag, HasFlag, AreUnbroken, IsFirstBroken, IsFoundAt, IsFirstFrom, AreSearchedTo};
 
 use crate::Found;
 use adjoint_rules::Problem;
 use in_order_parallel::{Gate, Job, map_in_order};
 use lists::Listing;
-use matrix_models::Model;
-use model_candidates::{Plan, candidate_by, candidates, plan_of};
-use model_checker::{ModelRefusal, confirm_model};
+use model_candidates::{
+    Plan, are_assumptions_zero, candidate_by, candidate_values, candidates, is_claim_zero, plan_of,
+};
 use std::alloc::{AllocError, Global};
 use std::thread::Threads;
 
@@ -65,48 +66,53 @@ fn test(pass: &Pass, found: &[Option<Found>], candidate: u32) -> Result<Broken, 
     requires one_each { length found.now ≡ length pass.now.claims.now }
     ensures { IfOk result (IsTested pass.now.problem.now pass.now.seed pass.now.plan.now.number pass.now.claims.now found.now candidate) }
 {
-    match candidate_by(pass.alloc, pass.problem, pass.plan, pass.seed, candidate)? {
-        Some(model) => broken_claims(pass, found, model),
-        None => Ok(None),
+    let drawn = candidate_values(pass.alloc, pass.problem, pass.plan, pass.seed, candidate)?;
+    let Some(values) = drawn else {
+        return Ok(None);
+    };
+    let entries = values.as_slice();
+    if !are_assumptions_zero(pass.problem, pass.plan, entries) {
+        return Ok(None);
     }
+    Ok(Some(broken_claims(pass, found, entries)?))
 }
 
-// For each claim with no candidate yet whether the model refutes it; `None` where an assumption isn't zero in the model.
+// For each claim with no candidate yet whether it isn't zero in the model by these values of the entries.
 fn broken_claims(
     pass: &Pass,
     found: &[Option<Found>],
-    candidate: Model,
-) -> Result<Broken, AllocError>
+    values: &[u32],
+) -> Result<Listing<bool>, AllocError>
+    requires claims { All (IsClaimNumber pass.now.problem.now) pass.now.claims.now }
+    requires plan { IsPlan pass.now.problem.now pass.now.plan.now }
+    requires values { (s : ShapeValue) → IsShapeOf pass.now.problem.now pass.now.plan.now.number s
+        → AreEntryValues pass.now.problem.now s values.now }
     requires one_each { length found.now ≡ length pass.now.claims.now }
-    requires model { IsModel (quiver_of pass.now.problem.now.parts.quiver) candidate }
-    ensures { IfOk result (AreBroken pass.now.problem.now candidate pass.now.claims.now found.now) }
+    ensures { IfOk result (λ flags. (s : ShapeValue) → IsShapeOf pass.now.problem.now pass.now.plan.now.number s
+        → AreOfClaims pass.now.problem.now (model_by (quiver_of pass.now.problem.now.parts.quiver) s 0 values.now)
+        pass.now.claims.now found.now flags) }
 {
-    let mut model = candidate;
     let mut broken = Listing::with_room(pass.alloc, pass.claims.len())?;
     for place in 0..pass.claims.len() {
-        model.claim = pass.claims[place];
-        let Some(flag) = is_broken(pass, &found[place], &model)? else {
-            return Ok(None);
-        };
-        broken.push(flag)?;
+        broken.push(is_broken(pass, &found[place], values, pass.claims[place]))?;
     }
-    Ok(Some(broken))
+    Ok(broken)
 }
 
-// Whether the model refutes the claim that it names, which has no candidate yet; `None` where an assumption isn't zero in it.
-fn is_broken(pass: &Pass, found: &Option<Found>, model: &Model) -> Result<Option<bool>, AllocError>
-    requires { IsModel (quiver_of pass.now.problem.now.parts.quiver) model.now }
-    ensures { IfOk result (IsBroken pass.now.problem.now model.now found.now) }
+// Whether the claim has no candidate yet and isn't zero in the model by these values of the entries.
+fn is_broken(pass: &Pass, found: &Option<Found>, values: &[u32], claim: u32) -> bool
+    requires plan { IsPlan pass.now.problem.now pass.now.plan.now }
+    requires values { (s : ShapeValue) → IsShapeOf pass.now.problem.now pass.now.plan.now.number s
+        → AreEntryValues pass.now.problem.now s values.now }
+    requires claim { IsClaimNumber pass.now.problem.now claim }
+    ensures { (s : ShapeValue) → IsShapeOf pass.now.problem.now pass.now.plan.now.number s → IsNone found.now
+        → IsTrue result ↔ (¬ IsZeroIn pass.now.problem.now (model_by (quiver_of pass.now.problem.now.parts.quiver) s 0 values.now)
+        (claim_polynomial pass.now.problem.now claim)) }
 {
     if found.is_some() {
-        return Ok(Some(false));
+        return false;
     }
-    match confirm_model(pass.alloc, pass.problem, model) {
-        Ok(()) => Ok(Some(true)),
-        Err(ModelRefusal::NotZero { assumption: _ }) => Ok(None),
-        Err(ModelRefusal::Memory(failed)) => Err(failed),
-        Err(_) => Ok(Some(false)),
-    }
+    !is_claim_zero(pass.problem, pass.plan, values, claim)
 }
 
 // So many numbers, from `first` on.

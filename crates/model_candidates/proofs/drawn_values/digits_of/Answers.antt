@@ -7,7 +7,7 @@ use Rattle.model_candidates.proofs.drawn_values.digits_of.Goals as goal
 
 pub loop-place-preserved : goal.loop-place-preserved
 loop-place-preserved c =
-    let m = c.args.shape.now.modulus in
+    let m = c.args.modulus in
     let k = c.args.candidate in
     let i = c.loop-place.place in
     let pushed : c.push.new.self ≡ c.loop-place.values ++ c.loop-place.rest % m ∷ [] = search rules in (

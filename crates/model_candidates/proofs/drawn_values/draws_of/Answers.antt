@@ -8,8 +8,8 @@ use Rattle.model_candidates.proofs.drawn_values.draws_of.Goals as goal
 
 pub loop-place-preserved : goal.loop-place-preserved
 loop-place-preserved c =
-    let m = c.args.shape.now.modulus in
-    let first = c.args.candidate * c.entry_count-count.result in
+    let m = c.args.modulus in
+    let first = c.args.candidate * c.args.count in
     let i = c.loop-place.place in
     let start = started 64 multiplier_64 c.args.seed (increment_of 64 c.args.number) in
     let word : c.next_word.result ≡ (pcg32 c.loop-place.stream).0 = search rules in

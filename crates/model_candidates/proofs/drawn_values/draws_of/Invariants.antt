@@ -8,5 +8,5 @@ use Rattle.model_candidates.proofs.drawn_values.draws_of.Given as goal
 -- the draws of the entries that were passed, and the stream behind their words
 abbrev pub invariant-loop-place : goal.invariant-loop-place
 invariant-loop-place l =
-    (l.values ≡ map (λ j. word_of_stream l.seed l.number (l.candidate * l.count + j) % l.modulus) (range_with_len 0 l.place))
-    × (l.stream ≡ advance 64 multiplier_64 (l.candidate * l.count + l.place) (started 64 multiplier_64 l.seed (increment_of 64 l.number)))
+    (l.values ≡ map (λ j. word_of_stream l.fn.seed l.fn.number (l.fn.candidate * l.fn.count + j) % l.fn.modulus) (range_with_len 0 l.place))
+    × (l.stream ≡ advance 64 multiplier_64 (l.fn.candidate * l.fn.count + l.place) (started 64 multiplier_64 l.fn.seed (increment_of 64 l.fn.number)))

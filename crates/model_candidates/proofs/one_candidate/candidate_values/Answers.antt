@@ -1,20 +1,23 @@
-use Rattle.std.proofs.Common.{ℕ, List, not, Some, IfNone, IfSome, IfOk, sym, ap, subst, ◌∙◌, arith}
+use Rattle.std.proofs.Common.{ℕ, ◌+◌, ◌*◌, ◌%◌, List, map, not, Some, IfNone, IfSome, IfOk, sym, ap, subst, ◌∙◌, arith}
+use Rattle.std.specs.List.{range_with_len}
 use Rattle.std.specs.Option.{option_map}
 use Rattle.std.proofs.lemmas.Result.{IfOk-weaker}
 use Rattle.quiver.specs.Declarations.{quiver_of}
 use Rattle.adjoint_rules.proofs.Generators.{posed_quiver}
-use Rattle.model_candidates.specs.Candidates.{IsCandidate, IsGreedy, IsSolution, model_by}
+use Rattle.model_candidates.specs.Candidates.{IsCandidate, IsGreedy, IsSolution, digit, model_by, word_of_stream}
 use Rattle.model_candidates.specs.Plans.{AreEntryValues}
 use Rattle.model_candidates.proofs.CandidateModels.{modulus_of_shape}
 use Rattle.model_candidates.proofs.NumberedShapes.{posed_shape, shape_numbered, one_shape, digits_are_values, draws_are_values}
 use Rattle.model_candidates.proofs.TestedValues.{drawn_candidate, greedy_are_values}
 use Rattle.model_candidates.proofs.one_candidate.candidate_values.Goals as goal
 
-pub digits_of-requires-clause-quiver : goal.digits_of-requires-clause-quiver
-digits_of-requires-clause-quiver c = posed_quiver c.args.problem.now.parts c.args.problem.now.posed
-
-pub digits_of-requires-clause-shape : goal.digits_of-requires-clause-shape
-digits_of-requires-clause-shape c = posed_shape c.args.problem.now _ c.at-shape.result.now c.at-shape.ensures
+pub digits_of-requires : goal.digits_of-requires
+digits_of-requires c =
+    let parts = c.args.problem.now.parts in
+    let s = c.at-shape.result.now in
+    let shape = posed_shape c.args.problem.now _ s c.at-shape.ensures in
+    let least = (modulus_of_shape (quiver_of parts.quiver) s (posed_quiver parts c.args.problem.now.posed) shape).at_least in
+    omega (arith, least)
 
 pub returns-then-plan-clause-candidate : goal.returns-then-plan-clause-candidate
 returns-then-plan-clause-candidate c = λ t numbered.
@@ -25,7 +28,8 @@ returns-then-plan-clause-candidate c = λ t numbered.
     let fits = c.requires.plan.fits s (shape_numbered problem plan.number s c.requires.plan.least c.at-shape.ensures) in
     subst (λ x. IsCandidate problem plan.number x c.args.seed c.args.k (Some (model_by q x 0 c.in_ok-digits_of.field-0)))
     (one_shape problem plan.number s t c.at-shape.ensures numbered)
-    (IsCandidate.numbered (sym fits.exhaustive ∙ c.if-plan.true) (ap (λ values. Some (model_by q s 0 values)) c.in_ok-digits_of.ensures))
+    (IsCandidate.numbered (sym fits.exhaustive ∙ c.if-plan.true) (ap (λ values. Some (model_by q s 0 values))
+    (c.in_ok-digits_of.ensures ∙ ap (λ n. map (digit s.modulus c.args.k) (range_with_len 0 n)) fits.entries)))
 
 pub returns-then-plan-clause-values : goal.returns-then-plan-clause-values
 returns-then-plan-clause-values c = λ t numbered.
@@ -34,14 +38,19 @@ returns-then-plan-clause-values c = λ t numbered.
     let s = c.at-shape.result.now in
     let shape = posed_shape problem _ s c.at-shape.ensures in
     let least = (modulus_of_shape (quiver_of parts.quiver) s (posed_quiver parts problem.posed) shape).at_least in
+    let plan = c.args.plan.now in
+    let fits = c.requires.plan.fits s (shape_numbered problem plan.number s c.requires.plan.least c.at-shape.ensures) in
+    let digits_is = c.in_ok-digits_of.ensures ∙ ap (λ n. map (digit s.modulus c.args.k) (range_with_len 0 n)) fits.entries in
     subst (λ x. AreEntryValues problem x c.in_ok-digits_of.field-0) (one_shape problem c.args.plan.now.number s t c.at-shape.ensures numbered)
-    (subst (AreEntryValues problem s) (sym c.in_ok-digits_of.ensures) (digits_are_values problem s c.args.k (omega (arith, least))))
+    (subst (AreEntryValues problem s) (sym digits_is) (digits_are_values problem s c.args.k (omega (arith, least))))
 
-pub draws_of-requires-clause-quiver : goal.draws_of-requires-clause-quiver
-draws_of-requires-clause-quiver c = posed_quiver c.args.problem.now.parts c.args.problem.now.posed
-
-pub draws_of-requires-clause-shape : goal.draws_of-requires-clause-shape
-draws_of-requires-clause-shape c = posed_shape c.args.problem.now _ c.at-shape.result.now c.at-shape.ensures
+pub draws_of-requires : goal.draws_of-requires
+draws_of-requires c =
+    let parts = c.args.problem.now.parts in
+    let s = c.at-shape.result.now in
+    let shape = posed_shape c.args.problem.now _ s c.at-shape.ensures in
+    let least = (modulus_of_shape (quiver_of parts.quiver) s (posed_quiver parts c.args.problem.now.posed) shape).at_least in
+    omega (arith, least)
 
 pub greedy_values-requires-clause-shape : goal.greedy_values-requires-clause-shape
 greedy_values-requires-clause-shape c = posed_shape c.args.problem.now _ c.at-shape.result.now c.at-shape.ensures
@@ -58,7 +67,10 @@ greedy_values-requires-clause-drawn c =
     let s = c.at-shape.result.now in
     let shape = posed_shape problem _ s c.at-shape.ensures in
     let least = (modulus_of_shape (quiver_of parts.quiver) s (posed_quiver parts problem.posed) shape).at_least in
-    subst (AreEntryValues problem s) (sym (c.as_slice.ensures ∙ c.in_ok-drawn.ensures))
+    let plan = c.args.plan.now in
+    let fits = c.requires.plan.fits s (shape_numbered problem plan.number s c.requires.plan.least c.at-shape.ensures) in
+    let draw : ℕ → ℕ → ℕ = λ n j. word_of_stream c.args.seed plan.number (c.args.k * n + j) % s.modulus in
+    subst (AreEntryValues problem s) (sym (c.as_slice.ensures ∙ c.in_ok-drawn.ensures ∙ ap (λ n. map (draw n) (range_with_len 0 n)) fits.entries))
     (draws_are_values problem s c.args.plan.now.number c.args.seed c.args.k (omega (arith, least)))
 
 pub returns-clause-candidate : goal.returns-clause-candidate
@@ -69,7 +81,8 @@ returns-clause-candidate c =
     let s = c.at-shape.result.now in
     let r = c.greedy_values.result in
     let fits = c.requires.plan.fits s (shape_numbered problem plan.number s c.requires.plan.least c.at-shape.ensures) in
-    let drawn_is = c.as_slice.ensures ∙ c.in_ok-drawn.ensures in
+    let draw : ℕ → ℕ → ℕ = λ n j. word_of_stream c.args.seed plan.number (c.args.k * n + j) % s.modulus in
+    let drawn_is = c.as_slice.ensures ∙ c.in_ok-drawn.ensures ∙ ap (λ n. map (draw n) (range_with_len 0 n)) fits.entries in
     let is = drawn_candidate problem plan.number c.args.seed c.args.k s (ap not (sym fits.exhaustive ∙ c.if-plan.false)) r
     (subst (λ d. IfOk r (λ found. IfNone found ((values : List ℕ) → ¬ IsSolution problem s d values))) drawn_is c.greedy_values.ensures.none)
     (subst (λ d. IfOk r (λ found. IfSome found (IsGreedy problem s d))) drawn_is c.greedy_values.ensures.greedy) in

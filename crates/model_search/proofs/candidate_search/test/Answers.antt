@@ -1,32 +1,70 @@
-use Rattle.std.proofs.Common.{subst}
-use Rattle.std.proofs.lemmas.Result.{IfOk-weaker}
-use Rattle.model_candidates.specs.Candidates.{IsCandidate}
-use Rattle.model_search.proofs.Tested.{candidate_model, tested_by, tested_without_model}
+use Rattle.std.proofs.Common.{None, Some, IfSome, sym, subst, ◌∙◌, true≢false}
+use Rattle.std.specs.Option.{option_map}
+use Rattle.quiver.specs.Declarations.{quiver_of}
+use Rattle.model_candidates.specs.Candidates.{IsCandidate, model_by}
+use Rattle.model_candidates.specs.Plans.{AreEntryValues}
+use Rattle.model_search.proofs.Tested.{flags_refute, tested_by, tested_without_model}
 use Rattle.model_search.proofs.candidate_search.test.Goals as goal
 
-pub broken_claims-requires-clause-model : goal.broken_claims-requires-clause-model
-broken_claims-requires-clause-model c =
+pub returns-in_default : goal.returns-in_default
+returns-in_default c =
     let pass = c.args.pass.now in
+    let problem = pass.problem.now in
     let given = c.requires.tested in
-    let is = subst (IsCandidate pass.problem.now pass.plan.now.number given.shape pass.seed c.args.candidate) c.in-Some.is
-    (c.in_ok-model.ensures.candidate given.shape given.numbered) in
-    candidate_model pass.problem.now pass.seed pass.plan.now.number c.args.candidate given.shape given.numbered pass.claims.now c.args.found.now
-    c.in-Some.model is
+    let is = subst (λ found. IsCandidate problem pass.plan.now.number given.shape pass.seed c.args.candidate
+    (option_map (model_by (quiver_of problem.parts.quiver) given.shape 0) found)) c.in_default.is
+    (c.in_ok-drawn.ensures.candidate given.shape given.numbered) in
+    tested_without_model problem pass.seed pass.plan.now.number c.args.candidate given.shape given.numbered pass.claims.now c.args.found.now is
 
-pub returns-in-Some : goal.returns-in-Some
-returns-in-Some c =
-    let pass = c.args.pass.now in
-    let given = c.requires.tested in
-    let is = subst (IsCandidate pass.problem.now pass.plan.now.number given.shape pass.seed c.args.candidate) c.in-Some.is
-    (c.in_ok-model.ensures.candidate given.shape given.numbered) in
-    IfOk-weaker c.broken_claims.result _ _
-    (tested_by pass.problem.now pass.seed pass.plan.now.number c.args.candidate given.shape given.numbered pass.claims.now c.args.found.now
-    c.in-Some.model is given.in_range) c.broken_claims.ensures
+pub are_assumptions_zero-requires-clause-plan : goal.are_assumptions_zero-requires-clause-plan
+are_assumptions_zero-requires-clause-plan c = c.requires.tested.plan_is
 
-pub returns-in-None : goal.returns-in-None
-returns-in-None c =
+pub are_assumptions_zero-requires-clause-values : goal.are_assumptions_zero-requires-clause-values
+are_assumptions_zero-requires-clause-values c = λ s numbered.
+    let problem = c.args.pass.now.problem.now in
+    subst (AreEntryValues problem s) (sym c.as_slice-entries.ensures)
+    (subst (λ found. IfSome found (AreEntryValues problem s)) c.in-Some.is (c.in_ok-drawn.ensures.values s numbered))
+
+pub returns-then-not-are_assumptions_zero : goal.returns-then-not-are_assumptions_zero
+returns-then-not-are_assumptions_zero c =
     let pass = c.args.pass.now in
+    let problem = pass.problem.now in
     let given = c.requires.tested in
-    let is = subst (IsCandidate pass.problem.now pass.plan.now.number given.shape pass.seed c.args.candidate) c.in-None.is
-    (c.in_ok-model.ensures.candidate given.shape given.numbered) in
-    tested_without_model pass.problem.now pass.seed pass.plan.now.number c.args.candidate given.shape given.numbered pass.claims.now c.args.found.now is
+    let q = quiver_of problem.parts.quiver in
+    let m = model_by q given.shape 0 c.as_slice-entries.result.now in
+    let is = subst (λ values. IsCandidate problem pass.plan.now.number given.shape pass.seed c.args.candidate (Some (model_by q given.shape 0 values)))
+    (sym c.as_slice-entries.ensures)
+    (subst (λ found. IsCandidate problem pass.plan.now.number given.shape pass.seed c.args.candidate (option_map (model_by q given.shape 0) found))
+    c.in-Some.is (c.in_ok-drawn.ensures.candidate given.shape given.numbered)) in
+    tested_by problem pass.seed pass.plan.now.number c.args.candidate given.shape given.numbered pass.claims.now c.args.found.now m is given.in_range
+    None (λ zero. true≢false (sym ((c.are_assumptions_zero.ensures given.shape given.numbered).1 zero) ∙ c.if-not-are_assumptions_zero.true))
+
+pub broken_claims-requires-clause-claims : goal.broken_claims-requires-clause-claims
+broken_claims-requires-clause-claims c = c.requires.tested.claims_are
+
+pub broken_claims-requires-clause-plan : goal.broken_claims-requires-clause-plan
+broken_claims-requires-clause-plan c = c.requires.tested.plan_is
+
+pub broken_claims-requires-clause-values : goal.broken_claims-requires-clause-values
+broken_claims-requires-clause-values c = λ s numbered.
+    let problem = c.args.pass.now.problem.now in
+    subst (AreEntryValues problem s) (sym c.as_slice-entries.ensures)
+    (subst (λ found. IfSome found (AreEntryValues problem s)) c.in-Some.is (c.in_ok-drawn.ensures.values s numbered))
+
+pub returns : goal.returns
+returns c =
+    let pass = c.args.pass.now in
+    let problem = pass.problem.now in
+    let given = c.requires.tested in
+    let q = quiver_of problem.parts.quiver in
+    let m = model_by q given.shape 0 c.as_slice-entries.result.now in
+    let flags = c.in_ok-broken_claims.field-0 in
+    let is = subst (λ values. IsCandidate problem pass.plan.now.number given.shape pass.seed c.args.candidate (Some (model_by q given.shape 0 values)))
+    (sym c.as_slice-entries.ensures)
+    (subst (λ found. IsCandidate problem pass.plan.now.number given.shape pass.seed c.args.candidate (option_map (model_by q given.shape 0) found))
+    c.in-Some.is (c.in_ok-drawn.ensures.candidate given.shape given.numbered)) in
+    let zero = (c.are_assumptions_zero.ensures given.shape given.numbered).0 c.if-not-are_assumptions_zero.false in
+    tested_by problem pass.seed pass.plan.now.number c.args.candidate given.shape given.numbered pass.claims.now c.args.found.now m is given.in_range
+    (Some flags)
+    (flags_refute problem pass.seed pass.plan.now.number c.args.candidate given.shape given.numbered pass.claims.now c.args.found.now m is
+    given.claims_are zero flags (c.in_ok-broken_claims.ensures given.shape given.numbered))
