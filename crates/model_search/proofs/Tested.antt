@@ -30,7 +30,8 @@ module _ (problem : Problem) (seed number k : ℕ) (s : Shape) (of : IsShapeOf p
 
     pub tested_by : k < candidate_count (quiver_of problem.parts.quiver) s → (broken : Option (List Bool)) → AreBroken problem m claims found broken
         → IsTested problem seed number claims found k broken
-    tested_by in_range None other = none_tested (λ claim. none_where_it_does_not problem claim number seed k s of m is (λ refutes. other refutes.assumptions.zero))
+    tested_by in_range None other =
+        none_tested (λ claim. none_where_it_does_not problem claim number seed k s of m is (λ refutes. other refutes.assumptions.zero))
     tested_by in_range (Some flags) told = record {
       one_each = told.one_each;
       each = λ place within free. tells (get_or claims place 0) (get_or flags place false) in_range (told.each place within free);
@@ -76,7 +77,8 @@ tell_more problem m claims found count flags flag before told = record {
         (sym (get_or_append_left flags (flag ∷ []) false place (omega (arith, before.size, h)))) (before.each place h free)
     go place free (inr h) last =
         let same : count ≡ place = omega (arith, h, last) in
-        subst (λ b. IsTrue b ↔ (¬ IsZeroIn problem m (claim_polynomial problem (get_or claims place 0)))) (sym (get_or_push flags flag false place (before.size ∙ same)))
+        subst (λ b. IsTrue b ↔ (¬ IsZeroIn problem m (claim_polynomial problem (get_or claims place 0))))
+        (sym (get_or_push flags flag false place (before.size ∙ same)))
         (subst (λ k. IsNone (get_or found k None) → IsTrue flag ↔ (¬ IsZeroIn problem m (claim_polynomial problem (get_or claims k 0)))) same told free)
 
 -- a flag that is the opposite
