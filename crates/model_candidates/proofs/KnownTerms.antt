@@ -8,7 +8,6 @@ use Rattle.std.specs.List.{All}
 use Rattle.std.proofs.lemmas.List.Elements.{All-weaker, All-from_recursion}
 use Rattle.definitions.specs.Category.{IsArrow}
 use Rattle.definitions.specs.Quiver.{Quiver, IsQuiver, letters}
-use Rattle.quiver.specs.Declarations.{quiver_of}
 use Rattle.matrix_models.specs.Matrix.{Matrix}
 use Rattle.matrix_models.specs.Matrices.{matrices}
 use Rattle.matrix_models.specs.declared.model.Model.{Model}

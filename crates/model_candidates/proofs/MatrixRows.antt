@@ -1,5 +1,6 @@
 -- Lists of entries that are made row by row, and the matrices that they make.
-use Rattle.std.proofs.Common.{◌≡◌, ℕ, ◌+◌, ◌*◌, ◌<◌, ◌≤◌, [], ◌++◌, List, All, length, get_or, map, ◌⊎◌, inl, inr, refl, sym, ap, subst, ◌∙◌, arith, add-mul, one-mul}
+use Rattle.std.proofs.Common.{◌≡◌, ℕ, ◌+◌, ◌*◌, ◌<◌, ◌≤◌, [], ◌++◌, List, All, length, get_or}
+use Rattle.std.proofs.Common.{map, ◌⊎◌, inl, inr, refl, sym, ap, subst, ◌∙◌, arith, add-mul, one-mul}
 use Rattle.std.specs.List.{range_with_len}
 use Rattle.std.proofs.lemmas.Bool.{cases_lt}
 use Rattle.std.proofs.lemmas.List.{length-append, get_or_append_left, get_or-append-add}
@@ -47,7 +48,8 @@ one_row_more m columns rows f g entries so_far small same = record {
 
     go : (i k : ℕ) → i < rows + 1 → k < columns → (i < rows) ⊎ (rows ≤ i) → get_or (entries ++ last) (i * columns + k) 0 ≡ f i k
     go i k within inside (inl earlier) =
-        get_or_append_left entries last 0 (i * columns + k) (subst (λ n. i * columns + k < n) (sym so_far.size) (in_earlier_rows i k rows columns earlier inside))
+        get_or_append_left entries last 0 (i * columns + k)
+        (subst (λ n. i * columns + k < n) (sym so_far.size) (in_earlier_rows i k rows columns earlier inside))
         ∙ so_far.each i k earlier inside
     go i k within inside (inr late) =
         let is : i ≡ rows = omega (arith, within, late) in

@@ -1,5 +1,5 @@
 -- What solves the equations that drawn entries leave is what makes the linear assumptions zero, and so are the greedy solutions.
-use Rattle.std.proofs.Common.{◌≡◌, ℕ, ◌+◌, ◌-◌, ◌*◌, ◌%◌, ◌<◌, ◌≤◌, suc, Bool, true, false, nat_le, List, [], ◌∷◌, ◌++◌, length, get_or, map, take, drop, ◌⊎◌, inl, inr, refl, sym, ap, subst, ◌∙◌, arith, mod-lt}
+use Rattle.std.proofs.Common.{◌≡◌, ℕ, ◌+◌, ◌-◌, ◌*◌, ◌%◌, ◌<◌, ◌≤◌, suc, Bool, true, false, nat_le, List, [], ◌∷◌, ◌++◌, length, get_or, map, take, drop, ◌⊎◌, inl, inr, refl, sym, ap, subst, ◌∙◌, arith}
 use Rattle.std.specs.List.{All, AllByRecursion, list_all, range_with_len}
 use Rattle.std.proofs.lemmas.Bool.{cases_lt}
 use Rattle.std.proofs.lemmas.List.{length-map, get_or-map, get_or_past, append_assoc, take_more, take-append-drop}
@@ -11,7 +11,7 @@ use Rattle.quiver.specs.Declarations.{object_count, quiver_of}
 use Rattle.matrix_models.specs.Matrices.{total}
 use Rattle.matrix_models.specs.declared.model.Model.{Model}
 use Rattle.matrix_models.specs.declared.system.System.{System}
-use Rattle.matrix_models.specs.Systems.{IsEquation, IsSystem, AreValues, Holds, Solves}
+use Rattle.matrix_models.specs.Systems.{AreValues, Holds, Solves}
 use Rattle.matrix_models.specs.Greedy as of_system
 use Rattle.adjoint_rules.specs.declared.parts.Shape.{Shape}
 use Rattle.adjoint_rules.specs.declared.problem.Problem.{Problem}

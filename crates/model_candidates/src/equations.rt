@@ -124,9 +124,11 @@ fn add_equations(
     requires size { length pivots.old.rows ≡ unknowns }
     requires modulus { pivots.old.modulus ≡ known.now.given.shape.now.modulus }
     ensures added { IfOk result (λ fit. IsTrue fit
-        → Add (equations_of known.now.given.problem.now known.now.given.shape.now (model_in known.now.given) assumption) pivots.old pivots.new) }
+        → Add (equations_of known.now.given.problem.now known.now.given.shape.now (model_in known.now.given) assumption)
+        pivots.old pivots.new) }
     ensures against { IfOk result (λ fit. IsFalse fit
-        → AreAgainst (equations_of known.now.given.problem.now known.now.given.shape.now (model_in known.now.given) assumption) pivots.old) }
+        → AreAgainst (equations_of known.now.given.problem.now known.now.given.shape.now (model_in known.now.given) assumption)
+        pivots.old) }
 {
     let place = assumption.place as usize;
     let poly = known.given.problem.parts.assumptions.at(place);

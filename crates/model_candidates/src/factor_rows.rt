@@ -94,13 +94,25 @@ fn add_products(modulus: u32, factors: &mut [u32], term: &SolvedTerm, row: u32, 
     ensures each { (k : ℕ) → k < length factors.old
         → get_or factors.new k 0 % modulus ≡ (get_or factors.old k 0 + term_factor term.now row column k) % modulus }
 {
-    let modulus = u64::from(modulus);
     let width = term.right.rows();
     for place in 0..term.left.columns() * width {
-        let before = u64::from(term.left.entry(row, place / width));
-        let behind = u64::from(term.right.entry(place % width, column));
-        let product = u64::from(term.coefficient) * before % modulus * behind;
+        let before = term.left.entry(row, place / width);
+        let behind = term.right.entry(place % width, column);
         let number = *term.numbers.at(place as usize) as usize;
-        factors[number] = ((u64::from(factors[number]) + product) % modulus) as u32;
+        factors[number] = with_product(modulus, factors[number], term.coefficient, before, behind);
     }
+}
+
+// The number with a product of three, modulo the modulus. A product with 0 costs no division.
+fn with_product(modulus: u32, number: u32, coefficient: u32, before: u32, behind: u32) -> u32
+    requires { number < modulus }
+    ensures value { result ≡ (number + (coefficient * before) % modulus * behind) % modulus }
+    ensures below { result < modulus }
+{
+    if before == 0 || behind == 0 {
+        return number;
+    }
+    let modulus = u64::from(modulus);
+    let product = u64::from(coefficient) * u64::from(before) % modulus * u64::from(behind);
+    ((u64::from(number) + product) % modulus) as u32
 }

@@ -30,7 +30,7 @@ pub(crate) fn filled(
     requires one_for_each { length values.now ≡ set_count solved.now }
     ensures { IfOk result (λ all. all ≡ filled solved.now drawn.now values.now) }
 {
-    let mut all = Listing::new(alloc);
+    let mut all = Listing::with_room(alloc, solved.len())?;
     let mut next = 0;
     for place in 0..solved.len() {
         let value = if solved[place] {
@@ -67,7 +67,7 @@ pub(crate) fn picked(
 pub(crate) fn unit_values(alloc: Global, count: u32, place: u32) -> Result<Listing<u32>, AllocError>
     ensures { IfOk result (λ values. values ≡ unit_values count place) }
 {
-    let mut values = Listing::new(alloc);
+    let mut values = Listing::with_room(alloc, count as usize)?;
     for k in 0..count {
         values.push(u32::from(k == place))?;
     }
