@@ -8,43 +8,30 @@ use Rattle.rule_reduce.specs.declared.rule.Rule.{Rule}
 use Rattle.rule_reduce.specs.declared.fault.ReduceFault.{ReduceFault}
 use Rattle.rule_reduce.specs.declared.fault.ReduceFault.TheVariants as fault
 use Rattle.traced_completion.specs.declared.first_reductions.First.{First as Kept}
-use Rattle.traced_completion.specs.declared.pending.waiting.Waiting.{Waiting}
+use Rattle.ambiguities.specs.declared.ambiguity.Ambiguity.{Ambiguity}
 use Rattle.traced_completion.specs.Results.{and_then, each_in_turn, Explains}
 use Rattle.traced_completion.specs.Works.{First, first_of}
-use Rattle.traced_completion.specs.Pending.{ambiguities_of}
 use Rattle.traced_completion.specs.Reductions.{plain_first, IsKeptFirst, IsAnswer}
-use Rattle.traced_completion.proofs.InOrder.{values, IsAnswerTo, AreAnswers, values_answer, each-map, zip-weaker}
+use Rattle.traced_completion.proofs.InOrder.{values, IsAnswerTo, AreAnswers, values_answer, zip-weaker}
 
-module _ (letters : ℕ) (compare : Compare) (steps : ℕ) (rules : List Rule) (taken : List Waiting) (answers : List (Result Kept ReduceFault)) (each : AllZip (λ w answer. IsAnswer letters compare steps rules w.which answer) taken answers) where
+module _ (letters : ℕ) (compare : Compare) (steps : ℕ) (rules : List Rule) (taken : List Ambiguity) (answers : List (Result Kept ReduceFault)) (each : AllZip (IsAnswer letters compare steps rules) taken answers) where
   abbrev Answered : Result (List Kept) ReduceFault → Type 0
-  Answered = AreAnswers (λ (w : Waiting). first_of compare steps rules w.which) plain_first (λ f. IsKeptFirst letters (length rules) (plain_first f)) taken
+  Answered = AreAnswers (first_of compare steps rules) plain_first (λ f. IsKeptFirst letters (length rules) (plain_first f)) taken
 
   all_answer : Answered (values answers)
   all_answer =
-      values_answer (λ w. first_of compare steps rules w.which) plain_first (λ f. IsKeptFirst letters (length rules) (plain_first f)) taken answers
-      (zip-weaker (λ (w : Waiting) answer. IsAnswer letters compare steps rules w.which answer)
-      (IsAnswerTo (λ (w : Waiting). first_of compare steps rules w.which) plain_first (λ f. IsKeptFirst letters (length rules) (plain_first f)))
-      (λ w answer is. record { exact = is.exact; kept = is.kept }) taken answers each)
+      values_answer (first_of compare steps rules) plain_first (λ f. IsKeptFirst letters (length rules) (plain_first f)) taken answers
+      (zip-weaker (IsAnswer letters compare steps rules) (IsAnswerTo (first_of compare steps rules) plain_first (λ f. IsKeptFirst letters (length rules) (plain_first f)))
+      (λ which answer is. record { exact = is.exact; kept = is.kept }) taken answers each)
 
   abbrev pub firsts : Result (List First) ReduceFault
-  firsts = each_in_turn (first_of compare steps rules) (ambiguities_of taken)
-
-  same_firsts : firsts ≡ each_in_turn (λ w. first_of compare steps rules w.which) taken
-  same_firsts = each-map (first_of compare steps rules) (λ (w : Waiting). w.which) taken
+  firsts = each_in_turn (first_of compare steps rules) taken
 
   pub firsts_exact : (result : Result (List Kept) ReduceFault) → MatchResult result (λ fs. values answers ≡ Ok fs) (Explains (values answers)) → MatchResult result (λ fs. firsts ≡ Ok (map plain_first fs)) (Explains firsts)
-  firsts_exact (Ok fs) is =
-      same_firsts
-      ∙ (subst Answered is all_answer).exact
-  firsts_exact (Err (fault.Steps limit)) is =
-      same_firsts
-      ∙ (subst Answered is all_answer).exact
-  firsts_exact (Err (fault.Overflow o)) is =
-      same_firsts
-      ∙ (subst Answered is all_answer).exact
-  firsts_exact (Err (fault.Size s)) is =
-      same_firsts
-      ∙ (subst Answered is all_answer).exact
+  firsts_exact (Ok fs) is = (subst Answered is all_answer).exact
+  firsts_exact (Err (fault.Steps limit)) is = (subst Answered is all_answer).exact
+  firsts_exact (Err (fault.Overflow o)) is = (subst Answered is all_answer).exact
+  firsts_exact (Err (fault.Size s)) is = (subst Answered is all_answer).exact
   firsts_exact (Err (fault.Memory e)) is = tt
 
   pub firsts_kept : (result : Result (List Kept) ReduceFault) → MatchResult result (λ fs. values answers ≡ Ok fs) (Explains (values answers)) → IfOk result (All (λ f. IsKeptFirst letters (length rules) (plain_first f)))
@@ -70,8 +57,7 @@ each_length {A} {B} f (x ∷ xs) ys is = first (λ zs have. each_length f xs zs 
     first rest_length (Ok y) (Ok zs) have k = ap length (sym (same (y ∷ zs) ys k)) ∙ ap suc (rest_length zs have)
 
 -- there is one for each ambiguity
-pub one_for_each : (compare : Compare) (steps : ℕ) (rules : List Rule) (taken : List Waiting) (E : ReduceFault → Type 0) (result : Result (List Kept) ReduceFault)
-    → MatchResult result (λ fs. each_in_turn (first_of compare steps rules) (ambiguities_of taken) ≡ Ok (map plain_first fs)) E → IfOk result (λ fs. length fs ≡ length taken)
-one_for_each compare steps rules taken E (Ok fs) is =
-    sym (length-map fs plain_first) ∙ each_length (first_of compare steps rules) (ambiguities_of taken) (map plain_first fs) is ∙ length-map taken (λ (w : Waiting). w.which)
+pub one_for_each : (compare : Compare) (steps : ℕ) (rules : List Rule) (taken : List Ambiguity) (E : ReduceFault → Type 0) (result : Result (List Kept) ReduceFault)
+    → MatchResult result (λ fs. each_in_turn (first_of compare steps rules) taken ≡ Ok (map plain_first fs)) E → IfOk result (λ fs. length fs ≡ length taken)
+one_for_each compare steps rules taken E (Ok fs) is = sym (length-map fs plain_first) ∙ each_length (first_of compare steps rules) taken (map plain_first fs) is
 one_for_each compare steps rules taken E (Err e) is = tt

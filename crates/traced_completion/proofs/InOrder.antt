@@ -71,11 +71,6 @@ module _ {A B C : Type 0} (f : A → Result B ReduceFault) (view : C → B) (Kep
   values_answer (x ∷ xs) (Ok y ∷ answers) each = after_value x y xs (values answers) each.0.exact each.0.kept (values_answer xs answers each.1)
   values_answer (x ∷ xs) (Err e ∷ answers) each = record { exact = explains-head f x xs e each.0.exact; kept = tt }
 
--- of the items and of what a function gives for them
-pub each-map : {X A B : Type 0} (f : A → Result B ReduceFault) (g : X → A) (xs : List X) → each_in_turn f (map g xs) ≡ each_in_turn (λ x. f (g x)) xs
-each-map f g [] = refl
-each-map f g (x ∷ xs) = ap (λ r. and_then (f (g x)) (λ y. and_then r (λ ys. Ok (y ∷ ys)))) (each-map f g xs)
-
 pub zip-weaker : {X Y : Type 0} (P Q : X → Y → Type 0) → ((x : X) (y : Y) → P x y → Q x y) → (xs : List X) (ys : List Y) → AllZip P xs ys → AllZip Q xs ys
 zip-weaker P Q weaker [] [] each = tt
 zip-weaker P Q weaker [] (y ∷ ys) each = absurd each

@@ -6,10 +6,8 @@ ghost use Rattle.ambiguities.specs.Ambiguities.{IsAmbiguity};
 ghost use Rattle.traced_completion.specs.Limits.{share};
 ghost use Rattle.traced_completion.specs.Results.{Explains, each_in_turn};
 ghost use Rattle.traced_completion.specs.Works.{first_of};
-ghost use Rattle.traced_completion.specs.Pending.{ambiguities_of};
 ghost use Rattle.traced_completion.specs.Reductions.{plain_first, IsKeptFirst, IsAnswer};
 
-use crate::Waiting;
 use crate::reduction::{halt, reduce};
 use ambiguities::{Ambiguity, s_poly};
 use cofactor_trace::Row;
@@ -56,22 +54,22 @@ fn reduce_first<O: WordOrder + Drop>(
 
 // First reductions by borrowed rules.
 #[derive(Clone, Copy)]
-struct Reducer<'a, O: WordOrder> {
-    rules: &'a Rules<O>,
-    steps: u32,
+pub(crate) struct Reducer<'a, O: WordOrder> {
+    pub rules: &'a Rules<O>,
+    pub steps: u32,
 }
 
 impl<O: WordOrder + Drop> Job for Reducer<'_, O> {
-    type In = Waiting;
+    type In = Ambiguity;
 
     type Out = Result<First, ReduceFault>;
 
-    ghost can_go = { λ job w. IsAmbiguity job.rules.now.rules w.which };
+    ghost can_go = { λ job which. IsAmbiguity job.rules.now.rules which };
 
-    ghost gives = { λ job w answer. IsAnswer (O.letters job.rules.now.order) (O.compare job.rules.now.order) job.steps job.rules.now.rules w.which answer };
+    ghost gives = { λ job which answer. IsAnswer (O.letters job.rules.now.order) (O.compare job.rules.now.order) job.steps job.rules.now.rules which answer };
 
-    fn go(&self, waiting: &Waiting) -> Result<First, ReduceFault> {
-        reduce_first(self.rules, &waiting.which, self.steps)
+    fn go(&self, which: &Ambiguity) -> Result<First, ReduceFault> {
+        reduce_first(self.rules, which, self.steps)
     }
 }
 
@@ -117,23 +115,21 @@ fn busy_workers(items: usize, workers: u32) -> u32
 pub(crate) fn reduce_all<R: Threads + Sync, O: WordOrder + Drop + Sync, G: Gate + Sync>(
     rt: &R,
     alloc: Global,
-    rules: &Rules<O>,
-    taken: &[Waiting],
-    steps: u32,
+    reducer: &Reducer<O>,
+    taken: &[Ambiguity],
     workers: u32,
     gate: &G,
 ) -> Result<Listing<First>, ReduceFault>
-    requires ambiguities { All (λ w. IsAmbiguity rules.now.rules w.which) taken.now }
+    requires ambiguities { All (IsAmbiguity reducer.now.rules.now.rules) taken.now }
     requires some_worker { 0 < workers }
     requires few_workers { workers ≤ worker_limit }
-    ensures exact { MatchResult result (λ firsts. each_in_turn (first_of (O.compare rules.now.order) steps rules.now.rules)
-        (ambiguities_of taken.now) ≡ Ok (map plain_first firsts))
-        (Explains (each_in_turn (first_of (O.compare rules.now.order) steps rules.now.rules) (ambiguities_of taken.now))) }
-    ensures kept { IfOk result (All (λ f. IsKeptFirst (O.letters rules.now.order) (length rules.now.rules) (plain_first f))) }
+    ensures exact { MatchResult result (λ firsts. each_in_turn (first_of (O.compare reducer.now.rules.now.order) reducer.now.steps reducer.now.rules.now.rules)
+        taken.now ≡ Ok (map plain_first firsts))
+        (Explains (each_in_turn (first_of (O.compare reducer.now.rules.now.order) reducer.now.steps reducer.now.rules.now.rules) taken.now)) }
+    ensures kept { IfOk result (All (λ f. IsKeptFirst (O.letters reducer.now.rules.now.order) (length reducer.now.rules.now.rules) (plain_first f))) }
     ensures one_each { IfOk result (λ firsts. length firsts ≡ length taken.now) }
 {
-    let reducer = Reducer { rules, steps };
     let busy = busy_workers(taken.len(), workers);
-    let answers = map_in_order(rt, alloc, taken, &reducer, busy, gate)?;
+    let answers = map_in_order(rt, alloc, taken, reducer, busy, gate)?;
     collect_answers(alloc, answers)
 }

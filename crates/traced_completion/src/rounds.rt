@@ -19,10 +19,10 @@ ghost use Rattle.cofactor_trace.specs.declared.halt.Place.TheVariants as place;
 ghost use Rattle.traced_completion.specs.Completions.{IsGivingUp, state_of};
 
 use crate::causes::reduction_cause;
-use crate::first_reductions::reduce_all;
+use crate::first_reductions::{Reducer, reduce_all};
 use crate::generators::reduce_generators;
 use crate::passes::treat_all;
-use crate::{Completion, Step, Waiting};
+use crate::{Completion, Step};
 use adjoint_rules::Problem;
 use ambiguities::Ambiguity;
 use cofactor_trace::{Cause, Halt, Place};
@@ -36,13 +36,13 @@ use word_core::Word;
 // The greatest number of ambiguities that a round takes.
 const ROUND_LIMIT: usize = 32;
 
-// Appends the ambiguities without their words.
-fn push_treated(treated: &mut Listing<Ambiguity>, taken: &[Waiting]) -> Result<(), AllocError>
-    ensures ok { OnOk result (treated.new ≡ treated.old ++ ambiguities_of taken.now) }
+// Appends the ambiguities.
+fn push_treated(treated: &mut Listing<Ambiguity>, taken: &[Ambiguity]) -> Result<(), AllocError>
+    ensures ok { OnOk result (treated.new ≡ treated.old ++ taken.now) }
     ensures front { take (length treated.old) treated.new ≡ treated.old }
 {
-    for waiting in taken {
-        treated.push(waiting.which)?;
+    for which in taken {
+        treated.push(*which)?;
     }
     Ok(())
 }
@@ -125,25 +125,12 @@ impl Completion {
         ensures waiting_back { OnErr result (self.new.waiting ≡ self.old.waiting) }
     {
         let known = self.rules.len();
-        let steps = self.budget.steps;
         let taken = self.waiting.first(alloc, count)?;
-        let firsts = match reduce_all(
-            rt,
-            alloc,
-            &self.rules,
-            taken.as_slice(),
-            steps,
-            workers,
-            gate,
-        ) {
-            Ok(firsts) => firsts,
-            Err(fault) => return Err(fault),
-        };
-        match treat_all(&mut self.rules, &mut self.made, firsts, steps) {
-            Ok(()) => {}
-            Err(fault) => return Err(fault),
-        }
-        push_treated(&mut self.treated, taken.as_slice())?;
+        let steps = self.budget.steps;
+        let rules = &self.rules;
+        let firsts = reduce_all(rt, alloc, &Reducer { rules, steps }, &taken, workers, gate)?;
+        treat_all(&mut self.rules, &mut self.made, firsts, steps)?;
+        push_treated(&mut self.treated, &taken)?;
         self.waiting.advance(&self.rules, known, count)?;
         Ok(())
     }

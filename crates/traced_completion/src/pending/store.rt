@@ -3,12 +3,13 @@ ghost use Rattle.std.specs.Prelude.{◌≡◌, ◌<◌, ◌≤◌, [], length, t
 ghost use Rattle.std.specs.List.{All};
 ghost use Rattle.std.specs.Option.{option_copied};
 ghost use Rattle.word_core.specs.Letters.{IsOver};
-ghost use Rattle.traced_completion.specs.Pending.{IsNextStore, first_word};
+ghost use Rattle.traced_completion.specs.Pending.{IsNextStore, ambiguities_of, first_word};
 
 use super::Waiting;
 use super::block::Block;
 use super::blocks::{at_place, renew};
 use super::sorting::new_waiting;
+use ambiguities::Ambiguity;
 use rule_reduce::Rules;
 use std::alloc::{AllocError, Global};
 use std::marker::Model;
@@ -62,17 +63,14 @@ impl Pending {
         at_place(self.blocks.as_slice(), place)
     }
 
-    /// The first ones, as many as `count` says.
-    pub fn first(&self, alloc: Global, count: usize) -> Result<Vec<Waiting>, AllocError>
+    /// The first ambiguities, as many as `count` says.
+    pub fn first(&self, alloc: Global, count: usize) -> Result<Vec<Ambiguity>, AllocError>
         requires { count ≤ length self.now }
-        ensures { IfOk result (λ first. first.items ≡ take count self.now) }
+        ensures { IfOk result (λ first. first.items ≡ ambiguities_of (take count self.now)) }
     {
         let mut first = Vec::with_capacity(alloc, count)?;
         for place in 0..count {
-            let waiting = self.at(place);
-            let word = waiting.word.copy()?;
-            let which = waiting.which;
-            first.push(Waiting { which, word })?;
+            first.push(self.at(place).which)?;
         }
         Ok(first)
     }

@@ -1,6 +1,5 @@
 use Rattle.std.proofs.Common.{◌≡◌, ◌++◌, take}
-use Rattle.traced_completion.specs.Pending.{ambiguities_of}
 use Rattle.traced_completion.proofs.rounds.push_treated.Given as goal
 
-abbrev pub invariant-loop-waiting : goal.invariant-loop-waiting
-invariant-loop-waiting l = l.treated ≡ l.fn.treated ++ ambiguities_of (take l.waiting-index l.taken)
+abbrev pub invariant-loop-which : goal.invariant-loop-which
+invariant-loop-which l = l.treated ≡ l.fn.treated ++ take l.which-index l.taken

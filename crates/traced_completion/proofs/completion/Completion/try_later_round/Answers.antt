@@ -1,11 +1,12 @@
 use Rattle.std.proofs.Common.{rules, ◌≡◌, List, ◌++◌, length, map, take, Ok, Err, sym, subst, arith, ap, ◌∙◌}
 use Rattle.std.specs.List.{All}
-use Rattle.std.proofs.lemmas.List.{length-take}
-use Rattle.std.proofs.lemmas.List.Elements.{All-take}
+use Rattle.std.proofs.lemmas.List.{length-map, length-take}
+use Rattle.std.proofs.lemmas.List.Elements.{All-map, All-take}
 use Rattle.word_core.specs.Letters.{IsOver}
 use Rattle.word_orders.specs.Specified.{made_cmp, letters_of}
 use Rattle.rule_reduce.specs.declared.fault.ReduceFault.TheVariants.{Memory}
 use Rattle.ambiguities.specs.Ambiguities.{IsAmbiguity}
+use Rattle.ambiguities.specs.declared.ambiguity.Ambiguity.{Ambiguity}
 use Rattle.traced_completion.specs.declared.pending.waiting.Waiting.{Waiting}
 use Rattle.traced_completion.specs.Results.{Explains, each_in_turn}
 use Rattle.traced_completion.specs.Works.{first_of}
@@ -25,14 +26,14 @@ returns-clause-next g c =
     subst (λ o. IsNextStore (made_cmp o) c.treat_all.new.rules.rules (length old.rules.rules) c.args.count old.waiting c.advance.new.self) order
     (subst (λ n. IsNextStore (made_cmp c.treat_all.new.rules.order) c.treat_all.new.rules.rules n c.args.count old.waiting c.advance.new.self) known next)
 
-pub returns-in-Err-treat_all-clause-order : goal.returns-in-Err-treat_all-clause-order
-returns-in-Err-treat_all-clause-order g c = c.treat_all.ensures.order
+pub returns-in_err-treat_all-clause-order : goal.returns-in_err-treat_all-clause-order
+returns-in_err-treat_all-clause-order g c = c.treat_all.ensures.order
 
-pub returns-in-Err-treat_all-clause-rules_front : goal.returns-in-Err-treat_all-clause-rules_front
-returns-in-Err-treat_all-clause-rules_front g c = c.treat_all.ensures.rules_front
+pub returns-in_err-treat_all-clause-rules_front : goal.returns-in_err-treat_all-clause-rules_front
+returns-in_err-treat_all-clause-rules_front g c = c.treat_all.ensures.rules_front
 
-pub returns-in-Err-treat_all-clause-made_front : goal.returns-in-Err-treat_all-clause-made_front
-returns-in-Err-treat_all-clause-made_front g c = c.treat_all.ensures.made_front
+pub returns-in_err-treat_all-clause-made_front : goal.returns-in_err-treat_all-clause-made_front
+returns-in_err-treat_all-clause-made_front g c = c.treat_all.ensures.made_front
 
 pub returns-in_err-push_treated-clause-order : goal.returns-in_err-push_treated-clause-order
 returns-in_err-push_treated-clause-order g c = c.treat_all.ensures.order
@@ -112,62 +113,64 @@ returns-in_err-advance-clause-exact g c =
 
 pub returns-clause-most : goal.returns-clause-most
 returns-clause-most g c =
-    let taken : c.as_slice.result.now ≡ take c.args.count c.args.self.now.waiting = search rules in
-    omega (arith, ap length taken, length-take c.args.count c.args.self.now.waiting, c.in-Ok.ensures.one_each)
+    let taken : c.deref.result.now ≡ ambiguities_of (take c.args.count c.args.self.now.waiting) = search rules in
+    omega (arith, ap length taken, length-map (take c.args.count c.args.self.now.waiting) (λ (w : Waiting). w.which), length-take c.args.count c.args.self.now.waiting, c.in_ok-firsts.ensures.one_each)
 
 pub returns-in_err-advance-clause-most : goal.returns-in_err-advance-clause-most
 returns-in_err-advance-clause-most g c =
-    let taken : c.as_slice.result.now ≡ take c.args.count c.args.self.now.waiting = search rules in
-    omega (arith, ap length taken, length-take c.args.count c.args.self.now.waiting, c.in-Ok.ensures.one_each)
+    let taken : c.deref.result.now ≡ ambiguities_of (take c.args.count c.args.self.now.waiting) = search rules in
+    omega (arith, ap length taken, length-map (take c.args.count c.args.self.now.waiting) (λ (w : Waiting). w.which), length-take c.args.count c.args.self.now.waiting, c.in_ok-firsts.ensures.one_each)
 
 pub returns-in_err-push_treated-clause-most : goal.returns-in_err-push_treated-clause-most
 returns-in_err-push_treated-clause-most g c =
-    let taken : c.as_slice.result.now ≡ take c.args.count c.args.self.now.waiting = search rules in
-    omega (arith, ap length taken, length-take c.args.count c.args.self.now.waiting, c.in-Ok.ensures.one_each)
+    let taken : c.deref.result.now ≡ ambiguities_of (take c.args.count c.args.self.now.waiting) = search rules in
+    omega (arith, ap length taken, length-map (take c.args.count c.args.self.now.waiting) (λ (w : Waiting). w.which), length-take c.args.count c.args.self.now.waiting, c.in_ok-firsts.ensures.one_each)
 
-pub returns-in-Err-treat_all-clause-most : goal.returns-in-Err-treat_all-clause-most
-returns-in-Err-treat_all-clause-most g c =
-    let taken : c.as_slice.result.now ≡ take c.args.count c.args.self.now.waiting = search rules in
-    omega (arith, ap length taken, length-take c.args.count c.args.self.now.waiting, c.in-Ok.ensures.one_each)
+pub returns-in_err-treat_all-clause-most : goal.returns-in_err-treat_all-clause-most
+returns-in_err-treat_all-clause-most g c =
+    let taken : c.deref.result.now ≡ ambiguities_of (take c.args.count c.args.self.now.waiting) = search rules in
+    omega (arith, ap length taken, length-map (take c.args.count c.args.self.now.waiting) (λ (w : Waiting). w.which), length-take c.args.count c.args.self.now.waiting, c.in_ok-firsts.ensures.one_each)
 
 pub treat_all-requires-clause-few : goal.treat_all-requires-clause-few
 treat_all-requires-clause-few g c =
-    let taken : c.as_slice.result.now ≡ take c.args.count c.args.self.now.waiting = search rules in
-    omega (arith, ap length taken, length-take c.args.count c.args.self.now.waiting, c.in-Ok.ensures.one_each)
+    let taken : c.deref.result.now ≡ ambiguities_of (take c.args.count c.args.self.now.waiting) = search rules in
+    omega (arith, ap length taken, length-map (take c.args.count c.args.self.now.waiting) (λ (w : Waiting). w.which), length-take c.args.count c.args.self.now.waiting, c.in_ok-firsts.ensures.one_each)
 
-pub returns-in-Err-clause-fault : goal.returns-in-Err-clause-fault
-returns-in-Err-clause-fault g c =
+pub returns-in_err-firsts-clause-fault : goal.returns-in_err-firsts-clause-fault
+returns-in_err-firsts-clause-fault g c =
     let old = c.args.self.now in
     let compare = made_cmp old.rules.order in
-    let why : Explains (each_in_turn (first_of compare old.budget.steps old.rules.rules) (ambiguities_of (take c.args.count old.waiting))) c.in-Err.fault =
-    subst (λ (ws : List Waiting). Explains (each_in_turn (first_of compare old.budget.steps old.rules.rules) (ambiguities_of ws)) c.in-Err.fault) (c.as_slice.ensures.value ∙ c.in_ok-taken.ensures) c.in-Err.ensures.exact in
-    first_ends compare old.budget.steps (recorded (state_of old)) (each_in_turn (first_of compare old.budget.steps old.rules.rules) (ambiguities_of (take c.args.count old.waiting))) c.in-Err.fault why
+    let why : Explains (each_in_turn (first_of compare old.budget.steps old.rules.rules) (ambiguities_of (take c.args.count old.waiting))) c.in_err-firsts.field-0.0 =
+    subst (λ (found : List Ambiguity). Explains (each_in_turn (first_of compare old.budget.steps old.rules.rules) found) c.in_err-firsts.field-0.0) (c.deref.ensures.value ∙ c.in_ok-taken.ensures) c.in_err-firsts.ensures.exact in
+    let back : c.from_residual-in_err-firsts.result ≡ Err c.in_err-firsts.field-0.0 = search rules in
+    rw back (first_ends compare old.budget.steps (recorded (state_of old)) (each_in_turn (first_of compare old.budget.steps old.rules.rules) (ambiguities_of (take c.args.count old.waiting))) c.in_err-firsts.field-0.0 why)
 
-pub returns-in-Err-treat_all-clause-fault : goal.returns-in-Err-treat_all-clause-fault
-returns-in-Err-treat_all-clause-fault g c =
+pub returns-in_err-treat_all-clause-fault : goal.returns-in_err-treat_all-clause-fault
+returns-in_err-treat_all-clause-fault g c =
     let old = c.args.self.now in
     let compare = made_cmp old.rules.order in
-    let firsts : each_in_turn (first_of compare old.budget.steps old.rules.rules) (ambiguities_of (take c.args.count old.waiting)) ≡ Ok (map plain_first c.in-Ok.firsts) =
-    subst (λ (ws : List Waiting). each_in_turn (first_of compare old.budget.steps old.rules.rules) (ambiguities_of ws) ≡ Ok (map plain_first c.in-Ok.firsts)) (c.as_slice.ensures.value ∙ c.in_ok-taken.ensures) c.in-Ok.ensures.exact in
-    second_ends compare old.budget.steps (recorded (state_of old)) (each_in_turn (first_of compare old.budget.steps old.rules.rules) (ambiguities_of (take c.args.count old.waiting)))
-    (map plain_first c.in-Ok.firsts) c.in-Err-treat_all.fault firsts c.in-Err-treat_all.ensures.fault
+    let firsts : each_in_turn (first_of compare old.budget.steps old.rules.rules) (ambiguities_of (take c.args.count old.waiting)) ≡ Ok (map plain_first c.in_ok-firsts.firsts) =
+    subst (λ (found : List Ambiguity). each_in_turn (first_of compare old.budget.steps old.rules.rules) found ≡ Ok (map plain_first c.in_ok-firsts.firsts)) (c.deref.ensures.value ∙ c.in_ok-taken.ensures) c.in_ok-firsts.ensures.exact in
+    let back : c.from_residual-in_err-treat_all.result ≡ Err c.in_err-treat_all.field-0.0 = search rules in
+    rw back (second_ends compare old.budget.steps (recorded (state_of old)) (each_in_turn (first_of compare old.budget.steps old.rules.rules) (ambiguities_of (take c.args.count old.waiting)))
+    (map plain_first c.in_ok-firsts.firsts) c.in_err-treat_all.field-0.0 firsts c.in_err-treat_all.ensures.fault)
 
 pub returns-clause-exact : goal.returns-clause-exact
 returns-clause-exact g c =
     let old = c.args.self.now in
     let compare = made_cmp old.rules.order in
-    let firsts : each_in_turn (first_of compare old.budget.steps old.rules.rules) (ambiguities_of (take c.args.count old.waiting)) ≡ Ok (map plain_first c.in-Ok.firsts) =
-    subst (λ (ws : List Waiting). each_in_turn (first_of compare old.budget.steps old.rules.rules) (ambiguities_of ws) ≡ Ok (map plain_first c.in-Ok.firsts)) (c.as_slice.ensures.value ∙ c.in_ok-taken.ensures) c.in-Ok.ensures.exact in
+    let firsts : each_in_turn (first_of compare old.budget.steps old.rules.rules) (ambiguities_of (take c.args.count old.waiting)) ≡ Ok (map plain_first c.in_ok-firsts.firsts) =
+    subst (λ (found : List Ambiguity). each_in_turn (first_of compare old.budget.steps old.rules.rules) found ≡ Ok (map plain_first c.in_ok-firsts.firsts)) (c.deref.ensures.value ∙ c.in_ok-taken.ensures) c.in_ok-firsts.ensures.exact in
     second_goes compare old.budget.steps (recorded (state_of old)) (each_in_turn (first_of compare old.budget.steps old.rules.rules) (ambiguities_of (take c.args.count old.waiting)))
-    (map plain_first c.in-Ok.firsts) (Ok (record { rules = c.treat_all.new.rules.rules; made = c.treat_all.new.made })) firsts c.in-Ok-treat_all.ensures.exact
+    (map plain_first c.in_ok-firsts.firsts) (Ok (record { rules = c.treat_all.new.rules.rules; made = c.treat_all.new.made })) firsts c.in_ok-treat_all.ensures.exact
 
 pub returns-clause-records : goal.returns-clause-records
-returns-clause-records g c = c.in-Ok-treat_all.ensures.records
+returns-clause-records g c = c.in_ok-treat_all.ensures.records
 
 pub returns-clause-treated : goal.returns-clause-treated
 returns-clause-treated g c =
     let old = c.args.self.now in
-    subst (λ (ws : List Waiting). c.push_treated.new.treated ≡ old.treated ++ ambiguities_of ws) (c.as_slice-2.ensures.value ∙ c.in_ok-taken.ensures) c.in_ok-push_treated.ensures.ok
+    subst (λ (found : List Ambiguity). c.push_treated.new.treated ≡ old.treated ++ found) (c.deref-2.ensures.value ∙ c.in_ok-taken.ensures) c.in_ok-push_treated.ensures.ok
 
 pub returns-in_err-push_treated-clause-fault : goal.returns-in_err-push_treated-clause-fault
 returns-in_err-push_treated-clause-fault g c =
@@ -185,7 +188,7 @@ returns-in_err-advance-clause-waiting_back g c =
     rw back c.in_err-advance.ensures.err
 
 pub treat_all-requires-clause-kept : goal.treat_all-requires-clause-kept
-treat_all-requires-clause-kept g c = c.in-Ok.ensures.kept
+treat_all-requires-clause-kept g c = c.in_ok-firsts.ensures.kept
 
 pub treat_all-requires-clause-records : goal.treat_all-requires-clause-records
 treat_all-requires-clause-records g c = c.requires.records
@@ -200,4 +203,5 @@ pub reduce_all-requires-clause-ambiguities : goal.reduce_all-requires-clause-amb
 reduce_all-requires-clause-ambiguities g c κs within =
     let old = c.args.self.now in
     let Among : Waiting → Type 0 = λ w. IsAmbiguity old.rules.rules w.which in
-    subst (All Among) (sym (c.as_slice.ensures.value ∙ c.in_ok-taken.ensures)) (All-take Among c.args.count old.waiting c.requires.ambiguities)
+    subst (All (IsAmbiguity old.rules.rules)) (sym (c.deref.ensures.value ∙ c.in_ok-taken.ensures))
+    (All-map (IsAmbiguity old.rules.rules) (λ (w : Waiting). w.which) (take c.args.count old.waiting) (All-take Among c.args.count old.waiting c.requires.ambiguities))
