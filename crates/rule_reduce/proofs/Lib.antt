@@ -2,6 +2,7 @@ pub mod Numbers
 pub mod Rows
 pub mod Exits
 pub mod InFront
+pub mod InPlace
 pub mod Rounds
 pub mod Runs
 pub mod Balance
