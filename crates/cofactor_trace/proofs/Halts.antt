@@ -35,12 +35,6 @@ is_first-append os more e h = subst (λ f. IsFirst (option_map fault.Overflow f)
     go None (fault.Memory e) h = tt
     go (Some o) e h = h
 
-pub memory-first : (first : Option ExpandFault) (e : ExpandFault) → IsMemory e → IsFirst first e
-memory-first first (fault.Overflow o) h = absurd h
-memory-first first (fault.Rows letters) h = absurd h
-memory-first first fault.Size h = absurd h
-memory-first first (fault.Memory e) h = tt
-
 pub memory-explains : {A : Type 0} (r : Result A ExpandFault) (e : ExpandFault) → IsMemory e → Explains r e
 memory-explains r (fault.Overflow o) h = absurd h
 memory-explains r (fault.Rows letters) h = absurd h

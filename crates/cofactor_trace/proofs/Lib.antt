@@ -22,6 +22,5 @@ pub mod LemmaLimits
 pub mod LemmaLaws
 pub mod GatheredParts
 pub mod LemmaSources
-pub mod LemmaSums
 pub mod LemmaBalance
 pub mod LemmaNames

@@ -1,11 +1,11 @@
 -- Common divisors of coefficients, and quotients that leave nothing.
-use Rattle.std.proofs.Common.{◌≡◌, ◌≢◌, ℕ, zero, suc, ◌<◌, ◌≤◌, ℤ, pos, negsuc, neg_ℤ, ◌+ℤ◌, ◌*◌, ◌*ℤ◌, List, [], ◌∷◌, ◌++◌, length, ◌↔◌, sym, refl, ap, subst, ◌∙◌, arith}
+use Rattle.std.proofs.Common.{◌≡◌, ◌≢◌, ℕ, zero, suc, ◌<◌, ◌≤◌, ℤ, pos, negsuc, neg_ℤ, ◌+ℤ◌, ◌*◌, ◌*ℤ◌, List, [], ◌∷◌, ◌++◌, length, take, get_or, ◌↔◌, sym, refl, ap, subst, ◌∙◌, arith}
 use Rattle.std.proofs.lemmas.Int.{quot-rem, unsigned_abs-mul}
 use Rattle.std.proofs.lemmas.Nat.Gcd.{mod-eq-zero_of_dvd, dvd_trans}
 use Rattle.std.proofs.lemmas.List.{length-map}
-use Rattle.std.proofs.lemmas.List.Elements.{All-weaker, All-push, All-from_recursion, recursion_from_All}
+use Rattle.std.proofs.lemmas.List.Elements.{All-take, All-weaker, All-push, All-from_recursion, recursion_from_All}
 use Rattle.std.proofs.Math.IntN.{*ℤ_comm, *ℤ-zero, +ℤ_idr}
-use Rattle.std.proofs.Math.Nat.{eq-zero_of_zero-dvd, le-mul_of_pos_right, mul_comm}
+use Rattle.std.proofs.Math.Nat.{one-dvd, eq-zero_of_zero-dvd, le-mul_of_pos_right, mul_comm}
 use Rattle.std.specs.List.{AllByRecursion}
 use Rattle.std.specs.declared.cmp.Ordering.TheVariants.{Greater}
 use Rattle.coef_int.specs.Range.{IsCoefficient}
@@ -108,3 +108,11 @@ module _ (k : ℤ) (nonzero : k ≢ pos 0) where
 pub multiple-append : (k : ℤ) (p : List Term) (t : Term) → poly_multiple k (p ++ t ∷ []) ≡ poly_multiple k p ++ (k *ℤ t.0, t.1) ∷ []
 multiple-append k [] t = refl
 multiple-append k (u ∷ p) t = ap (λ rest. (k *ℤ u.0, u.1) ∷ rest) (multiple-append k p t)
+
+-- where the first terms have no common divisor but 1, neither have all
+pub content-one : (n : ℕ) (p : List Term) → IsContent (take n p) (pos 1) → IsContent p (pos 1)
+content-one n p front = record {
+  nonnegative = front.nonnegative;
+  divides = λ k d below. one-dvd (unsigned_abs (get_or p k d).0);
+  greatest = λ d each. front.greatest d (All-take (λ t. d ∣ unsigned_abs t.0) n p each);
+}

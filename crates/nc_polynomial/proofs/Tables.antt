@@ -3,7 +3,7 @@ use Rattle.std.proofs.Common.{◌≡◌, ◌≢◌, ℕ, zero, suc, ◌+◌, ◌
 use Rattle.std.proofs.lemmas.Int.{ints}
 use Rattle.std.proofs.Math.IntN.{+ℤ_idr}
 use Rattle.std.specs.List.{AllByRecursion}
-use Rattle.std.specs.BTreeMap.{BTreeMap, IsOrdered, get}
+use Rattle.std.specs.BTreeMap.{BTreeMap, IsOrdered}
 use Rattle.std.specs.Cmp.{Equal-is}
 use Rattle.std.proofs.lemmas.List.Elements.{All-from_recursion}
 use Rattle.std.specs.List.Sorted.{IsStrictlySortedBy}
@@ -170,13 +170,3 @@ module _ (table : BTreeMap (List ℕ) ℤ) (sorted : IsOrdered word_cmp table) (
   length-running =
       let all = length-all table.entries [] (nonzero-entries table.entries (ascends table.entries sorted) running.nonzero) in
       omega arith
-
--- the table before the first term
-pub running-empty : (table : BTreeMap (List ℕ) ℤ) → table.entries ≡ [] → IsRunning table
-running-empty table empty = record {
-  nonzero = λ w there. let none = absent w in (cc);
-  in_range = λ w. subst IsCoefficient (sym (ap (λ o. unwrap_or o (pos 0)) (absent w))) (omega arith);
-}
-  where
-    absent : (w : List ℕ) → get word_cmp table w ≡ None
-    absent w = ap (lookup (λ k. is_eq (word_cmp w k))) empty

@@ -1,7 +1,6 @@
 -- one change of the table in which a sum is kept
 use Rattle.std.proofs.Common.{◌≡◌, ◌≢◌, ℕ, ℤ, pos, ◌+ℤ◌, List, [], ◌∷◌, Bool, true, false, cond, Option, Some, unwrap_or, sym, refl, ap, ◌∙◌, subst}
-use Rattle.std.specs.BTreeMap.{BTreeMap, get, is_at, Updates}
-use Rattle.std.specs.Map.{lookup}
+use Rattle.std.specs.BTreeMap.{BTreeMap, get, Updates}
 use Rattle.std.proofs.Math.IntN.{+ℤ_idr}
 use Rattle.coef_int.specs.Range.{IsCoefficient}
 use Rattle.word_core.specs.Canonical.{word_cmp}
@@ -38,10 +37,3 @@ module _ (m n : BTreeMap (List ℕ) ℤ) (w : List ℕ) (v : Option ℤ) (update
       within : (u : List ℕ) (b : Bool) → IsCoefficient (unwrap_or (cond b v (get word_cmp m u)) (pos 0))
       within u true = in_range
       within u false = running.in_range u
-
--- a map with the same entries
-pub running_from_entries : (m n : BTreeMap (List ℕ) ℤ) → n.entries ≡ m.entries → IsRunning m → IsRunning n
-running_from_entries m n same running = record {
-  nonzero = λ w zero. running.nonzero w (ap (lookup (is_at (word_cmp w))) (sym same) ∙ zero);
-  in_range = λ w. subst (λ es. IsCoefficient (unwrap_or (lookup (is_at (word_cmp w)) es) (pos 0))) (sym same) (running.in_range w);
-}

@@ -18,6 +18,9 @@ impl Poly {
     {
         let mut divisor = 0;
         for term in self.terms.as_slice() {
+            if divisor == 1 {
+                return 1;
+            }
             divisor = coef_int::gcd(divisor, term.0);
         }
         divisor

@@ -27,7 +27,7 @@ pub fn scale_terms(
     ensures exact { MatchResult result (λ v. checked (products by terms.now) (scaled by terms.now) ≡ Ok v)
         (Explains (checked (products by terms.now) (scaled by terms.now))) }
 {
-    let mut scaled = Listing::new(alloc);
+    let mut scaled = Listing::with_room(alloc, terms.len())?;
     for term in terms {
         let product = coef_int::times(by, term.0)?;
         push_copy(&mut scaled, product, &term.1)?;
@@ -48,7 +48,7 @@ pub fn multiply_terms(
     ensures exact { MatchResult result (λ v. checked (multiplications terms by) (multiplied terms by) ≡ Ok v)
         (Explains (checked (multiplications terms by) (multiplied terms by))) }
 {
-    let mut multiplied = Listing::new(alloc);
+    let mut multiplied = Listing::with_room(alloc, terms.len())?;
     for (coefficient, word) in terms.into_vec() {
         let product = coef_int::times(coefficient, by)?;
         push_nonzero(&mut multiplied, product, word)?;
@@ -71,7 +71,7 @@ pub fn shift_terms(
     ensures exact { MatchResult result (λ v. checked (products by terms.now) (shifted by left.now terms.now right.now) ≡ Ok v)
         (Explains (checked (products by terms.now) (shifted by left.now terms.now right.now))) }
 {
-    let mut shifted = Listing::new(alloc);
+    let mut shifted = Listing::with_room(alloc, terms.len())?;
     for term in terms {
         let product = coef_int::times(by, term.0)?;
         push_between(&mut shifted, product, left, &term.1, right)?;
@@ -79,19 +79,19 @@ pub fn shift_terms(
     Ok(shifted)
 }
 
-/// The terms with the sign of each coefficient turned.
+/// The terms with the sign of each coefficient turned. It takes no memory.
 pub fn negate_terms(
-    alloc: Global,
+    _alloc: Global,
     terms: Listing<(i128, Word)>,
 ) -> Result<Listing<(i128, Word)>, AllocError>
     requires { All (λ t. IsCoefficient t.0) terms }
     ensures { IfOk result (λ v. v ≡ negated terms) }
 {
-    let mut turned = Listing::new(alloc);
-    for (coefficient, word) in terms.into_vec() {
-        turned.push((coef_int::negate(coefficient), word))?;
+    let mut turned = terms.into_vec();
+    for term in turned.iter_mut() {
+        term.0 = coef_int::negate(term.0);
     }
-    Ok(turned)
+    Ok(Listing::from_vec(turned))
 }
 
 // The list whose first word comes next, `Equal` for both, and none where both are at their end.
@@ -150,7 +150,7 @@ pub fn merge_terms(
     ensures in_range { IfOk result (All (λ t. IsCoefficient t.0)) }
     ensures exact { MatchResult result (λ v. checked (sums p q) (added p q) ≡ Ok v) (Explains (checked (sums p q) (added p q))) }
 {
-    let mut sum = Listing::new(alloc);
+    let mut sum = Listing::with_room(alloc, p.len().saturating_add(q.len()))?;
     let mut left = VecDeque::from_vec(p.into_vec());
     let mut right = VecDeque::from_vec(q.into_vec());
     while let Some((x, y, word)) = next_pair(&mut left, &mut right) {

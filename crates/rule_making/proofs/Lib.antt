@@ -1,4 +1,3 @@
-pub mod RowLists
 pub mod Quotients
 pub mod Extended
 pub mod Records

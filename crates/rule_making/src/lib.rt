@@ -5,4 +5,5 @@ mod making;
 mod rows;
 
 pub use making::push_rule;
-pub use rows::{join_rows, multiply_rows, negate_rows};
+pub use rows::{join_rows, negate_rows};
+pub use rule_reduce::multiply_rows;

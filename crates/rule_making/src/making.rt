@@ -13,7 +13,7 @@ use crate::rows::negate_rows;
 use cofactor_trace::{Made, Row};
 use lists::Listing;
 use nc_polynomial::Poly;
-use rule_reduce::{Rules, leading_place};
+use rule_reduce::{Rules, lead_place};
 use std::alloc::AllocError;
 use word_orders::WordOrder;
 
@@ -23,8 +23,7 @@ fn is_led_by_negative<O: WordOrder>(order: &O, poly: &Poly) -> bool
     requires over { All (λ t. IsOver (O.letters order.now) t.1) poly.now.terms }
     ensures { result ≡ leads_negative (O.compare order.now) poly.now.terms }
 {
-    let terms = poly.terms.as_slice();
-    let (leading, _) = poly.term(leading_place(order, terms));
+    let (leading, _) = poly.term(lead_place(order, poly));
     leading < 0
 }
 

@@ -1,21 +1,19 @@
 -- Terms above the first word of another list stand in front of the sum as they are.
-use Rattle.std.proofs.Common.{◌≡◌, ◌≢◌, ◌<◌, ℕ, zero, suc, pos, length, get_or, ◌+ℤ◌, List, [], ◌∷◌, ◌++◌, take, drop, slice_get, IfSome, Result, Ok, Err, refl, sym, ap, ◌∙◌, subst, arith}
+use Rattle.std.proofs.Common.{◌≡◌, ◌≢◌, ℕ, pos, ◌+ℤ◌, List, [], ◌∷◌, ◌++◌, take, drop, slice_get, IfSome, Result, Ok, Err, refl, sym, ap, ◌∙◌, subst, arith}
 use Rattle.std.specs.List.{All, AllByRecursion}
 use Rattle.std.specs.declared.cmp.Ordering.TheVariants.{Greater}
 use Rattle.std.proofs.lemmas.Int.{ints}
 use Rattle.std.proofs.lemmas.List.{take-append-drop}
-use Rattle.std.proofs.lemmas.List.Elements.{recursion_from_All, All-from_recursion, All-take}
+use Rattle.std.proofs.lemmas.List.Elements.{recursion_from_All, All-take}
 use Rattle.coef_int.specs.Range.{IsCoefficient}
 use Rattle.coef_int.specs.Operations.{sum_of}
 use Rattle.definitions.specs.Poly.{Term}
 use Rattle.word_core.specs.Canonical.{word_cmp}
-use Rattle.word_core.proofs.Order.{word_cmp-trans}
 use Rattle.nc_polynomial.specs.declared.fault.PolyFault.{PolyFault}
 use Rattle.nc_polynomial.specs.declared.fault.PolyFault.TheVariants as fault
 use Rattle.nc_polynomial.specs.Faults.{Explains}
 use Rattle.nc_polynomial.specs.Shape.{IsShaped}
 use Rattle.nc_polynomial.specs.Terms.{aligned, aligned_at, by_order, keep, totals, total_operations}
-use Rattle.nc_polynomial.proofs.Shapes.{Descends}
 use Rattle.nc_polynomial.proofs.Checked.{join, join-none, keep-nonzero, one-fits, total_from}
 
 -- one term above the first word of the other list
@@ -68,12 +66,3 @@ pub explains-join : (p : List Term) (r : Result (List Term) PolyFault) (e : Poly
 explains-join p r (fault.Overflow o) why = ap (join p) why
 explains-join p r (fault.Size s) why = ap (join p) why
 explains-join p r (fault.Memory m) why = tt
-
--- with a term all those in front of it are above a word
-pub above_too : (w : List ℕ) (p : List Term) (m : ℕ) (t : Term) → Descends p → m < length p → t ≡ get_or p m t → word_cmp t.1 w ≡ Greater → AllByRecursion (λ u. word_cmp u.1 w ≡ Greater) (take (suc m) p)
-above_too w [] m t descends inside is above = absurd (omega (arith, inside))
-above_too w (x ∷ p) zero t descends inside is above = (subst (λ (u : Term). word_cmp u.1 w ≡ Greater) is above, tt)
-above_too w (x ∷ p) (suc m) t descends inside is above =
-    let further : m < length p = omega (arith, inside) in
-    let below : word_cmp x.1 t.1 ≡ Greater = subst (λ (u : Term). word_cmp x.1 u.1 ≡ Greater) (sym is) (All-from_recursion (λ u. word_cmp x.1 u.1 ≡ Greater) p descends.0 m t further) in
-    (word_cmp-trans x.1 t.1 w below above, above_too w p m t descends.1 further is above)

@@ -1,24 +1,35 @@
 -- The place of the leading term.
-use Rattle.std.proofs.Common.{◌≡◌, ℕ, ◌+◌, ◌<◌, List, [], ◌∷◌, length, drop, get_or, slice_get, Some, sym, ap, ◌∙◌, arith}
-use Rattle.std.proofs.lemmas.List.{drop_more, drop_all}
+use Rattle.std.proofs.Common.{◌≡◌, ℕ, ◌<◌, List, [], ◌∷◌, length, drop, get_or, slice_get, Some, refl, sym, ap, ◌∙◌, arith}
+use Rattle.std.specs.List.{AllByRecursion}
+use Rattle.std.specs.declared.cmp.Ordering.TheVariants.{Greater}
+use Rattle.std.proofs.lemmas.List.{drop_all}
 use Rattle.std.proofs.lemmas.Option.{slice_get-get_or}
 use Rattle.definitions.specs.Poly.{Term}
 use Rattle.word_orders.specs.Admissible.{Compare}
-use Rattle.rule_reduce.specs.Leading.{greater_term, greatest_from, leading_term}
+use Rattle.word_core.specs.Canonical.{word_cmp}
+use Rattle.word_core.proofs.Order.{word_cmp-turned_back}
+use Rattle.nc_polynomial.specs.Terms.{by_order}
+use Rattle.nc_polynomial.proofs.Shapes.{Descends}
+use Rattle.rule_reduce.specs.Choices.{IsPlain}
+use Rattle.rule_reduce.specs.Leading.{greatest_from, leading_term}
 
 module _ (compare : Compare) (p : List Term) where
   -- the greatest of the term at a place and those from another place on is the leading one
   abbrev pub IsBest : ℕ → ℕ → Type 0
   IsBest best place = (d : Term) → greatest_from compare (get_or p best d) (drop place p) ≡ greatest_from compare (get_or p 0 d) (drop 1 p)
 
-  pub best_next : (best next place : ℕ) → place < length p → IsBest best place → ((d : Term) → get_or p next d ≡ greater_term compare (get_or p best d) (get_or p place d)) → IsBest next (place + 1)
-  best_next best next place inside is_best greater = λ d.
-      ap (λ t. greatest_from compare t (drop (place + 1) p)) (greater d)
-      ∙ sym (ap (greatest_from compare (get_or p best d)) (drop_more p place d inside))
-      ∙ is_best d
-
 pub leading_at : (compare : Compare) (p : List Term) (best : ℕ) → best < length p → IsBest compare p best (length p) → leading_term compare p ≡ slice_get p best
 leading_at compare [] best inside is_best = absurd (omega arith)
 leading_at compare (t ∷ p) best inside is_best =
     let here : greatest_from compare (get_or (t ∷ p) best t) (drop (length (t ∷ p)) (t ∷ p)) ≡ get_or (t ∷ p) best t = ap (greatest_from compare (get_or (t ∷ p) best t)) (drop_all (length (t ∷ p)) (t ∷ p) (omega arith)) in
     ap Some (sym (is_best t) ∙ here) ∙ sym (slice_get-get_or (t ∷ p) best t inside)
+
+-- in the canonical order the first of descending terms leads
+first_stays : (compare : Compare) → IsPlain compare → (t : Term) (p : List Term) → AllByRecursion (λ u. word_cmp t.1 u.1 ≡ Greater) p → greatest_from compare t p ≡ t
+first_stays compare plain t [] below = refl
+first_stays compare plain t (u ∷ p) below =
+    ap (λ o. greatest_from compare (by_order o t t u) p) (plain u.1 t.1 ∙ word_cmp-turned_back t.1 u.1 below.0) ∙ first_stays compare plain t p below.1
+
+pub first_leads : (compare : Compare) → IsPlain compare → (p : List Term) → Descends p → 0 < length p → leading_term compare p ≡ slice_get p 0
+first_leads compare plain [] descends some = absurd (omega arith)
+first_leads compare plain (t ∷ p) descends some = ap Some (first_stays compare plain t p descends.0)

@@ -1,7 +1,9 @@
 pub mod Numbers
 pub mod Rows
+pub mod RowLists
 pub mod Exits
 pub mod InFront
+pub mod InPlace
 pub mod Rounds
 pub mod Runs
 pub mod Balance
@@ -11,6 +13,7 @@ pub mod Irreducible
 pub mod Matched
 pub mod AtMost
 pub mod BetterChoices
+pub mod FirstChoices
 pub mod Chosen
 pub mod WordsKept
 pub mod Settled

@@ -1,15 +1,10 @@
 -- Rules by their numbers.
-use Rattle.std.proofs.Common.{◌≡◌, ℕ, zero, suc, ◌+◌, ◌-◌, ◌<◌, ◌≤◌, List, [], ◌∷◌, ◌++◌, length, take, get_or, slice_get, Option, Some, None, refl, ap, ◌∙◌, arith, subst}
+use Rattle.std.proofs.Common.{◌≡◌, ℕ, zero, suc, ◌+◌, ◌<◌, ◌≤◌, List, [], ◌∷◌, ◌++◌, length, take, get_or, slice_get, Option, Some, None, refl, ap, ◌∙◌, arith, subst}
 use Rattle.std.specs.List.{All, AllByRecursion}
 use Rattle.std.proofs.lemmas.List.Elements.{All-from_recursion, recursion_from_All}
 use Rattle.definitions.specs.Combination.{generator_at}
 use Rattle.rule_reduce.specs.declared.rule.Rule.{Rule}
 use Rattle.rule_reduce.specs.RuleLists.{rule_at, polynomials_of, entries_from, entries_of}
-
--- a number that is not 0
-pub rule_at-positive : (rules : List Rule) (n : ℕ) → 0 < n → rule_at rules n ≡ slice_get rules (n - 1)
-rule_at-positive rules zero positive = absurd (omega arith)
-rule_at-positive rules (suc n) positive = let same : n ≡ suc n - 1 = omega arith in ap (slice_get rules) same
 
 -- a number that is too large
 slice_get-past : (rules : List Rule) (n : ℕ) → length rules ≤ n → slice_get rules n ≡ None

@@ -2,6 +2,7 @@
 use Rattle.std.specs.Prelude.{◌≡◌, ◌<◌, ◌↔◌, ℕ, List, [], ◌∷◌, Option, Some, None, Contains}
 use Rattle.std.specs.List.{All}
 use Rattle.std.specs.declared.cmp.Ordering.TheVariants.{Greater}
+use Rattle.word_core.specs.Canonical.{word_cmp}
 use Rattle.word_core.specs.Occurrence.{IsFirstPlace, OccursNowhere}
 use Rattle.word_orders.specs.Admissible.{Compare, IsAdmissible}
 use Rattle.definitions.specs.Poly.{Term}
@@ -40,6 +41,10 @@ choice_from compare entries best (t ∷ p) = choice_from compare entries (better
 -- The greatest word in which a leading word occurs, the least number of a rule whose leading word does, and its leftmost place.
 abbrev pub choice_of : Compare → List (List ℕ × ℕ) → List Term → Option Choice
 choice_of compare entries p = choice_from compare entries None p
+
+-- the order is the canonical one
+abbrev pub IsPlain : Compare → Type 0
+IsPlain compare = (u v : List ℕ) → compare u v ≡ word_cmp u v
 
 -- no leading word occurs in the word if it is above the last one that was reduced
 abbrev pub IsSettled : Compare → List (List ℕ × ℕ) → List ℕ → List ℕ → Type 0

@@ -1,21 +1,35 @@
-//! Sums of descending terms, of which those in front stay where they are.
+//! Sums of descending terms, which are made in the place of the first ones as long as few terms come and go.
 
-ghost use Rattle.std.specs.Prelude.{◌≡◌, ◌≤◌, length, take, slice_get, IfSome, MatchResult, Ok};
+ghost use Rattle.std.specs.Prelude.{◌≡◌, List, ◌↔◌, ◌+◌, ◌<◌, ◌≤◌, ◌+ℤ◌, ◌∷◌, length, take, drop, slice_get, IfSome, IfOk, IfErr, IsOk, MatchResult, Ok};
 ghost use Rattle.std.specs.List.{All};
+ghost use Rattle.std.specs.List.Sorted.{IsBinarySearchResult, IsSearchInRange};
 ghost use Rattle.std.specs.declared.cmp.Ordering.TheVariants.{Greater};
 ghost use Rattle.coef_int.specs.Range.{IsCoefficient};
+ghost use Rattle.coef_int.specs.Operations.{sum_of};
+ghost use Rattle.definitions.specs.Poly.{Term};
 ghost use Rattle.word_core.specs.Canonical.{word_cmp};
 ghost use Rattle.nc_polynomial.specs.Shape.{IsShaped};
 ghost use Rattle.nc_polynomial.specs.Terms.{IsDescending, added, sums};
 ghost use Rattle.nc_polynomial.specs.Faults.{checked, Explains};
+ghost use Rattle.rule_reduce.specs.Adding.{sum_from, term_at, IsPut};
 
+use coef_int::Overflow;
 use lists::Listing;
 use nc_polynomial::{PolyFault, merge_terms};
-use std::alloc::Global;
-use std::cmp::Ordering;
+use std::alloc::{AllocError, Global};
 use word_core::Word;
 
-// The sum of two descending lists. What is above the first word of the second one stays where it is.
+// How many terms come and go one by one before the others are merged.
+const MOVE_LIMIT: u32 = 16;
+
+// How far a sum in place has come: how many of the other terms are added, and the place behind the last one.
+#[derive(Clone, Copy)]
+struct Progress {
+    count: usize,
+    place: usize,
+}
+
+// The sum of two descending lists, for which the first one is changed.
 pub(crate) fn add_terms(
     alloc: Global,
     terms: Listing<(i128, Word)>,
@@ -26,27 +40,113 @@ pub(crate) fn add_terms(
     ensures { MatchResult result (λ v. checked (sums terms others) (added terms others) ≡ Ok v)
         (Explains (checked (sums terms others) (added terms others))) }
 {
-    let count = count_in_front(terms.as_slice(), others.as_slice());
-    if count == 0 {
-        return merge_terms(alloc, terms, others);
-    }
     let mut sum = terms.into_vec();
-    let behind = Listing::from_vec(sum.split_off(count)?);
-    let mut changed = merge_terms(alloc, behind, others)?.into_vec();
+    let mut others = others.into_vec();
+    let done = add_in_place(&mut sum, &others)?;
+    if done.count == others.len() {
+        return Ok(Listing::from_vec(sum));
+    }
+    let behind = Listing::from_vec(sum.split_off(done.place)?);
+    let rest = Listing::from_vec(others.split_off(done.count)?);
+    let mut changed = merge_terms(alloc, behind, rest)?.into_vec();
     sum.append(&mut changed)?;
     Ok(Listing::from_vec(sum))
 }
 
-// The number of the first terms that are above all others.
-fn count_in_front(terms: &[(i128, Word)], others: &[(i128, Word)]) -> usize
-    requires descending { IsDescending terms.now }
-    ensures in_range { result ≤ length terms.now }
-    ensures above { IfSome (slice_get others.now 0) (λ u. All (λ t. word_cmp t.1 u.1 ≡ Greater) (take result terms.now)) }
+// Adds the first of the other terms: all, unless too many come or go.
+fn add_in_place(
+    terms: &mut Vec<(i128, Word)>,
+    others: &[(i128, Word)],
+) -> Result<Progress, PolyFault>
+    requires shaped { IsShaped terms.old.items }
+    requires others_in { All (λ t. IsCoefficient t.0) others.now }
+    ensures counted { IfOk result (λ d. d.count ≤ length others.now) }
+    ensures in_range { IfOk result (λ d. d.place ≤ length terms.new.items) }
+    ensures shaped { IfOk result (λ d. IsShaped (drop d.place terms.new.items)) }
+    ensures exact { MatchResult result
+        (λ d. sum_from 0 terms.old.items others.now ≡ sum_from d.place terms.new.items (drop d.count others.now))
+        (Explains (sum_from 0 terms.old.items others.now)) }
 {
-    match others.first() {
-        Some(greatest) => count_above(terms, &greatest.1),
-        None => 0,
+    let mut place = 0;
+    let mut moves = 0;
+    for count in 0..others.len() {
+        if moves == MOVE_LIMIT {
+            return Ok(Progress { count, place });
+        }
+        let length = terms.len();
+        place = add_term(terms, place, &others[count])?;
+        if terms.len() != length {
+            moves += 1;
+        }
     }
+    Ok(Progress {
+        count: others.len(),
+        place,
+    })
+}
+
+// Adds a term to those from a place on. The place behind it.
+fn add_term(
+    terms: &mut Vec<(i128, Word)>,
+    from: usize,
+    term: &(i128, Word),
+) -> Result<usize, PolyFault>
+    requires in_range { from ≤ length terms.old.items }
+    requires shaped { IsShaped (drop from terms.old.items) }
+    requires term_in { IsCoefficient term.now.0 }
+    ensures in_range { IfOk result (λ next. next ≤ length terms.new.items) }
+    ensures shaped { IfOk result (λ next. IsShaped (drop next terms.new.items)) }
+    ensures exact { MatchResult result (λ next. (q : List Term) → sum_from from terms.old.items (term.now ∷ q) ≡ sum_from next terms.new.items q)
+        (λ e. (q : List Term) → Explains (sum_from from terms.old.items (term.now ∷ q)) e) }
+{
+    match place_of(&terms[from..], &term.1) {
+        Ok(place) => Ok(add_at(terms, from + place, term.0)?),
+        Err(place) => Ok(put_at(terms, from + place, term)?),
+    }
+}
+
+// The place of the word, or else the one at which it would stand.
+fn place_of(terms: &[(i128, Word)], word: &Word) -> Result<usize, usize>
+    ensures in_range { IsSearchInRange result (length terms.now) }
+    ensures place { IsBinarySearchResult (λ t. word_cmp word.now t.1) terms.now result }
+{
+    terms.binary_search_by(|term| word.cmp_degree(&term.1))
+}
+
+// Adds to the coefficient of the term at the place, which goes where that makes zero. The place behind it.
+fn add_at(terms: &mut Vec<(i128, Word)>, place: usize, value: i128) -> Result<usize, Overflow>
+    requires in_range { place < length terms.old.items }
+    requires term_in { IsCoefficient (term_at terms.old.items place).0 }
+    requires value_in { IsCoefficient value }
+    ensures put { IfOk result (λ next. IsPut (take place terms.old.items) ((term_at terms.old.items place).0 +ℤ value) (term_at terms.old.items place).1
+        (drop (place + 1) terms.old.items) next terms.new.items) }
+    ensures fits { IsOk result ↔ IsCoefficient ((term_at terms.old.items place).0 +ℤ value) }
+    ensures operands { IfErr result (λ e. e ≡ sum_of (term_at terms.old.items place).0 value) }
+{
+    let total = coef_int::plus(terms[place].0, value)?;
+    if total == 0 {
+        terms.remove(place);
+        return Ok(place);
+    }
+    terms[place].0 = total;
+    Ok(place + 1)
+}
+
+// Puts a copy of the term in at the place, unless its coefficient is zero. The place behind it.
+fn put_at(
+    terms: &mut Vec<(i128, Word)>,
+    place: usize,
+    term: &(i128, Word),
+) -> Result<usize, AllocError>
+    requires { place ≤ length terms.old.items }
+    ensures { IfOk result (λ next. IsPut (take place terms.old.items) term.now.0 term.now.1 (drop place terms.old.items) next terms.new.items) }
+{
+    if term.0 == 0 {
+        return Ok(place);
+    }
+    let copy = term.1.copy()?;
+    terms.insert(place, (term.0, copy))?;
+    Ok(place + 1)
 }
 
 // The number of the first terms that are above the word.
@@ -55,14 +155,5 @@ pub(crate) fn count_above(terms: &[(i128, Word)], word: &Word) -> usize
     ensures in_range { result ≤ length terms.now }
     ensures above { All (λ t. word_cmp t.1 word.now ≡ Greater) (take result terms.now) }
 {
-    let mut low = 0;
-    let mut high = terms.len();
-    while low < high {
-        let middle = low + (high - low) / 2;
-        match terms[middle].1.cmp_degree(word) {
-            Ordering::Greater => low = middle + 1,
-            _ => high = middle,
-        }
-    }
-    low
+    terms.partition_point(|term| term.1.cmp_degree(word).is_gt())
 }

@@ -1,16 +1,17 @@
 //! The choice of a step: the greatest word that can be reduced, the least rule for it, and its leftmost place.
 
-ghost use Rattle.std.specs.Prelude.{◌≡◌, ◌↔◌, ◌≤◌, length, take, IfOk, IfSome, IsTrue};
+ghost use Rattle.std.specs.Prelude.{◌≡◌, ◌↔◌, ◌≤◌, length, take, IfOk, IfSome, IfNone, IsTrue, None};
 ghost use Rattle.std.specs.List.{All};
 ghost use Rattle.std.specs.declared.cmp.Ordering.TheVariants.{Greater};
 ghost use Rattle.coef_int.specs.Range.{IsCoefficient};
 ghost use Rattle.word_core.specs.Canonical.{word_cmp};
 ghost use Rattle.word_core.specs.Letters.{IsOver};
+ghost use Rattle.word_orders.specs.Admissible.{Compare};
 ghost use Rattle.word_orders.specs.Limits.{measured_letters};
 ghost use Rattle.nc_polynomial.specs.Shape.{IsCanonical};
 ghost use Rattle.nc_polynomial.specs.Terms.{IsDescending};
 ghost use Rattle.rule_index.specs.Matches.{match_of};
-ghost use Rattle.rule_reduce.specs.Choices.{better_choice, choice_of, IsSettled};
+ghost use Rattle.rule_reduce.specs.Choices.{better_choice, choice_of, IsPlain, IsSettled};
 
 use crate::adding::count_above;
 use crate::state::Choice;
@@ -68,14 +69,60 @@ pub(crate) fn choose<O: WordOrder>(
     ensures exact { IfOk result (λ b. b ≡ choice_of (O.compare order.now) index.now terms.now) }
 {
     let above = count_above_last(terms, last);
+    match best_choice(order, index, last, above, terms) {
+        Some(found) => Ok(Some(found.choice()?)),
+        None => Ok(None),
+    }
+}
+
+// The same choice, with its term borrowed. So many of the first terms are canonically above the last word that was reduced.
+fn best_choice<'a, O: WordOrder>(
+    order: &O,
+    index: &Index,
+    last: Option<&Word>,
+    above: usize,
+    terms: &'a [(i128, Word)],
+) -> Option<Found<'a>>
+    requires canonical { IsCanonical terms.now }
+    requires over { All (λ t. IsOver (O.letters order.now) t.1) terms.now }
+    requires last_short { IfSome last (λ w. length w.now ≤ measured_letters) }
+    requires above_in { above ≤ length terms.now }
+    requires above { IfSome last (λ w. All (λ t. word_cmp t.1 w.now ≡ Greater) (take above terms.now)) }
+    requires none_above { IfNone last (above ≡ 0) }
+    requires settled { IfSome last (λ w. All (λ t. IsSettled (O.compare order.now) index.now w.now t.1) terms.now) }
+    ensures in_range { IfSome result (λ c. IsCoefficient c.coefficient) }
+    ensures over { IfSome result (λ c. IsOver (O.letters order.now) c.word) }
+    ensures short { IfSome result (λ c. length c.word ≤ measured_letters) }
+    ensures exact { result ≡ choice_of (O.compare order.now) index.now terms.now }
+{
+    if order.is_canonical() {
+        return first_choice(index, terms, above);
+    }
     let mut best = None;
     for place in 0..terms.len() {
         best = improve(order, index, last, place < above, best, &terms[place]);
     }
-    match best {
-        Some(found) => Ok(Some(found.choice()?)),
-        None => Ok(None),
+    best
+}
+
+// The first term from the place on that can be reduced, which in the canonical order is the greatest one.
+fn first_choice<'a>(index: &Index, terms: &'a [(i128, Word)], from: usize) -> Option<Found<'a>>
+    requires canonical { IsCanonical terms.now }
+    requires in_range { from ≤ length terms.now }
+    requires settled { All (λ t. match_of index.now t.1 ≡ None) (take from terms.now) }
+    ensures { (compare : Compare) → IsPlain compare → result ≡ choice_of compare index.now terms.now }
+{
+    for place in from..terms.len() {
+        let term = &terms[place];
+        if let Some((number, place)) = index.first_match(&term.1) {
+            return Some(Found {
+                term,
+                number,
+                place,
+            });
+        }
     }
+    None
 }
 
 // The number of the first terms that are canonically above the last word that was reduced, if there is one.
@@ -83,6 +130,7 @@ fn count_above_last(terms: &[(i128, Word)], last: Option<&Word>) -> usize
     requires descending { IsDescending terms.now }
     ensures in_range { result ≤ length terms.now }
     ensures above { IfSome last.entry (λ w. All (λ t. word_cmp t.1 w.now ≡ Greater) (take result terms.now)) }
+    ensures none { IfNone last.entry (result ≡ 0) }
 {
     match last {
         Some(last) => count_above(terms, last),

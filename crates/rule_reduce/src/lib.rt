@@ -7,6 +7,7 @@ mod fault;
 mod laws;
 mod making;
 mod parts;
+mod row_products;
 mod rule;
 mod rules;
 mod state;
@@ -17,5 +18,6 @@ pub use laws::{
     choices_are_exact, letters_are_kept, multipliers_are_positive, reductions_balance,
     rests_are_irreducible, rows_are_by_rules, types_are_kept, words_stay_below,
 };
-pub use rule::{Rule, leading_place, rule_with};
+pub use row_products::multiply_rows;
+pub use rule::{Rule, lead_place, leading_place, rule_with};
 pub use rules::{Reduced, Rules};

@@ -8,7 +8,7 @@ ghost use Rattle.rule_reduce.specs.Leading.{leading_term};
 ghost use Rattle.rule_reduce.specs.RuleLists.{IsRule, rule_from};
 
 use crate::Rule;
-use crate::rule::leading_place;
+use crate::rule::{lead_place, leading_place};
 use nc_polynomial::Poly;
 use std::alloc::AllocError;
 use word_core::Word;
@@ -23,7 +23,7 @@ pub(crate) fn make_rule<O: WordOrder>(order: &O, poly: Poly) -> Result<Rule, All
     ensures exact { IfOk result (λ g. rule_from (O.compare order.now) poly ≡ Some g) }
     ensures lead { IfOk result (λ g. 0 < length g.lead) }
 {
-    let place = leading_place(order, poly.terms.as_slice());
+    let place = lead_place(order, &poly);
     let (leading, lead) = poly.term(place);
     let lead = lead.copy()?;
     Ok(Rule {

@@ -46,6 +46,19 @@ pub fn leading_place<O: WordOrder>(order: &O, terms: &[(i128, Word)]) -> usize
     best
 }
 
+/// The place of the leading term of a polynomial, which in the canonical order is the first one.
+pub fn lead_place<O: WordOrder>(order: &O, poly: &Poly) -> usize
+    requires nonzero { 0 < length poly.now.terms }
+    requires over { All (λ t. IsOver (O.letters order.now) t.1) poly.now.terms }
+    ensures in_range { result < length poly.now.terms }
+    ensures leading { leading_term (O.compare order.now) poly.now.terms ≡ slice_get poly.now.terms result }
+{
+    if order.is_canonical() {
+        return 0;
+    }
+    leading_place(order, poly.terms.as_slice())
+}
+
 // Of two places the one with the greater word.
 fn greater_place<O: WordOrder>(
     order: &O,

@@ -6,12 +6,13 @@ ghost use Rattle.coef_int.specs.Range.{IsCoefficient};
 ghost use Rattle.word_core.specs.Letters.{IsOver};
 ghost use Rattle.nc_polynomial.specs.Shape.{IsShaped};
 ghost use Rattle.nc_polynomial.specs.Faults.{checked, finished, Explains};
-ghost use Rattle.rule_reduce.specs.Steps.{multiplied_row, row_operations, multiplied_state, state_operations, less_multiple};
+ghost use Rattle.rule_reduce.specs.Steps.{multiplied_state, state_operations, less_multiple};
 ghost use Rattle.rule_reduce.specs.Steps.{less_operations, move_of, move_row, move_result, step_result, IsInRange};
 
 use crate::Rule;
 use crate::adding::add_terms;
 use crate::parts::{back, front};
+use crate::row_products::multiply_rows;
 use crate::rule::rule_with;
 use crate::state::{Choice, State};
 use coef_int::{divisor, quotient};
@@ -20,36 +21,6 @@ use lists::Listing;
 use nc_polynomial::{Poly, PolyFault, multiply_terms, negate_terms, shift_terms};
 use std::alloc::{AllocError, Global};
 use word_core::Word;
-
-// The rows with their coefficients times a number, which is the right operand of each product.
-fn multiply_rows(alloc: Global, rows: Listing<Row>, by: i128) -> Result<Listing<Row>, PolyFault>
-    requires factor_in { IsCoefficient by }
-    requires in_range { All (λ row. IsCoefficient row.coef) rows }
-    ensures in_range { IfOk result (All (λ row. IsCoefficient row.coef)) }
-    ensures exact { MatchResult result (λ v. checked (row_operations rows by) (map (multiplied_row by) rows) ≡ Ok v)
-        (Explains (checked (row_operations rows by) (map (multiplied_row by) rows))) }
-{
-    let mut multiplied = Listing::new(alloc);
-    for row in rows.into_vec() {
-        let Row {
-            coef,
-            left,
-            from,
-            right,
-        } = row;
-        let product = match coef_int::times(coef, by) {
-            Ok(product) => product,
-            Err(fault) => return Err(PolyFault::Overflow(fault)),
-        };
-        multiplied.push(Row {
-            coef: product,
-            left,
-            from,
-            right,
-        })?;
-    }
-    Ok(multiplied)
-}
 
 // Everything times a number. Where it is 1, everything stays.
 fn multiply_state(alloc: Global, state: State, by: i128) -> Result<State, PolyFault>
@@ -74,7 +45,7 @@ fn multiply_state(alloc: Global, state: State, by: i128) -> Result<State, PolyFa
         Err(fault) => return Err(PolyFault::Overflow(fault)),
     };
     let rest = multiply_terms(alloc, rest, by)?;
-    let rows = multiply_rows(alloc, rows, by)?;
+    let rows = multiply_rows(rows, by)?;
     Ok(State {
         multiplier,
         rest,
@@ -96,7 +67,8 @@ fn subtract_multiple(
     requires shaped { IsShaped rest }
     ensures { MatchResult result (λ p. finished (less_operations times left.now rule.now.terms right.now rest)
         (less_multiple times left.now rule.now.terms right.now rest) ≡ Ok p.terms)
-        (Explains (finished (less_operations times left.now rule.now.terms right.now rest) (less_multiple times left.now rule.now.terms right.now rest))) }
+        (Explains (finished (less_operations times left.now rule.now.terms right.now rest)
+        (less_multiple times left.now rule.now.terms right.now rest))) }
 {
     let taken = shift_terms(alloc, times, left, rule.terms.as_slice(), right)?;
     let taken = negate_terms(alloc, taken)?;

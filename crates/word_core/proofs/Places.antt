@@ -1,15 +1,11 @@
 -- Where a word occurs in another: what its places say of the letters.
-use Rattle.std.proofs.Common.{◌≡◌, ◌↔◌, ℕ, ◌+◌, ◌-◌, ◌≤◌, List, [], ◌++◌, length, take, drop, Bool, nat_eq, IsTrue, sym, refl, ap, ◌∙◌, arith}
+use Rattle.std.proofs.Common.{◌≡◌, ◌↔◌, ℕ, ◌+◌, ◌-◌, ◌≤◌, List, ◌++◌, length, take, drop, Bool, nat_eq, IsTrue, sym, refl, ap, ◌∙◌, arith}
 use Rattle.std.specs.List.{starts_with}
-use Rattle.std.proofs.Math.Seq.{drop-append_seam, take-append_seam}
+use Rattle.std.proofs.Math.Seq.{drop-append_seam}
 use Rattle.std.proofs.lemmas.List.{length-append, take-append-drop, length-take-le, take_rest}
 use Rattle.std.proofs.lemmas.Slice.Eq.{starts_is}
 use Rattle.std.proofs.lemmas.Bool.Decides.{Decides-eqb}
 use Rattle.word_core.specs.Occurrence.{OccursAt}
-
--- the empty word occurs at the beginning
-pub OccursAt-empty : (word : List ℕ) → OccursAt word [] 0
-OccursAt-empty word = record { before = []; after = word; splits = refl; at_place = refl }
 
 -- a word occurs between two others
 pub OccursAt-between : (l u r : List ℕ) → OccursAt (l ++ (u ++ r)) u (length l)
@@ -28,13 +24,6 @@ module _ (word sub : List ℕ) (place : ℕ) where
       ap (λ w. drop place w) at.splits ∙
       ap (λ n. drop n (at.before ++ (sub ++ at.after))) (sym at.at_place) ∙
       drop-append_seam at.before (sub ++ at.after)
-
-  -- the letters before the place
-  pub take-OccursAt : (at : OccursAt word sub place) → take place word ≡ at.before
-  take-OccursAt at =
-      ap (λ w. take place w) at.splits ∙
-      ap (λ n. take n (at.before ++ (sub ++ at.after))) (sym at.at_place) ∙
-      take-append_seam at.before (sub ++ at.after)
 
   -- cut at the place, and again behind the letters of the other
   occurs_at_cut : place ≤ length word → drop place word ≡ sub ++ drop (length sub) (drop place word) → OccursAt word sub place

@@ -1,5 +1,5 @@
 -- The orders that can be asked for, and those that are made.
-use Rattle.std.specs.Prelude.{◌^◌, ℕ, List, length}
+use Rattle.std.specs.Prelude.{◌^◌, ℕ, List, length, Bool, true, false}
 use Rattle.std.specs.List.{sum_by, count_by}
 use Rattle.word_core.specs.Canonical.{word_cmp}
 use Rattle.word_orders.specs.declared.fault.OrderFault.{OrderFault}
@@ -53,3 +53,9 @@ abbrev pub made_measure : AnyOrder → List ℕ → ℕ
 made_measure (made.Degree order) word = 0
 made_measure (made.Weight order) word = sum_by (weight_in order) word
 made_measure (made.Block order) word = count_by (is_in order) word
+
+-- whether it is the canonical order, which compares no such number
+abbrev pub is_made_canonical : AnyOrder → Bool
+is_made_canonical (made.Degree order) = true
+is_made_canonical (made.Weight order) = false
+is_made_canonical (made.Block order) = false

@@ -1,7 +1,8 @@
 //! The order that a statement asks for, one of three.
 
 ghost use Rattle.std.specs.Prelude.{◌≡◌, ◌≤◌, ◌^◌, ℕ, List, length, IfOk, MatchResult, refl};
-ghost use Rattle.word_orders.specs.Specified.{asked_cmp, IsSound, ExplainsSpec, made_cmp, letters_of, made_rank, made_measure};
+ghost use Rattle.std.proofs.lemmas.Bool.{false≢true};
+ghost use Rattle.word_orders.specs.Specified.{asked_cmp, IsSound, ExplainsSpec, made_cmp, letters_of, made_rank, made_measure, is_made_canonical};
 ghost use Rattle.word_core.proofs.CanonicalLaws.{word_cmp-admissible};
 ghost use Rattle.word_core.proofs.MeasuredLaws.{weight_cmp-admissible, block_cmp-admissible};
 ghost use Rattle.word_orders.specs.Tables.{is_in, weight_in};
@@ -67,6 +68,8 @@ impl WordOrder for AnyOrder {
 
     ghost measure_of = { made_measure };
 
+    ghost is_plain = { is_made_canonical };
+
     fn cmp(&self, left: &Word, right: &Word) -> Ordering {
         match self {
             AnyOrder::Degree(order) => order.cmp(left, right),
@@ -83,6 +86,10 @@ impl WordOrder for AnyOrder {
         }
     }
 
+    fn is_canonical(&self) -> bool {
+        matches!(self, AnyOrder::Degree(_))
+    }
+
     ghost admissible = { elim [
       | made.Degree order ↦ word_cmp-admissible (2 ^ 16)
       | made.Weight order ↦ weight_cmp-admissible (weight_in order) (length order)
@@ -93,5 +100,11 @@ impl WordOrder for AnyOrder {
       | made.Degree order ↦ λ u v. refl
       | made.Weight order ↦ λ u v. refl
       | made.Block order ↦ λ u v. refl
+    ] };
+
+    ghost unmeasured = { elim [
+      | made.Degree order ↦ λ w _. refl
+      | made.Weight order ↦ λ w plain. absurd (false≢true plain)
+      | made.Block order ↦ λ w plain. absurd (false≢true plain)
     ] };
 }

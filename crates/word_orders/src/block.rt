@@ -1,6 +1,7 @@
 //! The order of words by the numbers of letters of a block.
 
 ghost use Rattle.std.specs.Prelude.{◌≡◌, ℕ, length, replicate, set, count_by, MatchResult, IfOk, OnOk, OnErr, Some, None, true, false, refl};
+ghost use Rattle.std.proofs.lemmas.Bool.{false≢true};
 ghost use Rattle.word_orders.specs.Faults.{block_fault, Explains, HasNoFault};
 ghost use Rattle.word_orders.specs.Tables.{is_in, fault_in_block};
 ghost use Rattle.word_orders.specs.Lists.{is_listed};
@@ -104,6 +105,8 @@ impl WordOrder for BlockLex {
 
     ghost measure_of = { λ o. count_by (is_in o) };
 
+    ghost is_plain = { λ _. false };
+
     fn cmp(&self, left: &Word, right: &Word) -> Ordering {
         let by_block = self.count(left).cmp(&self.count(right));
         by_block.then_with(|| left.cmp_degree(right))
@@ -113,7 +116,13 @@ impl WordOrder for BlockLex {
         self.count(word) as u32
     }
 
+    fn is_canonical(&self) -> bool {
+        false
+    }
+
     ghost admissible = { λ o. block_cmp-admissible (is_in o) (length o) };
 
     ghost by_measure = { λ _ u v. refl };
+
+    ghost unmeasured = { λ _ w plain. absurd (false≢true plain) };
 }

@@ -1,6 +1,6 @@
 //! The canonical order of words: shorter words first, and then letter by letter.
 
-ghost use Rattle.std.specs.Prelude.{◌^◌, refl};
+ghost use Rattle.std.specs.Prelude.{◌^◌, true, refl};
 ghost use Rattle.word_core.specs.Canonical.{word_cmp};
 ghost use Rattle.word_orders.specs.Rank.{rank_of};
 ghost use Rattle.word_core.proofs.CanonicalLaws.{word_cmp-admissible};
@@ -29,6 +29,8 @@ impl WordOrder for DegLex {
 
     ghost measure_of = { λ _ _. 0 };
 
+    ghost is_plain = { λ _. true };
+
     fn cmp(&self, left: &Word, right: &Word) -> Ordering {
         left.cmp_degree(right)
     }
@@ -37,7 +39,13 @@ impl WordOrder for DegLex {
         0
     }
 
+    fn is_canonical(&self) -> bool {
+        true
+    }
+
     ghost admissible = { λ _. word_cmp-admissible (2 ^ 16) };
 
     ghost by_measure = { λ _ u v. refl };
+
+    ghost unmeasured = { λ _ w _. refl };
 }

@@ -1,6 +1,6 @@
 //! Admissible orders of words, as a trait whose laws each order proves.
 
-ghost use Rattle.std.specs.Prelude.{◌≡◌, ◌≤◌, List, ℕ, length};
+ghost use Rattle.std.specs.Prelude.{◌≡◌, ◌≤◌, List, ℕ, length, Bool, true};
 ghost use Rattle.std.specs.declared.cmp.Ordering.{Ordering};
 ghost use Rattle.word_core.specs.Letters.{IsOver};
 ghost use Rattle.word_orders.specs.Admissible.{IsAdmissible};
@@ -27,6 +27,9 @@ pub trait WordOrder {
     // The number of a word that is compared first.
     ghost measure_of: { Self → List ℕ → ℕ };
 
+    // Whether the order is the canonical one.
+    ghost is_plain: { Self → Bool };
+
     /// How two words over the order's letters compare. It takes no memory.
     fn cmp(&self, left: &Word, right: &Word) -> Ordering
         requires left_over { IsOver (letters self.now) left.now }
@@ -39,10 +42,17 @@ pub trait WordOrder {
         requires short { length word.now ≤ measured_letters }
         ensures { result ≡ measure_of self.now word.now };
 
+    /// Whether the order is the canonical one, by which the measure of each word is 0.
+    fn is_canonical(&self) -> bool
+        ensures { result ≡ is_plain self.now };
+
     // The order is total and agrees with equality, the empty word is least, words around two words keep their order,
     // and the order is that of the ranks.
     ghost admissible: { (o : Self) → IsAdmissible (letters o) (compare o) (rank o) };
 
     // Comparing words is comparing their measures, and then the words canonically.
     ghost by_measure: { (o : Self) (u v : List ℕ) → compare o u v ≡ measured_cmp (measure_of o) u v };
+
+    // In the canonical order each measure is 0.
+    ghost unmeasured: { (o : Self) (w : List ℕ) → is_plain o ≡ true → measure_of o w ≡ 0 };
 }

@@ -1,6 +1,7 @@
 //! The order of words by the sums of their letters' weights.
 
-ghost use Rattle.std.specs.Prelude.{◌≡◌, ◌≤◌, ◌*◌, ℕ, length, replicate, set, sum_by, MatchResult, IfOk, OnOk, OnErr, Some, None, refl};
+ghost use Rattle.std.specs.Prelude.{◌≡◌, ◌≤◌, ◌*◌, ℕ, length, replicate, set, sum_by, MatchResult, IfOk, OnOk, OnErr, Some, None, false, refl};
+ghost use Rattle.std.proofs.lemmas.Bool.{false≢true};
 ghost use Rattle.word_orders.specs.Faults.{entry_fault, Explains, HasNoFault};
 ghost use Rattle.word_orders.specs.Limits.{weight_limit};
 ghost use Rattle.word_orders.specs.Tables.{weight_in, fault_in};
@@ -120,6 +121,8 @@ impl WordOrder for WeightLex {
 
     ghost measure_of = { λ o. sum_by (weight_in o) };
 
+    ghost is_plain = { λ _. false };
+
     fn cmp(&self, left: &Word, right: &Word) -> Ordering {
         let by_weight = self.sum(left).cmp(&self.sum(right));
         by_weight.then_with(|| left.cmp_degree(right))
@@ -129,7 +132,13 @@ impl WordOrder for WeightLex {
         self.sum(word) as u32
     }
 
+    fn is_canonical(&self) -> bool {
+        false
+    }
+
     ghost admissible = { λ o. weight_cmp-admissible (weight_in o) (length o) };
 
     ghost by_measure = { λ _ u v. refl };
+
+    ghost unmeasured = { λ _ w plain. absurd (false≢true plain) };
 }

@@ -21,7 +21,7 @@ loop-coefficient-init c =
       left = search rules;
       terms_in = subst (All (λ (u : Term). IsCoefficient u.0)) (sym items) c.requires.in_range;
       same =
-          ap₂ (λ l xs. join l (multiply_from xs (to_z w128 (of_z w128 by)))) c.new-multiplied.ensures items
+          ap₂ (λ l xs. join l (multiply_from xs (to_z w128 (of_z w128 by)))) c.in_ok-multiplied.ensures items
           ∙ join-none (multiply_from c.args.terms (to_z w128 (of_z w128 by)));
     }
 
@@ -41,7 +41,7 @@ returns-in_err-product-clause-exact c =
     let rest = into_iter_items c.next.new.self in
     let steps : into_iter_items at.coefficient-iterator ≡ t ∷ rest = c.in-Some.ensures.steps.0 in
     let o = product_of t.0 by in
-    let given : c.from_residual.result ≡ Err (fault.Overflow o) = search rules in
+    let given : c.from_residual-in_err-product.result ≡ Err (fault.Overflow o) = search rules in
     let fails : ¬ IsCoefficient (t.0 *ℤ by) = search rules in
     let by_is : to_z w128 (of_z w128 by) ≡ by = search rules in
     let kept : join out (multiply_from (into_iter_items at.coefficient-iterator) by) ≡ multiply_from c.args.terms by =

@@ -1,24 +1,26 @@
-use Rattle.std.proofs.Common.{rules, ◌≡◌, ◌++◌, [], ◌∷◌, neg_ℤ, length, sym, ap, subst, ◌∙◌, append_assoc, arith}
-use Rattle.std.proofs.lemmas.List.Elements.{All-tail}
+use Rattle.std.proofs.Common.{rules, ◌≡◌, ◌<◌, neg_ℤ, get_or, length, sym, subst}
 use Rattle.std.specs.List.{All}
-use Rattle.std.specs.Vec.Iter.{into_iter_items}
+use Rattle.std.proofs.lemmas.List.Edits.{map_over_more}
+use Rattle.std.proofs.lemmas.List.Elements.{All-set}
 use Rattle.coef_int.specs.Range.{IsCoefficient}
 use Rattle.definitions.specs.Poly.{Term}
-use Rattle.nc_polynomial.specs.Terms.{negated}
 use Rattle.nc_polynomial.proofs.terms.negate_terms.Goals as goal
 
-pub loop-coefficient-preserved : goal.loop-coefficient-preserved
-loop-coefficient-preserved c =
-    let at = c.loop-coefficient in
-    let t : Term = (c.in-Some.coefficient, c.in-Some.word) in
-    let out = at.turned in
-    let rest = into_iter_items c.next.new.self in
-    let steps : into_iter_items at.coefficient-iterator ≡ t ∷ rest = c.in-Some.ensures.steps.0 in
-    let pushed : c.push.new.self ≡ out ++ (neg_ℤ t.0, t.1) ∷ [] = search rules in
+pub loop-term-preserved : goal.loop-term-preserved
+loop-term-preserved c =
+    let xs = c.args.terms in
+    let ys = c.loop-term.term-items in
+    let i = c.loop-term.term-index in
+    let t : Term = c.term-item.result in
+    let is : t ≡ get_or ys i t = search rules in
+    let below : i < length xs = search rules in
+    let more = map_over_more (λ (u : Term). (neg_ℤ u.0, u.1)) xs ys i t below c.loop-term.invariant.so_far is in
     record {
-      left = let was = at.invariant.left in let gone = c.in-Some.ensures.steps.1 in let short = ap length steps in omega arith;
-      terms_in = All-tail (λ (u : Term). IsCoefficient u.0) t rest (subst (All (λ (u : Term). IsCoefficient u.0)) steps at.invariant.terms_in);
-      same =
-          ap (λ l. l ++ negated rest) pushed ∙ append_assoc out ((neg_ℤ t.0, t.1) ∷ []) (negated rest)
-          ∙ ap (λ l. out ++ negated l) (sym steps) ∙ at.invariant.same;
+      so_far = search (rules, more);
+      in_range = All-set (λ (u : Term). IsCoefficient u.0) ys i _ (search rules) c.loop-term.invariant.in_range;
     }
+
+pub loop-term-init : goal.loop-term-init
+loop-term-init c =
+    let first : c.deref_mut-term-items.result.now ≡ c.args.terms = search rules in
+    record { so_far = first; in_range = subst (All (λ (u : Term). IsCoefficient u.0)) (sym first) c.requires }

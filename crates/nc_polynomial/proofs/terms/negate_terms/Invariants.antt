@@ -1,13 +1,12 @@
-use Rattle.std.proofs.Common.{◌≡◌, ◌++◌, length}
+use Rattle.std.proofs.Common.{◌≡◌, ◌++◌, take, drop}
 use Rattle.std.specs.List.{All}
-use Rattle.std.specs.Vec.Iter.{into_iter_items, into_iter_len}
 use Rattle.coef_int.specs.Range.{IsCoefficient}
 use Rattle.nc_polynomial.specs.Terms.{negated}
 use Rattle.nc_polynomial.proofs.terms.negate_terms.Given as goal
 
-abbrev pub invariant-loop-coefficient : goal.invariant-loop-coefficient
-invariant-loop-coefficient l = record {
-  left : into_iter_len l.coefficient-iterator ≡ length (into_iter_items l.coefficient-iterator);
-  terms_in : All (λ t. IsCoefficient t.0) (into_iter_items l.coefficient-iterator);
-  same : l.turned ++ negated (into_iter_items l.coefficient-iterator) ≡ negated l.fn.terms;
+-- the first terms are turned
+abbrev pub invariant-loop-term : goal.invariant-loop-term
+invariant-loop-term l = record {
+  so_far : l.term-items ≡ negated (take l.term-index l.fn.terms) ++ drop l.term-index l.fn.terms;
+  in_range : All (λ t. IsCoefficient t.0) l.term-items;
 }

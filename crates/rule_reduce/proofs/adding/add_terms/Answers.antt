@@ -1,41 +1,28 @@
-use Rattle.std.proofs.Common.{rules, ◌≡◌, ◌++◌, take, drop, Ok, Err, sym, ap, ◌∙◌, subst}
-use Rattle.nc_polynomial.specs.Terms.{aligned}
-use Rattle.nc_polynomial.specs.Faults.{Explains}
-use Rattle.nc_polynomial.proofs.Checked.{join, total_from}
-use Rattle.rule_reduce.proofs.InFront.{in_front, explains-join}
+use Rattle.std.proofs.Common.{rules, ◌≡◌, ◌≤◌, length, drop, Ok, sym, ap, ap₂, ◌∙◌, subst, arith}
+use Rattle.std.specs.List.{All}
+use Rattle.std.proofs.lemmas.List.{drop_all}
+use Rattle.std.proofs.lemmas.List.Elements.{All-drop}
+use Rattle.coef_int.specs.Range.{IsCoefficient}
+use Rattle.definitions.specs.Poly.{Term}
+use Rattle.nc_polynomial.specs.Shape.{IsShaped}
+use Rattle.rule_reduce.specs.Adding.{sum_from}
+use Rattle.rule_reduce.proofs.InPlace.{all_added}
 use Rattle.rule_reduce.proofs.adding.add_terms.Goals as goal
-use Rattle.rule_reduce.proofs.adding.add_terms.Goals.{In_ok-split_off}
 
--- the sum is what stands in front and the sum of the others
-in_two : (c : In_ok-split_off) → total_from (aligned c.args.terms c.args.others) ≡ join (take c.count_in_front-count.result c.args.terms) (total_from (aligned (drop c.count_in_front-count.result c.args.terms) c.args.others))
-in_two c = in_front c.count_in_front-count.result c.args.terms c.args.others c.requires.shaped (search rules)
+pub returns-then-done-len : goal.returns-then-done-len
+returns-then-done-len c =
+    let done = c.in_ok-done.done in
+    let sum = c.add_in_place.new.terms.items in
+    let terms : c.into_vec-sum.result.items ≡ c.args.terms = search rules in
+    let others : c.deref.result.now ≡ c.args.others = search rules in
+    let same : sum_from 0 c.into_vec-sum.result.items c.deref.result.now ≡ sum_from done.place sum (drop done.count c.deref.result.now) = search rules in
+    let shaped : IsShaped (drop done.place sum) = search rules in
+    let whole : length c.deref.result.now ≤ done.count = omega (arith, c.if-done-len.true, c.len.ensures, c.deref.ensures.len) in
+    let made : c.from_vec.result ≡ sum = search rules in
+    ap₂ (sum_from 0) (sym terms) (sym others) ∙ same ∙ ap (sum_from done.place sum) (drop_all done.count c.deref.result.now whole) ∙ all_added done.place sum shaped ∙ ap Ok (sym made)
 
-behind_is : (c : In_ok-split_off) → c.in_ok-split_off.field-0.items ≡ drop c.count_in_front-count.result c.args.terms
-behind_is c = search rules
-
-pub returns-in_err-merge_terms : goal.returns-in_err-merge_terms
-returns-in_err-merge_terms c =
-    let passed = (goal.at.returns-in_err-merge_terms c).In_ok-split_off in
-    let p = c.args.terms in
-    let q = c.args.others in
-    let n = c.count_in_front-count.result in
-    let e = c.in_err-merge_terms.field-0.0 in
-    let behind : c.from_vec-behind.result ≡ drop n p = c.from_vec-behind.ensures ∙ behind_is passed in
-    let why : Explains (total_from (aligned c.from_vec-behind.result q)) e = search rules in
-    let there : Explains (total_from (aligned (drop n p) q)) e = subst (λ r. Explains (total_from (aligned r q)) e) behind why in
-    let whole : Explains (total_from (aligned p q)) e = subst (λ r. Explains r e) (sym (in_two passed)) (explains-join (take n p) (total_from (aligned (drop n p) q)) e there) in
-    let back : c.from_residual-in_err-merge_terms.result ≡ Err e = search rules in
-    rw back whole
-
-pub returns : goal.returns
-returns c =
-    let passed = (goal.at.returns c).In_ok-split_off in
-    let p = c.args.terms in
-    let q = c.args.others in
-    let n = c.count_in_front-count.result in
-    let changed = c.in_ok-merge_terms.field-0 in
-    let behind : c.from_vec-behind.result ≡ drop n p = c.from_vec-behind.ensures ∙ behind_is passed in
-    let sum : total_from (aligned c.from_vec-behind.result q) ≡ Ok changed = search rules in
-    let front : c.split_off.new.self.items ≡ take n p = search rules in
-    let joined : c.from_vec.result ≡ c.split_off.new.self.items ++ changed = search rules in
-    in_two passed ∙ ap (join (take n p)) (ap (λ r. total_from (aligned r q)) (sym behind) ∙ sum) ∙ ap (λ r. Ok (r ++ changed)) (sym front) ∙ ap Ok (sym joined)
+pub merge_terms-requires-clause-right_in : goal.merge_terms-requires-clause-right_in
+merge_terms-requires-clause-right_in c =
+    let count = c.in_ok-done.done.count in
+    let rest : c.from_vec-rest.result ≡ drop count c.args.others = search rules in
+    subst (All (λ (t : Term). IsCoefficient t.0)) (sym rest) (All-drop (λ t. IsCoefficient t.0) count c.args.others c.requires.others_in)

@@ -5,16 +5,15 @@ use Rattle.rule_reduce.specs.RuleLists.{rule_from}
 use Rattle.rule_reduce.proofs.MadeRules.{has_terms, all_at, rule_is}
 use Rattle.rule_reduce.proofs.making.make_rule.Goals as goal
 
-pub leading_place-place-requires-clause-nonzero : goal.leading_place-place-requires-clause-nonzero
-leading_place-place-requires-clause-nonzero g c =
-    let same : c.as_slice.result.now ≡ c.args.poly.terms = search rules in
-    rw same (has_terms (g.O.WordOrder.compare c.args.order.now) c.args.poly.terms (λ t. pos 0 <ℤ t.0) c.requires.positive)
+pub lead_place-place-requires-clause-nonzero : goal.lead_place-place-requires-clause-nonzero
+lead_place-place-requires-clause-nonzero g c =
+    has_terms (g.O.WordOrder.compare c.args.order.now) c.args.poly.terms (λ t. pos 0 <ℤ t.0) c.requires.positive
 
 pub returns-clause-rule : goal.returns-clause-rule
 returns-clause-rule g c =
     let compare = g.O.WordOrder.compare c.args.order.now in
     let poly = c.args.poly in
-    let n = c.leading_place-place.result in
+    let n = c.lead_place-place.result in
     let leading = c.term-leading.result.0 in
     let lead = c.in_ok-lead.lead in
     let best : leading_term compare poly.terms ≡ slice_get poly.terms n = search rules in
@@ -26,7 +25,7 @@ pub returns-clause-exact : goal.returns-clause-exact
 returns-clause-exact g c =
     let compare = g.O.WordOrder.compare c.args.order.now in
     let poly = c.args.poly in
-    let n = c.leading_place-place.result in
+    let n = c.lead_place-place.result in
     let leading = c.term-leading.result.0 in
     let lead = c.in_ok-lead.lead in
     let best : leading_term compare poly.terms ≡ slice_get poly.terms n = search rules in
@@ -37,7 +36,7 @@ returns-clause-exact g c =
 pub returns-clause-lead : goal.returns-clause-lead
 returns-clause-lead g c =
     let poly = c.args.poly in
-    let n = c.leading_place-place.result in
+    let n = c.lead_place-place.result in
     let leading = c.term-leading.result.0 in
     let lead = c.in_ok-lead.lead in
     let here : slice_get poly.terms n ≡ Some (leading, lead) = search rules in

@@ -1,7 +1,9 @@
-use Rattle.std.proofs.Common.{rules, ◌≡◌, ◌*ℤ◌, pos, map, Ok, Err, sym, ap, ◌∙◌, subst}
+use Rattle.std.proofs.Common.{rules, ◌≡◌, ◌*ℤ◌, pos, map, Ok, Err, Some, None, sym, ap, ◌∙◌, subst}
 use Rattle.coef_int.specs.Range.{IsCoefficient}
+use Rattle.coef_int.specs.Operations.{first_overflow}
 use Rattle.nc_polynomial.specs.Terms.{multiplied, multiplications}
-use Rattle.nc_polynomial.specs.Faults.{checked, Explains}
+use Rattle.nc_polynomial.specs.declared.fault.PolyFault.TheVariants as fault
+use Rattle.nc_polynomial.specs.Faults.{checked, unless_overflow, Explains}
 use Rattle.rule_reduce.specs.Steps.{multiplied_row, row_operations, multiplied_state, state_operations, IsInRange}
 use Rattle.rule_reduce.proofs.Exits.{one_checked, state-times-one, exit_rest, exit_rows, all_multiplied, canonical_multiply}
 use Rattle.rule_reduce.proofs.stepping.multiply_state.Goals as goal
@@ -31,10 +33,12 @@ returns-in_err-rows-clause-exact c =
     let first = one_checked s.multiplier by x (search rules) (search rules) in
     let p = c.in_ok-rest.rest in
     let second : checked (multiplications s.rest by) (multiplied s.rest by) ≡ Ok p = search rules in
-    let e = c.in_err-rows.field-0.0 in
-    let why : Explains (checked (row_operations s.rows by) (map (multiplied_row by) s.rows)) e = search rules in
-    let back : c.from_residual-in_err-rows.result ≡ Err e = search rules in
-    rw back (exit_rows by s x first p second e why)
+    let o = c.in_err-rows.field-0.0 in
+    let at : first_overflow (row_operations s.rows by) ≡ Some o = search rules in
+    let why : checked (row_operations s.rows by) (map (multiplied_row by) s.rows) ≡ Err (fault.Overflow o) =
+    ap (λ f. unless_overflow f (Ok (map (multiplied_row by) s.rows))) at in
+    let back : c.from_residual-in_err-rows.result ≡ Err (fault.Overflow o) = search rules in
+    rw back (exit_rows by s x first p second (fault.Overflow o) why)
 
 pub returns-clause-in_range : goal.returns-clause-in_range
 returns-clause-in_range c =
@@ -57,6 +61,9 @@ returns-clause-exact c =
     let p = c.in_ok-rest.rest in
     let second : checked (multiplications s.rest by) (multiplied s.rest by) ≡ Ok p = search rules in
     let rows = c.in_ok-rows.rows in
-    let third : checked (row_operations s.rows by) (map (multiplied_row by) s.rows) ≡ Ok rows = search rules in
+    let value : rows ≡ map (multiplied_row by) s.rows = search rules in
+    let none : first_overflow (row_operations s.rows by) ≡ None = search rules in
+    let third : checked (row_operations s.rows by) (map (multiplied_row by) s.rows) ≡ Ok rows =
+    ap (λ f. unless_overflow f (Ok (map (multiplied_row by) s.rows))) none ∙ ap Ok (sym value) in
     let whole : checked (state_operations by s) (multiplied_state by s) ≡ Ok (record { multiplier = x; rest = p; rows = rows; used = s.used }) = all_multiplied by s x first p second rows third in
     search (rules, whole)

@@ -6,7 +6,7 @@ use Rattle.std.specs.Int.RustNames.{unsigned_abs}
 use mir.Syntax.{w128}
 use Rattle.definitions.specs.Poly.{Term}
 use Rattle.nc_polynomial.specs.Content.{IsContent}
-use Rattle.nc_polynomial.proofs.Divisors.{content-more, content-zero}
+use Rattle.nc_polynomial.proofs.Divisors.{content-more, content-one, content-zero}
 use Rattle.nc_polynomial.proofs.Steps.{take_next}
 use Rattle.nc_polynomial.proofs.poly.Poly.content.Goals as goal
 
@@ -39,3 +39,17 @@ returns-clause-exact c = whole c
 pub returns-clause-zero : goal.returns-clause-zero
 returns-clause-zero c =
     content-zero c.args.self.now.terms (to_z w128 c.loop-term.divisor-bits) (recursion_from_All (λ (t : Term). t.0 ≢ pos 0) c.args.self.now.terms c.args.self.now.canonical.shaped.nonzero) (whole c)
+
+-- the divisor of the first terms is that of all where it is 1
+pub returns-then-divisor-eq1-clause-exact : goal.returns-then-divisor-eq1-clause-exact
+returns-then-divisor-eq1-clause-exact c =
+    let p = c.args.self.now.terms in
+    let one : c.loop-term.divisor ≡ pos 1 = search rules in
+    content-one c.loop-term.term-index p (subst (IsContent (take c.loop-term.term-index p)) (c.loop-term.divisor-is ∙ one) c.loop-term.invariant.content)
+
+pub returns-then-divisor-eq1-clause-zero : goal.returns-then-divisor-eq1-clause-zero
+returns-then-divisor-eq1-clause-zero c =
+    let p = c.args.self.now.terms in
+    let one : c.loop-term.divisor ≡ pos 1 = search rules in
+    let all = content-one c.loop-term.term-index p (subst (IsContent (take c.loop-term.term-index p)) (c.loop-term.divisor-is ∙ one) c.loop-term.invariant.content) in
+    content-zero p (pos 1) (recursion_from_All (λ (t : Term). t.0 ≢ pos 0) p c.args.self.now.canonical.shaped.nonzero) all

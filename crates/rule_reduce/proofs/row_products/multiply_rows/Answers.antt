@@ -6,8 +6,8 @@ use Rattle.coef_int.specs.Range.{IsCoefficient}
 use Rattle.coef_int.specs.Operations.{first_overflow, product_of}
 use Rattle.traced_rows.specs.declared.Row.{Row}
 use Rattle.rule_reduce.specs.Steps.{multiplied_row, row_operations}
-use Rattle.rule_making.proofs.RowLists.{written_more, all_written, still_there, none_before, overflow_at}
-use Rattle.rule_making.proofs.rows.multiply_rows.Goals as goal
+use Rattle.rule_reduce.proofs.RowLists.{written_more, all_written, still_there, none_before, overflow_at}
+use Rattle.rule_reduce.proofs.row_products.multiply_rows.Goals as goal
 
 pub returns-in_err-row-clause-exact : goal.returns-in_err-row-clause-exact
 returns-in_err-row-clause-exact c =

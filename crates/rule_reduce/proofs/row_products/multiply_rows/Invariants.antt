@@ -3,7 +3,7 @@ use Rattle.std.specs.List.{All}
 use Rattle.coef_int.specs.Range.{IsCoefficient}
 use Rattle.coef_int.specs.Operations.{first_overflow}
 use Rattle.rule_reduce.specs.Steps.{multiplied_row, row_operations}
-use Rattle.rule_making.proofs.rows.multiply_rows.Given as goal
+use Rattle.rule_reduce.proofs.row_products.multiply_rows.Given as goal
 
 abbrev pub invariant-loop-row : goal.invariant-loop-row
 invariant-loop-row l = record {

@@ -7,7 +7,7 @@ use Rattle.word_core.specs.Letters.{IsOver}
 use Rattle.word_orders.specs.Limits.{measured_letters}
 use Rattle.nc_polynomial.proofs.Shapes.{Descends}
 use Rattle.rule_reduce.specs.Choices.{choice_of, choice_from}
-use Rattle.rule_reduce.proofs.choosing.choose.Given as goal
+use Rattle.rule_reduce.proofs.choosing.best_choice.Given as goal
 
 -- the terms that are left give the choice, and are canonically below the best one so far
 abbrev pub invariant-loop-place : goal.invariant-loop-place

@@ -1,7 +1,8 @@
-use Rattle.std.proofs.Common.{rules, ◌≡◌, ℕ, ◌+◌, ◌<◌, ◌≤◌, List, ◌∷◌, length, take, drop, get_or, Option, IfSome, sym, ap, subst, ◌∙◌, arith}
+use Rattle.std.proofs.Common.{rules, ◌≡◌, ℕ, ◌+◌, ◌<◌, ◌≤◌, List, ◌∷◌, length, take, drop, get_or, Option, None, IfSome, true, sym, ap, subst, ◌∙◌, arith}
 use Rattle.std.specs.List.{All, AllByRecursion}
 use Rattle.std.specs.declared.cmp.Ordering.TheVariants.{Greater}
 use Rattle.std.proofs.lemmas.List.{get_or-take, length-take}
+use Rattle.std.proofs.lemmas.List.Elements.{recursion_from_All}
 use Rattle.std.proofs.lemmas.Option.{IfSome_then}
 use Rattle.coef_int.specs.Range.{IsCoefficient}
 use Rattle.definitions.specs.Poly.{Term}
@@ -15,7 +16,8 @@ use Rattle.word_orders.specs.Limits.{measured_letters}
 use Rattle.rule_reduce.specs.declared.state.Choice.{Choice}
 use Rattle.rule_reduce.specs.Choices.{better_choice, choice_from, IsSettled}
 use Rattle.rule_reduce.proofs.BetterChoices.{holds-better}
-use Rattle.rule_reduce.proofs.choosing.choose.Goals as goal
+use Rattle.rule_reduce.proofs.FirstChoices.{plain_order, settled_front, holds-choice}
+use Rattle.rule_reduce.proofs.choosing.best_choice.Goals as goal
 
 -- the choice from the terms that are left is that of the next choice from those behind the first
 next_choice : (compare : Compare) (entries : List (List ℕ × ℕ)) (p : List Term) (t : Term) (i : ℕ) (best next whole : Option Choice) → drop i p ≡ t ∷ drop (i + 1) p
@@ -56,9 +58,9 @@ pub improve-best-requires-clause-above : goal.improve-best-requires-clause-above
 improve-best-requires-clause-above g c =
     let p = c.args.terms.now in
     let i = c.loop-place.place in
-    let n = c.count_above_last-above.result in
+    let n = c.args.above in
     let t : Term = c.index-terms-place.result in
-    IfSome_then c.args.last c.count_above_last-above.ensures.above
+    IfSome_then c.args.last c.requires.above
     (λ w all yes. in_front p t i n w.now all c.loop-place-test.true c.index-terms-place.is (search rules))
 
 pub improve-best-requires-clause-short : goal.improve-best-requires-clause-short
@@ -109,3 +111,57 @@ loop-place-preserved g c =
       descends = descends.1;
       same = next_choice compare entries p t i c.loop-place.best c.improve-best.result _ back exact at.same;
     }
+
+pub first_choice-requires-clause-settled : goal.first_choice-requires-clause-settled
+first_choice-requires-clause-settled g c =
+    let order = c.args.order.now in
+    let compare = g.O.WordOrder.compare order in
+    let entries = c.args.index.now in
+    let yes : g.O.WordOrder.is_plain order ≡ true = search rules in
+    let plain = plain_order compare (g.O.WordOrder.measure_of order) (λ u v. g.met.O.WordOrder.by_measure order u v) (λ w. g.met.O.WordOrder.unmeasured order w yes) in
+    settled_front compare entries plain (λ w. w.now) c.args.last c.args.terms.now c.args.above c.requires.above c.requires.none_above c.requires.settled
+
+pub returns-then-is_canonical-clause-exact : goal.returns-then-is_canonical-clause-exact
+returns-then-is_canonical-clause-exact g c =
+    let order = c.args.order.now in
+    let compare = g.O.WordOrder.compare order in
+    let entries = c.args.index.now in
+    let yes : g.O.WordOrder.is_plain order ≡ true = search rules in
+    let plain = plain_order compare (g.O.WordOrder.measure_of order) (λ u v. g.met.O.WordOrder.by_measure order u v) (λ w. g.met.O.WordOrder.unmeasured order w yes) in
+    c.first_choice.ensures compare plain
+
+pub returns-then-is_canonical-clause-in_range : goal.returns-then-is_canonical-clause-in_range
+returns-then-is_canonical-clause-in_range g c =
+    let order = c.args.order.now in
+    let compare = g.O.WordOrder.compare order in
+    let entries = c.args.index.now in
+    let yes : g.O.WordOrder.is_plain order ≡ true = search rules in
+    let plain = plain_order compare (g.O.WordOrder.measure_of order) (λ u v. g.met.O.WordOrder.by_measure order u v) (λ w. g.met.O.WordOrder.unmeasured order w yes) in
+    let p = c.args.terms.now in
+    let each : AllByRecursion (λ t. (m : ℕ × ℕ) → IsCoefficient t.0) p = recursion_from_All (λ t. (m : ℕ × ℕ) → IsCoefficient t.0) p (λ k d inside m. c.requires.canonical.shaped.in_range k d inside) in
+    subst (λ (o : Option Choice). IfSome o (λ b. IsCoefficient b.coefficient)) (sym (c.first_choice.ensures compare plain)) (holds-choice compare entries (λ b. IsCoefficient b.coefficient) p None each tt)
+
+pub returns-then-is_canonical-clause-over : goal.returns-then-is_canonical-clause-over
+returns-then-is_canonical-clause-over g c =
+    let order = c.args.order.now in
+    let compare = g.O.WordOrder.compare order in
+    let entries = c.args.index.now in
+    let yes : g.O.WordOrder.is_plain order ≡ true = search rules in
+    let plain = plain_order compare (g.O.WordOrder.measure_of order) (λ u v. g.met.O.WordOrder.by_measure order u v) (λ w. g.met.O.WordOrder.unmeasured order w yes) in
+    let p = c.args.terms.now in
+    let letters = g.O.WordOrder.letters order in
+    let each : AllByRecursion (λ t. (m : ℕ × ℕ) → IsOver letters t.1) p = recursion_from_All (λ t. (m : ℕ × ℕ) → IsOver letters t.1) p (λ k d inside m. c.requires.over k d inside) in
+    subst (λ (o : Option Choice). IfSome o (λ b. IsOver letters b.word)) (sym (c.first_choice.ensures compare plain)) (holds-choice compare entries (λ b. IsOver letters b.word) p None each tt)
+
+pub returns-then-is_canonical-clause-short : goal.returns-then-is_canonical-clause-short
+returns-then-is_canonical-clause-short g c =
+    let order = c.args.order.now in
+    let compare = g.O.WordOrder.compare order in
+    let entries = c.args.index.now in
+    let yes : g.O.WordOrder.is_plain order ≡ true = search rules in
+    let plain = plain_order compare (g.O.WordOrder.measure_of order) (λ u v. g.met.O.WordOrder.by_measure order u v) (λ w. g.met.O.WordOrder.unmeasured order w yes) in
+    let p = c.args.terms.now in
+    let few : (n : ℕ) → n ≤ word_limit → n ≤ measured_letters = λ n short. omega (arith, short) in
+    let each : AllByRecursion (λ t. (m : ℕ × ℕ) → length t.1 ≤ measured_letters) p =
+    recursion_from_All (λ t. (m : ℕ × ℕ) → length t.1 ≤ measured_letters) p (λ k d inside m. few (length (get_or p k d).1) (c.requires.canonical.short k d inside)) in
+    subst (λ (o : Option Choice). IfSome o (λ b. length b.word ≤ measured_letters)) (sym (c.first_choice.ensures compare plain)) (holds-choice compare entries (λ b. length b.word ≤ measured_letters) p None each tt)

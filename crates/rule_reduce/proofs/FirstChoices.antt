@@ -1,0 +1,53 @@
+-- In the canonical order the first term that can be reduced is the greatest one.
+use Rattle.std.proofs.Common.{◌≡◌, ℕ, zero, suc, List, [], ◌∷◌, ◌<◌, length, take, drop, get_or, Option, Some, None, IfSome, IfNone, refl, sym, ap, ap₂, subst, ◌∙◌, arith}
+use Rattle.std.proofs.lemmas.List.{get_or-take, length-take}
+use Rattle.std.specs.List.{All, AllByRecursion}
+use Rattle.std.specs.Ordering.{ordering_then, nat_cmp}
+use Rattle.std.specs.declared.cmp.Ordering.TheVariants.{Greater}
+use Rattle.definitions.specs.Poly.{Term}
+use Rattle.word_core.specs.Canonical.{word_cmp}
+use Rattle.word_core.proofs.Order.{word_cmp-turned_back}
+use Rattle.nc_polynomial.specs.Terms.{by_order}
+use Rattle.rule_index.specs.Matches.{match_of}
+use Rattle.word_orders.specs.Admissible.{Compare}
+use Rattle.word_orders.specs.Measured.{measured_cmp}
+use Rattle.rule_reduce.specs.declared.state.Choice.{Choice}
+use Rattle.rule_reduce.specs.Choices.{choice_or, choice_from, IsPlain, IsSettled}
+use Rattle.rule_reduce.proofs.BetterChoices.{holds-better}
+
+-- an order by measures that are all 0 is the canonical one
+pub plain_order : (compare : Compare) (measure : List ℕ → ℕ) → ((u v : List ℕ) → compare u v ≡ measured_cmp measure u v) → ((w : List ℕ) → measure w ≡ 0) → IsPlain compare
+plain_order compare measure by_measure none u v = by_measure u v ∙ ap₂ (λ m n. ordering_then (nat_cmp m n) (word_cmp u v)) (none u) (none v)
+
+module _ (compare : Compare) (entries : List (List ℕ × ℕ)) where
+  -- terms that cannot be reduced are passed over
+  pub passed_by : (n : ℕ) (p : List Term) → AllByRecursion (λ t. match_of entries t.1 ≡ None) (take n p) → choice_from compare entries None (drop n p) ≡ choice_from compare entries None p
+  passed_by zero p settled = refl
+  passed_by (suc n) [] settled = refl
+  passed_by (suc n) (t ∷ p) settled = passed_by n p settled.1 ∙ ap (λ m. choice_from compare entries (choice_or t m None) p) (sym settled.0)
+
+  -- terms that are below the choice do not change it
+  pub first_stays : IsPlain compare → (c : Choice) (p : List Term) → AllByRecursion (λ t. word_cmp c.word t.1 ≡ Greater) p → choice_from compare entries (Some c) p ≡ Some c
+  first_stays plain c [] below = refl
+  first_stays plain c (t ∷ p) below =
+      ap (λ o. choice_from compare entries (by_order o (Some c) (Some c) (choice_or t (match_of entries t.1) (Some c))) p) (plain t.1 c.word ∙ word_cmp-turned_back c.word t.1 below.0)
+      ∙ first_stays plain c p below.1
+
+  -- what holds of a choice by each term holds of the choice
+  pub holds-choice : (P : Choice → Type 0) (p : List Term) (best : Option Choice) → AllByRecursion (λ t. (m : ℕ × ℕ) → P (record { coefficient = t.0; word = t.1; number = m.0; place = m.1 })) p
+      → IfSome best P → IfSome (choice_from compare entries best p) P
+  holds-choice P [] best each held = held
+  holds-choice P (t ∷ p) best each held = holds-choice P p _ each.1 (holds-better P compare entries t each.0 best held)
+
+-- The first terms are above the last word, if there is one, and so they are settled.
+pub settled_front : {X : Type 0} (compare : Compare) (entries : List (List ℕ × ℕ)) → IsPlain compare → (word : X → List ℕ) (last : Option X) (p : List Term) (n : ℕ)
+    → IfSome last (λ x. All (λ t. word_cmp t.1 (word x) ≡ Greater) (take n p)) → IfNone last (n ≡ 0) → IfSome last (λ x. All (λ t. IsSettled compare entries (word x) t.1) p)
+    → All (λ t. match_of entries t.1 ≡ None) (take n p)
+settled_front compare entries plain word None p n above none settled = λ k d below. absurd (omega (arith, below, length-take n p, none))
+settled_front compare entries plain word (Some x) p n above none settled = λ k d below.
+    let size = length-take n p in
+    let front : k < n = omega (arith, below, size) in
+    let inside : k < length p = omega (arith, below, size) in
+    let same = get_or-take n p k d front in
+    subst (λ (t : Term). match_of entries t.1 ≡ None) (sym same)
+    (settled k d inside (plain (get_or p k d).1 (word x) ∙ ap (λ (t : Term). word_cmp t.1 (word x)) (sym same) ∙ above k d below))

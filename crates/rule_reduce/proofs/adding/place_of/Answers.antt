@@ -1,0 +1,7 @@
+use Rattle.std.proofs.Common.{rules}
+use Rattle.std.proofs.lemmas.Fn.{always_returns_same}
+use Rattle.word_core.specs.Canonical.{word_cmp}
+use Rattle.rule_reduce.proofs.adding.place_of.Goals as goal
+
+pub returns-clause-place : goal.returns-clause-place
+returns-clause-place c = c.binary_search_by.ensures.position (λ t. word_cmp c.args.word.now t.1) (always_returns_same _ _ _ (λ a r f k. search rules))

@@ -1,0 +1,27 @@
+//! The rows of a reduction times a number, in their place.
+
+ghost use Rattle.std.specs.Prelude.{◌≡◌, map, MatchResult, IfOk, Some, None};
+ghost use Rattle.std.specs.List.{All};
+ghost use Rattle.coef_int.specs.Range.{IsCoefficient};
+ghost use Rattle.coef_int.specs.Operations.{first_overflow};
+ghost use Rattle.rule_reduce.specs.Steps.{multiplied_row, row_operations};
+
+use coef_int::Overflow;
+use cofactor_trace::Row;
+use lists::Listing;
+
+/// The rows with their coefficients times a number, which is the right operand of each product; or the first product that is
+/// out of range.
+pub fn multiply_rows(rows: Listing<Row>, by: i128) -> Result<Listing<Row>, Overflow>
+    requires factor_in { IsCoefficient by }
+    requires in_range { All (λ r. IsCoefficient r.coef) rows }
+    ensures in_range { IfOk result (All (λ r. IsCoefficient r.coef)) }
+    ensures value { IfOk result (λ v. v ≡ map (multiplied_row by) rows) }
+    ensures exact { MatchResult result (λ v. first_overflow (row_operations rows by) ≡ None) (λ o. first_overflow (row_operations rows by) ≡ Some o) }
+{
+    let mut multiplied = rows.into_vec();
+    for row in multiplied.iter_mut() {
+        row.coef = coef_int::times(row.coef, by)?;
+    }
+    Ok(Listing::from_vec(multiplied))
+}
