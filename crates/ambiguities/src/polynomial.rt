@@ -12,11 +12,11 @@ ghost use Rattle.ambiguities.specs.SPolynomials.{first_row, second_row, s_rows_o
 use crate::Ambiguity;
 use crate::factors::factors;
 use crate::overlap::make_word;
-use traced_rows::{Origin, Row};
 use lists::Listing;
 use nc_polynomial::{Poly, PolyFault};
 use rule_reduce::{Rule, Rules, rule_with};
 use std::alloc::{AllocError, Global};
+use traced_rows::{Origin, Row};
 use word_core::Word;
 use word_orders::WordOrder;
 

@@ -99,9 +99,7 @@ fn answer_problem<R: Threads + Sync, G: Gate + Sync>(
             report_claims(rt, alloc, problem, asked, Extent::Report, workers, gate)
         }
         Call::Check(_) => judge_evidence(alloc, problem, evidence),
-        Call::Refute(call) => {
-            report_search(rt, alloc, problem, call.seed, call.workers, gate)
-        }
+        Call::Refute(call) => { report_search(rt, alloc, problem, call.seed, call.workers, gate) }
         Call::Model(_) => judge_models(alloc, problem, evidence),
         Call::Bench(call) => {
             report_claims(

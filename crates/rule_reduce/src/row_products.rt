@@ -7,8 +7,8 @@ ghost use Rattle.coef_int.specs.Operations.{first_overflow};
 ghost use Rattle.rule_reduce.specs.Steps.{multiplied_row, row_operations};
 
 use coef_int::Overflow;
-use traced_rows::Row;
 use lists::Listing;
+use traced_rows::Row;
 
 /// The rows with their coefficients times a number, which is the right operand of each product; or the first product that is
 /// out of range.

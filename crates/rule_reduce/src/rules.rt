@@ -10,11 +10,11 @@ use crate::making::{has_no_empty_word, is_led_by_positive, is_primitive, make_ru
 use crate::state::State;
 use crate::stepping::take_step;
 use crate::{ReduceFault, Rule};
-use traced_rows::Row;
 use lists::{Duplicate, Listing};
 use nc_polynomial::Poly;
 use rule_index::Index;
 use std::alloc::{AllocError, Global};
+use traced_rows::Row;
 use word_core::Word;
 use word_orders::WordOrder;
 

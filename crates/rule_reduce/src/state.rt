@@ -1,7 +1,7 @@
 //! How far a reduction has come, and what its next step takes away.
 
-use traced_rows::Row;
 use lists::Listing;
+use traced_rows::Row;
 use word_core::Word;
 
 /// How far a reduction has come: the multiplier, the polynomial that is left, the rows and the number of steps.

@@ -16,10 +16,10 @@ use crate::row_products::multiply_rows;
 use crate::rule::rule_with;
 use crate::state::{Choice, State};
 use coef_int::{divisor, quotient};
-use traced_rows::{Origin, Row};
 use lists::Listing;
 use nc_polynomial::{Poly, PolyFault, multiply_terms, negate_terms, shift_terms};
 use std::alloc::{AllocError, Global};
+use traced_rows::{Origin, Row};
 use word_core::Word;
 
 // Everything times a number. Where it is 1, everything stays.
