@@ -1,4 +1,5 @@
 mod Outcomes
+mod Said
 mod Writing
 mod OwnEvidence
 pub mod Answered

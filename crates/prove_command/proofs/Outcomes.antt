@@ -1,5 +1,5 @@
 -- What is said of claims by their outcomes.
-use Rattle.std.proofs.Common.{◌≡◌, ◌⊎◌, inl, inr, ℕ, Bool, true, false, List, [], ◌∷◌, ◌++◌, refl, sym, ap, subst, ◌∙◌}
+use Rattle.std.proofs.Common.{◌≡◌, ◌⊎◌, inl, inr, ℕ, Bool, true, false, List, [], ◌∷◌, refl, sym, ap, subst, ◌∙◌}
 use Rattle.std.specs.List.{AllZip}
 use Rattle.cofactor_trace.specs.declared.halt.Halt.{Halt}
 use Rattle.matrix_models.specs.declared.model.Model.{Model}
@@ -16,10 +16,6 @@ use Rattle.prove_command.specs.Answers.{IsVerdictOn, proved, not_derivable, refu
 
 -- one claim
 module _ (problem : Problem) (asked : Asked) (claim : ℕ) where
-  -- it is refuted, where models are looked for and one breaks it
-  pub refuted_by : (halt : Halt) (o : Outcome) (m : Model) → o ≡ outcome.Halted halt → (asked.models ≡ true) × LeastBreaks problem claim asked.seed m → IsVerdictOn problem asked claim o (verdict.Refuted m)
-  refuted_by halt o m is (on, least) = refuted halt m is on least refl
-
   -- what is said of a claim that halted
   pub data OnHalted (halt : Halt) (v : Verdict) : Type 0 where
     broken : (m : Model) → asked.models ≡ true → LeastBreaks problem claim asked.seed m → v ≡ verdict.Refuted m → OnHalted halt v
@@ -80,15 +76,6 @@ module _ (problem : Problem) (asked : Asked) where
       let here = verdict_once problem asked claim o v v' one.0 other.0 in
       let rest = verdicts_once claims os vs vs' one.1 other.1 in
       λ i. here i ∷ rest i
-
-  pub verdicts_push : (claims : List ℕ) (os : List Outcome) (vs : List Verdict) (claim : ℕ) (o : Outcome) (v : Verdict) → AreVerdictsOn problem asked claims os vs → IsVerdictOn problem asked claim o v
-      → AreVerdictsOn problem asked (claims ++ claim ∷ []) (os ++ o ∷ []) (vs ++ v ∷ [])
-  verdicts_push [] [] [] claim o v are more = (more, tt)
-  verdicts_push [] [] (w ∷ vs) claim o v are more = absurd are
-  verdicts_push [] (p ∷ os) vs claim o v are more = absurd are
-  verdicts_push (n ∷ claims) [] vs claim o v are more = absurd are
-  verdicts_push (n ∷ claims) (p ∷ os) [] claim o v are more = absurd are
-  verdicts_push (n ∷ claims) (p ∷ os) (w ∷ vs) claim o v are more = (are.0, verdicts_push claims os vs claim o v are.1 more)
 
   -- where each claim has an outcome
   module _ (R : ℕ → Outcome → Type 0) where

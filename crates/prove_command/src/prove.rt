@@ -1,28 +1,27 @@
 //! What `prove` and `bench` answer.
-ghost use Rattle.std.specs.Prelude.{◌≡◌, ◌<◌, ◌≤◌, true, IfOk, IfSome, IfNone, length};
-ghost use Rattle.std.specs.List.{All};
+ghost use Rattle.std.specs.Prelude.{◌≡◌, ◌<◌, ◌≤◌, ◌^◌, IfOk, IfSome, IfNone, length};
+ghost use Rattle.std.specs.List.{All, AllZip};
 ghost use Rattle.in_order_parallel.specs.Limits.{worker_limit};
 ghost use Rattle.command_words.specs.Calls.{IsInRange};
 ghost use Rattle.command_words.specs.declared.call.Call.TheVariants.{Prove};
 ghost use Rattle.claim_decider.specs.Decided.{claim_numbers};
-ghost use Rattle.model_candidates.specs.Candidates.{NoneBreaks};
-ghost use Rattle.model_checker.specs.Models.{IsClaimNumber};
+ghost use Rattle.model_candidates.specs.Candidates.{IsLeastBreaking, NoneBreaks};
 ghost use Rattle.basis_text.specs.Written.{IsPolyOver};
 ghost use Rattle.report_text.specs.Report.{IsVerdictOver};
+ghost use Rattle.report_text.specs.declared.verdict.Verdict.TheVariants.{Refuted, Undecided};
 ghost use Rattle.traced_completion.specs.Completions.{IsBudget};
-ghost use Rattle.prove_command.specs.Answers.{format_of, asked_by, IsVerdictOn, AreVerdictsOn, Decides, print_of, AnswersClaims};
-ghost use Rattle.model_search.specs.LeastBreaking.{LeastBreaks};
+ghost use Rattle.prove_command.specs.Answers.{format_of, asked_by, AreVerdictsOn, Decides, print_of, AnswersClaims};
+ghost use Rattle.prove_command.specs.Searched.{searched_from};
 ghost use Rattle.command_shape.specs.Stop.{EndsAs};
 
 use adjoint_rules::Problem;
 use claim_decider::{Outcome, decide_all};
-use cofactor_trace::Format;
+use cofactor_trace::{Format, Halt};
 use command_shape::{Ending, Stop};
 use command_words::{DEFAULT_PAIRS, DEFAULT_SEED, DEFAULT_STEPS, ProveCall};
 use in_order_parallel::Gate;
 use lists::Listing;
-use matrix_models::Model;
-use model_search::search;
+use model_search::{Found, search_each};
 use nc_polynomial::Poly;
 use quiver::Quiver;
 use report_text::{Verdict, heads, report, status_of};
@@ -96,56 +95,69 @@ pub fn asked_by(call: &ProveCall) -> Asked
     }
 }
 
-// The least model that breaks the claim, where models are looked for and there is one.
-fn model_against<R: Threads + Sync, G: Gate + Sync>(
-    rt: &R,
+// The numbers of the claims for which a model is looked for.
+fn searched_claims(
     alloc: Global,
-    problem: &Problem,
     asked: Asked,
-    claim: u32,
-    workers: u32,
-    gate: &G,
-) -> Result<Option<Model>, AllocError>
-    requires claim { IsClaimNumber problem.now claim }
-    requires some_worker { 0 < workers }
-    requires few_workers { workers ≤ worker_limit }
-    ensures found { IfOk result (λ found. IfSome found (λ model. (asked.models ≡ true) × LeastBreaks problem.now claim asked.seed model)) }
-    ensures none { IfOk result (λ found. IfNone found (asked.models ≡ true → NoneBreaks problem.now claim asked.seed)) }
+    outcomes: &[Outcome],
+) -> Result<Vec<u32>, AllocError>
+    requires { length outcomes.now < 2 ^ 32 }
+    ensures { IfOk result (λ claims. claims.items ≡ searched_from asked.models 1 outcomes.now) }
 {
-    if !asked.models {
-        return Ok(None);
-    }
-    match search(rt, alloc, problem, claim, asked.seed, workers, gate)? {
-        Some(found) => Ok(Some(found.model)),
-        None => Ok(None),
-    }
-}
-
-// What is said of the claim with this number by its outcome.
-fn verdict_of<R: Threads + Sync, G: Gate + Sync>(
-    rt: &R,
-    alloc: Global,
-    problem: &Problem,
-    asked: Asked,
-    claim: u32,
-    outcome: Outcome,
-    workers: u32,
-    gate: &G,
-) -> Result<Verdict, AllocError>
-    requires claim { IsClaimNumber problem.now claim }
-    requires some_worker { 0 < workers }
-    requires few_workers { workers ≤ worker_limit }
-    ensures { IfOk result (IsVerdictOn problem.now asked claim outcome) }
-{
-    match outcome {
-        Outcome::Derived(evidence) => Ok(Verdict::Proved(evidence)),
-        Outcome::Closed { rest } => Ok(Verdict::NotDerivable { rest }),
-        Outcome::Halted(halt) => {
-            match model_against(rt, alloc, problem, asked, claim, workers, gate)? {
-                Some(model) => Ok(Verdict::Refuted(model)),
-                None => Ok(Verdict::Undecided(halt)),
+    let mut claims = Vec::new(alloc);
+    if asked.models {
+        for (place, outcome) in outcomes.iter().enumerate() {
+            if let Outcome::Halted(_) = outcome {
+                claims.push(place as u32 + 1)?;
             }
         }
+    }
+    Ok(claims)
+}
+
+// For each claim for which a model is looked for the least candidate that breaks it, or None where none does. All of them are
+// looked at in one pass of the candidates, and where there are none no candidate is made.
+fn found_for<R: Threads + Sync, G: Gate + Sync>(
+    rt: &R,
+    alloc: Global,
+    problem: &Problem,
+    asked: Asked,
+    outcomes: &[Outcome],
+    workers: u32,
+    gate: &G,
+) -> Result<Listing<Option<Found>>, AllocError>
+    requires one_each { length outcomes.now ≡ length problem.now.parts.claims }
+    requires some_worker { 0 < workers }
+    requires few_workers { workers ≤ worker_limit }
+    ensures found { IfOk result (AllZip (λ claim found.
+        IfSome found (λ f. IsLeastBreaking problem.now claim asked.seed f.shape f.candidate f.model))
+        (searched_from asked.models 1 outcomes.now)) }
+    ensures none { IfOk result (AllZip (λ claim found. IfNone found (NoneBreaks problem.now claim asked.seed))
+        (searched_from asked.models 1 outcomes.now)) }
+{
+    let claims = searched_claims(alloc, asked, outcomes)?;
+    if claims.is_empty() {
+        return Ok(Listing::new(alloc));
+    }
+    search_each(
+        rt,
+        alloc,
+        problem,
+        claims.as_slice(),
+        asked.seed,
+        workers,
+        gate,
+    )
+}
+
+// What is said of a claim that halted, by what was found for it.
+fn verdict_on_halted(halt: Halt, found: Option<Found>) -> Verdict
+    ensures refuted { IfSome found (λ f. result ≡ Refuted f.model) }
+    ensures undecided { IfNone found (result ≡ Undecided halt) }
+{
+    match found {
+        Some(found) => Verdict::Refuted(found.model),
+        None => Verdict::Undecided(halt),
     }
 }
 
@@ -164,11 +176,24 @@ fn verdicts_of<R: Threads + Sync, G: Gate + Sync>(
     requires few_workers { workers ≤ worker_limit }
     ensures { IfOk result (AreVerdictsOn problem.now asked (claim_numbers problem.now) outcomes) }
 {
-    let mut verdicts = Listing::new(alloc);
-    let mut claim = 0;
+    let found = found_for(
+        rt,
+        alloc,
+        problem,
+        asked,
+        outcomes.as_slice(),
+        workers,
+        gate,
+    )?;
+    let mut found = found.into_vec().into_iter();
+    let mut verdicts = Listing::with_room(alloc, outcomes.len())?;
     for outcome in outcomes.into_vec() {
-        claim += 1;
-        verdicts.push(verdict_of(rt, alloc, problem, asked, claim, outcome, workers, gate)?)?;
+        let verdict = match outcome {
+            Outcome::Derived(evidence) => Verdict::Proved(evidence),
+            Outcome::Closed { rest } => Verdict::NotDerivable { rest },
+            Outcome::Halted(halt) => verdict_on_halted(halt, found.next().flatten()),
+        };
+        verdicts.push(verdict)?;
     }
     Ok(verdicts)
 }

@@ -1,63 +1,69 @@
-use Rattle.std.proofs.Common.{◌≡◌, ◌+◌, ◌++◌, ◌∷◌, [], ℕ, List, length, sym, ap, subst, ◌∙◌, rules, arith, append_assoc, append-nil}
-use Rattle.std.specs.List.{range_with_len}
+use Rattle.std.proofs.Common.{◌≡◌, ◌<◌, ◌++◌, ◌∷◌, [], length, sym, ap, subst, ◌∙◌, rules, arith}
+use Rattle.std.specs.Option.{option_flatten, option_to_list}
 use Rattle.std.specs.Vec.Iter.{into_iter_items}
 use Rattle.std.proofs.lemmas.List.{nil_from_length, length-append}
-use Rattle.claim_decider.proofs.CaseLists.{range_with_len-more}
-use Rattle.claim_decider.specs.declared.outcome.Outcome.{Outcome}
-use Rattle.claim_decider.specs.Decided.{claim_numbers}
-use Rattle.report_text.specs.declared.verdict.Verdict.{Verdict}
-use Rattle.prove_command.specs.Answers.{IsVerdictOn, AreVerdictsOn}
-use Rattle.prove_command.proofs.Outcomes.{verdicts_push}
+use Rattle.prove_command.specs.Searched.{searched_from}
+use Rattle.prove_command.proofs.Said.{TakesNext, IsSaidBy, AreFoundFor, SaidSoFar, said_none, said_derived, said_closed, said_halted, said_all}
+use Rattle.prove_command.proofs.prove.verdicts_of.Goals.{in-Derived, in-Closed, in-Halted}
 use Rattle.prove_command.proofs.prove.verdicts_of.Goals as goal
 
 pub loop-outcome-init : goal.loop-outcome-init
-loop-outcome-init g c = record {
-  splits = c.into_iter-outcome-iterator.ensures.into_iter_gives.0 ∙ search rules;
-  left = search rules;
-  counted = search rules;
-  made = search rules;
-}
+loop-outcome-init g c =
+    let outcomes : into_iter_items c.into_iter-outcome-iterator.result ≡ c.args.outcomes =
+    c.into_iter-outcome-iterator.ensures.into_iter_gives.0 ∙ c.into_vec-outcome-items.ensures in
+    let found : into_iter_items c.into_iter-found.result ≡ c.in_ok-found.found = search rules in
+    let slice : c.as_slice.result.now ≡ c.args.outcomes = search rules in
+    let asked = c.args.asked in
+    let found_for : AreFoundFor c.args.problem.now asked (searched_from asked.models 1 c.args.outcomes) (into_iter_items c.into_iter-found.result) =
+    rw (found, ← slice) (c.in_ok-found.ensures.found, c.in_ok-found.ensures.none) in
+    record {
+      left = search rules;
+      found_left = search rules;
+      said = rw (c.in_ok-verdicts.ensures, outcomes)
+          (said_none c.args.problem.now asked c.args.outcomes (into_iter_items c.into_iter-found.result) c.requires.one_each found_for);
+    }
 
--- there is a claim with the next number
-pub verdict_of-requires-clause-claim : goal.verdict_of-requires-clause-claim
-verdict_of-requires-clause-claim g c κs within =
-    let at = c.loop-outcome in
-    let steps : into_iter_items at.outcome-iterator ≡ c.in-Some.outcome ∷ into_iter_items c.next.new.self = c.in-Some.ensures.steps.0 in
-    let whole : length at.yielded + length (into_iter_items at.outcome-iterator) ≡ length c.args.outcomes = sym (length-append at.yielded _) ∙ ap length at.invariant.splits in
-    let more = ap length steps in
-    let counted = at.invariant.counted in
-    let each = c.requires.one_each in
-    record { least = omega arith; most = omega arith }
-
--- one more has its verdict
+-- one more claim has its verdict
 pub loop-outcome-preserved : goal.loop-outcome-preserved
 loop-outcome-preserved g c =
     let at = c.loop-outcome in
     let problem = c.args.problem.now in
     let asked = c.args.asked in
-    let o = c.in-Some.outcome in
-    let v = c.in_ok-verdict_of.field-0 in
-    let steps : into_iter_items at.outcome-iterator ≡ o ∷ into_iter_items c.next.new.self = c.in-Some.ensures.steps.0 in
-    let pushed : c.push.new.self ≡ at.verdicts ++ v ∷ [] = search rules in
-    let said : IsVerdictOn problem asked (at.claim + 1) o v = c.in_ok-verdict_of.ensures in
-    let next : 1 + at.claim ≡ at.claim + 1 = omega arith in
-    let numbers : range_with_len 1 at.claim ++ (at.claim + 1) ∷ [] ≡ range_with_len 1 (at.claim + 1) = ap (λ n. range_with_len 1 at.claim ++ n ∷ []) (sym next) ∙ sym (range_with_len-more 1 at.claim) in
-    let more = verdicts_push problem asked (range_with_len 1 at.claim) at.yielded at.verdicts (at.claim + 1) o v at.invariant.made said in
+    let left = into_iter_items c.next.new.self in
+    let steps : into_iter_items at.outcome-iterator ≡ c.in-Some.outcome ∷ left = c.in-Some.ensures.steps.0 in
+    let pushed : c.push.new.self ≡ at.verdicts ++ c.match-outcome.verdict ∷ [] = search rules in
+    let more : SaidSoFar problem asked c.args.outcomes (at.verdicts ++ c.match-outcome.verdict ∷ []) left (into_iter_items c.match-outcome.found) =
+    elim c.match-outcome.branch [
+      | in-Derived w ↦ rw (w.verdict-is, w.found-is) (said_derived problem asked at.invariant.said w.in-Derived.evidence (rw (← w.in-Derived.is) steps))
+      | in-Closed w ↦ rw (w.verdict-is, w.found-is) (said_closed problem asked at.invariant.said w.in-Closed.rest (rw (← w.in-Closed.is) steps))
+      | in-Halted w ↦
+          let next = w.next-in-Halted in
+          let takes : TakesNext (into_iter_items at.found) next.result (into_iter_items next.new.self) =
+          record { items = next.ensures.items; some = λ more. next.ensures.variant.1 (subst (λ n. 0 < n) (sym at.invariant.found_left) more) } in
+          let said = w.verdict_on_halted-verdict.ensures in
+          let says : IsSaidBy w.in-Halted.halt (option_flatten next.result) w.verdict_on_halted-verdict.result =
+          rw (← w.flatten.ensures) (record { refuted = said.refuted; undecided = said.undecided }) in
+          rw (w.verdict-is, w.found-is)
+          (said_halted problem asked at.invariant.said w.in-Halted.halt next.result (into_iter_items next.new.self) w.verdict_on_halted-verdict.result
+          (rw (← w.in-Halted.is) steps) takes says)
+    ] in
     record {
-      splits = append_assoc at.yielded (o ∷ []) _ ∙ rw (← steps) at.invariant.splits;
       left = let was = at.invariant.left in let gone = c.in-Some.ensures.steps.1 in let short = ap length steps in omega arith;
-      counted = let was = at.invariant.counted in let longer = length-append at.yielded (o ∷ []) in omega arith;
-      made = subst (λ (ns : List ℕ). AreVerdictsOn problem asked ns (at.yielded ++ o ∷ []) c.push.new.self) numbers
-          (subst (λ (vs : List Verdict). AreVerdictsOn problem asked (range_with_len 1 at.claim ++ (at.claim + 1) ∷ []) (at.yielded ++ o ∷ []) vs) (sym pushed) more);
+      found_left = elim c.match-outcome.branch [
+        | in-Derived w ↦ rw w.found-is at.invariant.found_left
+        | in-Closed w ↦ rw w.found-is at.invariant.found_left
+        | in-Halted w ↦
+            let was = at.invariant.found_left in
+            let gone = w.next-in-Halted.ensures.len in
+            let short = ap length w.next-in-Halted.ensures.items ∙ length-append (option_to_list w.next-in-Halted.result) _ in
+            rw w.found-is (omega arith)
+      ];
+      said = rw pushed more;
     }
 
--- none is left
+-- all have theirs
 pub returns : goal.returns
 returns g c =
     let at = c.loop-outcome in
-    let problem = c.args.problem.now in
     let empty : into_iter_items at.outcome-iterator ≡ [] = nil_from_length _ (sym at.invariant.left ∙ c.in-None.ensures.steps.0) in
-    let all : at.yielded ≡ c.args.outcomes = sym (append-nil at.yielded) ∙ rw empty at at.invariant.splits in
-    let count : at.claim ≡ length problem.parts.claims = at.invariant.counted ∙ ap length all ∙ c.requires.one_each in
-    subst (λ (os : List Outcome). AreVerdictsOn problem c.args.asked (claim_numbers problem) os at.verdicts) all
-    (subst (λ (n : ℕ). AreVerdictsOn problem c.args.asked (range_with_len 1 n) at.yielded at.verdicts) count at.invariant.made)
+    said_all c.args.problem.now c.args.asked at.invariant.said empty

@@ -1,14 +1,12 @@
-use Rattle.std.proofs.Common.{◌≡◌, ◌++◌, length}
-use Rattle.std.specs.List.{range_with_len}
+use Rattle.std.proofs.Common.{◌≡◌, length}
 use Rattle.std.specs.Vec.Iter.{into_iter_items, into_iter_len}
-use Rattle.prove_command.specs.Answers.{AreVerdictsOn}
+use Rattle.prove_command.proofs.Said.{SaidSoFar}
 use Rattle.prove_command.proofs.prove.verdicts_of.Given as goal
 
--- those that were taken have their verdicts
+-- the first claims have their verdicts
 abbrev pub invariant-loop-outcome : goal.invariant-loop-outcome
 invariant-loop-outcome g l = record {
-  splits : l.yielded ++ into_iter_items l.outcome-iterator ≡ l.fn.outcomes;
   left : into_iter_len l.outcome-iterator ≡ length (into_iter_items l.outcome-iterator);
-  counted : l.claim ≡ length l.yielded;
-  made : AreVerdictsOn l.problem l.asked (range_with_len 1 l.claim) l.yielded l.verdicts;
+  found_left : into_iter_len l.found ≡ length (into_iter_items l.found);
+  said : SaidSoFar l.problem l.fn.asked l.fn.outcomes l.verdicts (into_iter_items l.outcome-iterator) (into_iter_items l.found);
 }

@@ -1,0 +1,7 @@
+use Rattle.std.proofs.Common.{◌≡◌, take}
+use Rattle.prove_command.specs.Searched.{halted_from}
+use Rattle.prove_command.proofs.prove.searched_claims.Given as goal
+
+-- the numbers of the first claims that halted
+abbrev pub invariant-loop-place : goal.invariant-loop-place
+invariant-loop-place l = l.claims.items ≡ halted_from 1 (take l.place l.outcomes)
