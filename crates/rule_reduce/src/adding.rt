@@ -1,6 +1,7 @@
 //! Sums of descending terms, which are made in the place of the first ones as long as few terms come and go.
 
-ghost use Rattle.std.specs.Prelude.{◌≡◌, List, ◌↔◌, ◌+◌, ◌<◌, ◌≤◌, ◌+ℤ◌, ◌∷◌, length, take, drop, slice_get, IfSome, IfOk, IfErr, IsOk, MatchResult, Ok};
+ghost use Rattle.std.specs.Prelude.{◌≡◌, List, ◌↔◌, ◌+◌, ◌<◌, ◌≤◌, ◌+ℤ◌, ◌∷◌, length};
+ghost use Rattle.std.specs.Prelude.{take, drop, slice_get, IfSome, IfOk, IfErr, IsOk, MatchResult, Ok};
 ghost use Rattle.std.specs.List.{All};
 ghost use Rattle.std.specs.List.Sorted.{IsBinarySearchResult, IsSearchInRange};
 ghost use Rattle.std.specs.declared.cmp.Ordering.TheVariants.{Greater};
@@ -96,7 +97,8 @@ fn add_term(
     requires term_in { IsCoefficient term.now.0 }
     ensures in_range { IfOk result (λ next. next ≤ length terms.new.items) }
     ensures shaped { IfOk result (λ next. IsShaped (drop next terms.new.items)) }
-    ensures exact { MatchResult result (λ next. (q : List Term) → sum_from from terms.old.items (term.now ∷ q) ≡ sum_from next terms.new.items q)
+    ensures exact { MatchResult result
+        (λ next. (q : List Term) → sum_from from terms.old.items (term.now ∷ q) ≡ sum_from next terms.new.items q)
         (λ e. (q : List Term) → Explains (sum_from from terms.old.items (term.now ∷ q)) e) }
 {
     match place_of(&terms[from..], &term.1) {
@@ -118,8 +120,8 @@ fn add_at(terms: &mut Vec<(i128, Word)>, place: usize, value: i128) -> Result<us
     requires in_range { place < length terms.old.items }
     requires term_in { IsCoefficient (term_at terms.old.items place).0 }
     requires value_in { IsCoefficient value }
-    ensures put { IfOk result (λ next. IsPut (take place terms.old.items) ((term_at terms.old.items place).0 +ℤ value) (term_at terms.old.items place).1
-        (drop (place + 1) terms.old.items) next terms.new.items) }
+    ensures put { IfOk result (λ next. IsPut (take place terms.old.items) ((term_at terms.old.items place).0 +ℤ value)
+        (term_at terms.old.items place).1 (drop (place + 1) terms.old.items) next terms.new.items) }
     ensures fits { IsOk result ↔ IsCoefficient ((term_at terms.old.items place).0 +ℤ value) }
     ensures operands { IfErr result (λ e. e ≡ sum_of (term_at terms.old.items place).0 value) }
 {
@@ -139,7 +141,8 @@ fn put_at(
     term: &(i128, Word),
 ) -> Result<usize, AllocError>
     requires { place ≤ length terms.old.items }
-    ensures { IfOk result (λ next. IsPut (take place terms.old.items) term.now.0 term.now.1 (drop place terms.old.items) next terms.new.items) }
+    ensures { IfOk result (λ next. IsPut (take place terms.old.items) term.now.0 term.now.1 (drop place terms.old.items) next
+        terms.new.items) }
 {
     if term.0 == 0 {
         return Ok(place);

@@ -17,7 +17,8 @@ pub fn multiply_rows(rows: Listing<Row>, by: i128) -> Result<Listing<Row>, Overf
     requires in_range { All (λ r. IsCoefficient r.coef) rows }
     ensures in_range { IfOk result (All (λ r. IsCoefficient r.coef)) }
     ensures value { IfOk result (λ v. v ≡ map (multiplied_row by) rows) }
-    ensures exact { MatchResult result (λ v. first_overflow (row_operations rows by) ≡ None) (λ o. first_overflow (row_operations rows by) ≡ Some o) }
+    ensures exact { MatchResult result (λ v. first_overflow (row_operations rows by) ≡ None)
+        (λ o. first_overflow (row_operations rows by) ≡ Some o) }
 {
     let mut multiplied = rows.into_vec();
     for row in multiplied.iter_mut() {

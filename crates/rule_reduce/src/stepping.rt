@@ -132,7 +132,8 @@ pub(crate) fn take_step(
     ensures steps { IfOk result (λ t. t.used ≤ state.used + 1) }
     ensures letters { IfOk result (λ t. (n : ℕ) → All (λ g. All (λ u. IsOver n u.1) g.poly.terms) rules.now → IsOver n choice.now.word
         → All (λ u. IsOver n u.1) state.rest → All (λ u. IsOver n u.1) t.rest) }
-    ensures exact { MatchResult result (λ t. step_result rules.now choice.now state ≡ Ok t) (Explains (step_result rules.now choice.now state)) }
+    ensures exact { MatchResult result (λ t. step_result rules.now choice.now state ≡ Ok t)
+        (Explains (step_result rules.now choice.now state)) }
 {
     take_away(alloc, rule_with(rules, choice.number), choice, state)
 }

@@ -2,7 +2,8 @@
 
 ghost use Rattle.std.specs.Prelude.{◌≡◌, ◌≤◌, ◌^◌, ℕ, List, length, IfOk, MatchResult, refl};
 ghost use Rattle.std.proofs.lemmas.Bool.{false≢true};
-ghost use Rattle.word_orders.specs.Specified.{asked_cmp, IsSound, ExplainsSpec, made_cmp, letters_of, made_rank, made_measure, is_made_canonical};
+ghost use Rattle.word_orders.specs.Specified.{asked_cmp, IsSound, ExplainsSpec, made_cmp, letters_of, made_rank, made_measure};
+ghost use Rattle.word_orders.specs.Specified.{is_made_canonical};
 ghost use Rattle.word_core.proofs.CanonicalLaws.{word_cmp-admissible};
 ghost use Rattle.word_core.proofs.MeasuredLaws.{weight_cmp-admissible, block_cmp-admissible};
 ghost use Rattle.word_orders.specs.Tables.{is_in, weight_in};

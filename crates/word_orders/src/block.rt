@@ -1,6 +1,7 @@
 //! The order of words by the numbers of letters of a block.
 
-ghost use Rattle.std.specs.Prelude.{◌≡◌, ℕ, length, replicate, set, count_by, MatchResult, IfOk, OnOk, OnErr, Some, None, true, false, refl};
+ghost use Rattle.std.specs.Prelude.{◌≡◌, ℕ, length, replicate, set, count_by, MatchResult, IfOk, OnOk, OnErr, Some, None};
+ghost use Rattle.std.specs.Prelude.{true, false, refl};
 ghost use Rattle.std.proofs.lemmas.Bool.{false≢true};
 ghost use Rattle.word_orders.specs.Faults.{block_fault, Explains, HasNoFault};
 ghost use Rattle.word_orders.specs.Tables.{is_in, fault_in_block};

@@ -1,6 +1,7 @@
 //! The order of words by the sums of their letters' weights.
 
-ghost use Rattle.std.specs.Prelude.{◌≡◌, ◌≤◌, ◌*◌, ℕ, length, replicate, set, sum_by, MatchResult, IfOk, OnOk, OnErr, Some, None, false, refl};
+ghost use Rattle.std.specs.Prelude.{◌≡◌, ◌≤◌, ◌*◌, ℕ, length, replicate, set, sum_by, MatchResult, IfOk, OnOk, OnErr, Some, None};
+ghost use Rattle.std.specs.Prelude.{false, refl};
 ghost use Rattle.std.proofs.lemmas.Bool.{false≢true};
 ghost use Rattle.word_orders.specs.Faults.{entry_fault, Explains, HasNoFault};
 ghost use Rattle.word_orders.specs.Limits.{weight_limit};
