@@ -3,45 +3,12 @@ use Rattle.std.proofs.Common.{◌≡◌, ◌⊎◌, inl, inr, ℕ, zero, suc, �
 use Rattle.std.specs.List.{All}
 use Rattle.std.specs.Option.{option_map}
 use Rattle.std.proofs.lemmas.List.{length_push, length-take-le, get_or-take, take-append-le, take_all}
-use Rattle.rule_index.specs.Prefixes.{has, word_at, is_prefix}
+use Rattle.rule_index.specs.Prefixes.{has, word_at}
 use Rattle.rule_index.specs.Automaton.{ends_with, first_of, IsMarked, IsWithin}
 use Rattle.rule_index.specs.Cuts.{earlier, IsCounted}
 use Rattle.rule_index.proofs.Fronts.{take-take, front-short}
 use Rattle.rule_index.proofs.Relinking.{lt_cases}
 use Rattle.rule_index.proofs.Pushing.{Same, is_same, is_other, same_or, push-old, push-new}
-
-pub counted-new : IsCounted [] ([] ∷ []) (1 ∷ [])
-counted-new = record {
-  sized = refl;
-  some = some;
-  rising = rising;
-  last = refl;
-  within = within;
-  listed = listed;
-}
-  where
-    none : (i : ℕ) → i ≤ 0 → i ≡ 0
-    none i at_most = omega arith
-
-    some : (i : ℕ) → i ≤ 0 → 0 < get_or (1 ∷ []) i 0
-    some zero at_most = omega arith
-    some (suc i) at_most = absurd (omega arith)
-
-    rising : (i j : ℕ) → i ≤ j → j ≤ 0 → get_or (1 ∷ []) i 0 ≤ get_or (1 ∷ []) j 0
-    rising i zero below at_most = omega (arith, ap {B = ℕ} (λ k. get_or (1 ∷ []) k 0) (none i below))
-    rising i (suc j) below at_most = absurd (omega arith)
-
-    nothing : (w : List ℕ) → has ([] ∷ []) w ≡ true → is_prefix [] w ≡ true
-    nothing [] e = refl
-    nothing (x ∷ w) e = e
-
-    within : (i : ℕ) → i ≤ 0 → IsWithin (take i []) (take (get_or (1 ∷ []) i 0) ([] ∷ []))
-    within zero at_most = nothing
-    within (suc i) at_most = absurd (omega arith)
-
-    listed : (i : ℕ) → i ≤ 0 → All (λ (e : List ℕ × ℕ). has (take (get_or (1 ∷ []) i 0) ([] ∷ [])) e.0 ≡ true) (take i [])
-    listed zero at_most = λ k d inside. absurd (omega arith)
-    listed (suc i) at_most = absurd (omega arith)
 
 lt-true : (x y : ℕ) → x < y → nat_lt x y ≡ true
 lt-true x y below = go (lt_cases x y)

@@ -1,5 +1,5 @@
 -- The longest suffix of a word that is among some words.
-use Rattle.std.proofs.Common.{◌≡◌, ◌≢◌, ℕ, zero, suc, ◌<◌, ◌≤◌, ◌||◌, ◌&&◌, Bool, true, false, nat_eq, List, [], ◌∷◌, ◌++◌, length, drop, refl, sym, ap, ap₂, ◌∙◌, subst, arith, eqb-true, eq-eqb}
+use Rattle.std.proofs.Common.{◌≡◌, ℕ, zero, suc, ◌<◌, ◌≤◌, ◌||◌, ◌&&◌, Bool, true, false, nat_eq, List, [], ◌∷◌, ◌++◌, length, drop, refl, sym, ap, ap₂, ◌∙◌, subst, arith, eqb-true, eq-eqb}
 use Rattle.std.proofs.lemmas.Bool.{and_parts}
 use Rattle.rule_index.specs.Prefixes.{same_word, has, word_at}
 use Rattle.rule_index.specs.Automaton.{longest, ends_with}
@@ -16,13 +16,6 @@ same-itself (x ∷ v) = ap₂ ◌&&◌ (eq-eqb x x refl) (same-itself v)
 
 clash : (b : Bool) → b ≡ true → b ≡ false → ⊥
 clash b e f = cc
-
-pub same-apart : (v w : List ℕ) → v ≢ w → same_word v w ≡ false
-same-apart v w apart = go (same_word v w) refl
-  where
-    go : (b : Bool) → same_word v w ≡ b → b ≡ false
-    go true e = absurd (apart (same-true v w e))
-    go false e = refl
 
 or_right : (b c : Bool) → c ≡ true → (b || c) ≡ true
 or_right true c e = refl
