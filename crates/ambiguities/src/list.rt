@@ -133,7 +133,8 @@ fn push_places(
 ) -> Result<(), AllocError>
     requires within { high ≤ length pair.now.word.now + 1 }
     requires short { length pair.now.word.now ≤ word_limit }
-    ensures { OnOk result (IsGrown (IsAgreement pair.now.i pair.now.j kind pair.now.word.now pair.now.other.now low high) found.old found.new) }
+    ensures { OnOk result (IsGrown (IsAgreement pair.now.i pair.now.j kind pair.now.word.now pair.now.other.now low high)
+        found.old found.new) }
 {
     for place in low..high {
         if agree(pair.word, pair.other, place) {

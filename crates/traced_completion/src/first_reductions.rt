@@ -66,7 +66,8 @@ impl<O: WordOrder + Drop> Job for Reducer<'_, O> {
 
     ghost can_go = { λ job which. IsAmbiguity job.rules.now.rules which };
 
-    ghost gives = { λ job which answer. IsAnswer (O.letters job.rules.now.order) (O.compare job.rules.now.order) job.steps job.rules.now.rules which answer };
+    ghost gives = { λ job which answer. IsAnswer (O.letters job.rules.now.order) (O.compare job.rules.now.order) job.steps
+        job.rules.now.rules which answer };
 
     fn go(&self, which: &Ambiguity) -> Result<First, ReduceFault> {
         reduce_first(self.rules, which, self.steps)
@@ -123,10 +124,13 @@ pub(crate) fn reduce_all<R: Threads + Sync, O: WordOrder + Drop + Sync, G: Gate 
     requires ambiguities { All (IsAmbiguity reducer.now.rules.now.rules) taken.now }
     requires some_worker { 0 < workers }
     requires few_workers { workers ≤ worker_limit }
-    ensures exact { MatchResult result (λ firsts. each_in_turn (first_of (O.compare reducer.now.rules.now.order) reducer.now.steps reducer.now.rules.now.rules)
+    ensures exact { MatchResult result
+        (λ firsts. each_in_turn (first_of (O.compare reducer.now.rules.now.order) reducer.now.steps reducer.now.rules.now.rules)
         taken.now ≡ Ok (map plain_first firsts))
-        (Explains (each_in_turn (first_of (O.compare reducer.now.rules.now.order) reducer.now.steps reducer.now.rules.now.rules) taken.now)) }
-    ensures kept { IfOk result (All (λ f. IsKeptFirst (O.letters reducer.now.rules.now.order) (length reducer.now.rules.now.rules) (plain_first f))) }
+        (Explains (each_in_turn (first_of (O.compare reducer.now.rules.now.order) reducer.now.steps reducer.now.rules.now.rules)
+        taken.now)) }
+    ensures kept { IfOk result
+        (All (λ f. IsKeptFirst (O.letters reducer.now.rules.now.order) (length reducer.now.rules.now.rules) (plain_first f))) }
     ensures one_each { IfOk result (λ firsts. length firsts ≡ length taken.now) }
 {
     let busy = busy_workers(taken.len(), workers);
