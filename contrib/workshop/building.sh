@@ -53,7 +53,7 @@ closure() {
       for (; last; last--) {
         count = split(printed[last], names, " "); crate = names[1]; chain = lines[crate] + above[crate]
         for (i = 2; i <= count; i++) if (above[names[i]] < chain) above[names[i]] = chain
-        sub(/^[^ ]+/, crate " " (crate == "opprove" ? 150 : int(10 + 0.18 * lines[crate] + 0.7 * (count - 1))), printed[last])
+        sub(/^[^ ]+/, crate " " (crate == "opprove" ? 120 : int(10 + 0.18 * lines[crate] + 0.7 * (count - 1))), printed[last])
         print chain, printed[last]
       }
     }' - "$top/crates.txt" | sort -rn | cut -d' ' -f2-
