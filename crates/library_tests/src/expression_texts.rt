@@ -1,13 +1,13 @@
 //! Equations of expressions: their signatures, their polynomials and their faults.
 ghost use Rattle.std.specs.Prelude.{◌≡◌};
 ghost use Rattle.quiver.specs.Declarations.{named_in};
-ghost use Rattle.expressions.specs.Names.{are_names, are_names_of_term, are_names_of_primary, is_map, is_object};
+ghost use Rattle.expression_names.specs.Names.{are_names, are_names_of_term, are_names_of_primary, is_map, is_object};
 
 use crate::expression_rows::{MARKS, OVERFLOWS, POLYNOMIALS, Row, SIGNATURES};
 use crate::texts::{Map, equal, poly_text, quiver_of, same, tree_of};
+use expression_names::{has_mark, letter_of, object_of};
 use expressions::{
-    SignatureFault, equation_poly, equation_signature, equations_are_typed, has_mark, letter_of,
-    letters_are_written, object_of,
+    SignatureFault, equation_poly, equation_signature, equations_are_typed, letters_are_written,
 };
 use lists::Text;
 use nc_polynomial::{Poly, PolyFault};

@@ -31,7 +31,7 @@ use Rattle.statement_syntax.specs.declared.tree.Primary.{Primary, Letter as lett
 use Rattle.statement_syntax.specs.declared.tree.Term.{Term, Term', Row_of-Factor, end_of-Factor, more_of-Factor}
 use Rattle.statement_syntax.specs.declared.tree.Sum.{Sum, Sum', Row_of-Term, end_of-Term, more_of-Term}
 use Rattle.expressions.specs.Results.{◌>>=◌}
-use Rattle.expressions.specs.Names.{letter_of, object_of}
+use Rattle.expression_names.specs.Names.{letter_of, object_of}
 use Rattle.expressions.specs.Polynomials.{letter_poly, power_poly, mark_poly, marked_poly, product_from, product_poly, scaled_by, Summand, signed, sum_step, sum_from, total, sum_poly, summands, term_poly, factor_polys, primary_poly, equation_poly}
 use Rattle.expressions.proofs.Canonical.{canonical-negated}
 

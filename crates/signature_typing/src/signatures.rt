@@ -4,7 +4,7 @@ ghost use Rattle.std.specs.Prelude.{◌≡◌, ◌++◌, None, Ok, IfOk, IfErr, 
 ghost use Rattle.std.specs.List.{All};
 ghost use Rattle.statement_names.specs.Written.{equations_of, assumptions_of, claims_in, claims_of};
 ghost use Rattle.statement_names.specs.Ready.{HasNames};
-ghost use Rattle.expressions.specs.Names.{AreNames};
+ghost use Rattle.expression_names.specs.Names.{AreNames};
 ghost use Rattle.expressions.specs.Signatures.{equation_signature};
 ghost use Rattle.adjoint_rules.specs.Problem.{HasObjects};
 ghost use Rattle.signature_typing.specs.First.{first_among};

@@ -16,7 +16,7 @@ use Rattle.quiver.specs.Declarations.{Declaration, object, arrow, object_count, 
 use Rattle.quiver.proofs.Counts.{object_count-append, map_count-append}
 use Rattle.quiver.proofs.Growth.{naming_table-append}
 use Rattle.quiver.proofs.Found.{is_named}
-use Rattle.expressions.specs.Names.{is_object, object_number, object_of}
+use Rattle.expression_names.specs.Names.{is_object, object_number, object_of}
 use Rattle.statement_tokens.specs.declared.place.Spot.{Spot}
 use Rattle.statement_syntax.specs.declared.tree.Name.{Name}
 use Rattle.statement_syntax.specs.declared.tree.Statement.{Statement}

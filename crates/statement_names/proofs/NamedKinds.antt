@@ -9,7 +9,7 @@ use Rattle.quiver.specs.declared.named.Named.{Named}
 use Rattle.quiver.specs.declared.named.Named.TheVariants as named
 use Rattle.quiver.specs.Declarations.{Declaration, object, arrow, name_of, objects_of, letters_of, Turn, named_by, named_in}
 use Rattle.quiver.proofs.Growth.{names_from}
-use Rattle.expressions.specs.Names.{is_map, is_object, object_of}
+use Rattle.expression_names.specs.Names.{is_map, is_object, object_of}
 use Rattle.statement_syntax.specs.declared.tree.Name.{Name}
 use Rattle.statement_syntax.specs.declared.tree.Statement.{Statement}
 use Rattle.statement_syntax.specs.declared.tree.StatementKind.{StatementKind}

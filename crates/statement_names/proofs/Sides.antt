@@ -9,7 +9,7 @@ use Rattle.quiver.specs.declared.named.Named.{Named}
 use Rattle.quiver.specs.declared.named.Named.TheVariants as named
 use Rattle.quiver.specs.Declarations.{Declaration, object_count, object_name, named_in, IsDeclared}
 use Rattle.quiver.proofs.Found.{is_named}
-use Rattle.expressions.specs.Names.{is_object, object_number, object_of}
+use Rattle.expression_names.specs.Names.{is_object, object_number, object_of}
 use Rattle.statement_syntax.specs.declared.tree.Name.{Name}
 use Rattle.statement_syntax.specs.declared.tree.Number.{Number}
 use Rattle.statement_names.specs.Faults.{value_of}

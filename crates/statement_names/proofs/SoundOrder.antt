@@ -14,7 +14,7 @@ use Rattle.word_orders.specs.Specified.{IsSound}
 use Rattle.quiver.specs.declared.named.Named.{Named}
 use Rattle.quiver.specs.declared.named.Named.TheVariants as named
 use Rattle.quiver.specs.Declarations.{Declaration, letter_count, letter_name, named_in}
-use Rattle.expressions.specs.Names.{is_map, letter_number, letter_of}
+use Rattle.expression_names.specs.Names.{is_map, letter_number, letter_of}
 use Rattle.statement_tokens.specs.declared.place.Spot.{Spot}
 use Rattle.statement_syntax.specs.declared.tree.Name.{Name}
 use Rattle.statement_syntax.specs.declared.tree.Number.{Number}

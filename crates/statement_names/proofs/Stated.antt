@@ -8,7 +8,7 @@ use Rattle.std.proofs.lemmas.List.Folds.{list_any-append}
 use Rattle.std.proofs.lemmas.List.Kept.{AllPairs-cons}
 use Rattle.definitions.specs.Moduli.{field_moduli, is_field_modulus}
 use Rattle.quiver.specs.Declarations.{named_in}
-use Rattle.expressions.specs.Names.{is_map, is_object}
+use Rattle.expression_names.specs.Names.{is_map, is_object}
 use Rattle.statement_syntax.specs.declared.tree.Name.{Name}
 use Rattle.statement_syntax.specs.declared.tree.Number.{Number}
 use Rattle.statement_syntax.specs.declared.tree.Statement.{Statement}

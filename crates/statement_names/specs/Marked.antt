@@ -2,7 +2,7 @@
 use Rattle.std.specs.Prelude.{ℕ, Bool, true, false, ◌||◌, List, ◌++◌, map}
 use Rattle.std.specs.List.{flat_map, list_any}
 use Rattle.quiver.specs.Declarations.{Declaration, object_count}
-use Rattle.expressions.specs.Occurrences.{has_mark, has_identity}
+use Rattle.expression_names.specs.Occurrences.{has_mark, has_identity}
 use Rattle.statement_syntax.specs.declared.tree.Statement.{Statement}
 use Rattle.statement_syntax.specs.declared.tree.StatementKind.{StatementKind}
 use Rattle.statement_syntax.specs.declared.tree.StatementKind.TheVariants as statement

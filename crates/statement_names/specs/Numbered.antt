@@ -5,7 +5,7 @@ use Rattle.statement_syntax.specs.declared.tree.Statement.{Statement}
 use Rattle.statement_syntax.specs.declared.tree.StatementKind.{StatementKind}
 use Rattle.statement_syntax.specs.declared.tree.StatementKind.TheVariants as statement
 use Rattle.quiver.specs.Declarations.{Declaration, object, arrow, named_in}
-use Rattle.expressions.specs.Names.{is_object, object_of}
+use Rattle.expression_names.specs.Names.{is_object, object_of}
 
 -- the objects of a statement
 abbrev pub objects_in : StatementKind → List Declaration

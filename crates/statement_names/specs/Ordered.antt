@@ -8,7 +8,7 @@ use Rattle.statement_syntax.specs.declared.tree.Number.{Number}
 use Rattle.statement_syntax.specs.declared.tree.Statement.{Statement}
 use Rattle.statement_syntax.specs.declared.tree.StatementKind.{StatementKind}
 use Rattle.statement_syntax.specs.declared.tree.StatementKind.TheVariants as statement
-use Rattle.expressions.specs.Names.{letter_of}
+use Rattle.expression_names.specs.Names.{letter_of}
 use Rattle.word_core.specs.declared.letter.Letter.{Letter}
 use Rattle.word_orders.specs.declared.any.OrderSpec.{OrderSpec}
 use Rattle.word_orders.specs.declared.any.OrderSpec.TheVariants.{Degree, Weight, Block}

@@ -3,7 +3,7 @@ use Rattle.std.specs.Prelude.{◌<◌, ◌≤◌, List, length, AllPairs}
 use Rattle.std.specs.List.{All}
 use Rattle.word_orders.specs.Specified.{IsSound}
 use Rattle.quiver.specs.Declarations.{Declaration, object_count, letter_count, IsDeclared, ObjectsFirst}
-use Rattle.expressions.specs.Names.{AreNames}
+use Rattle.expression_names.specs.Names.{AreNames}
 use Rattle.adjoint_rules.specs.Problem.{IsShape, IsDeclaredMap}
 use Rattle.statement_syntax.specs.declared.tree.Statement.{Statement}
 use Rattle.statement_names.specs.declared.written.Equation.{Equation}

@@ -5,7 +5,7 @@ ghost use Rattle.quiver.specs.Declarations.{IsDeclared};
 ghost use Rattle.statement_names.specs.Faults.{name_fault_of};
 ghost use Rattle.statement_names.specs.Numbered.{objects_in, maps_in, declarations_of, HasEnds};
 
-use expressions::object_of;
+use expression_names::object_of;
 use quiver::Quiver;
 use statement_syntax::{Statement, StatementKind};
 use std::alloc::{AllocError, Global};

@@ -3,7 +3,7 @@
 ghost use Rattle.std.specs.Prelude.{◌≡◌};
 ghost use Rattle.statement_names.specs.Marked.{is_starred, is_starred_in};
 
-use expressions::has_mark;
+use expression_names::has_mark;
 use statement_syntax::{Statement, StatementKind};
 
 /// Whether a mark or the word `self` stands in a statement, abbreviations written out.

@@ -1,6 +1,6 @@
 use Rattle.std.proofs.Common.{arith}
 use Rattle.std.proofs.lemmas.Grind.{common_steps}
-use Rattle.expressions.proofs.Trees.{names-sum, names-term}
+use Rattle.expression_names.proofs.Trees.{names-sum, names-term}
 use Rattle.library_tests.proofs.expression_texts.+names.Goals as goal
 
 pub are_names-returns-then-not-are_names_of_term : goal.are_names-returns-then-not-are_names_of_term

@@ -1,7 +1,7 @@
 use Rattle.std.proofs.Common.{◌≡◌, drop}
 use Rattle.std.specs.List.{list_all}
-use Rattle.expressions.specs.Names.{are_names_of_term}
-use Rattle.expressions.proofs.Trees.{are_names_of_factor}
+use Rattle.expression_names.specs.Names.{are_names_of_term}
+use Rattle.expression_names.proofs.Trees.{are_names_of_factor}
 use Rattle.library_tests.proofs.expression_texts.+names.Given as goal
 
 abbrev pub invariant-are_names-loop-term : goal.invariant-are_names-loop-term

@@ -1,6 +1,6 @@
 use Rattle.std.proofs.Common.{◌≤◌, IsTrue, All, sym, subst}
 use Rattle.quiver.specs.Declarations.{named_in}
-use Rattle.expressions.specs.Names.{is_map}
+use Rattle.expression_names.specs.Names.{is_map}
 use Rattle.word_orders.specs.Limits.{weight_limit}
 use Rattle.statement_names.specs.Faults.{value_of}
 use Rattle.statement_names.proofs.Stated.{weights_named, weights_small, eliminated_named}

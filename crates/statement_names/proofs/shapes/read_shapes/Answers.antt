@@ -1,6 +1,6 @@
 use Rattle.std.proofs.Common.{◌≢◌, ◌≤◌, IsTrue, All, AllPairs, arith, sym, subst}
 use Rattle.quiver.specs.Declarations.{named_in}
-use Rattle.expressions.specs.Names.{is_object}
+use Rattle.expression_names.specs.Names.{is_object}
 use Rattle.adjoint_rules.specs.Limits.{shape_side_limit}
 use Rattle.statement_names.specs.Faults.{value_of}
 use Rattle.statement_names.proofs.Stated.{modulus_is, modulus_small, sides_named, sides_small, sides_once}

@@ -1,7 +1,7 @@
 use Rattle.std.proofs.Common.{arith}
 use Rattle.std.proofs.lemmas.Grind.{common_steps}
-use Rattle.expressions.proofs.Trees.{mark-sum, mark-term}
-use Rattle.expressions.proofs.occurrence.+marks.Goals as goal
+use Rattle.expression_names.proofs.Trees.{mark-sum, mark-term}
+use Rattle.expression_names.proofs.occurrence.+marks.Goals as goal
 
 pub has_mark-returns-then-has_mark_in_term : goal.has_mark-returns-then-has_mark_in_term
 has_mark-returns-then-has_mark_in_term t c = grind (arith, common_steps, mark-sum)

@@ -1,8 +1,8 @@
 use Rattle.std.proofs.Common.{◌≡◌, drop}
 use Rattle.std.specs.List.{list_any}
-use Rattle.expressions.specs.Occurrences.{has_mark_in_term}
-use Rattle.expressions.proofs.Trees.{has_mark_in_factor}
-use Rattle.expressions.proofs.occurrence.+marks.Given as goal
+use Rattle.expression_names.specs.Occurrences.{has_mark_in_term}
+use Rattle.expression_names.proofs.Trees.{has_mark_in_factor}
+use Rattle.expression_names.proofs.occurrence.+marks.Given as goal
 
 abbrev pub invariant-has_mark-loop-term : goal.invariant-has_mark-loop-term
 invariant-has_mark-loop-term l = list_any has_mark_in_term (drop l.term-index l.term-items) ≡ list_any has_mark_in_term l.term-items

@@ -1,7 +1,7 @@
 //! Whether an adjoint is taken in an expression.
 ghost use Rattle.std.specs.Prelude.{◌≡◌};
 ghost use Rattle.std.specs.List.{list_any};
-ghost use Rattle.expressions.specs.Occurrences.{is_adjoint, has_mark, has_mark_in_term, has_mark_in_primary};
+ghost use Rattle.expression_names.specs.Occurrences.{is_adjoint, has_mark, has_mark_in_term, has_mark_in_primary};
 
 use statement_syntax::{Mark, Primary, Sum, Term};
 

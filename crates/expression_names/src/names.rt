@@ -1,7 +1,7 @@
 //! Letters and objects by their names.
 ghost use Rattle.std.specs.Prelude.{◌≡◌, ◌<◌, IsTrue};
 ghost use Rattle.quiver.specs.Declarations.{named_in, letter_count, object_count};
-ghost use Rattle.expressions.specs.Names.{is_map, is_object, letter_of, object_of};
+ghost use Rattle.expression_names.specs.Names.{is_map, is_object, letter_of, object_of};
 
 use quiver::{Named, Quiver};
 use statement_syntax::Name;
