@@ -62,8 +62,9 @@ pub taken_back : (old tried new : Completion) (rules treated : ℕ) → rules �
     → tried.budget ≡ old.budget → tried.rounds ≡ old.rounds → tried.rules.order ≡ old.rules.order
     → take (length old.rules.rules) tried.rules.rules ≡ old.rules.rules → take (length old.made) tried.made ≡ old.made → take (length old.treated) tried.treated ≡ old.treated → tried.waiting ≡ old.waiting
     → new.budget ≡ tried.budget → new.rounds ≡ tried.rounds → new.rules.order ≡ tried.rules.order
-    → new.rules.rules ≡ take rules tried.rules.rules → new.made ≡ take rules tried.made → new.treated ≡ take treated tried.treated → new.waiting ≡ tried.waiting → IsUnchanged old new
-taken_back old tried new rules treated rules_are treated_are one_each budget rounds order rules_front made_front treated_front waiting budget_back rounds_back order_back rules_back made_back treated_back waiting_back = record {
+    → new.rules.rules ≡ take rules tried.rules.rules → new.made ≡ take rules tried.made → new.treated ≡ take treated tried.treated → new.waiting ≡ tried.waiting
+    → tried.is_light ≡ old.is_light → new.is_light ≡ tried.is_light → IsUnchanged old new
+taken_back old tried new rules treated rules_are treated_are one_each budget rounds order rules_front made_front treated_front waiting budget_back rounds_back order_back rules_back made_back treated_back waiting_back light light_back = record {
   budget = budget_back ∙ budget;
   rounds = rounds_back ∙ rounds;
   order = order_back ∙ order;
@@ -71,6 +72,7 @@ taken_back old tried new rules treated rules_are treated_are one_each budget rou
   made = made_back ∙ ap (λ n. take n tried.made) (rules_are ∙ sym one_each) ∙ made_front;
   treated = treated_back ∙ ap (λ n. take n tried.treated) treated_are ∙ treated_front;
   waiting = waiting_back ∙ waiting;
+  is_light = light_back ∙ light;
 }
 
 -- the setting

@@ -50,6 +50,7 @@ pub record IsUnchanged (old new : Completion) : Type 0 where
   pub made : new.made ≡ old.made
   pub treated : new.treated ≡ old.treated
   pub waiting : new.waiting ≡ old.waiting
+  pub is_light : new.is_light ≡ old.is_light
 
 -- all fields are the same, unless the round was made whole
 abbrev pub IsUnchangedAfter : Step → Completion → Completion → Type 0

@@ -37,6 +37,8 @@ pub struct Completion {
     pub treated: Listing<Ambiguity>,
     /// Those that were not, in the order in which they are taken.
     pub waiting: Pending,
+    /// Whether the first reductions of the last round made so few steps that no thread is started for the next ones.
+    pub is_light: bool,
 }
 
 impl Completion {
@@ -69,14 +71,15 @@ impl Completion {
             made: Listing::new(alloc),
             treated: Listing::new(alloc),
             waiting: Pending::new(alloc),
+            is_light: false,
         })
     }
 
     /// The next round, which is round 0 at the first call; first reductions are made on at most as many threads as there
-    /// are workers, from 1 to 64. `Went` comes exactly where the round was made whole, `Closed` exactly where nothing is
-    /// pending after round 0, and `Stopped` exactly where the budget of pairs is spent or the round has a fault, which is
-    /// the first one in the order of the list. But for `Went` the completion stays as it was, and so it does where memory
-    /// is short; then a later call answers the same again.
+    /// are workers, from 1 to 64, and on one behind a light round. `Went` comes exactly where the round was made whole,
+    /// `Closed` exactly where nothing is pending after round 0, and `Stopped` exactly where the budget of pairs is spent or
+    /// the round has a fault, which is the first one in the order of the list. But for `Went` the completion stays as it was,
+    /// and so it does where memory is short; then a later call answers the same again.
     pub fn round<R: Threads + Sync, G: Gate + Sync>(
         &mut self,
         rt: &R,

@@ -102,6 +102,15 @@ fn collect_answers(
     Ok(firsts)
 }
 
+// How many steps the reductions made, in all.
+pub(crate) fn step_count(firsts: &[First]) -> u32 {
+    let mut count: u32 = 0;
+    for first in firsts {
+        count = count.saturating_add(first.reduced.used);
+    }
+    count
+}
+
 // How many of the workers are given work: no more than have a worker's share of the items each, and at least one.
 fn busy_workers(items: usize, workers: u32) -> u32
     requires { 0 < workers }

@@ -19,7 +19,7 @@ ghost use Rattle.cofactor_trace.specs.declared.halt.Place.TheVariants as place;
 ghost use Rattle.traced_completion.specs.Completions.{IsGivingUp, state_of};
 
 use crate::causes::reduction_cause;
-use crate::first_reductions::{Reducer, reduce_all};
+use crate::first_reductions::{Reducer, reduce_all, step_count};
 use crate::generators::reduce_generators;
 use crate::passes::treat_all;
 use crate::{Completion, Step};
@@ -35,6 +35,9 @@ use word_core::Word;
 
 // The greatest number of ambiguities that a round takes.
 const ROUND_LIMIT: usize = 32;
+
+// The number of steps of a round below which starting threads takes longer than they save.
+const LIGHT_STEPS: u32 = 4096;
 
 // Appends the ambiguities.
 fn push_treated(treated: &mut Listing<Ambiguity>, taken: &[Ambiguity]) -> Result<(), AllocError>
@@ -71,6 +74,7 @@ impl Completion {
             (units_first (length (units_in problem.now.parts)) (length problem.now.generators)))
             (recorded (state_of self.old)))) }
         ensures waiting_back { OnErr result (self.new.waiting ≡ self.old.waiting) }
+        ensures light_back { OnErr result (self.new.is_light ≡ self.old.is_light) }
     {
         let generators = problem.generators.as_slice();
         match reduce_generators(
@@ -123,15 +127,19 @@ impl Completion {
         ensures made_front { take (length self.old.made) self.new.made ≡ self.old.made }
         ensures treated_front { take (length self.old.treated) self.new.treated ≡ self.old.treated }
         ensures waiting_back { OnErr result (self.new.waiting ≡ self.old.waiting) }
+        ensures light_back { OnErr result (self.new.is_light ≡ self.old.is_light) }
     {
         let known = self.rules.len();
         let taken = self.waiting.first(alloc, count)?;
         let steps = self.budget.steps;
         let rules = &self.rules;
+        let workers = if self.is_light { 1 } else { workers };
         let firsts = reduce_all(rt, alloc, &Reducer { rules, steps }, &taken, workers, gate)?;
+        let is_light = step_count(firsts.as_slice()) < LIGHT_STEPS;
         treat_all(&mut self.rules, &mut self.made, firsts, steps)?;
         push_treated(&mut self.treated, &taken)?;
         self.waiting.advance(&self.rules, known, count)?;
+        self.is_light = is_light;
         Ok(())
     }
 
@@ -168,6 +176,7 @@ impl Completion {
         ensures made { self.new.made ≡ take rules self.old.made }
         ensures treated { self.new.treated ≡ take treated self.old.treated }
         ensures waiting { self.new.waiting ≡ self.old.waiting }
+        ensures is_light { self.new.is_light ≡ self.old.is_light }
     {
         self.rules.truncate(rules);
         self.made.truncate(rules as usize);
@@ -198,6 +207,7 @@ impl Completion {
         ensures made { self.new.made ≡ take rules self.old.made }
         ensures treated { self.new.treated ≡ take treated self.old.treated }
         ensures waiting { self.new.waiting ≡ self.old.waiting }
+        ensures is_light { self.new.is_light ≡ self.old.is_light }
         ensures stops { IfOk result (IsGivingUp fault self.old.rounds (first_word self.old.waiting)) }
     {
         self.take_back(rules, treated);

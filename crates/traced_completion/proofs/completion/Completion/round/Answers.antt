@@ -91,7 +91,8 @@ returns-in-Err-clause-of_problem g c =
     let back = c.give_up.ensures in
     let same : IsUnchanged old c.give_up.new.self =
     taken_back old c.try_later_round.new.self c.give_up.new.self c.len-rules.result c.len-treated.result c.len-rules.ensures c.len-treated.ensures c.requires.of_problem.records.one_each
-    tried.budget tried.rounds tried.order tried.rules_front tried.made_front tried.treated_front c.in-Err.ensures.waiting_back back.budget back.rounds back.order back.rules back.made back.treated back.waiting in
+    tried.budget tried.rounds tried.order tried.rules_front tried.made_front tried.treated_front c.in-Err.ensures.waiting_back back.budget back.rounds back.order back.rules back.made back.treated back.waiting
+    c.in-Err.ensures.light_back back.is_light in
     stays_completion c.args.problem.now old c.give_up.new.self same c.requires.of_problem
 
 pub returns-in-Err-clause-unchanged : goal.returns-in-Err-clause-unchanged
@@ -101,7 +102,8 @@ returns-in-Err-clause-unchanged g c =
     let back = c.give_up.ensures in
     let same : IsUnchanged old c.give_up.new.self =
     taken_back old c.try_later_round.new.self c.give_up.new.self c.len-rules.result c.len-treated.result c.len-rules.ensures c.len-treated.ensures c.requires.of_problem.records.one_each
-    tried.budget tried.rounds tried.order tried.rules_front tried.made_front tried.treated_front c.in-Err.ensures.waiting_back back.budget back.rounds back.order back.rules back.made back.treated back.waiting in
+    tried.budget tried.rounds tried.order tried.rules_front tried.made_front tried.treated_front c.in-Err.ensures.waiting_back back.budget back.rounds back.order back.rules back.made back.treated back.waiting
+    c.in-Err.ensures.light_back back.is_light in
     IfOk-weaker c.give_up.result _ _ (λ step giving. stays_after step old c.give_up.new.self same) c.give_up.ensures.stops
 
 pub returns-then-self-eq0-clause-exact : goal.returns-then-self-eq0-clause-exact
@@ -127,7 +129,7 @@ pub returns-then-len-eq0-clause-of_problem : goal.returns-then-len-eq0-clause-of
 returns-then-len-eq0-clause-of_problem g c = c.requires.of_problem
 
 pub returns-then-len-eq0-clause-unchanged : goal.returns-then-len-eq0-clause-unchanged
-returns-then-len-eq0-clause-unchanged g c = record { budget = refl; rounds = refl; order = refl; rules = refl; made = refl; treated = refl; waiting = refl }
+returns-then-len-eq0-clause-unchanged g c = record { budget = refl; rounds = refl; order = refl; rules = refl; made = refl; treated = refl; waiting = refl; is_light = refl }
 
 pub returns-then-len-self-clause-exact : goal.returns-then-len-self-clause-exact
 returns-then-len-self-clause-exact g c =
@@ -143,7 +145,7 @@ pub returns-then-len-self-clause-of_problem : goal.returns-then-len-self-clause-
 returns-then-len-self-clause-of_problem g c = c.requires.of_problem
 
 pub returns-then-len-self-clause-unchanged : goal.returns-then-len-self-clause-unchanged
-returns-then-len-self-clause-unchanged g c = record { budget = refl; rounds = refl; order = refl; rules = refl; made = refl; treated = refl; waiting = refl }
+returns-then-len-self-clause-unchanged g c = record { budget = refl; rounds = refl; order = refl; rules = refl; made = refl; treated = refl; waiting = refl; is_light = refl }
 
 pub returns-in_err-spent-clause-of_problem : goal.returns-in_err-spent-clause-of_problem
 returns-in_err-spent-clause-of_problem g c = c.requires.of_problem
@@ -161,7 +163,7 @@ returns-in_err-spent-clause-unchanged g c =
 pub returns-in_err-spent-clause-err : goal.returns-in_err-spent-clause-err
 returns-in_err-spent-clause-err g c =
     let back : c.from_residual.result ≡ Err c.in_err-spent.field-0.0 = search rules in
-    rw back (record { budget = refl; rounds = refl; order = refl; rules = refl; made = refl; treated = refl; waiting = refl })
+    rw back (record { budget = refl; rounds = refl; order = refl; rules = refl; made = refl; treated = refl; waiting = refl; is_light = refl })
 
 pub try_later_round-requires-clause-count : goal.try_later_round-requires-clause-count
 try_later_round-requires-clause-count g c κs within =
@@ -179,5 +181,6 @@ returns-in-Err-clause-err g c =
     let back = c.give_up.ensures in
     let same : IsUnchanged old c.give_up.new.self =
     taken_back old c.try_later_round.new.self c.give_up.new.self c.len-rules.result c.len-treated.result c.len-rules.ensures c.len-treated.ensures c.requires.of_problem.records.one_each
-    tried.budget tried.rounds tried.order tried.rules_front tried.made_front tried.treated_front c.in-Err.ensures.waiting_back back.budget back.rounds back.order back.rules back.made back.treated back.waiting in
+    tried.budget tried.rounds tried.order tried.rules_front tried.made_front tried.treated_front c.in-Err.ensures.waiting_back back.budget back.rounds back.order back.rules back.made back.treated back.waiting
+    c.in-Err.ensures.light_back back.is_light in
     on_error c.give_up.result (IsUnchanged old c.give_up.new.self) same
