@@ -9,7 +9,7 @@ use Rattle.matrix_models.specs.declared.system.LinearRow.{LinearRow}
 use Rattle.matrix_models.specs.declared.system.System.{System}
 use Rattle.matrix_models.specs.Systems.{AreValues, Holds, Solves}
 use Rattle.matrix_models.specs.Greedy.{Extends, CanTake, IsGreedy, HasGreedySolution}
-use Rattle.matrix_models.specs.Blocks.{IsWithin, IsPart, AreBothParts, HasSolution, joined, other_unknowns}
+use Rattle.matrix_models.specs.Blocks.{IsWithin, IsOutside, IsPart, AreBothParts, HasSolution, joined, other_unknowns}
 use Rattle.matrix_models.proofs.GreedySolutions.{can_take_own, same_fronts}
 use Rattle.matrix_models.proofs.GreedyExistence.{has_greedy_solution}
 
@@ -48,10 +48,11 @@ solves_part block s part values is_part solves = record {
     row_holds row contained = subst (λ m. Holds m values row) (sym is_part.same_modulus)
         (All-contains (Holds s.modulus values) s.rows row solves.each_holds contained)
 
--- values that are those of a solution in the block
+-- values that are others in the block
 abbrev AgreeIn : (ℕ → Bool) → List ℕ → List ℕ → Type 0
 AgreeIn block values others = (k : ℕ) → block k ≡ true → get_or values k 0 ≡ get_or others k 0
 
+-- an equation of the part holds with what a solution of the part has in the block
 row_of_part : (block : ℕ → Bool) (s part : System) (solution values : List ℕ) (row : LinearRow) → IsPart block s part
     → Solves part solution → AgreeIn block values solution → Contains part.rows row → Holds s.modulus values row
 row_of_part block s part solution values row is_part solves agree contained =
@@ -63,6 +64,7 @@ row_of_part block s part solution values row is_part solves agree contained =
     told k (inl inside) = inr (agree k inside)
     told k (inr outside) = inl (All-contains (IsWithin block) part.rows row is_part.within_block contained k outside)
 
+-- and so do all of them
 part_solved : (block : ℕ → Bool) (s part : System) (solution values : List ℕ) → IsPart block s part
     → Solves part solution → AreValues s values → AgreeIn block values solution → Solves part values
 part_solved block s part solution values is_part solves are_values agree = record {
@@ -74,7 +76,7 @@ part_solved block s part solution values is_part solves are_values agree = recor
     row_holds row contained = subst (λ m. Holds m values row) (sym is_part.same_modulus)
         (row_of_part block s part solution values row is_part solves agree contained)
 
--- of one of the part in the block, and of one of the system outside it
+-- values that are those of a solution of the part in the block, and of one of the system outside it
 system_solved : (block : ℕ → Bool) (s part : System) (solution others values : List ℕ) → IsPart block s part
     → Solves part solution → Solves s others → AreValues s values
     → AgreeIn block values solution → AgreeIn (other_unknowns block) values others → Solves s values
@@ -83,8 +85,7 @@ system_solved block s part solution others values is_part solves solves_too are_
   each_holds = λ k d within. row_holds _ (solves_too.each_holds k d within) (is_part.others_outside k d within);
 }
   where
-    row_holds : (row : LinearRow) → Holds s.modulus others row → Contains part.rows row ⊎ ((k : ℕ) → block k ≡ true → get_or row.factors k 0 ≡ 0)
-        → Holds s.modulus values row
+    row_holds : (row : LinearRow) → Holds s.modulus others row → Contains part.rows row ⊎ IsOutside block row → Holds s.modulus values row
     row_holds row holds (inl contained) = row_of_part block s part solution values row is_part solves inside contained
     row_holds row holds (inr none) = holds_alike s.modulus row others values (λ k. told k (cases_Bool (block k))) holds
       where
@@ -124,9 +125,13 @@ joined_are_values : (block : ℕ → Bool) (s : System) (values others : List �
     → AreValues s (joined block s.unknowns values others)
 joined_are_values block s values others first second = record {
   one_each = length-joined block s.unknowns values others;
-  below = All-from_get_or (λ value. value < s.modulus) (joined block s.unknowns values others) 0 (λ k within. small k (omega (arith, within, length-joined block s.unknowns values others)) (cases_Bool (block k)));
+  below = All-from_get_or (λ value. value < s.modulus) (joined block s.unknowns values others) 0
+      (λ k within. small k (subst (λ n. k < n) size within) (cases_Bool (block k)));
 }
   where
+    size : length (joined block s.unknowns values others) ≡ s.unknowns
+    size = length-joined block s.unknowns values others
+
     small : (k : ℕ) → k < s.unknowns → (block k ≡ true) ⊎ (block k ≡ false) → get_or (joined block s.unknowns values others) k 0 < s.modulus
     small k within (inl inside) = subst (λ x. x < s.modulus) (sym (joined-in block s.unknowns values others first.one_each k inside))
         (All-get_or (λ value. value < s.modulus) values k 0 (omega (arith, first.one_each, within)) first.below)
@@ -140,6 +145,7 @@ record IsTaken (s : System) (values : List ℕ) (place value : ℕ) (solution : 
   same_before : (k : ℕ) → k < place → get_or solution k 0 ≡ get_or values k 0
   here : get_or solution place 0 ≡ value
 
+-- the one that the value's own record has
 taken_by : (s : System) (values : List ℕ) (place value : ℕ) → place < s.unknowns → length values ≡ s.unknowns
     → (can : CanTake s values place value) → IsTaken s values place value (take place values ++ value ∷ [] ++ can.rest)
 taken_by s values place value within size can = record {
@@ -157,6 +163,7 @@ taken_by s values place value within size can = record {
     front_size : length (take place values) ≡ place
     front_size = length-take-le place values (omega (arith, size, within))
 
+-- any such solution will do
 can_take : (s : System) (values solution : List ℕ) (place value : ℕ) → place < s.unknowns → length values ≡ s.unknowns
     → IsTaken s values place value solution → CanTake s values place value
 can_take s values solution place value within size taken =

@@ -11,3 +11,4 @@ pub mod GreedyExistence
 pub mod Blocks
 mod Examples
 mod SystemExamples
+mod BlockExamples

@@ -43,7 +43,7 @@ pub record HasSolution (s : System) : Type 0 where
   pub values : List ℕ
   pub solves : Solves s values
 
--- A system has a solution where both parts have one.
+-- A system has a solution exactly where both parts have one.
 abbrev pub SystemsAreSolvableByParts : Type 0
 SystemsAreSolvableByParts = (block : ℕ → Bool) (s inside outside : System) → AreBothParts block s inside outside
     → HasSolution s ↔ (HasSolution inside × HasSolution outside)

@@ -19,7 +19,7 @@ pub fn blocks_are_solved_apart()
     ensures { BlocksAreSolvedApart }
 {}
 
-/// A system that falls into two parts has a solution where both parts have one.
+/// A system of two parts has a solution exactly where both parts have one.
 pub fn systems_are_solvable_by_parts()
     ensures { SystemsAreSolvableByParts }
 {}
