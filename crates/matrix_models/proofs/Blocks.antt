@@ -1,6 +1,8 @@
 -- Blocks of unknowns that are solved apart: what holds of an equation is told by the unknowns that it has.
-use Rattle.std.proofs.Common.{◌≡◌, ◌↔◌, ℕ, zero, suc, ◌*◌, ◌%◌, ◌<◌, ◌≤◌, Bool, true, false, cond, List, [], ◌∷◌, ◌++◌, All, Contains, length, get_or, take, ◌⊎◌, inl, inr, sym, ap, ap₂, subst, ◌∙◌, arith, zero-mul}
-use Rattle.std.proofs.lemmas.Bool.{cases_Bool, cases_eq, cases_lt, cond-true, cond-false, not-true, not_from_false}
+use Rattle.std.proofs.Common.{◌≡◌, ◌↔◌, ℕ, zero, suc, ◌*◌, ◌%◌, ◌<◌, ◌≤◌, Bool, true, false, cond, List, [], ◌∷◌, ◌++◌, All, Contains, length, map, get_or, take, ◌⊎◌, inl, inr, refl, sym, ap, ap₂, subst, ◌∙◌, arith}
+use Rattle.std.proofs.Common.{zero-mul}
+use Rattle.std.specs.List.{range_with_len}
+use Rattle.std.proofs.lemmas.Bool.{cases_Bool, cases_eq, cases_lt, cond-true, cond-false, cond_both, eqb-true, eq-eqb}
 use Rattle.std.proofs.lemmas.List.{get_or_at, get_or_append_left, get_or_past, get_or-take, length-take-le, append_assoc, ext_get_or}
 use Rattle.std.proofs.lemmas.List.Elements.{All-contains, All-contains_itself, All-from_get_or, All-get_or, All-weaker}
 use Rattle.std.proofs.lemmas.List.FromFn.{get_or-map-range_with_len, length-map-range_with_len}
@@ -9,7 +11,7 @@ use Rattle.matrix_models.specs.declared.system.LinearRow.{LinearRow}
 use Rattle.matrix_models.specs.declared.system.System.{System}
 use Rattle.matrix_models.specs.Systems.{AreValues, Holds, Solves}
 use Rattle.matrix_models.specs.Greedy.{Extends, CanTake, IsGreedy, HasGreedySolution}
-use Rattle.matrix_models.specs.Blocks.{IsWithin, IsOutside, IsPart, AreBothParts, HasSolution, joined, other_unknowns}
+use Rattle.matrix_models.specs.Blocks.{IsWithin, IsOutside, IsPart, numbered, AreParts, HasSolution, joined}
 use Rattle.matrix_models.proofs.GreedySolutions.{can_take_own, same_fronts}
 use Rattle.matrix_models.proofs.GreedyExistence.{has_greedy_solution}
 
@@ -48,9 +50,12 @@ solves_part block s part values is_part solves = record {
     row_holds row contained = subst (λ m. Holds m values row) (sym is_part.same_modulus)
         (All-contains (Holds s.modulus values) s.rows row solves.each_holds contained)
 
--- values that are others in the block
+-- values that are others in the block, and outside it
 abbrev AgreeIn : (ℕ → Bool) → List ℕ → List ℕ → Type 0
 AgreeIn block values others = (k : ℕ) → block k ≡ true → get_or values k 0 ≡ get_or others k 0
+
+abbrev AgreeOutside : (ℕ → Bool) → List ℕ → List ℕ → Type 0
+AgreeOutside block values others = (k : ℕ) → block k ≡ false → get_or values k 0 ≡ get_or others k 0
 
 -- an equation of the part holds with what a solution of the part has in the block
 row_of_part : (block : ℕ → Bool) (s part : System) (solution values : List ℕ) (row : LinearRow) → IsPart block s part
@@ -79,7 +84,7 @@ part_solved block s part solution values is_part solves are_values agree = recor
 -- values that are those of a solution of the part in the block, and of one of the system outside it
 system_solved : (block : ℕ → Bool) (s part : System) (solution others values : List ℕ) → IsPart block s part
     → Solves part solution → Solves s others → AreValues s values
-    → AgreeIn block values solution → AgreeIn (other_unknowns block) values others → Solves s values
+    → AgreeIn block values solution → AgreeOutside block values others → Solves s values
 system_solved block s part solution others values is_part solves solves_too are_values inside outside = record {
   are_values = are_values;
   each_holds = λ k d within. row_holds _ (solves_too.each_holds k d within) (is_part.others_outside k d within);
@@ -91,53 +96,62 @@ system_solved block s part solution others values is_part solves solves_too are_
       where
         told : (k : ℕ) → (block k ≡ true) ⊎ (block k ≡ false) → (get_or row.factors k 0 ≡ 0) ⊎ (get_or values k 0 ≡ get_or others k 0)
         told k (inl in_block) = inl (none k in_block)
-        told k (inr not_in_block) = inr (outside k (not_from_false (block k) not_in_block))
+        told k (inr not_in_block) = inr (outside k not_in_block)
 
--- values that are joined
-joined-at : (block : ℕ → Bool) (n : ℕ) (values others : List ℕ) (k : ℕ) → k < n
-    → get_or (joined block n values others) k 0 ≡ cond (block k) (get_or values k 0) (get_or others k 0)
-joined-at block n values others k within =
-    get_or-map-range_with_len (λ place. cond (block place) (get_or values place 0) (get_or others place 0)) 0 n k k 0 within (omega arith)
+-- values that are chosen from lists, from one list at each place
+abbrev chosen : ℕ → (ℕ → List ℕ) → List ℕ
+chosen n lists = map (λ place. get_or (lists place) place 0) (range_with_len 0 n)
 
-length-joined : (block : ℕ → Bool) (n : ℕ) (values others : List ℕ) → length (joined block n values others) ≡ n
-length-joined block n values others =
-    length-map-range_with_len (λ place. cond (block place) (get_or values place 0) (get_or others place 0)) 0 n
+length-chosen : (n : ℕ) (lists : ℕ → List ℕ) → length (chosen n lists) ≡ n
+length-chosen n lists = length-map-range_with_len (λ place. get_or (lists place) place 0) 0 n
 
-joined-in : (block : ℕ → Bool) (n : ℕ) (values others : List ℕ) → length values ≡ n → AgreeIn block (joined block n values others) values
-joined-in block n values others size k inside = go (cases_lt k n)
+chosen-at : (n : ℕ) (lists : ℕ → List ℕ) (k : ℕ) → length (lists k) ≡ n → get_or (chosen n lists) k 0 ≡ get_or (lists k) k 0
+chosen-at n lists k size = go (cases_lt k n)
   where
-    go : (k < n) ⊎ (n ≤ k) → get_or (joined block n values others) k 0 ≡ get_or values k 0
-    go (inl within) = joined-at block n values others k within ∙ cond-true (block k) (get_or values k 0) (get_or others k 0) inside
-    go (inr past) = get_or_past (joined block n values others) k 0 (omega (arith, length-joined block n values others))
-        ∙ sym (get_or_past values k 0 (omega arith))
+    go : (k < n) ⊎ (n ≤ k) → get_or (chosen n lists) k 0 ≡ get_or (lists k) k 0
+    go (inl within) = get_or-map-range_with_len (λ place. get_or (lists place) place 0) 0 n k k 0 within (omega arith)
+    go (inr past) =
+        get_or_past (chosen n lists) k 0 (omega (arith, length-chosen n lists))
+        ∙ sym (get_or_past (lists k) k 0 (omega arith))
 
-joined-out : (block : ℕ → Bool) (n : ℕ) (values others : List ℕ) → length others ≡ n
-    → AgreeIn (other_unknowns block) (joined block n values others) others
-joined-out block n values others size k outside = go (cases_lt k n)
-  where
-    go : (k < n) ⊎ (n ≤ k) → get_or (joined block n values others) k 0 ≡ get_or others k 0
-    go (inl within) = joined-at block n values others k within
-        ∙ cond-false (block k) (get_or values k 0) (get_or others k 0) (not-true (block k) outside)
-    go (inr past) = get_or_past (joined block n values others) k 0 (omega (arith, length-joined block n values others))
-        ∙ sym (get_or_past others k 0 (omega arith))
+-- from the list that stands at the place
+chosen-from : (n : ℕ) (lists : ℕ → List ℕ) (k : ℕ) (values : List ℕ) → length values ≡ n → lists k ≡ values
+    → get_or (chosen n lists) k 0 ≡ get_or values k 0
+chosen-from n lists k values size same = chosen-at n lists k (ap length same ∙ size) ∙ ap (λ list. get_or list k 0) same
 
-joined_are_values : (block : ℕ → Bool) (s : System) (values others : List ℕ) → AreValues s values → AreValues s others
-    → AreValues s (joined block s.unknowns values others)
-joined_are_values block s values others first second = record {
-  one_each = length-joined block s.unknowns values others;
-  below = All-from_get_or (λ value. value < s.modulus) (joined block s.unknowns values others) 0
-      (λ k within. small k (subst (λ n. k < n) size within) (cases_Bool (block k)));
+chosen_are_values : (s : System) (lists : ℕ → List ℕ) → ((k : ℕ) → k < s.unknowns → AreValues s (lists k))
+    → AreValues s (chosen s.unknowns lists)
+chosen_are_values s lists are_values = record {
+  one_each = length-chosen s.unknowns lists;
+  below = All-from_get_or (λ value. value < s.modulus) (chosen s.unknowns lists) 0
+      (λ k within. small k (subst (λ n. k < n) (length-chosen s.unknowns lists) within));
 }
   where
-    size : length (joined block s.unknowns values others) ≡ s.unknowns
-    size = length-joined block s.unknowns values others
+    small : (k : ℕ) → k < s.unknowns → get_or (chosen s.unknowns lists) k 0 < s.modulus
+    small k within =
+        let here : AreValues s (lists k) = are_values k within in
+        subst (λ x. x < s.modulus) (sym (chosen-at s.unknowns lists k here.one_each))
+        (All-get_or (λ value. value < s.modulus) (lists k) k 0 (omega (arith, here.one_each, within)) here.below)
 
-    small : (k : ℕ) → k < s.unknowns → (block k ≡ true) ⊎ (block k ≡ false) → get_or (joined block s.unknowns values others) k 0 < s.modulus
-    small k within (inl inside) = subst (λ x. x < s.modulus) (sym (joined-in block s.unknowns values others first.one_each k inside))
-        (All-get_or (λ value. value < s.modulus) values k 0 (omega (arith, first.one_each, within)) first.below)
-    small k within (inr outside) =
-        subst (λ x. x < s.modulus) (sym (joined-out block s.unknowns values others second.one_each k (not_from_false (block k) outside)))
-        (All-get_or (λ value. value < s.modulus) others k 0 (omega (arith, second.one_each, within)) second.below)
+-- from one list in the block, and from another outside it
+mixed : (ℕ → Bool) → ℕ → List ℕ → List ℕ → List ℕ
+mixed block n values others = chosen n (λ place. cond (block place) values others)
+
+mixed-in : (block : ℕ → Bool) (n : ℕ) (values others : List ℕ) → length values ≡ n → AgreeIn block (mixed block n values others) values
+unfolding mixed
+mixed-in block n values others size k inside =
+    chosen-from n (λ place. cond (block place) values others) k values size (cond-true (block k) values others inside)
+
+mixed-out : (block : ℕ → Bool) (n : ℕ) (values others : List ℕ) → length others ≡ n → AgreeOutside block (mixed block n values others) others
+unfolding mixed
+mixed-out block n values others size k outside =
+    chosen-from n (λ place. cond (block place) values others) k others size (cond-false (block k) values others outside)
+
+mixed_are_values : (block : ℕ → Bool) (s : System) (values others : List ℕ) → AreValues s values → AreValues s others
+    → AreValues s (mixed block s.unknowns values others)
+unfolding mixed
+mixed_are_values block s values others first second =
+    chosen_are_values s (λ place. cond (block place) values others) (λ k _. cond_both (block k) values others (AreValues s) (λ _. first) (λ _. second))
 
 -- a solution that shows that an unknown can take a value
 record IsTaken (s : System) (values : List ℕ) (place value : ℕ) (solution : List ℕ) : Type 0 where
@@ -181,7 +195,7 @@ in_part : (block : ℕ → Bool) (s part : System) (values others : List ℕ) (p
 in_part block s part values others place value is_part are_values solves within in_block before can =
     can_take part others solution place value (omega (arith, within, is_part.same_unknowns)) solves.are_values.one_each (record {
       solves = part_solved block s part taking solution is_part taking_solves
-          (joined_are_values block s taking others taken.solves.are_values others_are_values) agree;
+          (mixed_are_values block s taking others taken.solves.are_values others_are_values) agree;
       same_before = λ k earlier. same k earlier (cases_Bool (block k));
       here = agree place in_block ∙ taken.here;
     })
@@ -199,14 +213,14 @@ in_part block s part values others place value is_part are_values solves within 
     others_are_values = values_of_system block s part others is_part solves.are_values
 
     solution : List ℕ
-    solution = joined block s.unknowns taking others
+    solution = mixed block s.unknowns taking others
 
     agree : AgreeIn block solution taking
-    agree = joined-in block s.unknowns taking others taken.solves.are_values.one_each
+    agree = mixed-in block s.unknowns taking others taken.solves.are_values.one_each
 
     same : (k : ℕ) → k < place → (block k ≡ true) ⊎ (block k ≡ false) → get_or solution k 0 ≡ get_or others k 0
     same k earlier (inl inside) = agree k inside ∙ taken.same_before k earlier ∙ before k earlier inside
-    same k earlier (inr outside) = joined-out block s.unknowns taking others others_are_values.one_each k (not_from_false (block k) outside)
+    same k earlier (inr outside) = mixed-out block s.unknowns taking others others_are_values.one_each k outside
 
 -- and in the system
 in_system : (block : ℕ → Bool) (s part : System) (values others : List ℕ) (place value : ℕ) → IsPart block s part
@@ -216,7 +230,7 @@ in_system : (block : ℕ → Bool) (s part : System) (values others : List ℕ) 
 in_system block s part values others place value is_part solves are_values within in_block before can =
     can_take s values solution place value within solves.are_values.one_each (record {
       solves = system_solved block s part taking values solution is_part taken.solves solves
-          (joined_are_values block s taking values taking_are_values solves.are_values) inside_agrees outside_agrees;
+          (mixed_are_values block s taking values taking_are_values solves.are_values) inside_agrees outside_agrees;
       same_before = λ k earlier. same k earlier (cases_Bool (block k));
       here = inside_agrees place in_block ∙ taken.here;
     })
@@ -231,17 +245,17 @@ in_system block s part values others place value is_part solves are_values withi
     taking_are_values = values_of_system block s part taking is_part taken.solves.are_values
 
     solution : List ℕ
-    solution = joined block s.unknowns taking values
+    solution = mixed block s.unknowns taking values
 
     inside_agrees : AgreeIn block solution taking
-    inside_agrees = joined-in block s.unknowns taking values taking_are_values.one_each
+    inside_agrees = mixed-in block s.unknowns taking values taking_are_values.one_each
 
-    outside_agrees : AgreeIn (other_unknowns block) solution values
-    outside_agrees = joined-out block s.unknowns taking values solves.are_values.one_each
+    outside_agrees : AgreeOutside block solution values
+    outside_agrees = mixed-out block s.unknowns taking values solves.are_values.one_each
 
     same : (k : ℕ) → k < place → (block k ≡ true) ⊎ (block k ≡ false) → get_or solution k 0 ≡ get_or values k 0
     same k earlier (inl inside) = inside_agrees k inside ∙ taken.same_before k earlier ∙ sym (before k earlier inside)
-    same k earlier (inr outside) = outside_agrees k (not_from_false (block k) outside)
+    same k earlier (inr outside) = outside_agrees k outside
 
 -- two choices by one preferred number, among the same numbers
 same_choice : (Can CanToo : ℕ → Type 0) (liked value other : ℕ) → ((x : ℕ) → Can x → CanToo x) → ((x : ℕ) → CanToo x → Can x)
@@ -286,62 +300,81 @@ blocks_solved_apart block s part prefer values others is_part greedy greedy_part
         go (inl last) earlier = one_place place (omega arith) inside (λ k sooner. earlier k (omega arith))
         go (inr other) earlier = earlier place (omega arith) inside
 
--- solutions of both parts are joined to one of the system
-joined_solves : (block : ℕ → Bool) (s inside outside : System) (values others : List ℕ) → AreBothParts block s inside outside
-    → Solves inside values → Solves outside others → Solves s (joined block s.unknowns values others)
-joined_solves block s inside outside values others parts first second = record {
-  are_values = joined_are_values block s values others first_are_values second_are_values;
-  each_holds = λ k d within. row_holds _ (parts.each_row k d within);
+-- the parts' solutions, joined: in each block they are those of its part
+joined-in : (block_of : ℕ → ℕ) (n : ℕ) (solutions : ℕ → List ℕ) (number : ℕ) → length (solutions number) ≡ n
+    → AgreeIn (numbered block_of number) (joined block_of n solutions) (solutions number)
+joined-in block_of n solutions number size k inside =
+    chosen-from n (λ place. solutions (block_of place)) k (solutions number) size (ap solutions (eqb-true (block_of k) number inside))
+
+joined_solves : (block_of : ℕ → ℕ) (count : ℕ) (s : System) (parts : ℕ → System) (solutions : ℕ → List ℕ) → AreParts block_of count s parts
+    → ((number : ℕ) → number < count → Solves (parts number) (solutions number)) → Solves s (joined block_of s.unknowns solutions)
+joined_solves block_of count s parts solutions are_parts solves = record {
+  are_values = chosen_are_values s (λ place. solutions (block_of place)) (λ k within. values_at (block_of k) (are_parts.each_unknown k within));
+  each_holds = λ k d within. row_holds _ (are_parts.each_row k d within);
 }
   where
-    first_are_values : AreValues s values
-    first_are_values = values_of_system block s inside values parts.for_block first.are_values
+    values_at : (number : ℕ) → number < count → AreValues s (solutions number)
+    values_at number below = values_of_system (numbered block_of number) s (parts number) (solutions number)
+        (are_parts.each_part number below) (solves number below).are_values
 
-    second_are_values : AreValues s others
-    second_are_values = values_of_system (other_unknowns block) s outside others parts.for_others second.are_values
+    row_holds : (row : LinearRow) → (number : ℕ) × (number < count) × Contains (parts number).rows row
+        → Holds s.modulus (joined block_of s.unknowns solutions) row
+    row_holds row (number, below, contained) =
+        row_of_part (numbered block_of number) s (parts number) (solutions number) (joined block_of s.unknowns solutions) row
+        (are_parts.each_part number below) (solves number below)
+        (joined-in block_of s.unknowns solutions number (values_at number below).one_each) contained
 
-    solution : List ℕ
-    solution = joined block s.unknowns values others
+-- the solutions that there are below the count
+found_solution : (count : ℕ) (parts : ℕ → System) (has : (number : ℕ) → number < count → HasSolution (parts number)) (number : ℕ)
+    → (number < count) ⊎ (count ≤ number) → List ℕ
+found_solution count parts has number (inl below) = (has number below).values
+found_solution count parts has number (inr past) = []
 
-    row_holds : (row : LinearRow) → Contains inside.rows row ⊎ Contains outside.rows row → Holds s.modulus solution row
-    row_holds row (inl contained) = row_of_part block s inside values solution row parts.for_block first
-        (joined-in block s.unknowns values others first_are_values.one_each) contained
-    row_holds row (inr contained) = row_of_part (other_unknowns block) s outside others solution row parts.for_others second
-        (joined-out block s.unknowns values others second_are_values.one_each) contained
+found_solves : (count : ℕ) (parts : ℕ → System) (has : (number : ℕ) → number < count → HasSolution (parts number)) (number : ℕ) → number < count
+    → (told : (number < count) ⊎ (count ≤ number)) → Solves (parts number) (found_solution count parts has number told)
+unfolding found_solution
+found_solves count parts has number below (inl again) = (has number again).solves
+found_solves count parts has number below (inr past) = absurd (omega arith)
 
-pub solvable_by_parts : (block : ℕ → Bool) (s inside outside : System) → AreBothParts block s inside outside
-    → HasSolution s ↔ (HasSolution inside × HasSolution outside)
-solvable_by_parts block s inside outside parts = (
-  λ has. (
-    record { values = has.values; solves = solves_part block s inside has.values parts.for_block has.solves },
-    record { values = has.values; solves = solves_part (other_unknowns block) s outside has.values parts.for_others has.solves },
-  ),
-  λ both. record {
-    values = joined block s.unknowns both.0.values both.1.values;
-    solves = joined_solves block s inside outside both.0.values both.1.values parts both.0.solves both.1.solves;
+pub solvable_by_parts : (block_of : ℕ → ℕ) (count : ℕ) (s : System) (parts : ℕ → System) → AreParts block_of count s parts
+    → HasSolution s ↔ ((number : ℕ) → number < count → HasSolution (parts number))
+solvable_by_parts block_of count s parts are_parts = (
+  λ has number below. record {
+    values = has.values;
+    solves = solves_part (numbered block_of number) s (parts number) has.values (are_parts.each_part number below) has.solves;
+  },
+  λ has. record {
+    values = joined block_of s.unknowns (λ number. found_solution count parts has number (cases_lt number count));
+    solves = joined_solves block_of count s parts (λ number. found_solution count parts has number (cases_lt number count)) are_parts
+        (λ number below. found_solves count parts has number below (cases_lt number count));
   },
 )
 
-pub greedy_joined : (block : ℕ → Bool) (s inside outside : System) (prefer values others : List ℕ) → AreBothParts block s inside outside
-    → IsGreedy inside prefer values → IsGreedy outside prefer others → IsGreedy s prefer (joined block s.unknowns values others)
-greedy_joined block s inside outside prefer values others parts first second = subst (IsGreedy s prefer) same whole.greedy
+pub greedy_joined : (block_of : ℕ → ℕ) (count : ℕ) (s : System) (parts : ℕ → System) (prefer : List ℕ) (solutions : ℕ → List ℕ)
+    → AreParts block_of count s parts → ((number : ℕ) → number < count → IsGreedy (parts number) prefer (solutions number))
+    → IsGreedy s prefer (joined block_of s.unknowns solutions)
+greedy_joined block_of count s parts prefer solutions are_parts greedy = subst (IsGreedy s prefer) same whole.greedy
   where
     solution : List ℕ
-    solution = joined block s.unknowns values others
+    solution = joined block_of s.unknowns solutions
+
+    solves : Solves s solution
+    solves = joined_solves block_of count s parts solutions are_parts (λ number below. (greedy number below).solves)
 
     whole : HasGreedySolution s prefer
-    whole = has_greedy_solution s prefer solution (joined_solves block s inside outside values others parts first.solves second.solves)
+    whole = has_greedy_solution s prefer solution solves
+
+    size : length whole.values ≡ s.unknowns
+    size = whole.greedy.solves.are_values.one_each
+
+    one_place : (k : ℕ) → k < s.unknowns → get_or whole.values k 0 ≡ get_or solution k 0
+    one_place k within =
+        let below : block_of k < count = are_parts.each_unknown k within in
+        let is_part : IsPart (numbered block_of (block_of k)) s (parts (block_of k)) = are_parts.each_part (block_of k) below in
+        let part_greedy : IsGreedy (parts (block_of k)) prefer (solutions (block_of k)) = greedy (block_of k) below in
+        blocks_solved_apart (numbered block_of (block_of k)) s (parts (block_of k)) prefer whole.values (solutions (block_of k)) is_part
+        whole.greedy part_greedy k within (eq-eqb (block_of k) (block_of k) refl)
+        ∙ sym (chosen-at s.unknowns (λ place. solutions (block_of place)) k (part_greedy.solves.are_values.one_each ∙ is_part.same_unknowns))
 
     same : whole.values ≡ solution
-    same = ext_get_or 0 whole.values solution
-        (whole.greedy.solves.are_values.one_each ∙ sym (length-joined block s.unknowns values others))
-        (λ k within. one_place k (omega (arith, within, whole.greedy.solves.are_values.one_each)) (cases_Bool (block k)))
-      where
-        one_place : (k : ℕ) → k < s.unknowns → (block k ≡ true) ⊎ (block k ≡ false) → get_or whole.values k 0 ≡ get_or solution k 0
-        one_place k within (inl in_block) =
-            blocks_solved_apart block s inside prefer whole.values values parts.for_block whole.greedy first k within in_block
-            ∙ sym (joined-in block s.unknowns values others (first.solves.are_values.one_each ∙ parts.for_block.same_unknowns) k in_block)
-        one_place k within (inr not_in_block) =
-            let is_other = not_from_false (block k) not_in_block in
-            blocks_solved_apart (other_unknowns block) s outside prefer whole.values others parts.for_others whole.greedy second k within is_other
-            ∙ sym (joined-out block s.unknowns values others (second.solves.are_values.one_each ∙ parts.for_others.same_unknowns) k is_other)
+    same = ext_get_or 0 whole.values solution (size ∙ sym solves.are_values.one_each) (λ k within. one_place k (omega (arith, within, size)))

@@ -1,14 +1,10 @@
 -- Blocks of unknowns that share no equation with the other unknowns, and how they are solved apart.
-use Rattle.std.specs.Prelude.{◌≡◌, ◌↔◌, ◌⊎◌, ℕ, ◌<◌, Bool, not, IsTrue, IsFalse, List, map, get_or, All, Contains, if◌then◌else◌}
+use Rattle.std.specs.Prelude.{◌≡◌, ◌↔◌, ◌⊎◌, ℕ, ◌<◌, Bool, nat_eq, IsTrue, IsFalse, List, map, get_or, All, Contains}
 use Rattle.std.specs.List.{range_with_len}
 use Rattle.matrix_models.specs.declared.system.LinearRow.{LinearRow}
 use Rattle.matrix_models.specs.declared.system.System.{System}
 use Rattle.matrix_models.specs.Systems.{Solves}
 use Rattle.matrix_models.specs.Greedy.{IsGreedy}
-
--- the unknowns that are not in the block
-abbrev pub other_unknowns : (ℕ → Bool) → ℕ → Bool
-other_unknowns block place = not (block place)
 
 -- Each unknown that is not in the block has the factor 0.
 abbrev pub IsWithin : (ℕ → Bool) → LinearRow → Type 0
@@ -32,28 +28,32 @@ BlocksAreSolvedApart = (block : ℕ → Bool) (s part : System) (prefer values o
     → IsGreedy s prefer values → IsGreedy part prefer others
     → (place : ℕ) → place < s.unknowns → IsTrue (block place) → get_or values place 0 ≡ get_or others place 0
 
--- Two parts, one for a block and one for the other unknowns, that have all equations.
-pub record AreBothParts (block : ℕ → Bool) (s inside outside : System) : Type 0 where
-  pub for_block : IsPart block s inside
-  pub for_others : IsPart (other_unknowns block) s outside
-  pub each_row : All (λ row. Contains inside.rows row ⊎ Contains outside.rows row) s.rows
+-- the unknowns of the block with this number
+abbrev pub numbered : (ℕ → ℕ) → ℕ → ℕ → Bool
+numbered block_of number place = nat_eq (block_of place) number
+
+-- Parts for blocks that are numbered below the count. Each unknown is in a block, and each equation is in a part.
+pub record AreParts (block_of : ℕ → ℕ) (count : ℕ) (s : System) (parts : ℕ → System) : Type 0 where
+  pub each_part : (number : ℕ) → number < count → IsPart (numbered block_of number) s (parts number)
+  pub each_unknown : (place : ℕ) → place < s.unknowns → block_of place < count
+  pub each_row : All (λ row. (number : ℕ) × (number < count) × Contains (parts number).rows row) s.rows
 
 -- There are values that solve the system.
 pub record HasSolution (s : System) : Type 0 where
   pub values : List ℕ
   pub solves : Solves s values
 
--- A system has a solution exactly where both parts have one.
+-- A system has a solution exactly where each of its parts has one.
 abbrev pub SystemsAreSolvableByParts : Type 0
-SystemsAreSolvableByParts = (block : ℕ → Bool) (s inside outside : System) → AreBothParts block s inside outside
-    → HasSolution s ↔ (HasSolution inside × HasSolution outside)
+SystemsAreSolvableByParts = (block_of : ℕ → ℕ) (count : ℕ) (s : System) (parts : ℕ → System) → AreParts block_of count s parts
+    → HasSolution s ↔ ((number : ℕ) → number < count → HasSolution (parts number))
 
--- the values of the first list in the block, and those of the second outside it
-abbrev pub joined : (ℕ → Bool) → ℕ → List ℕ → List ℕ → List ℕ
-joined block unknowns values others =
-    map (λ place. if block place then get_or values place 0 else get_or others place 0) (range_with_len 0 unknowns)
+-- each unknown's value in the list of its block
+abbrev pub joined : (ℕ → ℕ) → ℕ → (ℕ → List ℕ) → List ℕ
+joined block_of unknowns lists = map (λ place. get_or (lists (block_of place)) place 0) (range_with_len 0 unknowns)
 
--- Greedy solutions of both parts are joined to one of the system.
+-- The greedy solutions of the parts, joined, are one of the system.
 abbrev pub GreedySolutionsAreJoined : Type 0
-GreedySolutionsAreJoined = (block : ℕ → Bool) (s inside outside : System) (prefer values others : List ℕ) → AreBothParts block s inside outside
-    → IsGreedy inside prefer values → IsGreedy outside prefer others → IsGreedy s prefer (joined block s.unknowns values others)
+GreedySolutionsAreJoined = (block_of : ℕ → ℕ) (count : ℕ) (s : System) (parts : ℕ → System) (prefer : List ℕ) (solutions : ℕ → List ℕ)
+    → AreParts block_of count s parts → ((number : ℕ) → number < count → IsGreedy (parts number) prefer (solutions number))
+    → IsGreedy s prefer (joined block_of s.unknowns solutions)

@@ -19,12 +19,12 @@ pub fn blocks_are_solved_apart()
     ensures { BlocksAreSolvedApart }
 {}
 
-/// A system of two parts has a solution exactly where both parts have one.
+/// A system whose unknowns fall into blocks has a solution exactly where each block's part has one.
 pub fn systems_are_solvable_by_parts()
     ensures { SystemsAreSolvableByParts }
 {}
 
-/// The greedy solutions of both parts, joined, are the greedy solution of the system.
+/// The greedy solutions of the parts, joined, are the greedy solution of the system.
 pub fn greedy_solutions_are_joined()
     ensures { GreedySolutionsAreJoined }
 {}
