@@ -17,7 +17,7 @@ use Rattle.matrix_models.proofs.BackSolving.{IsSolvedTo, pivot_sum, meets-solved
 use Rattle.matrix_models.proofs.Reduction.{meets-solution, holds_from_meets}
 
 -- a solution shows that each unknown can take its value in it
-can_take_own : (s : System) (values : List ℕ) (place : ℕ) → place < s.unknowns → Solves s values → CanTake s values place (get_or values place 0)
+pub can_take_own : (s : System) (values : List ℕ) (place : ℕ) → place < s.unknowns → Solves s values → CanTake s values place (get_or values place 0)
 can_take_own s values place within solves = record {
   rest = drop (place + 1) values;
   solves = subst (Solves s) (sym (ap (λ x. x ++ drop (place + 1) values) (sym (take_more values place 0 (omega (arith, solves.are_values.one_each, within)))) ∙ take-append-drop (place + 1) values)) solves;

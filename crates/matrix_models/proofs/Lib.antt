@@ -8,5 +8,7 @@ pub mod Reduction
 pub mod AddedEquations
 pub mod GreedySolutions
 pub mod GreedyExistence
+pub mod Blocks
 mod Examples
 mod SystemExamples
+mod BlockExamples

@@ -6,5 +6,6 @@ pub mod Entries
 pub mod Laws
 pub mod Systems
 pub mod Greedy
+pub mod Blocks
 pub mod Elimination
 pub mod Pivots

@@ -14,7 +14,10 @@ mod system;
 
 pub use fault::MatrixFault;
 pub use greedy::solve;
-pub use laws::{greedy_solution_is_unique, solvable_systems_have_a_greedy_solution};
+pub use laws::{
+    blocks_are_solved_apart, greedy_solution_is_unique, greedy_solutions_are_joined,
+    solvable_systems_have_a_greedy_solution, systems_are_solvable_by_parts,
+};
 pub use matrices::Matrices;
 pub use matrix::{MODULUS_LIMIT, Matrix, SIDE_LIMIT};
 pub use model::Model;
