@@ -3,6 +3,7 @@ pub mod Products
 pub mod Congruences
 pub mod Primes
 pub mod Rows
+pub mod Stretches
 pub mod BackSolving
 pub mod Reduction
 pub mod AddedEquations

@@ -14,7 +14,7 @@ use Rattle.matrix_models.specs.declared.system.LinearRow.{LinearRow}
 use Rattle.matrix_models.specs.declared.system.System.{System}
 use Rattle.matrix_models.specs.Systems.{IsEquation, Holds, Solves, HasNoSolution}
 use Rattle.matrix_models.specs.Elimination.{Meets, MeetsAll, ArePivots, IsAdded, IsAgainst, row_of, equation_of}
-use Rattle.matrix_models.specs.Pivots.{Pivots, StandFor, no_equations, with_equations}
+use Rattle.matrix_models.specs.Pivots.{Pivots, AreRows, StandFor, no_equations, with_equations}
 
 -- equations as rows
 meets-row_of : (m n : ℕ) (equation : LinearRow) (values : List ℕ) → length equation.factors ≡ n → Holds m values equation ↔ Meets m n (λ k. get_or values k 0) (row_of equation)
@@ -71,6 +71,17 @@ stand_for-none m n field = record {
   size = length-replicate n None;
   are_pivots = λ place row found. absurd (none-some row (sym (none_at n place) ∙ found));
   same = λ w. (λ _. All-nil (λ equation. Meets m n w (row_of equation)), λ _ place row found. absurd (none-some row (sym (none_at n place) ∙ found)));
+}
+
+pub are_rows-none : (m n : ℕ) (places : List ℕ) → IsFieldModulus m → length places ≡ n
+    → AreRows (record { modulus = m; rows = replicate n None }) places
+are_rows-none m n places field size = record {
+  modulus = field;
+  rows = λ place row found. absurd (none-some row (sym (none_at n place) ∙ found));
+  firsts = record {
+    size = size ∙ sym (length-replicate n None);
+    none_before = λ place row found. absurd (none-some row (sym (none_at n place) ∙ found));
+  };
 }
 
 pub stand_for-more : (s : System) (equation : LinearRow) (old new : Pivots) → IsEquation s.modulus s.unknowns equation → StandFor old s

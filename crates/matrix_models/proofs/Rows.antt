@@ -125,7 +125,7 @@ meets-set m n place w pivots row within free = (λ both. forth both.0 both.1, λ
         go (inr other) = all at found (get_or-set_other pivots place at (Some row) None other ∙ found_is)
 
 -- a row with no factor
-no_factor_sum : (n : ℕ) (w : ℕ → ℕ) (row : List ℕ) → HasNoFactor n row → total n (λ k. get_or row k 0 * w k) ≡ 0
+pub no_factor_sum : (n : ℕ) (w : ℕ → ℕ) (row : List ℕ) → HasNoFactor n row → total n (λ k. get_or row k 0 * w k) ≡ 0
 no_factor_sum n w row none = total_zero n _ (λ k l. ap (λ x. x * w k) (none k l) ∙ zero-mul (w k))
 
 -- it holds where its right side is 0

@@ -1,5 +1,5 @@
 -- What elimination keeps: a row is a list of factors with the right side behind them.
-use Rattle.std.specs.Prelude.{◌≡◌, ◌↔◌, ℕ, ◌+◌, ◌-◌, ◌*◌, ◌%◌, ◌<◌, List, [], ◌∷◌, ◌++◌, take, length, get_or, Option, Some, None}
+use Rattle.std.specs.Prelude.{◌≡◌, ◌↔◌, ℕ, ◌+◌, ◌-◌, ◌*◌, ◌%◌, ◌<◌, ◌≤◌, List, [], ◌∷◌, ◌++◌, take, length, get_or, Option, Some, None}
 use Rattle.matrix_models.specs.Matrices.{total}
 use Rattle.matrix_models.specs.declared.system.LinearRow.{LinearRow}
 
@@ -31,9 +31,20 @@ pub record HasLast (n : ℕ) (row : List ℕ) (place : ℕ) : Type 0 where
   pub nonzero : 0 < get_or row place 0
   pub last : (k : ℕ) → place < k → k < n → get_or row k 0 ≡ 0
 
--- all factors are 0
+-- the first n factors are 0, which are all of them where there are n unknowns
 abbrev pub HasNoFactor : ℕ → List ℕ → Type 0
 HasNoFactor n row = (k : ℕ) → k < n → get_or row k 0 ≡ 0
+
+-- The row lies in the unknowns from the first to the last one: of its n factors all others are 0.
+pub record LiesIn (n first last : ℕ) (row : List ℕ) : Type 0 where
+  pub order : first ≤ last
+  pub before : HasNoFactor first row
+  pub behind : (k : ℕ) → last < k → k < n → get_or row k 0 ≡ 0
+
+-- There is a place for each unknown, and all factors of its pivot before that place are 0.
+pub record AreFirsts (pivots : List (Option (List ℕ))) (firsts : List ℕ) : Type 0 where
+  pub size : length firsts ≡ length pivots
+  pub none_before : (place : ℕ) (row : List ℕ) → get_or pivots place None ≡ Some row → HasNoFactor (get_or firsts place 0) row
 
 -- where the pivots hold, the two rows say the same
 abbrev pub MeetsAlike : ℕ → ℕ → List (Option (List ℕ)) → List ℕ → List ℕ → Type 0

@@ -5,17 +5,18 @@ use Rattle.matrix_models.specs.declared.system.LinearRow.{LinearRow}
 use Rattle.matrix_models.specs.declared.system.System.{System}
 use Rattle.matrix_models.specs.Systems.{IsSystem, HasNoSolution}
 use Rattle.matrix_models.specs.Greedy.{IsGreedy}
-use Rattle.matrix_models.specs.Elimination.{Meets, MeetsAll, ArePivots, row_of}
+use Rattle.matrix_models.specs.Elimination.{Meets, MeetsAll, ArePivots, AreFirsts, row_of}
 
 -- A modulus, and for each unknown its pivot, where it has one.
 pub record Pivots : Type 0 where
   pub modulus : ℕ
   pub rows : List (Option (List ℕ))
 
--- They are pivots over a field.
-pub record AreRows (p : Pivots) : Type 0 where
+-- They are pivots over a field, and their factors before these places are 0.
+pub record AreRows (p : Pivots) (places : List ℕ) : Type 0 where
   pub modulus : IsFieldModulus p.modulus
   pub rows : ArePivots (length p.rows) p.rows
+  pub firsts : AreFirsts p.rows places
 
 -- the row has a factor for each unknown and a right side
 abbrev pub HasRowSize : Pivots → List ℕ → Type 0

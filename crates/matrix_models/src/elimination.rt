@@ -1,28 +1,43 @@
 //! Elimination: an equation is added to pivots, or is found to be against them.
 
-ghost use Rattle.std.specs.Prelude.{◌≡◌, ◌≢◌, ℕ, ◌+◌, ◌*◌, ◌%◌, ◌<◌, length, get_or, All, IfSome, IfNone, IsTrue, IsFalse};
+ghost use Rattle.std.specs.Prelude.{◌≡◌, ◌≢◌, ℕ, ◌+◌, ◌-◌, ◌*◌, ◌%◌, ◌<◌, length, get_or, All, IfSome, IfNone, IsTrue, IsFalse};
 ghost use Rattle.definitions.specs.Moduli.{IsFieldModulus};
-ghost use Rattle.matrix_models.specs.Elimination.{ArePivots, IsPivot, IsFree, HasLast, HasNoFactor, MeetsAlike, IsAdded, IsAgainst};
+ghost use Rattle.matrix_models.specs.Elimination.{ArePivots, AreFirsts, IsPivot, IsFree, HasLast, HasNoFactor, LiesIn, MeetsAlike, IsAdded, IsAgainst};
 
 use lists::Listing;
 
+// The unknowns from the first to the last one. A row that lies in them has the factor 0 at each other unknown.
+#[derive(Clone, Copy)]
+struct Stretch {
+    first: usize,
+    last: usize,
+}
+
 // Adds an equation to those that the pivots stand for, where it isn't against them, and tells whether that is so. A row is
 // the factors of an equation with its right side behind them, and the pivot of an unknown is a row in which it has the
-// factor 1 and each unknown after it the factor 0.
-pub(crate) fn insert(modulus: u32, pivots: &mut [Option<Listing<u32>>], mut row: Vec<u32>) -> bool
+// factor 1 and each unknown after it the factor 0. So has each unknown before the pivot's place in `firsts`.
+pub(crate) fn insert(
+    modulus: u32,
+    pivots: &mut [Option<Listing<u32>>],
+    firsts: &mut [usize],
+    mut row: Vec<u32>,
+) -> bool
     requires field { IsFieldModulus modulus }
     requires pivots { ArePivots (length pivots.old) pivots.old }
+    requires firsts { AreFirsts pivots.old firsts.old }
     requires size { length row.items ≡ length pivots.old + 1 }
     requires below { All (λ entry. entry < modulus) row.items }
     ensures len { length pivots.new ≡ length pivots.old }
     ensures pivots { ArePivots (length pivots.old) pivots.new }
+    ensures firsts { AreFirsts pivots.new firsts.new }
     ensures added { IsTrue result → IsAdded modulus (length pivots.old) row.items pivots.old pivots.new }
     ensures against { IsFalse result → IsAgainst modulus (length pivots.old) row.items pivots.old }
     ensures unchanged { IsFalse result → pivots.new ≡ pivots.old }
 {
-    match normalize(modulus, pivots, &mut row) {
-        Some(place) => {
-            pivots[place] = Some(Listing::from_vec(row));
+    match normalize(modulus, pivots, firsts, &mut row) {
+        Some(stretch) => {
+            pivots[stretch.last] = Some(Listing::from_vec(row));
+            firsts[stretch.last] = stretch.first;
             true
         }
         None => row[pivots.len()] == 0,
@@ -31,63 +46,99 @@ pub(crate) fn insert(modulus: u32, pivots: &mut [Option<Listing<u32>>], mut row:
 
 // Makes the row one that says the same where the pivots hold: a pivot of an unknown that has none, which it gives, or
 // one with no unknown left.
-fn normalize(modulus: u32, pivots: &[Option<Listing<u32>>], row: &mut [u32]) -> Option<usize>
+fn normalize(
+    modulus: u32,
+    pivots: &[Option<Listing<u32>>],
+    firsts: &[usize],
+    row: &mut [u32],
+) -> Option<Stretch>
     requires field { IsFieldModulus modulus }
     requires pivots { ArePivots (length pivots.now) pivots.now }
+    requires firsts { AreFirsts pivots.now firsts.now }
     requires size { length row.old ≡ length pivots.now + 1 }
     requires below { All (λ entry. entry < modulus) row.old }
     ensures len { length row.new ≡ length row.old }
     ensures alike { MeetsAlike modulus (length pivots.now) pivots.now row.old row.new }
-    ensures pivot { IfSome result (λ place. IsPivot (length pivots.now) place row.new) }
-    ensures free { IfSome result (IsFree pivots.now) }
+    ensures pivot { IfSome result (λ stretch. IsPivot (length pivots.now) stretch.last row.new) }
+    ensures first { IfSome result (λ stretch. HasNoFactor stretch.first row.new) }
+    ensures free { IfSome result (λ stretch. IsFree pivots.now stretch.last) }
     ensures none { IfNone result (HasNoFactor (length pivots.now) row.new) }
     ensures below { IfNone result (All (λ entry. entry < modulus) row.new) }
 {
-    let place = reduce(modulus, pivots, row)?;
-    let factor = inverse(modulus, row[place]);
-    scale(modulus, row, factor);
-    Some(place)
+    let stretch = reduce(modulus, pivots, firsts, row)?;
+    let factor = inverse(modulus, row[stretch.last]);
+    scale(modulus, row, factor, stretch);
+    Some(stretch)
 }
 
-// Takes multiples of the pivots off the row until its last unknown has none, and gives that unknown, or `None` where the
-// row has no unknown left.
-fn reduce(modulus: u32, pivots: &[Option<Listing<u32>>], row: &mut [u32]) -> Option<usize>
+// Takes multiples of the pivots off the row until its last unknown has none, and gives the stretch up to that unknown, or
+// `None` where the row has no unknown left. It looks at no unknown before those of the row and of the pivots that it took.
+fn reduce(
+    modulus: u32,
+    pivots: &[Option<Listing<u32>>],
+    firsts: &[usize],
+    row: &mut [u32],
+) -> Option<Stretch>
     requires pivots { ArePivots (length pivots.now) pivots.now }
+    requires firsts { AreFirsts pivots.now firsts.now }
     requires size { length row.old ≡ length pivots.now + 1 }
     requires below { All (λ entry. entry < modulus) row.old }
     ensures len { length row.new ≡ length row.old }
     ensures below { All (λ entry. entry < modulus) row.new }
     ensures alike { MeetsAlike modulus (length pivots.now) pivots.now row.old row.new }
-    ensures last { IfSome result (HasLast (length pivots.now) row.new) }
-    ensures free { IfSome result (IsFree pivots.now) }
+    ensures last { IfSome result (λ stretch. HasLast (length pivots.now) row.new stretch.last) }
+    ensures lies { IfSome result (λ stretch. LiesIn (length pivots.now) stretch.first stretch.last row.new) }
+    ensures free { IfSome result (λ stretch. IsFree pivots.now stretch.last) }
     ensures none { IfNone result (HasNoFactor (length pivots.now) row.new) }
 {
+    let mut first = first_factor(row);
     let mut left = pivots.len();
-    while left > 0 {
-        let place = left - 1;
-        let factor = row[place];
+    while left > first {
+        let last = left - 1;
+        let factor = row[last];
         if factor > 0 {
-            match &pivots[place] {
-                Some(pivot) => add_multiple(modulus, row, modulus - factor, pivot.as_slice()),
-                None => return Some(place),
+            match &pivots[last] {
+                Some(pivot) => {
+                    let stretch = Stretch {
+                        first: firsts[last],
+                        last,
+                    };
+                    add_multiple(modulus, row, modulus - factor, pivot.as_slice(), stretch);
+                    first = first.min(stretch.first);
+                }
+                None => return Some(Stretch { first, last }),
             }
         }
-        left = place;
+        left = last;
     }
     None
 }
 
-// Adds a multiple of another row.
-fn add_multiple(modulus: u32, row: &mut [u32], times: u32, other: &[u32])
+// The first place of the row whose number isn't 0, and its length where there is none.
+fn first_factor(row: &[u32]) -> usize
+    ensures before { HasNoFactor result row.now }
+    ensures there { result < length row.now → 0 < get_or row.now result 0 }
+{
+    row.iter()
+        .position(|factor| *factor > 0)
+        .unwrap_or(row.len())
+}
+
+// Adds a multiple of another row, which lies in the stretch.
+fn add_multiple(modulus: u32, row: &mut [u32], times: u32, other: &[u32], stretch: Stretch)
     requires modulus { 0 < modulus }
     requires below { All (λ entry. entry < modulus) row.old }
     requires size { length other.now ≡ length row.old }
+    requires within { stretch.last + 1 < length row.old }
+    requires lies { LiesIn (length row.old - 1) stretch.first stretch.last other.now }
     ensures len { length row.new ≡ length row.old }
     ensures each { (k : ℕ) → k < length row.old → get_or row.new k 0 ≡ (get_or row.old k 0 + times * get_or other.now k 0) % modulus }
 {
-    for place in 0..row.len() {
+    for place in stretch.first..=stretch.last {
         row[place] = with_multiple(modulus, row[place], times, other[place]);
     }
+    let right = row.len() - 1;
+    row[right] = with_multiple(modulus, row[right], times, other[right]);
 }
 
 // The number with a multiple of another number, modulo the modulus. A multiple of 0 costs no division.
@@ -103,18 +154,31 @@ pub(crate) fn with_multiple(modulus: u32, number: u32, times: u32, other: u32) -
     (sum % u64::from(modulus)) as u32
 }
 
-// Multiplies a row. What is 0 stays.
-fn scale(modulus: u32, row: &mut [u32], times: u32)
-    requires { 0 < modulus }
+// Multiplies a row, which lies in the stretch.
+fn scale(modulus: u32, row: &mut [u32], times: u32, stretch: Stretch)
+    requires modulus { 0 < modulus }
+    requires within { stretch.last + 1 < length row.old }
+    requires lies { LiesIn (length row.old - 1) stretch.first stretch.last row.old }
     ensures len { length row.new ≡ length row.old }
     ensures each { (k : ℕ) → k < length row.old → get_or row.new k 0 ≡ (get_or row.old k 0 * times) % modulus }
 {
-    for place in 0..row.len() {
-        if row[place] > 0 {
-            let product = u64::from(row[place]) * u64::from(times);
-            row[place] = (product % u64::from(modulus)) as u32;
-        }
+    for place in stretch.first..=stretch.last {
+        row[place] = product(modulus, row[place], times);
     }
+    let right = row.len() - 1;
+    row[right] = product(modulus, row[right], times);
+}
+
+// The product of two numbers, modulo the modulus. One of 0 costs no division.
+fn product(modulus: u32, number: u32, times: u32) -> u32
+    requires { 0 < modulus }
+    ensures { result ≡ (number * times) % modulus }
+{
+    if number == 0 {
+        return 0;
+    }
+    let product = u64::from(number) * u64::from(times);
+    (product % u64::from(modulus)) as u32
 }
 
 // The number whose product with this one is 1 modulo the modulus. Throughout, the number times `factor` is congruent to

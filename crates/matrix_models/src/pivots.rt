@@ -1,9 +1,9 @@
 //! Linear equations that are taken one after another, and their greedy solution.
 
-ghost use Rattle.std.specs.Prelude.{◌≡◌, ◌+◌, ◌-◌, ◌*◌, ◌%◌, ◌<◌, ◌∷◌, [], length, get_or, replicate, None, All, IfOk, IsTrue, IsFalse};
+ghost use Rattle.std.specs.Prelude.{◌≡◌, ◌+◌, ◌-◌, ◌*◌, ◌%◌, ◌<◌, ◌≤◌, ◌∷◌, [], length, get_or, replicate, None, All, IfOk, IsTrue, IsFalse};
 ghost use Rattle.definitions.specs.Moduli.{IsFieldModulus};
 ghost use Rattle.matrix_models.specs.Matrices.{total};
-ghost use Rattle.matrix_models.specs.Elimination.{equation_of};
+ghost use Rattle.matrix_models.specs.Elimination.{HasNoFactor, equation_of};
 ghost use Rattle.matrix_models.specs.Pivots.{no_equations, StandFor, HasRowSize, Add, AreAgainst, AreGreedyFor};
 
 use crate::elimination::{insert, with_multiple};
@@ -17,6 +17,8 @@ pub struct Pivots {
     modulus: u32,
     // for each unknown its pivot, where it has one
     rows: Vec<Option<Listing<u32>>>,
+    // for each unknown that has a pivot a place before which the pivot's factors are 0
+    firsts: Vec<usize>,
 }
 
 impl Model for Pivots {
@@ -26,7 +28,7 @@ impl Model for Pivots {
 
     ghost view = { λ p. record { modulus = p.modulus; rows = p.rows.items } };
 
-    ghost invariant = { λ p. AreRows (record { modulus = p.modulus; rows = p.rows.items }) };
+    ghost invariant = { λ p. AreRows (record { modulus = p.modulus; rows = p.rows.items }) p.firsts.items };
 }
 
 impl Pivots {
@@ -38,6 +40,7 @@ impl Pivots {
         Ok(Pivots {
             modulus,
             rows: no_rows(alloc, unknowns)?,
+            firsts: vec![in alloc; 0; unknowns as usize]?,
         })
     }
 
@@ -52,7 +55,7 @@ impl Pivots {
         ensures against { IsFalse result → AreAgainst (equation_of row.items ∷ []) self.old }
         ensures unchanged { IsFalse result → self.new ≡ self.old }
     {
-        insert(self.modulus, &mut self.rows, row)
+        insert(self.modulus, &mut self.rows, &mut self.firsts, row)
     }
 
     /// The greedy solution of all equations that were added, by preferred values: from the first unknown to the last, one
@@ -66,7 +69,12 @@ impl Pivots {
         let mut values = Vec::with_capacity(alloc, self.rows.len())?;
         for place in 0..self.rows.len() {
             let value = match &self.rows[place] {
-                Some(row) => value_left(self.modulus, row.as_slice(), values.as_slice()),
+                Some(row) => value_left(
+                    self.modulus,
+                    row.as_slice(),
+                    self.firsts[place],
+                    values.as_slice(),
+                ),
                 None => prefer[place],
             };
             values.push(value)?;
@@ -86,16 +94,18 @@ fn no_rows(alloc: Global, unknowns: u32) -> Result<Vec<Option<Listing<u32>>>, Al
     Ok(rows)
 }
 
-// What the values leave of the row's right side, which stands at its end.
-fn value_left(modulus: u32, row: &[u32], values: &[u32]) -> u32
+// What the values leave of the row's right side, which stands at its end, where the row has no factor before the first place.
+fn value_left(modulus: u32, row: &[u32], first: usize, values: &[u32]) -> u32
     requires modulus { 0 < modulus }
     requires within { length values.now < length row.now }
+    requires first { first ≤ length values.now }
+    requires none { HasNoFactor first row.now }
     ensures below { result < modulus }
     ensures left { (total (length values.now) (λ k. get_or row.now k 0 * get_or values.now k 0) + result) % modulus
         ≡ get_or row.now (length row.now - 1) 0 % modulus }
 {
     let mut sum = 0;
-    for k in 0..values.len() {
+    for k in first..values.len() {
         sum = with_multiple(modulus, sum, values[k], row[k]);
     }
     let left = u64::from(row[row.len() - 1]) + u64::from(modulus) - u64::from(sum);

@@ -2,23 +2,32 @@ use Rattle.std.proofs.Common.{◌≡◌, ◌<◌, length, get_or, sym, ap, subst
 use Rattle.std.proofs.lemmas.List.{take_at, get_or_default}
 use Rattle.std.proofs.lemmas.List.Elements.{All-get_or}
 use Rattle.std.proofs.lemmas.Bool.{eqb-true, eqb-false}
-use Rattle.matrix_models.specs.Elimination.{IsPivot, MeetsAlike}
+use Rattle.matrix_models.specs.Elimination.{IsPivot, HasNoFactor, MeetsAlike}
 use Rattle.matrix_models.proofs.Rows.{pivots-set, added-pivot, added-nothing, against-all}
+use Rattle.matrix_models.proofs.Stretches.{firsts-set}
 use Rattle.matrix_models.proofs.elimination.insert.Goals as goal
 
 pub returns-in-Some-clause-pivots : goal.returns-in-Some-clause-pivots
 returns-in-Some-clause-pivots c =
     let kept : length c.normalize.new.row ≡ c.args.row.len = c.normalize.ensures.len ∙ ap length c.deref_mut.ensures.value ∙ sym c.args.row.ok.0 in
     let row_is : c.from_vec.result ≡ c.normalize.new.row = c.from_vec.ensures ∙ take_at c.normalize.new.row _ _ kept in
-    pivots-set (length c.args.pivots.now) c.in-Some.place c.args.pivots.now c.from_vec.result c.in-Some.ensures.free.within c.requires.pivots
-    (subst (IsPivot (length c.args.pivots.now) c.in-Some.place) (sym row_is) c.in-Some.ensures.pivot)
+    pivots-set (length c.args.pivots.now) c.in-Some.stretch.last c.args.pivots.now c.from_vec.result c.in-Some.ensures.free.within c.requires.pivots
+    (subst (IsPivot (length c.args.pivots.now) c.in-Some.stretch.last) (sym row_is) c.in-Some.ensures.pivot)
+
+pub returns-in-Some-clause-firsts : goal.returns-in-Some-clause-firsts
+returns-in-Some-clause-firsts c =
+    let first = c.in-Some.stretch.first in
+    let kept : length c.normalize.new.row ≡ c.args.row.len = c.normalize.ensures.len ∙ ap length c.deref_mut.ensures.value ∙ sym c.args.row.ok.0 in
+    let row_is : c.from_vec.result ≡ c.normalize.new.row = c.from_vec.ensures ∙ take_at c.normalize.new.row _ _ kept in
+    firsts-set c.args.pivots.now c.args.firsts.now c.in-Some.stretch.last first c.from_vec.result c.in-Some.ensures.free.within c.requires.firsts
+    (subst (HasNoFactor first) (sym row_is) c.in-Some.ensures.first)
 
 pub returns-in-Some-clause-added : goal.returns-in-Some-clause-added
 returns-in-Some-clause-added c = λ _.
     let kept : length c.normalize.new.row ≡ c.args.row.len = c.normalize.ensures.len ∙ ap length c.deref_mut.ensures.value ∙ sym c.args.row.ok.0 in
     let row_is : c.from_vec.result ≡ c.normalize.new.row = c.from_vec.ensures ∙ take_at c.normalize.new.row _ _ kept in
     let alike = subst (λ x. MeetsAlike c.args.modulus (length c.args.pivots.now) c.args.pivots.now x c.normalize.new.row) c.deref_mut.ensures.value c.in-Some.ensures.alike in
-    added-pivot c.args.modulus (length c.args.pivots.now) c.in-Some.place c.args.pivots.now c.args.row.items c.from_vec.result c.in-Some.ensures.free
+    added-pivot c.args.modulus (length c.args.pivots.now) c.in-Some.stretch.last c.args.pivots.now c.args.row.items c.from_vec.result c.in-Some.ensures.free
     (subst (MeetsAlike c.args.modulus (length c.args.pivots.now) c.args.pivots.now c.args.row.items) (sym row_is) alike)
 
 pub returns-in-None-clause-added : goal.returns-in-None-clause-added

@@ -1,6 +1,6 @@
 use Rattle.std.proofs.Common.{◌≡◌, ◌+◌, ◌<◌, ◌++◌, ◌∷◌, [], All, length, drop, take, refl, sym, ap, subst, ◌∙◌}
 use Rattle.std.proofs.lemmas.List.{take_at}
-use Rattle.matrix_models.specs.Elimination.{ArePivots, IsAdded, IsAgainst, equation_of}
+use Rattle.matrix_models.specs.Elimination.{ArePivots, AreFirsts, IsAdded, IsAgainst, equation_of}
 use Rattle.matrix_models.specs.Pivots.{Pivots, StandFor, with_equations}
 use Rattle.matrix_models.proofs.Reduction.{row_is_equation, row_of-equation_of, stand_for-more, no_solution}
 use Rattle.matrix_models.proofs.pivots.Pivots.add.Goals as goal
@@ -14,8 +14,17 @@ invariant_of-self c =
     let new = c.insert.new.pivots in
     let size : length new ≡ length old.items = c.insert.ensures.len ∙ ap length c.deref_mut.ensures.value in
     let rows_are : take old.len (new ++ drop (length new) old.items) ≡ new = take_at new _ _ (size ∙ sym old.ok.0) in
+    let firsts = c.self.inside.firsts in
+    let firsts_size : length c.insert.new.firsts ≡ length firsts.items = c.insert.ensures.firsts.size ∙ size ∙ sym c.self.invariant.firsts.size in
+    let firsts_are : take firsts.len (c.insert.new.firsts ++ drop (length c.insert.new.firsts) firsts.items) ≡ c.insert.new.firsts =
+    take_at c.insert.new.firsts _ _ (firsts_size ∙ sym firsts.ok.0) in
     let pivots : ArePivots (length new) new = subst (λ n. ArePivots n new) (sym c.insert.ensures.len) c.insert.ensures.pivots in
-    record { modulus = c.self.invariant.modulus; rows = subst (λ xs. ArePivots (length xs) xs) (sym rows_are) pivots }
+    record {
+      modulus = c.self.invariant.modulus;
+      rows = subst (λ xs. ArePivots (length xs) xs) (sym rows_are) pivots;
+      firsts = subst (λ xs. AreFirsts xs (take firsts.len (c.insert.new.firsts ++ drop (length c.insert.new.firsts) firsts.items))) (sym rows_are)
+          (subst (AreFirsts new) (sym firsts_are) c.insert.ensures.firsts);
+    }
 
 pub returns-clause-added : goal.returns-clause-added
 returns-clause-added c = λ is_true s stand.

@@ -1,8 +1,9 @@
-use Rattle.std.proofs.Common.{◌≡◌, ◌+◌, ◌-◌, ◌*◌, ◌%◌, ◌<◌, [], ◌∷◌, ◌++◌, ℕ, List, length, get_or, Some, None, sym, ap, subst, ◌∙◌, arith}
+use Rattle.std.proofs.Common.{◌≡◌, ◌+◌, ◌-◌, ◌*◌, ◌%◌, ◌<◌, ◌≤◌, [], ◌∷◌, ◌++◌, ℕ, List, length, get_or, Some, None, sym, ap, subst, ◌∙◌, arith}
 use Rattle.std.proofs.lemmas.List.{get_or_read}
 use Rattle.std.proofs.lemmas.List.Elements.{All-get_or}
 use Rattle.matrix_models.specs.Matrices.{total}
 use Rattle.matrix_models.specs.Greedy.{IsGreedy}
+use Rattle.matrix_models.proofs.Stretches.{first_within}
 use Rattle.matrix_models.proofs.BackSolving.{IsSolvedTo, solved_free, solved_fixed}
 use Rattle.matrix_models.proofs.GreedySolutions.{greedy-left}
 use Rattle.matrix_models.proofs.pivots.Pivots.values.Goals as goal
@@ -19,6 +20,21 @@ value_left-value-requires-clause-within c =
     let found : get_or rows c.loop-place.place None ≡ Some c.in-Some.row = sym (get_or_read rows _ _ inside here None) ∙ c.in-Some.is in
     let size = (c.self.invariant.rows _ _ (ap (λ xs. get_or xs c.loop-place.place None) rows_are ∙ found)).size in
     omega (arith, size, inside, c.loop-place.invariant.size, ap length c.as_slice.ensures, ap length c.as_slice-in-Some.ensures.value, ap length rows_are)
+
+-- the pivot's first factor stands at its place or before
+pub value_left-value-requires-clause-first : goal.value_left-value-requires-clause-first
+value_left-value-requires-clause-first c =
+    let rows = c.self.inside.rows.items in
+    let place = c.loop-place.place in
+    let rows_are : rows ≡ c.args.self.now.rows = ap (λ p. p.rows) c.self.view_is in
+    let inside : place < length rows = omega (arith, c.loop-place-test.true, c.len-place-end.ensures, c.self.inside.rows.ok.0) in
+    let found : get_or rows place None ≡ Some c.in-Some.row = sym (get_or_read rows _ _ inside c.index.ensures None) ∙ c.in-Some.is in
+    let first = get_or c.self.inside.firsts.items place 0 in
+    let first_is : c.index-in-Some.result.now ≡ first =
+    get_or_read c.self.inside.firsts.items _ _ (omega (arith, inside, c.self.invariant.firsts.size)) c.index-in-Some.ensures 0 in
+    let before : first ≤ place = first_within (length rows) place first c.in-Some.row (c.self.invariant.rows place c.in-Some.row found)
+    (c.self.invariant.firsts.none_before place c.in-Some.row found) in
+    omega (arith, first_is, before, c.loop-place.invariant.size, ap length c.as_slice-in-Some.ensures.value)
 
 pub loop-place-preserved : goal.loop-place-preserved
 loop-place-preserved c =
