@@ -1,7 +1,8 @@
 -- The terms with a solved letter: their sides and numbers.
-use Rattle.std.proofs.Common.{◌≡◌, ℕ, suc, ◌+◌, ◌-◌, ◌*◌, ◌/◌, ◌%◌, ◌<◌, ◌≤◌, ℤ, pos, negsuc, ◌&&◌, true, List, [], ◌∷◌, ◌++◌, length, get_or, replicate, take, drop, map, Option, Some, None, option_map, ◌⊎◌, inl, inr, refl, sym, ap, ap₂, subst, ◌∙◌, arith, mod-lt, div-lt_iff_lt-mul, cond}
+use Rattle.std.proofs.Common.{◌≡◌, ℕ, suc, ◌+◌, ◌-◌, ◌*◌, ◌/◌, ◌%◌, ◌<◌, ◌≤◌, ℤ, pos, negsuc, ◌&&◌, Bool, true, false, List, [], ◌∷◌, ◌++◌, length, get_or, replicate, take, drop, map, Option, Some, None, option_map, ◌⊎◌, inl, inr, refl, sym, ap, ap₂, subst, ◌∙◌, arith, mod-lt, div-lt_iff_lt-mul, cond}
 use Rattle.std.specs.List.{All, AllByRecursion, position, range_with_len}
 use Rattle.std.proofs.lemmas.Bool.{cases_lt, le-leb}
+use Rattle.std.proofs.lemmas.Option.{none-some}
 use Rattle.std.proofs.lemmas.List.{take-append-drop, length-replicate}
 use Rattle.std.proofs.lemmas.List.Elements.{All-from_recursion, All-from_get_or}
 use Rattle.std.proofs.lemmas.List.FromFn.{get_or-map-range_with_len, length-map-range_with_len}
@@ -90,14 +91,38 @@ number_of_each q s solved =
     length-filled flags (replicate (length flags) n) (range_with_len 0 n) (length-replicate (length flags) n)
     ∙ length-replicate (length flags) n ∙ flag_of_each q s solved
 
+-- what stands for a letter
+letter_there : (q : Quiver) (s : Shape) (solved : List Letter) (numbers : List (Option (List ℕ))) (a place : ℕ) (d : Option (List ℕ))
+    → numbers ≡ numbers_of_letters q s solved → place ≡ a → a < letters q → get_or numbers place d ≡ letter_numbers q s solved a
+letter_there q s solved numbers a place d are same letter =
+    ap₂ (λ xs n. get_or xs n d) are same ∙ get_or-map-range_with_len (letter_numbers q s solved) 0 (letters q) a a d letter (omega arith)
+
 -- the numbers that stand for a solved letter
 pub numbers_there : (q : Quiver) (s : Shape) (solved : List Letter) (numbers : List (Option (List ℕ))) (a place : ℕ) (d : Option (List ℕ))
     → numbers ≡ numbers_of_letters q s solved → place ≡ a → a < letters q → is_solved q solved a ≡ true
     → get_or numbers place d ≡ Some (letter_values q s (unknown_numbers (solved_flags q s solved)) a)
 numbers_there q s solved numbers a place d are same letter is =
-    ap₂ (λ xs n. get_or xs n d) are same
-    ∙ get_or-map-range_with_len (letter_numbers q s solved) 0 (letters q) a a d letter (omega arith)
+    letter_there q s solved numbers a place d are same letter
     ∙ ap (λ b. cond b (Some (letter_values q s (unknown_numbers (solved_flags q s solved)) a)) None) is
+
+-- a letter has numbers where it is solved for, and only there
+pub solved_where_numbered : (q : Quiver) (s : Shape) (solved : List Letter) (numbers : List (Option (List ℕ))) (a place : ℕ) (d : Option (List ℕ))
+    → numbers ≡ numbers_of_letters q s solved → place ≡ a → a < letters q → (row : List ℕ) → get_or numbers place d ≡ Some row → is_solved q solved a ≡ true
+solved_where_numbered q s solved numbers a place d are same letter row found =
+    some_if (is_solved q solved a) _ row (sym (letter_there q s solved numbers a place d are same letter) ∙ found)
+  where
+    some_if : (b : Bool) (values row : List ℕ) → cond b (Some values) None ≡ Some row → b ≡ true
+    some_if true values row is = refl
+    some_if false values row is = absurd (none-some row is)
+
+pub unsolved_where_none : (q : Quiver) (s : Shape) (solved : List Letter) (numbers : List (Option (List ℕ))) (a place : ℕ) (d : Option (List ℕ))
+    → numbers ≡ numbers_of_letters q s solved → place ≡ a → a < letters q → get_or numbers place d ≡ None → is_solved q solved a ≡ false
+unsolved_where_none q s solved numbers a place d are same letter found =
+    none_if (is_solved q solved a) _ (sym (letter_there q s solved numbers a place d are same letter) ∙ found)
+  where
+    none_if : (b : Bool) (values : List ℕ) → cond b (Some values) None ≡ None → b ≡ false
+    none_if true values is = absurd (none-some values (sym is))
+    none_if false values is = refl
 
 pub residue_below : (m : ℕ) (k : ℤ) → 0 < m → residue m k < m
 residue_below m (pos n) positive = mod-lt n positive

@@ -9,7 +9,6 @@ ghost use Rattle.model_candidates.specs.Known.{IsKnown, numbers_in};
 ghost use Rattle.model_candidates.specs.Residues.{residues};
 ghost use Rattle.model_candidates.specs.WordRows.{model_in, quiver_in};
 
-use crate::plan::is_solved;
 use crate::value_matrices::product_of;
 use crate::word_rows::EntryValues;
 use adjoint_rules::Problem;
@@ -88,7 +87,7 @@ fn solved_term(
 {
     let given = &known.given;
     let word = poly.term(place).1;
-    let Some(split) = solved_place(given.problem, word) else {
+    let Some(split) = solved_place(known, word) else {
         return Ok(None);
     };
     let (letter, end) = (word.letter(split), word.len());
@@ -112,14 +111,14 @@ fn solved_term(
     }))
 }
 
-// The place of the first letter of the word that is a solved map or the adjoint of one.
-fn solved_place(problem: &Problem, word: &Word) -> Option<usize>
-    requires { IsOver (letter_count problem.now.parts.quiver) word.now }
-    ensures { result ≡ position (is_solved (quiver_of problem.now.parts.quiver) problem.now.parts.solved) word.now }
+// The place of the first letter of the word that is a solved map or the adjoint of one: its unknowns have numbers.
+fn solved_place(known: &Known, word: &Word) -> Option<usize>
+    requires known { IsKnown known.now }
+    requires over { IsOver (letter_count known.now.given.problem.now.parts.quiver) word.now }
+    ensures { result ≡ position (is_solved (quiver_in known.now.given) known.now.given.problem.now.parts.solved) word.now }
 {
-    let parts = &problem.parts;
     for place in 0..word.len() {
-        if is_solved(&parts.quiver, parts.solved.as_slice(), word.letter(place)) {
+        if let Some(_) = &known.numbers[usize::from(word.letter(place).0)] {
             return Some(place);
         }
     }

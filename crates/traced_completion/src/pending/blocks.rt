@@ -127,7 +127,7 @@ fn cut(blocks: &mut Vec<Block>, count: usize) -> Result<usize, AllocError>
 }
 
 // The greatest half of a block that stays whole.
-const HALF_LIMIT: usize = 128;
+const HALF_LIMIT: usize = 32;
 
 // Makes two blocks of each long one. No ambiguity is moved to another place, whatever the answer.
 fn halve(blocks: &mut Vec<Block>) -> Result<(), AllocError>

@@ -18,8 +18,8 @@ use Rattle.model_candidates.proofs.ValueRows.{coefficient_at}
 use Rattle.model_candidates.proofs.SolvedTerms.{path_over, solved_at, numbers_there}
 use Rattle.model_candidates.proofs.solved_terms.solved_term.Goals as goal
 
-pub solved_place-requires : goal.solved_place-requires
-solved_place-requires c =
+pub solved_place-requires-clause-over : goal.solved_place-requires-clause-over
+solved_place-requires-clause-over c =
     let k = c.args.known.now in
     let parts = k.given.problem.now.parts in
     let q = quiver_of parts.quiver in
