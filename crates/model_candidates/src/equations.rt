@@ -134,7 +134,7 @@ fn add_equations(
     let poly = known.given.problem.parts.assumptions.at(place);
     let coefficients = known.coefficients[place].as_slice();
     let ends = assumption.sig;
-    let value = value_of(known.alloc, &known.given, poly, coefficients, ends)?;
+    let value = value_of(&known.given, poly, coefficients, ends);
     let terms = solved_terms(known, poly, coefficients, ends)?;
     add_rows(known.alloc, unknowns, &value, terms.as_slice(), pivots)
 }

@@ -6,8 +6,9 @@ ghost use Rattle.matrix_models.specs.Elimination.{row_of};
 ghost use Rattle.matrix_models.specs.Pivots.{Add, AreAgainst};
 ghost use Rattle.model_candidates.specs.Factors.{FitsTerm, HasSides, term_factor, terms_factor, row_with, rows_with};
 
+use crate::shape_matrices::ShapeMatrix;
 use crate::solved_terms::SolvedTerm;
-use matrix_models::{Matrix, Pivots};
+use matrix_models::Pivots;
 use std::alloc::{AllocError, Global};
 
 /// Adds the equations that say that each entry of the value is zero, row by row, up to the first that contradicts those before
@@ -15,7 +16,7 @@ use std::alloc::{AllocError, Global};
 pub(crate) fn add_rows(
     alloc: Global,
     unknowns: u32,
-    value: &Matrix,
+    value: &ShapeMatrix,
     terms: &[SolvedTerm],
     pivots: &mut Pivots,
 ) -> Result<bool, AllocError>
@@ -42,7 +43,7 @@ pub(crate) fn add_rows(
 fn row_at(
     alloc: Global,
     unknowns: u32,
-    value: &Matrix,
+    value: &ShapeMatrix,
     terms: &[SolvedTerm],
     place: u32,
 ) -> Result<Vec<u32>, AllocError>

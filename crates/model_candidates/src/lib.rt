@@ -13,6 +13,7 @@ mod letter_tables;
 mod one_candidate;
 mod plan;
 mod shape_fault;
+mod shape_matrices;
 mod shapes;
 mod solved_terms;
 mod tables;

@@ -9,11 +9,11 @@ ghost use Rattle.model_candidates.specs.Known.{IsKnown, numbers_in};
 ghost use Rattle.model_candidates.specs.Residues.{residues};
 ghost use Rattle.model_candidates.specs.WordRows.{model_in, quiver_in};
 
+use crate::shape_matrices::ShapeMatrix;
 use crate::value_matrices::product_of;
 use crate::word_rows::EntryValues;
 use adjoint_rules::Problem;
 use lists::{Duplicate, Listing};
-use matrix_models::Matrix;
 use nc_polynomial::Poly;
 use quiver::Sig;
 use std::alloc::{AllocError, Global};
@@ -27,9 +27,9 @@ pub(crate) struct SolvedTerm {
     /// The numbers of the unknowns in the letter's matrix, row by row.
     pub numbers: Listing<u32>,
     /// The product of the matrices before the letter.
-    pub left: Matrix,
+    pub left: ShapeMatrix,
     /// The product of the matrices behind it.
-    pub right: Matrix,
+    pub right: ShapeMatrix,
 }
 
 /// Values of the entries of a shape, and what its candidates share.
@@ -106,8 +106,8 @@ fn solved_term(
     Ok(Some(SolvedTerm {
         coefficient: coefficients[place],
         numbers: numbers.duplicate()?,
-        left: product_of(known.alloc, given, word, 0, split, before)?,
-        right: product_of(known.alloc, given, word, split + 1, end, behind)?,
+        left: product_of(given, word, 0, split, before),
+        right: product_of(given, word, split + 1, end, behind),
     }))
 }
 

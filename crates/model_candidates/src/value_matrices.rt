@@ -1,5 +1,5 @@
 //! Matrices of products of letters and of values of polynomials, row by row from the values of the entries.
-ghost use Rattle.std.specs.Prelude.{◌≡◌, ◌++◌, ◌%◌, ◌<◌, ◌≤◌, true, drop, get_or, length, map, take, IfOk, OnOk};
+ghost use Rattle.std.specs.Prelude.{◌≡◌, ◌+◌, ◌*◌, ◌++◌, ◌%◌, ◌<◌, ◌≤◌, true, drop, get_or, length, map, take};
 ghost use Rattle.std.specs.List.{range_with_len};
 ghost use Rattle.definitions.specs.Quiver.{IsTyped, leads};
 ghost use Rattle.quiver.specs.Declarations.{object_count};
@@ -8,99 +8,83 @@ ghost use Rattle.model_candidates.specs.Residues.{residues};
 ghost use Rattle.model_candidates.specs.WordRows.{AreTabled, product_in, quiver_in, value_in};
 
 use crate::entries::side_at;
-use crate::given_values::matrix_of_entries;
+use crate::shape_matrices::{Entries, ShapeMatrix};
 use crate::value_rows::{Sums, row_sums};
 use crate::word_rows::{EntryValues, Row, word_row};
-use lists::Listing;
-use matrix_models::Matrix;
 use nc_polynomial::Poly;
 use quiver::Sig;
-use std::alloc::{AllocError, Global};
 use word_core::Word;
 
 /// The product of the matrices of the letters from one place on to before another, which lead from the source to the target.
 pub(crate) fn product_of(
-    alloc: Global,
     given: &EntryValues,
     word: &Word,
     from: usize,
     to: usize,
     ends: Sig,
-) -> Result<Matrix, AllocError>
+) -> ShapeMatrix
     requires given { AreTabled given.now }
     requires order { from ≤ to }
     requires in_range { to ≤ length word.now }
     requires source { ends.source.0 < object_count given.now.problem.now.parts.quiver }
     requires target { ends.target.0 < object_count given.now.problem.now.parts.quiver }
     requires leads { leads (quiver_in given.now) ends.source.0 ends.target.0 (drop from (take to word.now)) ≡ true }
-    ensures { IfOk result (λ product. product ≡ product_in given.now ends.source.0 (drop from (take to word.now))) }
+    ensures { result ≡ product_in given.now ends.source.0 (drop from (take to word.now)) }
 {
     let rows = side_at(given.shape, ends.target);
     let columns = side_at(given.shape, ends.source);
-    let mut entries = Listing::with_room(alloc, (rows * columns) as usize)?;
+    let mut entries = Entries::new();
     for row in 0..rows {
         let product = word_row(given, word, from, to, ends, row);
-        push_row(&mut entries, &product, columns)?;
+        push_row(&mut entries, &product, columns);
     }
-    matrix_of_entries(
-        alloc,
-        given.shape.modulus,
-        rows,
-        columns,
-        entries.as_slice(),
-    )
+    ShapeMatrix::new(given.shape.modulus, rows, columns, entries)
 }
 
 /// The value of the polynomial at the signature.
 pub(crate) fn value_of(
-    alloc: Global,
     given: &EntryValues,
     poly: &Poly,
     coefficients: &[u32],
     ends: Sig,
-) -> Result<Matrix, AllocError>
+) -> ShapeMatrix
     requires given { AreTabled given.now }
     requires source { ends.source.0 < object_count given.now.problem.now.parts.quiver }
     requires target { ends.target.0 < object_count given.now.problem.now.parts.quiver }
     requires typed { IsTyped (quiver_in given.now) ends.source.0 ends.target.0 poly.now.terms }
     requires coefficients { coefficients.now ≡ residues given.now.shape.now.modulus poly.now.terms }
-    ensures { IfOk result (λ value. value ≡ value_in given.now ends.source.0 ends.target.0 poly.now.terms) }
+    ensures { result ≡ value_in given.now ends.source.0 ends.target.0 poly.now.terms }
 {
     let modulus = given.shape.modulus;
     let rows = side_at(given.shape, ends.target);
     let columns = side_at(given.shape, ends.source);
-    let mut entries = Listing::with_room(alloc, (rows * columns) as usize)?;
+    let mut entries = Entries::new();
     for row in 0..rows {
         let sums = row_sums(given, poly, coefficients, ends, row);
-        push_residues(&mut entries, modulus, &sums, columns)?;
+        push_residues(&mut entries, modulus, &sums, columns);
     }
-    matrix_of_entries(alloc, modulus, rows, columns, entries.as_slice())
+    ShapeMatrix::new(modulus, rows, columns, entries)
 }
 
 // The list with the row's first entries behind it.
-fn push_row(entries: &mut Listing<u32>, row: &Row, columns: u32) -> Result<(), AllocError>
-    requires { columns ≤ shape_side_limit }
-    ensures { OnOk result (entries.new ≡ entries.old ++ map (λ k. get_or row.now k 0) (range_with_len 0 columns)) }
+fn push_row(entries: &mut Entries, row: &Row, columns: u32)
+    requires side { columns ≤ shape_side_limit }
+    requires room { length entries.old.items + columns ≤ shape_side_limit * shape_side_limit }
+    ensures { entries.new.items ≡ entries.old.items ++ map (λ k. get_or row.now k 0) (range_with_len 0 columns) }
 {
     for column in 0..columns as usize {
-        entries.push(row[column])?;
+        entries.push(row[column]);
     }
-    Ok(())
 }
 
 // The list with the first of these numbers behind it, modulo the modulus.
-fn push_residues(
-    entries: &mut Listing<u32>,
-    modulus: u32,
-    sums: &Sums,
-    columns: u32,
-) -> Result<(), AllocError>
+fn push_residues(entries: &mut Entries, modulus: u32, sums: &Sums, columns: u32)
     requires modulus { 0 < modulus }
-    requires columns { columns ≤ shape_side_limit }
-    ensures { OnOk result (entries.new ≡ entries.old ++ map (λ k. get_or sums.now k 0 % modulus) (range_with_len 0 columns)) }
+    requires side { columns ≤ shape_side_limit }
+    requires room { length entries.old.items + columns ≤ shape_side_limit * shape_side_limit }
+    ensures { entries.new.items ≡ entries.old.items ++ map (λ k. get_or sums.now k 0 % modulus) (range_with_len 0 columns) }
 {
     for column in 0..columns as usize {
-        entries.push((sums[column] % u64::from(modulus)) as u32)?;
+        entries.push((sums[column] % u64::from(modulus)) as u32);
     }
-    Ok(())
 }

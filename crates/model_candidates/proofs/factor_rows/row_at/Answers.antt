@@ -31,6 +31,6 @@ returns c =
     let i_is = ap (λ w. place / w) c.columns.ensures in
     let j_is = ap (λ w. place % w) c.columns-2.ensures in
     let factors_is = ap₂ (λ i j. map (λ k. terms_factor ts i j k % m) (range_with_len 0 n)) i_is j_is
-    ∙ ap (λ x. map (λ k. terms_factor ts (place / value.columns) (place % value.columns) k % x) (range_with_len 0 n)) c.modulus-modulus.ensures.value in
-    let right_is = ap₂ (λ x y. (x - y) % x) c.modulus-modulus.ensures.value (c.entry-constant.ensures.value ∙ ap₂ (entry_at value) i_is j_is) in
+    ∙ ap (λ x. map (λ k. terms_factor ts (place / value.columns) (place % value.columns) k % x) (range_with_len 0 n)) c.modulus-modulus.ensures in
+    let right_is = ap₂ (λ x y. (x - y) % x) c.modulus-modulus.ensures (c.entry-constant.ensures.value ∙ ap₂ (entry_at value) i_is j_is) in
     ap (λ xs. set xs n right) equation_is ∙ written ∙ ap₂ (λ xs x. xs ++ x ∷ []) factors_is right_is

@@ -109,13 +109,13 @@ returns c = λ t there.
     let both : Some c.in-Some-numbers.numbers ≡ Some values = sym c.in-Some-numbers.is ∙ found in
     let values_are : c.in-Some-numbers.numbers ≡ values = cc in
     let numbers_is : c.in_ok-duplicate.field-0 ≡ values = c.in_ok-duplicate.ensures.same ∙ values_are in
-    let left_is = c.in_ok-product_of.ensures ∙ ap (λ x. letters_product (matrices s.modulus) f x (take split w)) target_is in
-    let right_is = c.in_ok-product_of-2.ensures ∙ ap (λ xs. letters_product (matrices s.modulus) f u (drop (split + 1) xs)) all in
+    let left_is = c.product_of.ensures ∙ ap (λ x. letters_product (matrices s.modulus) f x (take split w)) target_is in
+    let right_is = c.product_of-2.ensures ∙ ap (λ xs. letters_product (matrices s.modulus) f u (drop (split + 1) xs)) all in
     let made : SolvedTerm = record {
       coefficient = get_or c.args.coefficients.now c.args.place 0;
       numbers = c.in_ok-duplicate.field-0;
-      left = c.in_ok-product_of.field-0;
-      right = c.in_ok-product_of-2.field-0;
+      left = c.product_of.result;
+      right = c.product_of-2.result;
     } in
     let made_is : made ≡ term_around q s numbers m u term split =
     λ i. record { coefficient = coefficient_is i; numbers = numbers_is i; left = left_is i; right = right_is i } in

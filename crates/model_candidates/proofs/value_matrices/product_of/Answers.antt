@@ -1,5 +1,4 @@
 use Rattle.std.proofs.Common.{◌≡◌, ◌+◌, ◌<◌, ℕ, drop, get_or, take, sym, ap, subst, ◌∙◌, arith}
-use Rattle.std.proofs.lemmas.Result.{IfOk-weaker}
 use Rattle.matrix_models.specs.Matrix.{entry_at}
 use Rattle.model_candidates.specs.WordRows.{product_in}
 use Rattle.model_candidates.proofs.MatrixRows.{AreRows, one_row_more, rows_of_matrix}
@@ -14,8 +13,8 @@ loop-row-preserved c =
     let row = c.loop-row.row in
     let f : ℕ → ℕ → ℕ = entry_at (product_in x c.args.ends.source.0 (drop c.args.from (take c.args.to c.args.word.now))) in
     let g : ℕ → ℕ = λ k. get_or c.word_row-product.result k 0 in
-    subst (AreRows m columns f (row + 1)) (sym c.in_ok-push_row.ensures)
-    (one_row_more m columns row f g c.loop-row.entries c.loop-row.invariant
+    subst (AreRows m columns f (row + 1)) (sym c.push_row.ensures)
+    (one_row_more m columns row f g c.loop-row.entries.items c.loop-row.invariant
     (λ k inside. entry_below x c.requires.given c.word_row-product.result k c.word_row-product.ensures.below)
     (λ k inside. c.word_row-product.ensures.row k (subst (λ n. k < n) c.side_at-columns.ensures.value inside)))
 
@@ -30,9 +29,7 @@ returns c =
     let columns = c.side_at-columns.result in
     let ends = product_ends x c.requires.given u v w c.requires.source c.requires.leads in
     let all : c.loop-row.row ≡ rows = omega (arith, c.loop-row-test.false, c.loop-row.auto.row-end) in
-    let passed = subst (λ n. AreRows m columns (entry_at (product_in x u w)) n c.loop-row.entries) all c.loop-row.invariant in
-    IfOk-weaker c.matrix_of_entries.result _ _
-    (λ product made. made ∙ ap (λ xs. record { modulus = m; rows = rows; columns = columns; entries = xs }) c.as_slice.ensures
-    ∙ rows_of_matrix m rows columns (product_in x u w) c.loop-row.entries ends.arrow (ends.target ∙ sym c.side_at-rows.ensures.value)
-    (ends.source ∙ sym c.side_at-columns.ensures.value) passed)
-    c.matrix_of_entries.ensures
+    let passed = subst (λ n. AreRows m columns (entry_at (product_in x u w)) n c.loop-row.entries.items) all c.loop-row.invariant in
+    c.new.ensures
+    ∙ rows_of_matrix m rows columns (product_in x u w) c.loop-row.entries.items ends.arrow (ends.target ∙ sym c.side_at-rows.ensures.value)
+    (ends.source ∙ sym c.side_at-columns.ensures.value) passed
