@@ -2,7 +2,7 @@
 use Rattle.std.proofs.Common.{◌≡◌, ℕ, ◌+◌, ◌*◌, ◌%◌, ◌<◌, ◌≤◌, cond, eqb, true, List, [], ◌∷◌, length, get_or, take, drop, Option, Some, None, ◌⊎◌, inl, inr, sym, ap, subst, ◌∙◌, arith, mul_comm, eqb-true, eq-eqb, ne_eqb}
 use Rattle.std.specs.List.{All}
 use Rattle.std.proofs.lemmas.Bool.{cases_eq, cases_lt}
-use Rattle.std.proofs.lemmas.Nat.{mul-mod_first, mul-mod_second}
+use Rattle.std.proofs.lemmas.Nat.{mul-le, mul-mod_first, mul-mod_second}
 use Rattle.std.proofs.lemmas.List.{drop_all, get_or_past, length-take-le}
 use Rattle.std.proofs.lemmas.List.Elements.{All-get_or}
 use Rattle.std.proofs.lemmas.List.FromFn.{length-map-range_with_len}
@@ -26,6 +26,7 @@ use Rattle.model_checker.proofs.Arrows.{arrow_of-identity, represents}
 use Rattle.model_candidates.specs.declared.word_rows.EntryValues.{EntryValues}
 use Rattle.model_candidates.specs.declared.letter_tables.LetterTable.{LetterTable}
 use Rattle.model_candidates.specs.Candidates.{side_in}
+use Rattle.model_candidates.specs.LetterNumbers.{letter_values}
 use Rattle.model_candidates.specs.LetterTables.{IsTable, letter_table, value_in_table}
 use Rattle.model_candidates.specs.WordRows.{AreTabled, IsRow, matrix_in, model_in, product_in, quiver_in}
 use Rattle.model_candidates.proofs.CandidateModels.{model_by_is_model, model_by_has_matrices, modulus_of_shape}
@@ -162,6 +163,13 @@ module _ (x : EntryValues) (is : AreTabled x) where
   pub side_few : (v : ℕ) → v < q.objects → side v ≤ shape_side_limit
   side_few v inside =
       (All-get_or IsSide x.shape.now.sides v 1 (subst (λ n. v < n) (sym is.shape.side_of_each) inside) is.shape.sides).most
+
+  -- a letter's matrix has few entries
+  pub few_numbers : (numbers : List ℕ) (a : ℕ) → a < letters q → length (letter_values q x.shape.now numbers a) ≤ shape_side_limit * shape_side_limit
+  few_numbers numbers a letter =
+      let size = side (target q a) * side (source q a) in
+      subst (λ n. n ≤ shape_side_limit * shape_side_limit) (sym (length-map-range_with_len _ 0 size))
+      (mul-le _ _ _ _ (side_few (target q a) (quiver.target_is_object a letter)) (side_few (source q a) (quiver.source_is_object a letter)))
 
   -- the product of a letter and more
   product_entry : (u v a : ℕ) (w : List ℕ) → u < q.objects → leads q u v (a ∷ w) ≡ true → (i k : ℕ) → i < side v → k < side u

@@ -1,6 +1,7 @@
-//! Matrices of a shape, which lie in the value itself: no memory is taken for them.
-ghost use Rattle.std.specs.Prelude.{◌≡◌, ◌<◌, length};
+//! Matrices of a shape and numbers of their entries, which lie in the value itself: no memory is taken for them.
+ghost use Rattle.std.specs.Prelude.{◌≡◌, ◌*◌, ◌<◌, ◌≤◌, Some, length, slice_get};
 ghost use Rattle.std.specs.List.{All};
+ghost use Rattle.adjoint_rules.specs.Limits.{shape_side_limit};
 ghost use Rattle.matrix_models.specs.Matrix.{HasShape, IsModulus, entry_at};
 
 use adjoint_rules::SHAPE_SIDE_LIMIT;
@@ -12,6 +13,42 @@ const ENTRY_LIMIT: usize = (SHAPE_SIDE_LIMIT * SHAPE_SIDE_LIMIT) as usize;
 
 /// Entries, row by row.
 pub(crate) type Entries = ArrayVec<u32, ENTRY_LIMIT>;
+
+/// A number for each entry of a matrix of a shape, row by row.
+#[derive(Drop)]
+pub(crate) struct EntryNumbers {
+    numbers: Entries,
+}
+
+impl Model for EntryNumbers {
+    ghost use Rattle.std.specs.Prelude.{ℕ, List};
+
+    ghost Value = { List ℕ };
+
+    ghost view = { λ n. n.numbers.items };
+}
+
+impl EntryNumbers {
+    // These numbers.
+    pub(crate) fn copy_of(numbers: &[u32]) -> EntryNumbers
+        requires { length numbers.now ≤ shape_side_limit * shape_side_limit }
+        ensures { result ≡ numbers.now }
+    {
+        let mut copy = Entries::new();
+        for number in numbers {
+            copy.push(*number);
+        }
+        EntryNumbers { numbers: copy }
+    }
+
+    // The number at this place, counted from 0.
+    pub(crate) fn at(&self, place: usize) -> &u32
+        requires { place < length self.now }
+        ensures { slice_get self.now place ≡ Some result.now }
+    {
+        &self.numbers.as_slice()[place]
+    }
+}
 
 /// A matrix whose sides are those of objects of a shape.
 #[derive(Drop)]

@@ -9,11 +9,11 @@ ghost use Rattle.model_candidates.specs.Known.{IsKnown, numbers_in};
 ghost use Rattle.model_candidates.specs.Residues.{residues};
 ghost use Rattle.model_candidates.specs.WordRows.{model_in, quiver_in};
 
-use crate::shape_matrices::ShapeMatrix;
+use crate::shape_matrices::{EntryNumbers, ShapeMatrix};
 use crate::value_matrices::product_of;
 use crate::word_rows::EntryValues;
 use adjoint_rules::Problem;
-use lists::{Duplicate, Listing};
+use lists::Listing;
 use nc_polynomial::Poly;
 use quiver::Sig;
 use std::alloc::{AllocError, Global};
@@ -25,7 +25,7 @@ pub(crate) struct SolvedTerm {
     /// Its coefficient, modulo the modulus.
     pub coefficient: u32,
     /// The numbers of the unknowns in the letter's matrix, row by row.
-    pub numbers: Listing<u32>,
+    pub numbers: EntryNumbers,
     /// The product of the matrices before the letter.
     pub left: ShapeMatrix,
     /// The product of the matrices behind it.
@@ -60,7 +60,7 @@ pub(crate) fn solved_terms(
 {
     let mut terms = Listing::new(known.alloc);
     for place in 0..poly.terms() {
-        if let Some(term) = solved_term(known, poly, coefficients, place, ends)? {
+        if let Some(term) = solved_term(known, poly, coefficients, place, ends) {
             terms.push(term)?;
         }
     }
@@ -74,25 +74,25 @@ fn solved_term(
     coefficients: &[u32],
     place: usize,
     ends: Sig,
-) -> Result<Option<SolvedTerm>, AllocError>
+) -> Option<SolvedTerm>
     requires known { IsKnown known.now }
     requires source { ends.source.0 < object_count known.now.given.problem.now.parts.quiver }
     requires target { ends.target.0 < object_count known.now.given.problem.now.parts.quiver }
     requires typed { IsTyped (quiver_in known.now.given) ends.source.0 ends.target.0 poly.now.terms }
     requires coefficients { coefficients.now ≡ residues known.now.given.shape.now.modulus poly.now.terms }
     requires place { place < length poly.now.terms }
-    ensures { IfOk result (λ term. (t : ℤ × List ℕ) → slice_get poly.now.terms place ≡ Some t
-        → term ≡ solved_term (quiver_in known.now.given) known.now.given.shape.now
-        known.now.given.problem.now.parts.solved (numbers_in known.now) (model_in known.now.given) ends.source.0 t) }
+    ensures { (t : ℤ × List ℕ) → slice_get poly.now.terms place ≡ Some t
+        → result ≡ solved_term (quiver_in known.now.given) known.now.given.shape.now
+        known.now.given.problem.now.parts.solved (numbers_in known.now) (model_in known.now.given) ends.source.0 t }
 {
     let given = &known.given;
     let word = poly.term(place).1;
     let Some(split) = solved_place(known, word) else {
-        return Ok(None);
+        return None;
     };
     let (letter, end) = (word.letter(split), word.len());
     let Some(numbers) = &known.numbers[usize::from(letter.0)] else {
-        return Ok(None);
+        return None;
     };
     let own = given.problem.parts.quiver.signature_of(letter);
     let before = Sig {
@@ -103,12 +103,12 @@ fn solved_term(
         source: ends.source,
         target: own.source,
     };
-    Ok(Some(SolvedTerm {
+    Some(SolvedTerm {
         coefficient: coefficients[place],
-        numbers: numbers.duplicate()?,
+        numbers: EntryNumbers::copy_of(numbers.as_slice()),
         left: product_of(given, word, 0, split, before),
         right: product_of(given, word, split + 1, end, behind),
-    }))
+    })
 }
 
 // The place of the first letter of the word that is a solved map or the adjoint of one: its unknowns have numbers.

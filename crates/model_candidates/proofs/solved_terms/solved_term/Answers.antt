@@ -1,4 +1,4 @@
-use Rattle.std.proofs.Common.{rules, ◌≡◌, ◌+◌, ◌<◌, ℕ, ℤ, List, true, length, get_or, take, drop, Some, option_map, sym, ap, subst, ◌∙◌, arith}
+use Rattle.std.proofs.Common.{rules, ◌≡◌, ◌+◌, ◌*◌, ◌<◌, ◌≤◌, ℕ, ℤ, List, true, length, get_or, take, drop, Some, option_map, sym, ap, subst, ◌∙◌, arith}
 use Rattle.std.specs.List.{All}
 use Rattle.std.proofs.lemmas.List.{take_all}
 use Rattle.std.proofs.lemmas.List.FromFn.{length-map-range_with_len}
@@ -8,6 +8,7 @@ use Rattle.quiver.proofs.Counts.{letters-quiver_of}
 use Rattle.matrix_models.specs.Matrices.{matrices}
 use Rattle.representations.proofs.ValueLoop.{term_is_path}
 use Rattle.model_checker.specs.Models.{representation_of}
+use Rattle.adjoint_rules.specs.Limits.{shape_side_limit}
 use Rattle.model_candidates.specs.declared.solved_terms.SolvedTerm.{SolvedTerm}
 use Rattle.model_candidates.specs.Known.{numbers_in}
 use Rattle.model_candidates.specs.WordRows.{model_in}
@@ -15,6 +16,7 @@ use Rattle.model_candidates.specs.LetterNumbers.{letter_numbers}
 use Rattle.model_candidates.specs.Factors.{letters_product, residue, term_around, solved_term}
 use Rattle.model_candidates.specs.LetterNumbers.{letter_values}
 use Rattle.model_candidates.proofs.ValueRows.{coefficient_at}
+use Rattle.model_candidates.proofs.WordRows.{few_numbers}
 use Rattle.model_candidates.proofs.SolvedTerms.{path_over, solved_at, numbers_there}
 use Rattle.model_candidates.proofs.solved_terms.solved_term.Goals as goal
 
@@ -108,12 +110,12 @@ returns c = λ t there.
     (c.from.ensures ∙ letter_is) at.fit.letter at.there in
     let both : Some c.in-Some-numbers.numbers ≡ Some values = sym c.in-Some-numbers.is ∙ found in
     let values_are : c.in-Some-numbers.numbers ≡ values = cc in
-    let numbers_is : c.in_ok-duplicate.field-0 ≡ values = c.in_ok-duplicate.ensures.same ∙ values_are in
+    let numbers_is : c.copy_of.result ≡ values = c.copy_of.ensures ∙ c.as_slice.ensures ∙ values_are in
     let left_is = c.product_of.ensures ∙ ap (λ x. letters_product (matrices s.modulus) f x (take split w)) target_is in
     let right_is = c.product_of-2.ensures ∙ ap (λ xs. letters_product (matrices s.modulus) f u (drop (split + 1) xs)) all in
     let made : SolvedTerm = record {
       coefficient = get_or c.args.coefficients.now c.args.place 0;
-      numbers = c.in_ok-duplicate.field-0;
+      numbers = c.copy_of.result;
       left = c.product_of.result;
       right = c.product_of-2.result;
     } in
@@ -158,3 +160,26 @@ returns-in_default-numbers c =
     let there = numbers_there q k.given.shape.now parts.solved k.numbers.now (get_or w split 0) c.from.result c.index-known-from.result
     c.requires.known.numbers (c.from.ensures ∙ letter_is) at.fit.letter at.there in
     absurd (c.in_default-numbers.not-Some _ there)
+
+pub copy_of-requires : goal.copy_of-requires
+copy_of-requires c =
+    let k = c.args.known.now in
+    let parts = k.given.problem.now.parts in
+    let q = quiver_of parts.quiver in
+    let u = c.args.ends.source.0 in
+    let v = c.args.ends.target.0 in
+    let w = c.term.result.1.now in
+    let path = term_is_path q u v c.args.poly.now.terms c.args.poly.now.canonical c.requires.typed c.args.place (c.term.result.0, w)
+    c.term.ensures in
+    let split = c.in-Some.split in
+    let at = solved_at q parts.solved u v w split path (sym c.in-Some.ensures) in
+    let letter_is : c.letter-letter.result.0 ≡ get_or w split 0 = search rules in
+    let values = letter_values q k.given.shape.now (numbers_in k) (get_or w split 0) in
+    let found : get_or k.numbers.now c.from.result c.index-known-from.result ≡ Some values =
+    numbers_there q k.given.shape.now parts.solved k.numbers.now (get_or w split 0) c.from.result c.index-known-from.result c.requires.known.numbers
+    (c.from.ensures ∙ letter_is) at.fit.letter at.there in
+    let both : Some c.in-Some-numbers.numbers ≡ Some values = sym c.in-Some-numbers.is ∙ found in
+    let values_are : c.in-Some-numbers.numbers ≡ values = cc in
+    let numbers_are : c.as_slice.result.now ≡ values = c.as_slice.ensures ∙ values_are in
+    subst (λ xs. length xs ≤ shape_side_limit * shape_side_limit) (sym numbers_are)
+    (few_numbers k.given c.requires.known.given (numbers_in k) (get_or w split 0) at.fit.letter)
