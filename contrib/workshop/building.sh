@@ -150,7 +150,7 @@ announce() {
   kept=${#is_kept[@]}
   left=$(foretell)
   say "${#crates[@]} crates are proved and the program is built first, once for the present sources: about $(minutes "$left") here$(
-    ((kept)) && echo " ($kept of them are proved already)" || echo ' (43 on a busy machine of 4 processors)')"
+    ((kept)) && echo " ($kept of them are proved already)" || echo ' (45 on a busy machine of 4 processors)')"
   say "./unproved WORDS answers within a minute and a half, with nothing behind it but the code; Ctrl-C loses no crate that is proved"
   ((slots == wanted)) ||
     say "side by side are proved $slots at most, and not $wanted, for want of memory: each may take 3 GB, and ${free:-?} GB are free"
