@@ -2,7 +2,8 @@
 use crate::texts::{Map, quiver_of, same, tree_of};
 use adjoint_rules::Shape;
 use quiver::Quiver;
-use statement_names::{Equation, NameStop, Names, abbreviation, read_names};
+use abbreviations::{Equation, abbreviation};
+use statement_names::{NameStop, Names, read_names};
 use statement_syntax::{Factor, Primary, Sum, Tree};
 use std::alloc::{AllocError, Global};
 use std::process::Abort;

@@ -15,10 +15,10 @@ use Rattle.statement_syntax.specs.declared.tree.Factor.{Factor}
 use Rattle.statement_syntax.specs.declared.tree.Term.{out-roll-Term}
 use Rattle.statement_syntax.specs.declared.tree.Sum.{out-roll-Sum}
 use Rattle.statement_syntax.specs.Nodes.{term_of}
-use Rattle.statement_names.specs.declared.written.Equation.{Equation}
+use Rattle.abbreviations.specs.declared.written.Equation.{Equation}
 use Rattle.statement_names.specs.Marked.{is_starred_in, is_starred, stated_by, all_equations, is_marked, an_object, marked_of}
 use Rattle.statement_names.specs.Solved.{numbers_that}
-use Rattle.statement_names.specs.Written.{product_at, equation, equations_in, equations_of, assumptions_of, claims_in, claims_of}
+use Rattle.abbreviations.specs.Written.{product_at, equation, equations_in, equations_of, assumptions_of, claims_in, claims_of}
 use Rattle.expression_names.specs.Occurrences.{has_mark, has_mark_in_term, has_identity}
 use Rattle.expression_names.proofs.Trees.{has_mark_in_factor, mark-sum, mark-term}
 use Rattle.expressions.specs.Laws.{IsWritten}

@@ -8,13 +8,13 @@ use Rattle.definitions.specs.Poly.{Poly}
 use Rattle.nc_polynomial.specs.declared.poly.Poly as made
 use Rattle.quiver.specs.Declarations.{Declaration}
 use Rattle.statement_syntax.specs.declared.tree.Statement.{Statement}
-use Rattle.statement_names.specs.declared.written.Equation.{Equation}
+use Rattle.abbreviations.specs.declared.written.Equation.{Equation}
 use Rattle.statement_names.specs.declared.fault.NameFault.{NameFault}
 use Rattle.statement_names.specs.Faults.{name_fault_of}
 use Rattle.statement_names.specs.Marked.{is_starred, marked_of}
 use Rattle.statement_names.specs.Numbered.{declarations_of}
 use Rattle.statement_names.specs.Ready.{HasNames, IsReady}
-use Rattle.statement_names.specs.Written.{equations_of, assumptions_of, claims_in, claims_of}
+use Rattle.abbreviations.specs.Written.{equations_of, assumptions_of, claims_in, claims_of}
 use Rattle.expressions.specs.Laws.{EquationsAreTyped, LettersAreWritten, IsWritten}
 use Rattle.adjoint_rules.specs.declared.parts.Parts.{Parts}
 use Rattle.adjoint_rules.specs.Problem.{polynomials, numbers, IsInPlay, HasLettersInPlay, HasObjects, IsTypedOf, IsPosed}

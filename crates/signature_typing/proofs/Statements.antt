@@ -6,7 +6,7 @@ use Rattle.quiver.specs.Declarations.{Declaration}
 use Rattle.statement_syntax.specs.declared.tree.Sum.{Sum}
 use Rattle.statement_syntax.specs.declared.tree.Statement.{Statement}
 use Rattle.statement_syntax.specs.declared.tree.StatementKind.TheVariants as statement
-use Rattle.statement_names.specs.Written.{equation}
+use Rattle.abbreviations.specs.Written.{equation}
 use Rattle.statement_names.specs.Ready.{HasNames}
 use Rattle.signature_typing.specs.Typing.{equations_in}
 

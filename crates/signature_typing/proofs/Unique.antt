@@ -7,7 +7,7 @@ use Rattle.adjoint_rules.proofs.Generators.{generators_are_unique}
 use Rattle.statement_names.specs.Marked.{marked_of}
 use Rattle.statement_names.specs.Ordered.{order_of}
 use Rattle.statement_names.specs.Solved.{solved_of}
-use Rattle.statement_names.specs.Written.{assumptions_of, claims_of}
+use Rattle.abbreviations.specs.Written.{assumptions_of, claims_of}
 use Rattle.signature_typing.specs.Typing.{signatures_of, polynomials_of, ArePartsOf}
 use Rattle.statement_names.specs.Shapes.{shapes_of}
 use Rattle.signature_typing.specs.Unique.{ProblemIsUnique}

@@ -8,10 +8,10 @@ use Rattle.quiver.specs.declared.named.Sig.{Sig}
 use Rattle.quiver.specs.Declarations.{Declaration}
 use Rattle.statement_tokens.specs.declared.place.Spot.{Spot}
 use Rattle.statement_syntax.specs.declared.tree.Statement.{Statement}
-use Rattle.statement_names.specs.declared.written.Equation.{Equation}
+use Rattle.abbreviations.specs.declared.written.Equation.{Equation}
 use Rattle.statement_names.specs.Faults.{name_fault_of}
 use Rattle.statement_names.specs.Numbered.{declarations_of}
-use Rattle.statement_names.specs.Written.{equations_of, assumptions_of, claims_in, claims_of}
+use Rattle.abbreviations.specs.Written.{equations_of, assumptions_of, claims_in, claims_of}
 use Rattle.statement_names.specs.Ordered.{order_of}
 use Rattle.statement_names.specs.Marked.{is_starred, marked_of}
 use Rattle.statement_names.specs.Shapes.{shapes_of}

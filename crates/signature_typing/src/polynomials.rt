@@ -2,7 +2,7 @@
 
 ghost use Rattle.std.specs.Prelude.{◌≡◌, ◌++◌, None, Ok, IfOk, IfErr, OnOk};
 ghost use Rattle.std.specs.List.{All};
-ghost use Rattle.statement_names.specs.Written.{equations_of, assumptions_of, claims_in, claims_of};
+ghost use Rattle.abbreviations.specs.Written.{equations_of, assumptions_of, claims_in, claims_of};
 ghost use Rattle.statement_names.specs.Ready.{HasNames};
 ghost use Rattle.expression_names.specs.Names.{AreNames};
 ghost use Rattle.expressions.specs.Polynomials.{equation_poly};
@@ -18,7 +18,7 @@ use expressions::equation_poly;
 use lists::Listing;
 use nc_polynomial::Poly;
 use quiver::Quiver;
-use statement_names::{Equation, abbreviation};
+use abbreviations::{Equation, abbreviation};
 use statement_syntax::{Statement, StatementKind, Sum};
 use statement_tokens::Spot;
 use std::alloc::Global;

@@ -2,7 +2,7 @@
 
 ghost use Rattle.std.specs.Prelude.{◌≡◌, ◌++◌, None, Ok, IfOk, IfErr, OnOk};
 ghost use Rattle.std.specs.List.{All};
-ghost use Rattle.statement_names.specs.Written.{equations_of, assumptions_of, claims_in, claims_of};
+ghost use Rattle.abbreviations.specs.Written.{equations_of, assumptions_of, claims_in, claims_of};
 ghost use Rattle.statement_names.specs.Ready.{HasNames};
 ghost use Rattle.expression_names.specs.Names.{AreNames};
 ghost use Rattle.expressions.specs.Signatures.{equation_signature};
@@ -17,7 +17,7 @@ use crate::fault::fault_at;
 use expressions::{SignatureFault, equation_signature};
 use lists::{Listing, Text};
 use quiver::{Quiver, Sig};
-use statement_names::{Equation, abbreviation};
+use abbreviations::{Equation, abbreviation};
 use statement_syntax::{Statement, StatementKind, Sum};
 use statement_tokens::Spot;
 use std::alloc::{AllocError, Global};

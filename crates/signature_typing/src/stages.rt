@@ -1,7 +1,7 @@
 //! The stages from a tree to its problem: names, signatures, polynomials, and at least one claim.
 
 ghost use Rattle.std.specs.Prelude.{◌≡◌, None, OnOk, IfOk, IfErr};
-ghost use Rattle.statement_names.specs.Written.{assumptions_of, claims_of};
+ghost use Rattle.abbreviations.specs.Written.{assumptions_of, claims_of};
 ghost use Rattle.adjoint_rules.specs.Problem.{IsPosed, polynomials};
 ghost use Rattle.signature_typing.specs.First.{first_among};
 ghost use Rattle.signature_typing.specs.Fault.{Explains};

@@ -10,7 +10,7 @@ use Rattle.statement_names.specs.Occurrences.{occurrences_of}
 use Rattle.statement_names.specs.Ordered.{letter}
 use Rattle.statement_names.specs.Ready.{HasNames, IsReady}
 use Rattle.statement_names.specs.Solved.{is_solved, solved_names}
-use Rattle.statement_names.specs.Written.{assumptions_of, claims_of}
+use Rattle.abbreviations.specs.Written.{assumptions_of, claims_of}
 use Rattle.adjoint_rules.specs.Limits.{assumption_limit, claim_limit}
 use Rattle.adjoint_rules.specs.Problem.{IsDeclaredMap}
 use Rattle.statement_names.proofs.Ascending.{numbers_ascend, numbers_hold}

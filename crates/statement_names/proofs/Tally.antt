@@ -18,7 +18,7 @@ use Rattle.statement_names.specs.Occurrences.{Occurrence, declares_object, decla
 use Rattle.statement_names.specs.Faults.{objects_by, maps_by, assumptions_by, claims_by, shapes_by}
 use Rattle.statement_names.specs.Numbered.{objects_in, maps_in, declared_objects, declared_maps}
 use Rattle.statement_names.specs.Shapes.{shapes_in}
-use Rattle.statement_names.specs.Written.{equations_in, assumptions_of, claims_in, claims_of}
+use Rattle.abbreviations.specs.Written.{equations_in, assumptions_of, claims_in, claims_of}
 use Rattle.statement_names.proofs.Quiet.{IsUse, IsQuiet, sum_by-quiet, used_names-quiet, sides-quiet, names_behind-quiet, pairs_behind-quiet}
 
 abbrev made_objects : List Name → List Occurrence

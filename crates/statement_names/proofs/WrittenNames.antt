@@ -25,7 +25,7 @@ use Rattle.statement_names.specs.Faults.{kind_in, is_kind, declared_in, name_fau
 use Rattle.statement_names.specs.Numbered.{declarations_of}
 use Rattle.statement_names.specs.Occurrences.{mark_occurrences, primary_occurrences, factors_occurrences, term_occurrences, terms_occurrences, sum_occurrences, sides_occurrences, kind_occurrences, statement_occurrences, occurrences_of}
 use Rattle.statement_names.specs.Ready.{HasNames}
-use Rattle.statement_names.specs.Written.{letter_at, word_at, adjoint_at, product_at, identity_at, marked_letter, equation, inner_equation, adjoint_equation, identity_equation, projection_equations, end_name, source_name, target_name, equations_in, equations_of, assumptions_of, claims_in, claims_of}
+use Rattle.abbreviations.specs.Written.{letter_at, word_at, adjoint_at, product_at, identity_at, marked_letter, equation, inner_equation, adjoint_equation, identity_equation, projection_equations, end_name, source_name, target_name, equations_in, equations_of, assumptions_of, claims_in, claims_of}
 use Rattle.statement_names.proofs.Clean.{IsGood}
 use Rattle.statement_names.proofs.Each.{Each, Each-left, Each-right, Each-weaker, Each-flat_map}
 use Rattle.statement_names.proofs.FileDeclared.{statements_good, file_declared, file_objects_first}

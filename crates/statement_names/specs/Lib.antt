@@ -4,7 +4,6 @@ pub mod Occurrences
 pub mod Faults
 pub mod Survey
 pub mod Numbered
-pub mod Written
 pub mod Ordered
 pub mod Solved
 pub mod Marked

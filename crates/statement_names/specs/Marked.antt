@@ -7,9 +7,9 @@ use Rattle.statement_syntax.specs.declared.tree.Statement.{Statement}
 use Rattle.statement_syntax.specs.declared.tree.StatementKind.{StatementKind}
 use Rattle.statement_syntax.specs.declared.tree.StatementKind.TheVariants as statement
 use Rattle.word_core.specs.declared.letter.Object.{Object}
-use Rattle.statement_names.specs.declared.written.Equation.{Equation}
+use Rattle.abbreviations.specs.declared.written.Equation.{Equation}
 use Rattle.statement_names.specs.Solved.{numbers_that}
-use Rattle.statement_names.specs.Written.{equations_of, claims_in}
+use Rattle.abbreviations.specs.Written.{equations_of, claims_in}
 
 -- whether a mark or the word `self` stands in a statement, abbreviations written out
 abbrev pub is_starred_in : StatementKind → Bool

@@ -6,12 +6,12 @@ use Rattle.quiver.specs.Declarations.{Declaration, object_count, letter_count, I
 use Rattle.expression_names.specs.Names.{AreNames}
 use Rattle.adjoint_rules.specs.Problem.{IsShape, IsDeclaredMap}
 use Rattle.statement_syntax.specs.declared.tree.Statement.{Statement}
-use Rattle.statement_names.specs.declared.written.Equation.{Equation}
+use Rattle.abbreviations.specs.declared.written.Equation.{Equation}
 use Rattle.statement_names.specs.Marked.{marked_of}
 use Rattle.statement_names.specs.Ordered.{order_of}
 use Rattle.statement_names.specs.Shapes.{shapes_of}
 use Rattle.statement_names.specs.Solved.{solved_of}
-use Rattle.statement_names.specs.Written.{assumptions_of, claims_of}
+use Rattle.abbreviations.specs.Written.{assumptions_of, claims_of}
 use Rattle.adjoint_rules.specs.Limits.{assumption_limit, claim_limit, shape_limit}
 
 -- each name on both sides stands for a map, and each in square brackets for an object

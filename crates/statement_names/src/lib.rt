@@ -15,10 +15,8 @@ mod solved;
 mod starred;
 mod survey;
 mod used;
-mod written;
 
 pub use fault::{NameFault, NameStop};
 pub use names::{Names, read_names};
 pub use survey::FIRST_MAP_LIMIT;
 pub use used::EXPONENT_LIMIT;
-pub use written::{Equation, abbreviation};

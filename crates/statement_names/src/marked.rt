@@ -7,9 +7,9 @@ ghost use Rattle.expression_names.specs.Occurrences.{has_identity, has_identity_
 ghost use Rattle.statement_names.specs.Marked.{an_object, is_marked, writes_identity, stated_by, marked_of};
 ghost use Rattle.statement_names.specs.Marks.{Marks};
 ghost use Rattle.statement_names.specs.Solved.{numbers_that};
-ghost use Rattle.statement_names.specs.Written.{abbreviation_of};
+ghost use Rattle.abbreviations.specs.Written.{abbreviation_of};
 
-use crate::written::abbreviation;
+use abbreviations::abbreviation;
 use lists::Listing;
 use quiver::{Named, Quiver};
 use statement_syntax::{Name, Primary, Statement, StatementKind, Sum, Term};

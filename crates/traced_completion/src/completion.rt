@@ -37,7 +37,7 @@ pub struct Completion {
     pub treated: Listing<Ambiguity>,
     /// Those that were not, in the order in which they are taken.
     pub waiting: Pending,
-    /// Whether the first reductions of the last round made so few steps that no thread is started for the next ones.
+    /// Whether so few steps are looked for in the next first reductions that no thread is started for them.
     pub is_light: bool,
 }
 
@@ -76,7 +76,7 @@ impl Completion {
     }
 
     /// The next round, which is round 0 at the first call; first reductions are made on at most as many threads as there
-    /// are workers, from 1 to 64, and on one behind a light round. `Went` comes exactly where the round was made whole,
+    /// are workers, from 1 to 64, and on one where they are light. `Went` comes exactly where the round was made whole,
     /// `Closed` exactly where nothing is pending after round 0, and `Stopped` exactly where the budget of pairs is spent or
     /// the round has a fault, which is the first one in the order of the list. But for `Went` the completion stays as it was,
     /// and so it does where memory is short; then a later call answers the same again.
@@ -135,6 +135,7 @@ impl Completion {
         match self.try_round_zero(problem) {
             Ok(()) => {
                 self.rounds += 1;
+                self.is_light = self.begins_short();
                 Ok(Step::Went)
             }
             Err(fault) => self.give_up(fault, 0, 0),

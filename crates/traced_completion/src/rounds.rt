@@ -39,6 +39,9 @@ const ROUND_LIMIT: usize = 32;
 // The number of steps of a round below which starting threads takes longer than they save.
 const LIGHT_STEPS: u32 = 4096;
 
+// The number of letters of the least overlap word below which the first round of ambiguities is taken to be light.
+const LIGHT_LETTERS: usize = 16;
+
 // Appends the ambiguities.
 fn push_treated(treated: &mut Listing<Ambiguity>, taken: &[Ambiguity]) -> Result<(), AllocError>
     ensures ok { OnOk result (treated.new ≡ treated.old ++ taken.now) }
@@ -181,6 +184,14 @@ impl Completion {
         self.rules.truncate(rules);
         self.made.truncate(rules as usize);
         self.treated.truncate(treated);
+    }
+
+    // Whether the least overlap word that is pending is short, or nothing is pending.
+    pub(crate) fn begins_short(&self) -> bool {
+        match self.waiting.least() {
+            Some(word) => word.len() < LIGHT_LETTERS,
+            None => true,
+        }
     }
 
     // The least overlap word that is pending.

@@ -1,6 +1,6 @@
 use Rattle.std.proofs.Common.{arith}
 use Rattle.std.proofs.lemmas.Result.{err_from_is_err_and}
-use Rattle.statement_names.specs.Written.{equations_of, claims_in}
+use Rattle.abbreviations.specs.Written.{equations_of, claims_in}
 use Rattle.signature_typing.specs.Typing.{polynomial_in, value_in, polynomials_of, wrong_polynomial}
 use Rattle.signature_typing.proofs.FirstFound.{explained_at}
 use Rattle.signature_typing.proofs.Progress.{one_more_statement, all_listed}

@@ -1,5 +1,5 @@
 use Rattle.adjoint_rules.specs.Problem.{polynomials}
-use Rattle.statement_names.specs.Written.{equations_of, claims_in}
+use Rattle.abbreviations.specs.Written.{equations_of, claims_in}
 use Rattle.signature_typing.specs.Typing.{polynomials_of, wrong_polynomial}
 use Rattle.signature_typing.proofs.Progress.{AreSoFar}
 use Rattle.signature_typing.proofs.polynomials.polynomials_of.Given as goal

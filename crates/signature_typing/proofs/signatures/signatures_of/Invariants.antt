@@ -1,4 +1,4 @@
-use Rattle.statement_names.specs.Written.{equations_of, claims_in}
+use Rattle.abbreviations.specs.Written.{equations_of, claims_in}
 use Rattle.signature_typing.specs.Typing.{signatures_of, wrong_signature}
 use Rattle.signature_typing.proofs.Progress.{AreSoFar}
 use Rattle.signature_typing.proofs.signatures.signatures_of.Given as goal

@@ -1,5 +1,5 @@
 use Rattle.std.proofs.Common.{◌≡◌, Some, length, sym, ◌∙◌}
-use Rattle.statement_names.specs.Written.{claims_of}
+use Rattle.abbreviations.specs.Written.{claims_of}
 use Rattle.signature_typing.specs.Typing.{equation_fault}
 use Rattle.signature_typing.specs.Fault.{no_claim}
 use Rattle.signature_typing.proofs.Posed.{equation_fault_of_claims, some_claims, no_claims, claim_count}

@@ -1,6 +1,6 @@
 use Rattle.std.proofs.Common.{◌≡◌, map, take}
-use Rattle.statement_names.specs.Written.{letter_at}
-use Rattle.statement_names.proofs.written.word_at.Given as goal
+use Rattle.abbreviations.specs.Written.{letter_at}
+use Rattle.abbreviations.proofs.written.word_at.Given as goal
 
 abbrev pub invariant-loop-name : goal.invariant-loop-name
 invariant-loop-name l = l.factors ≡ map (λ name. letter_at l.at name.now) (take l.name-index l.names)

@@ -1,8 +1,8 @@
 use Rattle.std.proofs.Common.{◌≡◌, ◌∙◌, map, IfOk, sym, ap, subst}
 use Rattle.std.proofs.lemmas.List.{take_all}
 use Rattle.std.proofs.lemmas.Simd.{map-map}
-use Rattle.statement_names.specs.Written.{letter_at, product_at}
-use Rattle.statement_names.proofs.written.word_at.Goals as goal
+use Rattle.abbreviations.specs.Written.{letter_at, product_at}
+use Rattle.abbreviations.proofs.written.word_at.Goals as goal
 
 pub returns : goal.returns
 returns c =

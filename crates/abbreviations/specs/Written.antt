@@ -15,7 +15,7 @@ use Rattle.definitions.specs.Quiver.{source, target}
 use Rattle.quiver.specs.declared.named.Named.{Named}
 use Rattle.quiver.specs.declared.named.Named.TheVariants.{Map}
 use Rattle.quiver.specs.Declarations.{Declaration, quiver_of, named_in, object_name}
-use Rattle.statement_names.specs.declared.written.Equation.{Equation}
+use Rattle.abbreviations.specs.declared.written.Equation.{Equation}
 
 -- expressions, all of whose tokens are at one place
 abbrev pub letter_at : Spot → List ℕ → Factor

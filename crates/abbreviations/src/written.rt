@@ -1,9 +1,9 @@
 //! The equations that abbreviations stand for, as expressions all of whose tokens are at one place.
 
 ghost use Rattle.std.specs.Prelude.{◌≡◌, ◌∷◌, ◌++◌, [], List, ℕ, map, IfOk, OnOk};
-ghost use Rattle.statement_names.specs.Written.{letter_at, identity_at, product_at, word_at, adjoint_at, inner_equation, adjoint_equation};
-ghost use Rattle.statement_names.specs.Written.{identity_equation, source_name, target_name, abbreviation_of, equation, pinv_equations};
-ghost use Rattle.statement_names.specs.Written.{inverse_equations, projection_equations, marked_letter};
+ghost use Rattle.abbreviations.specs.Written.{letter_at, identity_at, product_at, word_at, adjoint_at, inner_equation, adjoint_equation};
+ghost use Rattle.abbreviations.specs.Written.{identity_equation, source_name, target_name, abbreviation_of, equation, pinv_equations};
+ghost use Rattle.abbreviations.specs.Written.{inverse_equations, projection_equations, marked_letter};
 ghost use Rattle.statement_syntax.specs.declared.tree.Mark.TheVariants.{Adjoint};
 ghost use Rattle.statement_syntax.specs.declared.tree.Primary.{Bracket};
 ghost use Rattle.statement_syntax.specs.Nodes.{factor_of};
