@@ -18,8 +18,8 @@ use Rattle.cancellation_text.proofs.Readable.{proofs_are_readable}
 use Rattle.certificate_causes.proofs.Told as causes
 use Rattle.command_shape.specs.Ending.{Ending}
 use Rattle.command_shape.proofs.BlockTexts.{IsKind, text_answered, text_answered_once, text_status, first_answered, all_first}
-use Rattle.command_shape.proofs.Statements.{stated_leads}
-use Rattle.command_shape.proofs.Owed.{OwesEnding, owed_over, zero_or_past}
+use Rattle.stated_problem.proofs.Statements.{stated_leads}
+use Rattle.stated_problem.proofs.Owed.{OwesEnding, owed_over, zero_or_past}
 use Rattle.cancel_command.specs.Texts.{accepted_text, refusal_text}
 use Rattle.cancel_command.specs.Answers.{AnswersCancellations, AnswersCancel}
 use Rattle.cancel_command.specs.Says.{SaysCancelled}

@@ -4,8 +4,8 @@ use Rattle.std.proofs.lemmas.List.{append-nil}
 use Rattle.definitions.specs.Category.{Structure}
 use Rattle.cancel_rules.specs.declared.cancellation.Cancellation.{Cancellation}
 use Rattle.cancellation_text.specs.Cancellations.{IsCancellations}
-use Rattle.command_shape.specs.Statement.{faulty, stated}
-use Rattle.command_shape.proofs.Statements.{over_problem}
+use Rattle.stated_problem.specs.Statement.{faulty, stated}
+use Rattle.stated_problem.proofs.Statements.{over_problem}
 use Rattle.command_shape.proofs.BlockTexts.{passing_answered, zero_answered, text_status}
 use Rattle.certificate_causes.proofs.Told.{not_three}
 use Rattle.cancel_command.specs.Answers.{AnswersCancellations}

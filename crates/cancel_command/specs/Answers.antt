@@ -5,7 +5,7 @@ use Rattle.cancel_rules.specs.declared.cancellation.Cancellation.{Cancellation}
 use Rattle.cancel_rules.specs.Acceptance.{IsAccepted, IsRefused}
 use Rattle.cancellation_text.specs.Cancellations.{IsCancellations, IsFirstFault}
 use Rattle.command_shape.specs.Ending.{Ending}
-use Rattle.command_shape.specs.Statement.{OverStatement}
+use Rattle.stated_problem.specs.Statement.{OverStatement}
 use Rattle.command_shape.specs.Blocks.{OverEvidence, AcceptsBlock, RefusesBlock, Judges, lines_on}
 use Rattle.cancel_command.specs.Texts.{accepted_text, refusal_text}
 

@@ -7,7 +7,7 @@ use Rattle.cancel_rules.specs.declared.cancellation.Cancellation.{Cancellation}
 use Rattle.cancel_rules.specs.Acceptance.{IsAccepted}
 use Rattle.cancellation_text.specs.Cancellations.{IsCancellations}
 use Rattle.command_shape.specs.Ending.{Ending, refused_statement}
-use Rattle.command_shape.specs.Statement.{IsStated, IsRefusedStatement}
+use Rattle.stated_problem.specs.Statement.{IsStated, IsRefusedStatement}
 use Rattle.cancel_command.specs.Answers.{accepted_lines, AnswersCancel}
 use Rattle.cancel_command.specs.Says.{CancelledMeans, SaysCancelled}
 

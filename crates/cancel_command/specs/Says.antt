@@ -14,7 +14,7 @@ use Rattle.cancel_rules.specs.declared.cancellation.Cancellation.{Cancellation}
 use Rattle.cancel_rules.specs.Cancellations.{IsCancellationOf}
 use Rattle.cancel_rules.specs.Meaning.{AreMonic, AreEpic, MakesZeroByCancelling}
 use Rattle.cancellation_text.specs.Cancellations.{IsCancellations}
-use Rattle.command_shape.specs.Statement.{IsStated}
+use Rattle.stated_problem.specs.Statement.{IsStated}
 use Rattle.cancel_command.specs.Answers.{accepted_lines}
 
 -- Whatever the involution, each star representation in which the denominator cancels, the letters that the proof calls monic and

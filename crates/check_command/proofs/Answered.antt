@@ -22,14 +22,14 @@ use Rattle.certificate_text.proofs.EachText.{each_text_is_read, evidence_is_uniq
 use Rattle.command_shape.specs.Ending.{Ending}
 use Rattle.certificate_causes.specs.Refusals.{cause_text}
 use Rattle.certificate_causes.proofs.Told.{told, refusal_text}
-use Rattle.command_shape.specs.Statement.{IsStated}
+use Rattle.stated_problem.specs.Statement.{IsStated}
 use Rattle.outcome_laws.specs.Meanings.{EvidenceAddsUp}
 use Rattle.outcome_laws.proofs.ProvedMeans.{proved_means}
 use Rattle.check_command.specs.Answers.{claim_number, IsAccepted, IsRefused, named_text, AnswersEvidence, AnswersCheck, accepted_lines}
 use Rattle.check_command.specs.Says.{AcceptedMeans, SaysChecked}
 use Rattle.command_shape.proofs.BlockTexts.{IsKind, text_answered, text_answered_once, text_status, first_answered}
-use Rattle.command_shape.proofs.Statements.{stated_leads}
-use Rattle.command_shape.proofs.Owed.{OwesEnding, owed_over, zero_or_past}
+use Rattle.stated_problem.proofs.Statements.{stated_leads}
+use Rattle.stated_problem.proofs.Owed.{OwesEnding, owed_over, zero_or_past}
 
 -- no cause begins as the text of an accepted certificate
 other_text : (e : Evidence) (cause more : List ℕ) → codes "refused " ++ cause ≡ named_text e ++ more → ⊥

@@ -11,7 +11,7 @@ use Rattle.certificate_text.specs.Evidence.{IsEvidence, IsFirstFault}
 use Rattle.report_text.specs.Heads.{denominator_of}
 use Rattle.command_shape.specs.Ending.{Ending}
 use Rattle.certificate_causes.specs.Refusals.{claim_text, cause_text}
-use Rattle.command_shape.specs.Statement.{OverStatement}
+use Rattle.stated_problem.specs.Statement.{OverStatement}
 use Rattle.command_shape.specs.Blocks.{OverEvidence, AcceptsBlock, RefusesBlock, Judges, lines_on}
 
 -- the number of the claim that the evidence names

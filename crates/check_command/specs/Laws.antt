@@ -7,7 +7,7 @@ use Rattle.cofactor_trace.specs.declared.evidence.Evidence.{Evidence}
 use Rattle.cofactor_trace.specs.declared.evidence.Format.TheVariants.{Lemmas}
 use Rattle.certificate_text.specs.Evidence.{IsEvidence}
 use Rattle.command_shape.specs.Ending.{Ending, refused_statement}
-use Rattle.command_shape.specs.Statement.{IsStated, IsRefusedStatement}
+use Rattle.stated_problem.specs.Statement.{IsStated, IsRefusedStatement}
 use Rattle.check_command.specs.Answers.{IsAccepted, accepted_lines, AnswersCheck}
 use Rattle.check_command.specs.Says.{AcceptedMeans, SaysChecked}
 

@@ -7,7 +7,7 @@ use Rattle.cofactor_trace.specs.declared.evidence.Format.TheVariants.{Lemmas}
 use Rattle.adjoint_rules.specs.declared.problem.Problem.{Problem}
 use Rattle.certificate_text.specs.Evidence.{IsEvidence}
 use Rattle.outcome_laws.specs.ProvedMeans.{ProvedMeans}
-use Rattle.command_shape.specs.Statement.{IsStated}
+use Rattle.stated_problem.specs.Statement.{IsStated}
 use Rattle.check_command.specs.Answers.{claim_number, accepted_lines}
 
 -- What an accepted certificate means: it proves the claim that it names.

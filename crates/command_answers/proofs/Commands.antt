@@ -15,8 +15,8 @@ use Rattle.command_shape.specs.declared.files.FileWord.{FileWord}
 use Rattle.command_shape.specs.FileWords.{statement_limit, evidence_limit, statement_file, pair_files}
 use Rattle.command_shape.specs.Ending.{Ending}
 use Rattle.command_shape.specs.Stop.{EndsAs}
-use Rattle.command_shape.specs.Statement.{OverStatement}
-use Rattle.command_shape.proofs.Owed.{IsOwn, OwesEnding}
+use Rattle.stated_problem.specs.Statement.{OverStatement}
+use Rattle.stated_problem.proofs.Owed.{IsOwn, OwesEnding}
 use Rattle.command_shape.proofs.Stops.{ends_weaker}
 use Rattle.prove_command.specs.Answers.{asked_by, asked_by_bench}
 use Rattle.prove_command.proofs.Answered.{claims_owe, reports_owe}

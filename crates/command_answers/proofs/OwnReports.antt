@@ -16,9 +16,9 @@ use Rattle.report_readback.specs.ModelsReadBack.{IsReadAsModels, refuted_in}
 use Rattle.report_readback.specs.Answered.{PassesLimit, IsAnsweredWithinLimits}
 use Rattle.report_readback.specs.OwnEvidence.{IsItsOwnEvidence}
 use Rattle.command_shape.specs.Ending.{Ending, line}
-use Rattle.command_shape.specs.Statement.{IsStated}
+use Rattle.stated_problem.specs.Statement.{IsStated}
 use Rattle.command_shape.specs.Blocks.{block_text, refused_text, JudgesFrom, accepted, refused, faulty, read}
-use Rattle.command_shape.proofs.Statements.{stated_leads}
+use Rattle.stated_problem.proofs.Statements.{stated_leads}
 use Rattle.command_shape.proofs.BlockTexts.{passing_answered, text_answered_once}
 use Rattle.prove_command.proofs.Answered.{claims_are_evidence}
 use Rattle.refute_command.proofs.Answered.{search_is_evidence}

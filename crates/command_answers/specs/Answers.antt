@@ -5,7 +5,7 @@ use Rattle.command_words.specs.declared.call.Call.{Call}
 use Rattle.command_words.specs.declared.call.Call.TheVariants.{Prove, Check, Refute, Model, Bench, Confirm, Explain, Cancel}
 use Rattle.report_text.specs.Report.{report_of, heads_of}
 use Rattle.command_shape.specs.Ending.{Ending}
-use Rattle.command_shape.specs.Statement.{OverStatement}
+use Rattle.stated_problem.specs.Statement.{OverStatement}
 use Rattle.prove_command.specs.Answers.{asked_by, asked_by_bench, AnswersClaims}
 use Rattle.check_command.specs.Answers.{AnswersEvidence}
 use Rattle.refute_command.specs.Answers.{AnswersSearch}

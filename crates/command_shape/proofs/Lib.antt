@@ -3,8 +3,4 @@ pub mod Zips
 pub mod Stops
 pub mod Judging
 pub mod BlockTexts
-pub mod Problems
-pub mod Syntax
-pub mod Statements
-pub mod Owed
 pub mod Told

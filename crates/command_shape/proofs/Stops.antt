@@ -1,12 +1,10 @@
 -- What a stop says may say less, and it is handed on.
-use Rattle.std.proofs.Common.{◌≡◌, ℕ, List, Result, Ok, Err, IfErr, subst, sym}
+use Rattle.std.proofs.Common.{◌≡◌, List, Result, Ok, Err, IfErr, subst, sym}
 use Rattle.std.specs.Result.{IsErr, IsErrAnd}
-use Rattle.adjoint_rules.specs.declared.problem.Problem.{Problem}
 use Rattle.block_text.specs.Fault.{Fault}
 use Rattle.command_shape.specs.declared.stop.Stop.{Stop}
 use Rattle.command_shape.specs.declared.stop.Stop.TheVariants.{Ended, Memory}
 use Rattle.command_shape.specs.Ending.{Ending}
-use Rattle.command_shape.specs.Statement.{IsStated, OverStatement, faulty, stated}
 use Rattle.command_shape.specs.Blocks as blocks
 use Rattle.command_shape.specs.Stop.{IsMemory, StopsBy, EndsAs}
 
@@ -35,30 +33,10 @@ memory_ends P (Ok ending) fails wants = absurd (cc)
 memory_ends P (Err (Ended ending)) fails wants = absurd wants
 memory_ends P (Err (Memory failed)) fails wants = tt
 
-pub over_stated : (bytes : List ℕ) (P Q : Problem → Ending → Type 0) (ending : Ending) → ((problem : Problem) → IsStated bytes problem → P problem ending → Q problem ending)
-    → OverStatement bytes P ending → OverStatement bytes Q ending
-over_stated bytes P Q ending weaker (faulty text refused is) = faulty text refused is
-over_stated bytes P Q ending weaker (stated problem is next) = stated problem is (weaker problem is next)
-
-pub over_statement : (bytes : List ℕ) (P Q : Problem → Ending → Type 0) (ending : Ending) → ((problem : Problem) → P problem ending → Q problem ending) → OverStatement bytes P ending → OverStatement bytes Q ending
-over_statement bytes P Q ending weaker = over_stated bytes P Q ending (λ problem is. weaker problem)
-
 pub over_evidence : {Block : Type 0} (are_blocks : List Block → Type 0) (is_first_fault : Fault → Type 0) (P Q : List Block → Ending → Type 0) (ending : Ending)
     → ((bs : List Block) → P bs ending → Q bs ending) → blocks.OverEvidence are_blocks is_first_fault P ending → blocks.OverEvidence are_blocks is_first_fault Q ending
 over_evidence are_blocks is_first_fault P Q ending weaker (blocks.faulty fault is ends) = blocks.faulty fault is ends
 over_evidence are_blocks is_first_fault P Q ending weaker (blocks.read bs is next) = blocks.read bs is (weaker bs next)
-
--- a statement that is refused ends the run
-pub refused_statement_ends : (bytes : List ℕ) (next : Problem → Ending → Type 0) (result : Result Ending Stop) (stop : Stop) → result ≡ Err stop → StopsBy (OverStatement bytes (λ _ _. ⊥)) stop
-    → EndsAs (OverStatement bytes next) result
-refused_statement_ends bytes next result stop is stops =
-    ended_by (OverStatement bytes next) result stop is
-    (stops_weaker (OverStatement bytes (λ _ _. ⊥)) (OverStatement bytes next) (λ ending. over_statement bytes (λ _ _. ⊥) next ending (λ problem none. absurd none)) stop stops)
-
--- over a statement that is read the run ends as over its problem
-pub stated_ends : (bytes : List ℕ) (next : Problem → Ending → Type 0) (problem : Problem) (result : Result Ending Stop) → IsStated bytes problem → EndsAs (next problem) result
-    → EndsAs (OverStatement bytes next) result
-stated_ends bytes next problem result is ends = ends_weaker (next problem) (OverStatement bytes next) (λ ending. stated problem is) result ends
 
 -- an evidence text that is refused ends the run
 pub refused_evidence_ends : {Block : Type 0} (are_blocks : List Block → Type 0) (is_first_fault : Fault → Type 0) (next : List Block → Ending → Type 0) (result : Result Ending Stop) (stop : Stop) → result ≡ Err stop

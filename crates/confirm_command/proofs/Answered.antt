@@ -13,8 +13,8 @@ use Rattle.closed_checker.proofs.NotRefused.{closed_basis_is_not_refused}
 use Rattle.closed_checker.proofs.Refusals.{basis_refusal_is_unique}
 use Rattle.command_shape.specs.Ending.{Ending}
 use Rattle.command_shape.proofs.BlockTexts.{IsKind, text_answered, text_answered_once, text_status, first_answered, all_first}
-use Rattle.command_shape.proofs.Statements.{stated_leads}
-use Rattle.command_shape.proofs.Owed.{OwesEnding, owed_over, zero_or_past}
+use Rattle.stated_problem.proofs.Statements.{stated_leads}
+use Rattle.stated_problem.proofs.Owed.{OwesEnding, owed_over, zero_or_past}
 use Rattle.confirm_command.specs.Texts.{refusal_text}
 use Rattle.confirm_command.specs.Answers.{closed_text, AnswersBases, AnswersConfirm}
 use Rattle.confirm_command.specs.Says.{SaysClosed}

@@ -1,7 +1,7 @@
 -- What users ask of `confirm`.
 use Rattle.std.proofs.Common.{◌≡◌, ◌⊎◌, inl, inr, ℕ, refl, arith}
-use Rattle.command_shape.specs.Statement.{faulty, stated}
-use Rattle.command_shape.proofs.Statements.{over_problem}
+use Rattle.stated_problem.specs.Statement.{faulty, stated}
+use Rattle.stated_problem.proofs.Statements.{over_problem}
 use Rattle.command_shape.proofs.BlockTexts.{passing_answered, zero_answered, text_status}
 use Rattle.confirm_command.specs.Answers.{AnswersBases}
 use Rattle.confirm_command.specs.Laws.{ClosedAreAnswered, ZeroIsClosed, FaultsAreAnswered, ThreeIsFaulty}

@@ -7,7 +7,7 @@ use Rattle.basis_text.specs.Bases.{IsBases, IsFirstFault}
 use Rattle.closed_checker.specs.Closed.{IsClosedBasis, Refuses}
 use Rattle.normal_category.specs.Tests.{is_sharp}
 use Rattle.command_shape.specs.Ending.{Ending}
-use Rattle.command_shape.specs.Statement.{OverStatement}
+use Rattle.stated_problem.specs.Statement.{OverStatement}
 use Rattle.command_shape.specs.Blocks.{OverEvidence, AcceptsBlock, RefusesBlock, Judges, lines_on}
 use Rattle.confirm_command.specs.Texts.{claim_closed, refusal_text}
 

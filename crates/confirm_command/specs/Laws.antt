@@ -6,7 +6,7 @@ use Rattle.basis_text.specs.declared.basis.Basis.{Basis}
 use Rattle.basis_text.specs.Bases.{IsBases}
 use Rattle.closed_checker.specs.Closed.{IsClosedBasis}
 use Rattle.command_shape.specs.Ending.{Ending, refused_statement}
-use Rattle.command_shape.specs.Statement.{IsStated, IsRefusedStatement}
+use Rattle.stated_problem.specs.Statement.{IsStated, IsRefusedStatement}
 use Rattle.confirm_command.specs.Answers.{closed_lines, AnswersConfirm}
 use Rattle.confirm_command.specs.Says.{BasisMeans}
 

@@ -9,7 +9,7 @@ use Rattle.closed_checker.specs.Rests.{rules_of, claim_of}
 use Rattle.closed_checker.specs.Laws.{ClosedMeans}
 use Rattle.normal_forms.specs.SharpMeans.{SharpMeans}
 use Rattle.normal_category.specs.Tests.{is_sharp}
-use Rattle.command_shape.specs.Statement.{IsStated}
+use Rattle.stated_problem.specs.Statement.{IsStated}
 use Rattle.confirm_command.specs.Answers.{closed_lines}
 
 -- What a closed basis means: no positive multiple of the claim is a combination of the generators. Where ` sharp` is said, there is a preadditive

@@ -30,8 +30,8 @@ use Rattle.equation_chain.proofs.Typed.{steps_typed}
 use Rattle.equation_chain.proofs.Vanishing.{lines_vanish}
 use Rattle.command_shape.specs.Ending.{Ending}
 use Rattle.command_shape.proofs.BlockTexts.{IsKind, text_answered, text_answered_once, text_status, first_answered}
-use Rattle.command_shape.proofs.Statements.{stated_leads}
-use Rattle.command_shape.proofs.Owed.{OwesEnding, owed_over, zero_or_past}
+use Rattle.stated_problem.proofs.Statements.{stated_leads}
+use Rattle.stated_problem.proofs.Owed.{OwesEnding, owed_over, zero_or_past}
 use Rattle.certificate_causes.proofs.Told as causes
 use Rattle.explain_command.specs.declared.refusal.ExplainRefusal.{ExplainRefusal}
 use Rattle.explain_command.specs.declared.refusal.ExplainRefusal.TheVariants.{HasLemmas, HasFault}

@@ -5,8 +5,8 @@ use Rattle.definitions.specs.Category.{Structure}
 use Rattle.cofactor_trace.specs.declared.evidence.Evidence.{Evidence}
 use Rattle.cofactor_trace.specs.declared.evidence.Format.TheVariants as format
 use Rattle.certificate_text.specs.Evidence.{IsEvidence}
-use Rattle.command_shape.specs.Statement.{faulty, stated}
-use Rattle.command_shape.proofs.Statements.{over_problem}
+use Rattle.stated_problem.specs.Statement.{faulty, stated}
+use Rattle.stated_problem.proofs.Statements.{over_problem}
 use Rattle.command_shape.proofs.BlockTexts.{passing_answered, zero_answered, text_status}
 use Rattle.certificate_causes.proofs.Told.{not_three}
 use Rattle.explain_command.specs.Answers.{AnswersChains}

@@ -7,7 +7,7 @@ use Rattle.cofactor_trace.specs.declared.evidence.Format.TheVariants as format
 use Rattle.certificate_text.specs.Evidence.{IsEvidence, IsFirstFault}
 use Rattle.equation_chain.specs.Faults as chain
 use Rattle.command_shape.specs.Ending.{Ending}
-use Rattle.command_shape.specs.Statement.{OverStatement}
+use Rattle.stated_problem.specs.Statement.{OverStatement}
 use Rattle.command_shape.specs.Blocks.{OverEvidence, AcceptsBlock, RefusesBlock, Judges, lines_on}
 use Rattle.explain_command.specs.Refusals.{IsRefused, refusal_text}
 use Rattle.explain_command.specs.Texts.{explained_text}

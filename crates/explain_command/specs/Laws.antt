@@ -7,7 +7,7 @@ use Rattle.cofactor_trace.specs.declared.evidence.Evidence.{Evidence}
 use Rattle.cofactor_trace.specs.declared.evidence.Format.TheVariants.{Lemmas}
 use Rattle.certificate_text.specs.Evidence.{IsEvidence}
 use Rattle.command_shape.specs.Ending.{Ending, refused_statement}
-use Rattle.command_shape.specs.Statement.{IsStated, IsRefusedStatement}
+use Rattle.stated_problem.specs.Statement.{IsStated, IsRefusedStatement}
 use Rattle.explain_command.specs.Answers.{IsExplained, explained_lines, AnswersExplain}
 use Rattle.explain_command.specs.Says.{BlockMeans, SaysExplained}
 

@@ -16,7 +16,7 @@ use Rattle.outcome_laws.specs.ProvedMeans.{MeansZero}
 use Rattle.equation_chain.specs.Steps.{steps_of, IsTypedStep}
 use Rattle.equation_chain.specs.Lines.{lines_of}
 use Rattle.equation_chain.specs.Chains.{IsChain}
-use Rattle.command_shape.specs.Statement.{IsStated}
+use Rattle.stated_problem.specs.Statement.{IsStated}
 use Rattle.explain_command.specs.Answers.{explained_lines}
 
 -- What an explained certificate means: its chain leads from its denominator times the claim that it names to zero.

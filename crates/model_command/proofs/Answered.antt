@@ -22,8 +22,8 @@ use Rattle.model_command.specs.Texts.{model_cause, HasModelLetter}
 use Rattle.model_command.specs.Answers.{confirmed_text, AnswersModelText, AnswersModel}
 use Rattle.model_command.specs.Says.{ConfirmedMeans, SaysConfirmed}
 use Rattle.command_shape.proofs.BlockTexts.{IsKind, text_answered, text_answered_once, text_status, first_answered}
-use Rattle.command_shape.proofs.Statements.{stated_leads}
-use Rattle.command_shape.proofs.Owed.{OwesEnding, owed_over, zero_or_past}
+use Rattle.stated_problem.proofs.Statements.{stated_leads}
+use Rattle.stated_problem.proofs.Owed.{OwesEnding, owed_over, zero_or_past}
 
 -- they are models in the words of the search
 pub readable : (ds : List Declaration) (m : Model) → IsModel ds m → search.IsModel (quiver_of ds) m

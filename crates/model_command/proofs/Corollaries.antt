@@ -1,7 +1,7 @@
 -- What users ask of `model`.
 use Rattle.model_text.proofs.ModelValues.{models_are_models}
-use Rattle.command_shape.specs.Statement.{stated}
-use Rattle.command_shape.proofs.Statements.{over_problem}
+use Rattle.stated_problem.specs.Statement.{stated}
+use Rattle.stated_problem.proofs.Statements.{over_problem}
 use Rattle.command_shape.proofs.BlockTexts.{passing_answered, zero_answered}
 use Rattle.model_command.specs.Answers.{AnswersModelText}
 use Rattle.model_command.specs.Laws.{ConfirmedAreAnswered, ZeroIsConfirmed}

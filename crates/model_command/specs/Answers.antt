@@ -7,7 +7,7 @@ use Rattle.model_checker.specs.Refusals.{RefusesModel}
 use Rattle.model_text.specs.Models.{IsModels, IsFirstFault}
 use Rattle.command_shape.specs.Ending.{Ending}
 use Rattle.model_command.specs.Texts.{claim_confirmed, model_cause}
-use Rattle.command_shape.specs.Statement.{OverStatement}
+use Rattle.stated_problem.specs.Statement.{OverStatement}
 use Rattle.command_shape.specs.Blocks.{OverEvidence, AcceptsBlock, RefusesBlock, Judges, lines_on}
 
 -- the claim that the model names is confirmed to be refuted

@@ -6,7 +6,7 @@ use Rattle.adjoint_rules.specs.declared.problem.Problem.{Problem}
 use Rattle.model_checker.specs.Models.{Refutes}
 use Rattle.model_text.specs.Models.{IsModels}
 use Rattle.command_shape.specs.Ending.{Ending}
-use Rattle.command_shape.specs.Statement.{IsStated}
+use Rattle.stated_problem.specs.Statement.{IsStated}
 use Rattle.model_command.specs.Answers.{confirmed_lines, AnswersModel}
 use Rattle.model_command.specs.Says.{ConfirmedMeans}
 

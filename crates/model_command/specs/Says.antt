@@ -5,7 +5,7 @@ use Rattle.matrix_models.specs.declared.model.Model.{Model}
 use Rattle.adjoint_rules.specs.declared.problem.Problem.{Problem}
 use Rattle.model_checker.specs.RefutedMeans.{RefutedMeans}
 use Rattle.model_text.specs.Models.{IsModels}
-use Rattle.command_shape.specs.Statement.{IsStated}
+use Rattle.stated_problem.specs.Statement.{IsStated}
 use Rattle.model_command.specs.Answers.{confirmed_lines}
 
 -- What a confirmed model means: it refutes the claim that it names.

@@ -26,12 +26,12 @@ use Rattle.outcome_laws.proofs.ProvedMeans.{proved_means}
 use Rattle.report_text.specs.declared.verdict.Verdict.{Verdict}
 use Rattle.report_text.specs.Report.{report_of, status_of}
 use Rattle.command_shape.specs.Ending.{Ending}
-use Rattle.command_shape.specs.Statement.{IsStated, OverStatement}
+use Rattle.stated_problem.specs.Statement.{IsStated, OverStatement}
 use Rattle.prove_command.specs.declared.prove.Asked.{Asked}
 use Rattle.prove_command.specs.Answers.{Print, AreVerdictsOn, AnswersClaims}
 use Rattle.prove_command.specs.Says.{VerdictMeans, PrintsMeant, SaysDecided, ReportsMeant, SaysReported}
-use Rattle.command_shape.proofs.Owed.{OwesEnding, OwesOver, owed_over}
-use Rattle.command_shape.proofs.Stops.{over_stated, over_statement}
+use Rattle.stated_problem.proofs.Owed.{OwesEnding, OwesOver, owed_over}
+use Rattle.stated_problem.proofs.Over.{over_stated, over_statement}
 use Rattle.report_text.proofs.Statuses.{verdicts_status}
 use Rattle.command_shape.proofs.Zips.{zip_once}
 use Rattle.report_readback.specs.OwnEvidence.{IsItsOwnEvidence}

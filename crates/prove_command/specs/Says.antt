@@ -13,7 +13,7 @@ use Rattle.report_readback.specs.OwnEvidence.{IsItsOwnEvidence}
 use Rattle.outcome_laws.specs.Meanings.{Follows, HaltMeans}
 use Rattle.outcome_laws.specs.ProvedMeans.{ProvedMeans}
 use Rattle.command_shape.specs.Ending.{Ending}
-use Rattle.command_shape.specs.Statement.{OverStatement}
+use Rattle.stated_problem.specs.Statement.{OverStatement}
 use Rattle.prove_command.specs.declared.prove.Asked.{Asked}
 use Rattle.prove_command.specs.Answers.{Print, AnswersClaims}
 

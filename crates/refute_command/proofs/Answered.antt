@@ -11,14 +11,14 @@ use Rattle.report_text.specs.declared.verdict.Verdict.{Verdict}
 use Rattle.report_text.specs.declared.verdict.Verdict.TheVariants as verdict
 use Rattle.report_text.specs.Report.{report_of, status_of, IsVerdictOver}
 use Rattle.command_shape.specs.Ending.{Ending}
-use Rattle.command_shape.specs.Statement.{IsStated, OverStatement}
+use Rattle.stated_problem.specs.Statement.{IsStated, OverStatement}
 use Rattle.report_readback.specs.OwnEvidence.{IsItsOwnEvidence}
 use Rattle.report_readback.proofs.Declared.{declared_names_are_names}
 use Rattle.refute_command.proofs.OwnEvidence.{searched_is_evidence}
 use Rattle.refute_command.specs.Answers.{IsSearchedOn, refuted, not_refuted, AnswersSearch}
 use Rattle.refute_command.specs.Says.{SearchMeans, PrintsSearched, SaysSearched}
-use Rattle.command_shape.proofs.Owed.{OwesEnding, owed_over}
-use Rattle.command_shape.proofs.Stops.{over_stated}
+use Rattle.stated_problem.proofs.Owed.{OwesEnding, owed_over}
+use Rattle.stated_problem.proofs.Over.{over_stated}
 use Rattle.report_text.proofs.Statuses.{verdicts_status}
 use Rattle.command_shape.proofs.Zips.{zip_once, zip_ends, zip_weaker, zip_all}
 

@@ -8,7 +8,7 @@ use Rattle.report_text.specs.declared.verdict.Verdict.{Verdict}
 use Rattle.report_text.specs.declared.verdict.Verdict.TheVariants.{Proved, NotDerivable, Refuted, Undecided, NotRefuted}
 use Rattle.report_readback.specs.OwnEvidence.{IsItsOwnEvidence}
 use Rattle.command_shape.specs.Ending.{Ending}
-use Rattle.command_shape.specs.Statement.{OverStatement}
+use Rattle.stated_problem.specs.Statement.{OverStatement}
 use Rattle.refute_command.specs.Answers.{AnswersSearch}
 
 -- What is said of the claim with this number: refuted means that the claim isn't zero in the model; not refuted says nothing of it; and nothing else is said.

@@ -1,6 +1,6 @@
 use Rattle.std.proofs.Common.{◌≡◌, Err, rules}
 use Rattle.command_answers.specs.Answers.{AnswersOver}
-use Rattle.command_shape.proofs.Stops.{refused_statement_ends, stated_ends}
+use Rattle.stated_problem.proofs.Over.{refused_statement_ends, stated_ends}
 use Rattle.command_answers.proofs.answers.answer_over.Goals as goal
 
 -- the statement is refused

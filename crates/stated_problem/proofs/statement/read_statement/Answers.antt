@@ -1,4 +1,4 @@
-use Rattle.command_shape.proofs.statement.read_statement.Goals as goal
+use Rattle.stated_problem.proofs.statement.read_statement.Goals as goal
 
 -- the statement has a tree, and the tree a problem or a fault
 pub returns-clause-stopped : goal.returns-clause-stopped

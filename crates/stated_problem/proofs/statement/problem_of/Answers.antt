@@ -3,8 +3,8 @@ use Rattle.signature_typing.specs.declared.fault.TypeFault.TheVariants as typing
 use Rattle.signature_typing.specs.Typing.{fault_of}
 use Rattle.command_shape.specs.Ending.{refused_statement}
 use Rattle.command_shape.specs.Texts.{statement_fault}
-use Rattle.command_shape.specs.Statement.{no_problem, faulty}
-use Rattle.command_shape.proofs.statement.problem_of.Goals as goal
+use Rattle.stated_problem.specs.Statement.{no_problem, faulty}
+use Rattle.stated_problem.proofs.statement.problem_of.Goals as goal
 
 -- the tree has a fault
 pub returns-in_ok-ending-in-Err-Fault-clause-stopped : goal.returns-in_ok-ending-in-Err-Fault-clause-stopped

@@ -14,9 +14,9 @@ use Rattle.signature_typing.proofs.Unique.{problem_is_unique}
 use Rattle.signature_typing.proofs.EachStatement.{each_statement_has_a_problem_or_a_fault}
 use Rattle.command_shape.specs.Ending.{Ending, refused_statement}
 use Rattle.command_shape.specs.Texts.{statement_fault}
-use Rattle.command_shape.specs.Statement.{IsStated, typing_text, IsRefusedStatement, no_tree, no_problem, OverStatement, faulty, stated}
-use Rattle.command_shape.proofs.Problems.{one_problem}
-use Rattle.command_shape.proofs.Syntax.{tree_once, no_fault, fault_once}
+use Rattle.stated_problem.specs.Statement.{IsStated, typing_text, IsRefusedStatement, no_tree, no_problem, OverStatement, faulty, stated}
+use Rattle.stated_problem.proofs.Problems.{one_problem}
+use Rattle.stated_problem.proofs.Syntax.{tree_once, no_fault, fault_once}
 
 -- a statement that has a problem is not refused
 pub stated_not_refused : (bytes text : List ℕ) (problem : Problem) → IsStated bytes problem → IsRefusedStatement bytes text → ⊥

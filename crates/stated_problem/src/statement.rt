@@ -3,12 +3,11 @@ ghost use Rattle.std.specs.Prelude.{◌≤◌, ℕ, List, IfOk, IfErr, length};
 ghost use Rattle.statement_syntax.specs.Fault.{IsTreeOf};
 ghost use Rattle.signature_typing.specs.Typing.{IsProblemOf};
 ghost use Rattle.command_shape.specs.FileWords.{statement_limit};
-ghost use Rattle.command_shape.specs.Statement.{IsStated, OverStatement};
+ghost use Rattle.stated_problem.specs.Statement.{IsStated, OverStatement};
 ghost use Rattle.command_shape.specs.Stop.{StopsBy};
 
-use crate::fault::refused_statement;
-use crate::stop::Stop;
 use adjoint_rules::Problem;
+use command_shape::{Stop, refused_statement};
 use signature_typing::{TypeFault, elaborate};
 use statement_syntax::{SyntaxFault, Tree, read_tree};
 use std::alloc::Global;

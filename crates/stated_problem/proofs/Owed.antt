@@ -6,8 +6,8 @@ use Rattle.representations.specs.Evidence.{IsEvidenceSound}
 use Rattle.cancel_rules.specs.Meaning.{IsCancellationSound}
 use Rattle.adjoint_rules.specs.declared.problem.Problem.{Problem}
 use Rattle.command_shape.specs.Ending.{Ending}
-use Rattle.command_shape.specs.Statement.{OverStatement, faulty, stated}
-use Rattle.command_shape.proofs.Statements.{statement_ends, statement_once}
+use Rattle.stated_problem.specs.Statement.{OverStatement, faulty, stated}
+use Rattle.stated_problem.proofs.Statements.{statement_ends, statement_once}
 
 -- no status that the run gives by itself
 pub record IsOwn (status : ℕ) : Type 0 where

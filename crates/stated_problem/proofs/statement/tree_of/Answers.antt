@@ -3,8 +3,8 @@ use Rattle.statement_syntax.specs.declared.fault.SyntaxFault.TheVariants as synt
 use Rattle.statement_syntax.specs.Fault.{TellsFirstFault}
 use Rattle.command_shape.specs.Ending.{refused_statement}
 use Rattle.command_shape.specs.Texts.{statement_fault}
-use Rattle.command_shape.specs.Statement.{no_tree, faulty}
-use Rattle.command_shape.proofs.statement.tree_of.Goals as goal
+use Rattle.stated_problem.specs.Statement.{no_tree, faulty}
+use Rattle.stated_problem.proofs.statement.tree_of.Goals as goal
 
 -- the bytes have a fault
 pub returns-in_ok-ending-in-Err-Fault-clause-stopped : goal.returns-in_ok-ending-in-Err-Fault-clause-stopped
