@@ -1,5 +1,5 @@
 -- Tokens that come one after another, and what has been read of a file that begins with them.
-use Rattle.std.proofs.Common.{◌≡◌, ◌<◌, ◌≤◌, ℕ, suc, List, [], ◌∷◌, ◌++◌, ◌⊎◌, inl, inr, length, Option, Some, None, Result, Ok, Err, refl, sym, ap, ap₂, subst, ◌∙◌, append_assoc, append-nil, length-append, ◌+◌, arith}
+use Rattle.std.proofs.Common.{◌≡◌, ◌<◌, ◌≤◌, ℕ, suc, List, [], ◌∷◌, ◌++◌, ◌⊎◌, inl, inr, length, Option, Some, None, Result, Ok, Err, MatchResult, refl, sym, ap, ap₂, subst, ◌∙◌, append_assoc, append-nil, length-append, ◌+◌, arith}
 use Rattle.statement_tokens.specs.declared.place.Spot.{Spot}
 use Rattle.statement_tokens.specs.declared.token.Token.{Token}
 use Rattle.statement_tokens.specs.declared.language.Language.{Language}
@@ -166,11 +166,10 @@ ends text old new language read is hands = record {
   so_far = is.so_far;
 }
 
-pub ends_ok : (text : List ℕ) (p : Progress) → AllTokens text (Ok p) → TextRead text (Ok p.statements)
-ends_ok text p all = (all.tokens, all.are, (p, all.so_far, refl))
-
-pub ends_err : (text : List ℕ) (e : SyntaxFault) → AllTokens text (Err e) → TextRead text (Err e)
-ends_err text e all = inr (all.tokens, all.are, all.so_far)
+pub all_read : (text : List ℕ) (read : Result Progress SyntaxFault) (r : Result (List Statement) SyntaxFault) → AllTokens text read
+    → MatchResult read (λ p. r ≡ Ok p.statements) (λ e. r ≡ Err e) → TextRead text r
+all_read text (Ok p) r all is = subst (TextRead text) (sym is) (all.tokens, all.are, (p, all.so_far, refl))
+all_read text (Err e) r all is = subst (TextRead text) (sym is) (inr (all.tokens, all.are, all.so_far))
 
 -- the fault that a scanner comes to is told
 pub is_fault : (whole : Result (List Token) Placed) (front : List Token) (old new : Scanner) (error : ScanError) (e : SyntaxFault)

@@ -6,8 +6,8 @@ ghost use Rattle.statement_syntax.specs.Steps.{outside_step, token_step, whole_s
 ghost use Rattle.statement_syntax.specs.declared.expression.Focus.TheVariants.{Outside};
 ghost use Rattle.statement_syntax.specs.declared.expression.ReadError.TheVariants as read_error;
 
-use crate::expected::number_in;
-use crate::part::{ended_part, part_with, quote_step, sign_step, sum_with};
+use crate::expected::{name_in, number_in};
+use crate::part::{ended_part, mark_step, part_with, sign_step, sum_with};
 use crate::stack::Stack;
 use crate::tree::{Factor, Mark, Name, Number, Primary, Sum, Term};
 use lists::Listing;
@@ -206,7 +206,7 @@ fn outside_step(alloc: Global, reading: &mut Reading, token: Token) -> Result<()
             reading.focus = Focus::Square(at);
             Ok(())
         }
-        TokenKind::Quote => quote_step(&mut reading.part),
+        TokenKind::Quote => mark_step(&mut reading.part, Mark::Adjoint),
         TokenKind::Caret => Ok(caret_step(reading, at)?),
         _ => Err(ReadError::Misfit(Misfit::Expected)),
     }
@@ -245,14 +245,8 @@ pub fn token_step(alloc: Global, reading: &mut Reading, token: Token) -> Result<
     match mem::replace(&mut reading.focus, Focus::Outside) {
         Focus::Outside => outside_step(alloc, reading, token),
         Focus::Square(left) => {
-            let Token { at, kind } = token;
-            match kind {
-                TokenKind::Name(text) => {
-                    reading.focus = Focus::Named(left, Name { text, at });
-                    Ok(())
-                }
-                _ => Err(ReadError::Misfit(Misfit::Expected)),
-            }
+            reading.focus = Focus::Named(left, name_in(token)?);
+            Ok(())
         }
         Focus::Named(left, name) => match token.kind {
             TokenKind::CloseSquare => {
@@ -264,21 +258,18 @@ pub fn token_step(alloc: Global, reading: &mut Reading, token: Token) -> Result<
             at,
             literal,
             factors,
-            mut last,
+            last,
             caret,
         } => {
-            let exponent = number_in(&token)?;
-            last.marks.push(Mark::Power {
-                at: caret,
-                exponent,
-            })?;
             reading.part = Part::Product {
                 at,
                 literal,
                 factors,
                 last,
             };
-            Ok(())
+            let exponent = number_in(&token)?;
+            let at = caret;
+            mark_step(&mut reading.part, Mark::Power { at, exponent })
         }
     }
 }

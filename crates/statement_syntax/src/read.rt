@@ -1,6 +1,6 @@
 //! The tree of a text: its bytes, its tokens, its lines.
 
-ghost use Rattle.std.specs.Prelude.{◌≡◌, ◌<◌, ◌↔◌, ℕ, List, [], length, IfOk, IfErr, IsErr};
+ghost use Rattle.std.specs.Prelude.{◌≡◌, ◌<◌, ◌↔◌, ℕ, List, [], length, IfOk, IfErr, MatchResult, Ok, Err};
 ghost use Rattle.statement_syntax.specs.Grammar.{StatedLine};
 ghost use Rattle.statement_syntax.specs.Tree.{file_tree};
 ghost use Rattle.statement_syntax.specs.Fault.{IsStatements, IsTreeOf, TellsFirstFault, IsWantOfMemory};
@@ -8,6 +8,7 @@ ghost use Rattle.statement_syntax.specs.Steps.{Turns};
 ghost use Rattle.statement_syntax.specs.Lines.{ended, file_step};
 ghost use Rattle.statement_syntax.specs.Stages.{CharactersRead, TextRead, IsReadSoFar, Goes, IsFront, LeavesFault, IsRefusal, first_statements, behind_first};
 ghost use Rattle.statement_tokens.specs.Language.{language_of};
+ghost use Rattle.statement_tokens.specs.Scanned.{HasWhole};
 ghost use Rattle.std.specs.Vec.Iter.{into_iter_items, into_iter_len};
 
 use crate::expression::ReadError;
@@ -140,12 +141,24 @@ fn statements(alloc: Global, text: &[char]) -> Result<Listing<Statement>, Syntax
     ensures { TextRead text.now result }
 {
     let mut scanner = Scanner::new(text);
-    let opening = opening(alloc, &mut scanner)?;
+    scanned(alloc, &mut scanner)
+}
+
+fn scanned(alloc: Global, scanner: &mut Scanner<'_>) -> Result<Listing<Statement>, SyntaxFault>
+    ensures { (text : List ℕ) → HasWhole text scanner.old → TextRead text result }
+{
+    let opening = opening(alloc, scanner)?;
     let language = language_of(&opening);
     let mut read = opened(alloc, language, opening);
     while let Some(token) = scanner.next(alloc, language)? {
         go_on(alloc, language, &mut read, token);
     }
+    statements_of(read)
+}
+
+fn statements_of(read: Result<Progress, SyntaxFault>) -> Result<Listing<Statement>, SyntaxFault>
+    ensures { MatchResult read (λ p. result ≡ Ok p.statements) (λ e. result ≡ Err e) }
+{
     let Progress { statements, line } = read?;
     drop(line);
     Ok(statements)
