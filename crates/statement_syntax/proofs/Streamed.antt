@@ -245,8 +245,3 @@ memory_left start (refusal.Fault code l column) want = absurd want
 pub if_err : {A : Type 0} (r : Result A SyntaxFault) (P Q : SyntaxFault → Type 0) → IsErrAnd r P → ((e : SyntaxFault) → P e → Q e) → IfErr r Q
 if_err (Ok x) P Q is goes = tt
 if_err (Err e) P Q is goes = goes e is
-
-pub err_read : (text : List ℕ) (r : Result (List Statement) SyntaxFault) (P : SyntaxFault → Type 0) → IsErrAnd r P
-    → ((e : SyntaxFault) → P e → TextRead text (Err e)) → TextRead text r
-err_read text (Ok statements) P is goes = absurd is
-err_read text (Err e) P is goes = goes e is

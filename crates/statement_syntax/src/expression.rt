@@ -252,7 +252,10 @@ pub fn token_step(alloc: Global, reading: &mut Reading, token: Token) -> Result<
             TokenKind::CloseSquare => {
                 Ok(part_with(alloc, &mut reading.part, Primary::Identity(name), left)?)
             }
-            _ => Err(ReadError::Misfit(Misfit::Expected)),
+            _ => {
+                drop(name);
+                Err(ReadError::Misfit(Misfit::Expected))
+            }
         },
         Focus::Raised {
             at,

@@ -8,7 +8,6 @@ ghost use Rattle.statement_syntax.specs.Steps.{Turns};
 ghost use Rattle.statement_syntax.specs.Lines.{ended, file_step};
 ghost use Rattle.statement_syntax.specs.Stages.{CharactersRead, TextRead, IsReadSoFar, Goes, IsFront, LeavesFault, IsRefusal, first_statements, behind_first};
 ghost use Rattle.statement_tokens.specs.Language.{language_of};
-ghost use Rattle.statement_tokens.specs.Scanned.{HasWhole};
 ghost use Rattle.std.specs.Vec.Iter.{into_iter_items, into_iter_len};
 
 use crate::expression::ReadError;
@@ -141,19 +140,19 @@ fn statements(alloc: Global, text: &[char]) -> Result<Listing<Statement>, Syntax
     ensures { TextRead text.now result }
 {
     let mut scanner = Scanner::new(text);
-    scanned(alloc, &mut scanner)
-}
-
-fn scanned(alloc: Global, scanner: &mut Scanner<'_>) -> Result<Listing<Statement>, SyntaxFault>
-    ensures { (text : List ℕ) → HasWhole text scanner.old → TextRead text result }
-{
-    let opening = opening(alloc, scanner)?;
+    let opening = opening(alloc, &mut scanner)?;
     let language = language_of(&opening);
     let mut read = opened(alloc, language, opening);
-    while let Some(token) = scanner.next(alloc, language)? {
-        go_on(alloc, language, &mut read, token);
+    loop {
+        match scanner.next(alloc, language) {
+            Ok(Some(token)) => go_on(alloc, language, &mut read, token),
+            Ok(None) => return statements_of(read),
+            Err(error) => {
+                drop(read);
+                return Err(SyntaxFault::from(error));
+            }
+        }
     }
-    statements_of(read)
 }
 
 fn statements_of(read: Result<Progress, SyntaxFault>) -> Result<Listing<Statement>, SyntaxFault>
