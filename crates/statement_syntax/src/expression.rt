@@ -250,10 +250,11 @@ pub fn token_step(alloc: Global, reading: &mut Reading, token: Token) -> Result<
         }
         Focus::Named(left, name) => match token.kind {
             TokenKind::CloseSquare => {
+                drop(token);
                 Ok(part_with(alloc, &mut reading.part, Primary::Identity(name), left)?)
             }
             _ => {
-                drop(name);
+                drop((name, token));
                 Err(ReadError::Misfit(Misfit::Expected))
             }
         },
@@ -270,9 +271,13 @@ pub fn token_step(alloc: Global, reading: &mut Reading, token: Token) -> Result<
                 factors,
                 last,
             };
-            let exponent = number_in(&token)?;
-            let at = caret;
-            mark_step(&mut reading.part, Mark::Power { at, exponent })
+            let exponent = number_in(&token);
+            drop(token);
+            let power = Mark::Power {
+                at: caret,
+                exponent: exponent?,
+            };
+            mark_step(&mut reading.part, power)
         }
     }
 }

@@ -33,7 +33,9 @@ pub fn pairs_step(pairs: Pairs, token: Token) -> Result<Pairs, ReadError>
             half: Some(name_in(token)?),
         }),
         Some(name) => {
-            whole.push((name, number_in(&token)?))?;
+            let number = number_in(&token);
+            drop(token);
+            whole.push((name, number?))?;
             Ok(Pairs { whole, half: None })
         }
     }
