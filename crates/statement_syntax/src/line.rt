@@ -157,12 +157,7 @@ fn plain_line(
 }
 
 // The same for a line that takes over nothing of what has been read.
-fn bare_line(
-    alloc: Global,
-    language: Language,
-    line: &Line,
-    token: Token,
-) -> Result<Line, Misfit>
+fn bare_line(alloc: Global, language: Language, line: &Line, token: Token) -> Result<Line, Misfit>
     requires { IsBare line.now }
     ensures { result ≡ line_step language line.now token.kind token.at }
 {

@@ -71,8 +71,12 @@ pub fn map_step(
     ensures { Gives result (map_step at names rest token.kind token.at) }
 {
     match rest {
-        MapRest::Names => map_names_step(at, names, token),
+        MapRest::Names => {
+            drop(rest);
+            map_names_step(at, names, token)
+        }
         MapRest::Colon => {
+            drop(rest);
             let rest = MapRest::Source(name_in(token)?);
             Ok(Line::Map { at, names, rest })
         }
