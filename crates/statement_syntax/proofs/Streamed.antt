@@ -1,6 +1,5 @@
 -- Tokens that come one after another, and what has been read of a file that begins with them.
-use Rattle.std.proofs.Common.{◌≡◌, ◌<◌, ◌≤◌, ℕ, suc, List, [], ◌∷◌, ◌++◌, ◌⊎◌, inl, inr, length, Option, Some, None, Result, Ok, Err, MatchResult, refl, sym, ap, ap₂, subst, ◌∙◌, append_assoc, append-nil, length-append, ◌+◌, arith}
-use Rattle.statement_tokens.specs.declared.place.Spot.{Spot}
+use Rattle.std.proofs.Common.{◌≡◌, ◌<◌, ℕ, List, [], ◌∷◌, ◌++◌, ◌⊎◌, inl, inr, length, Some, None, Result, Ok, Err, MatchResult, refl, sym, ap, ap₂, subst, ◌∙◌, append_assoc, append-nil, length-append, ◌+◌, arith}
 use Rattle.statement_tokens.specs.declared.token.Token.{Token}
 use Rattle.statement_tokens.specs.declared.language.Language.{Language}
 use Rattle.statement_tokens.specs.declared.language.Language.TheVariants.{First, Second}
@@ -21,12 +20,12 @@ use Rattle.statement_syntax.specs.declared.fault.SyntaxFault.{SyntaxFault}
 use Rattle.statement_syntax.specs.declared.fault.SyntaxFault.TheVariants as refusal
 use Rattle.statement_syntax.specs.Steps.{run}
 use Rattle.statement_syntax.specs.Lines.{file_step}
-use Rattle.statement_syntax.specs.Fault.{IsStatements, IsTreeOf, TellsFirstFault, IsWantOfMemory, fault_at, scan_fault, TellsScan}
+use Rattle.statement_syntax.specs.Fault.{IsStatements, IsTreeOf, TellsFirstFault, IsWantOfMemory, TellsScan}
 use Rattle.std.specs.Result.{IsErrAnd, IfErr}
 use Rattle.std.specs.Str.{IsUtf8, chars}
 use Rattle.statement_syntax.specs.Grammar.{StatedLine}
 use Rattle.statement_syntax.specs.Tree.{file_tree}
-use Rattle.statement_syntax.specs.Stages.{first_statements, behind_first, begun, left, StoppedAt, Refused, IsReadSoFar, Goes, IsFault, IsFront, LeavesFault, TextRead}
+use Rattle.statement_syntax.specs.Stages.{first_statements, behind_first, begun, left, Refused, IsReadSoFar, Goes, IsFault, IsFront, LeavesFault, TextRead}
 use Rattle.statement_syntax.proofs.Stopping.{goes_on, stops_at, is_found, is_only, is_first, told_scanned}
 
 -- the tokens are three or more, and tell the language

@@ -203,7 +203,7 @@ fn outside_step(alloc: Global, reading: &mut Reading, token: Token) -> Result<()
         TokenKind::Open => open_step(alloc, reading, at),
         TokenKind::Close => close_step(alloc, reading),
         TokenKind::OpenSquare => {
-            reading.focus = Focus::Square(at);
+            drop(mem::replace(&mut reading.focus, Focus::Square(at)));
             Ok(())
         }
         TokenKind::Quote => mark_step(&mut reading.part, Mark::Adjoint),
@@ -245,7 +245,8 @@ pub fn token_step(alloc: Global, reading: &mut Reading, token: Token) -> Result<
     match mem::replace(&mut reading.focus, Focus::Outside) {
         Focus::Outside => outside_step(alloc, reading, token),
         Focus::Square(left) => {
-            reading.focus = Focus::Named(left, name_in(token)?);
+            let named = Focus::Named(left, name_in(token)?);
+            drop(mem::replace(&mut reading.focus, named));
             Ok(())
         }
         Focus::Named(left, name) => match token.kind {
@@ -265,12 +266,13 @@ pub fn token_step(alloc: Global, reading: &mut Reading, token: Token) -> Result<
             last,
             caret,
         } => {
-            reading.part = Part::Product {
+            let product = Part::Product {
                 at,
                 literal,
                 factors,
                 last,
             };
+            drop(mem::replace(&mut reading.part, product));
             let exponent = number_in(&token);
             drop(token);
             let power = Mark::Power {
