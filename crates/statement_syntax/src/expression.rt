@@ -166,7 +166,7 @@ fn literal_step(reading: &mut Reading, number: Number) -> Result<(), Misfit>
 {
     match reading.part {
         Part::Nothing => {
-            reading.part = Part::Scaled(number);
+            drop(mem::replace(&mut reading.part, Part::Scaled(number)));
             Ok(())
         }
         _ => Err(Misfit::Expected),
@@ -225,13 +225,14 @@ fn caret_step(reading: &mut Reading, caret: Spot) -> Result<(), Misfit>
             factors,
             last,
         } => {
-            reading.focus = Focus::Raised {
+            let raised = Focus::Raised {
                 at,
                 literal,
                 factors,
                 last,
                 caret,
             };
+            drop(mem::replace(&mut reading.focus, raised));
             Ok(())
         }
         _ => Err(Misfit::Expected),

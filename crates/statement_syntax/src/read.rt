@@ -72,10 +72,10 @@ fn first_statements(
     let mut statements = Listing::new(alloc);
     if let Language::Second = language {
         if let Some(word) = tokens.next() {
-            statements.push(Statement {
-                at: word.at,
-                kind: StatementKind::Language,
-            })?;
+            let at = word.at;
+            drop(word);
+            let kind = StatementKind::Language;
+            statements.push(Statement { at, kind })?;
         }
         drop(tokens.next());
         drop(tokens.next());

@@ -38,7 +38,10 @@ pub fn sides_step(
         → Turns result (Sides word at left.new reading.new) (sides_step word at left.old reading.old token.kind token.at) }
 {
     match (&*left, &token.kind) {
-        (None, TokenKind::Equals) => end_left(alloc, left, reading),
+        (None, TokenKind::Equals) => {
+            drop(token);
+            end_left(alloc, left, reading)
+        }
         _ => token_step(alloc, reading, token),
     }
 }
@@ -48,7 +51,7 @@ fn end_left(alloc: Global, left: &mut Option<Sum>, reading: &mut Reading) -> Res
     ensures { (word : SidesWord) → (at : Spot) → Turns result (Sides word at left.new reading.new) (left_end word at reading.old) }
 {
     let whole = mem::replace(reading, start_reading(alloc));
-    *left = Some(whole_sum(alloc, whole)?);
+    drop(mem::replace(left, Some(whole_sum(alloc, whole)?)));
     Ok(())
 }
 
