@@ -33,9 +33,7 @@ pub fn pairs_step(pairs: Pairs, token: Token) -> Result<Pairs, ReadError>
             half: Some(name_in(token)?),
         }),
         Some(name) => {
-            let number = number_in(&token);
-            drop(token);
-            whole.push((name, number?))?;
+            whole.push((name, number_in(&token)?))?;
             Ok(Pairs { whole, half: None })
         }
     }

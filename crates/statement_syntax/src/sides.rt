@@ -38,10 +38,7 @@ pub fn sides_step(
         → Turns result (Sides word at left.new reading.new) (sides_step word at left.old reading.old token.kind token.at) }
 {
     match (&*left, &token.kind) {
-        (None, TokenKind::Equals) => {
-            drop(token);
-            end_left(alloc, left, reading)
-        }
+        (None, TokenKind::Equals) => end_left(alloc, left, reading),
         _ => token_step(alloc, reading, token),
     }
 }
