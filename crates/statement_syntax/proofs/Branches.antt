@@ -1,4 +1,4 @@
--- What the readers of literals, brackets and the names of `map` come to, each at one of its branches.
+-- What the readers of brackets and the names of `map` come to, each at one of its branches.
 use Rattle.std.proofs.Common.{◌≡◌, ◌<◌, List, [], ◌∷◌, ◌++◌, ◌⊎◌, inl, inr, Bool, true, Option, length, Result, Ok, Err, refl, sym, ap, ap₂, subst, ◌∙◌, arith}
 use Rattle.std.specs.Prelude.{if◌then◌else◌, false}
 use Rattle.std.specs.Result.{IsErrAnd}
@@ -9,7 +9,6 @@ use Rattle.statement_tokens.specs.declared.token.TokenKind.{TokenKind}
 use Rattle.statement_tokens.specs.declared.token.TokenKind.TheVariants as kind
 use Rattle.statement_syntax.specs.Limits.{bracket_limit}
 use Rattle.statement_syntax.specs.declared.tree.Name.{Name}
-use Rattle.statement_syntax.specs.declared.tree.Number.{Number}
 use Rattle.statement_syntax.specs.declared.tree.Statement.{Statement}
 use Rattle.statement_syntax.specs.declared.tree.StatementKind.{StatementKind}
 use Rattle.statement_syntax.specs.declared.line.PairWord.{PairWord}
@@ -22,22 +21,15 @@ use Rattle.statement_syntax.specs.declared.expression.ReadError.TheVariants as e
 use Rattle.statement_syntax.specs.declared.expression.Head.{Head}
 use Rattle.statement_syntax.specs.declared.expression.Level.{Level}
 use Rattle.statement_syntax.specs.declared.expression.Reading.{Reading}
-use Rattle.statement_syntax.specs.declared.expression.Focus.{Focus}
 use Rattle.statement_syntax.specs.declared.expression.Focus.TheVariants.{Outside}
 use Rattle.statement_syntax.specs.declared.expression.Misfit.TheVariants.{Expected, TooDeep}
 use Rattle.statement_syntax.specs.declared.expression.Part.{Part}
-use Rattle.statement_syntax.specs.declared.expression.Part.TheVariants.{Nothing, Scaled}
-use Rattle.statement_syntax.specs.Steps.{◌>>=◌, outside, empty_head, open_step, literal_step, Fails, Gives}
+use Rattle.statement_syntax.specs.declared.expression.Part.TheVariants.{Nothing}
+use Rattle.statement_syntax.specs.Steps.{◌>>=◌, outside, empty_head, open_step, Fails, Gives}
 use Rattle.statement_syntax.specs.Written.{sign_kinds}
 use Rattle.statement_syntax.specs.Lines.{name_in, on_colon, colon_after, map_names_step, line_end, statement_by}
 
--- literals and brackets
-pub literal_first : (levels : List Level) (head : Head) (part : Part) (focus : Focus) (n : Number) → part ≡ Nothing → focus ≡ Outside
-    → literal_step levels head part n ≡ Ok (record { levels = levels; head = head; part = Scaled n; focus = focus })
-literal_first levels head part focus n nothing is =
-    ap (λ p. literal_step levels head p n) nothing
-    ∙ ap (λ f. Ok (record { levels = levels; head = head; part = Scaled n; focus = f })) (sym is)
-
+-- brackets
 bracket_opens : (levels : List Level) (head : Head) (part : Part) (at : Spot) → length levels < bracket_limit
     → open_step levels head part at ≡ Ok (outside (record { head = head; part = part; at = at } ∷ levels) empty_head Nothing)
 bracket_opens levels head part at few =

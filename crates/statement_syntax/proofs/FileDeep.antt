@@ -1,5 +1,5 @@
 -- A bracket that is too deep fits the grammar, though not within the limit.
-use Rattle.std.proofs.Common.{◌≡◌, Bool, true, false, cond, List, [], ◌∷◌, ◌++◌, Option, Some, None, Result, Ok, Err, refl, sym, ap, ◌∙◌, append_assoc}
+use Rattle.std.proofs.Common.{◌≡◌, Bool, true, false, cond, List, [], ◌∷◌, ◌++◌, Option, Some, None, Result, Ok, Err, refl, sym, ap, ◌∙◌, append_assoc, append-nil}
 use Rattle.std.specs.Prelude.{codes}
 use Rattle.statement_tokens.specs.declared.place.Spot.{Spot}
 use Rattle.statement_tokens.specs.declared.token.Token.{Token}
@@ -168,13 +168,9 @@ module _ (language : Language) (before : List Statement) where
         ap (λ (x : List Token). (x ++ sign_token k t ∷ []) ++ (on.0 ++ end)) read.are
             ∙ ap (λ (x : List Token). x ++ (on.0 ++ end)) (append_assoc (file_tokens read.lines) read.now (sign_token k t ∷ []))
             ∙ append_assoc (file_tokens read.lines) (read.now ++ sign_token k t ∷ []) (on.0 ++ end)
-            ∙ ap (λ x. file_tokens read.lines ++ x) (sym (append_assoc (read.now ++ sign_token k t ∷ []) on.0 end) ∙ ap (λ x. x ++ end) on.3 ∙ sym (nothing_more (stated_tokens on.1 ++ end)))
+            ∙ ap (λ x. file_tokens read.lines ++ x) (sym (append_assoc (read.now ++ sign_token k t ∷ []) on.0 end) ∙ ap (λ x. x ++ end) on.3 ∙ sym (append-nil (stated_tokens on.1 ++ end)))
             ∙ sym (file_tokens-append read.lines (last ∷ [])),
       )
-    where
-      nothing_more : (xs : List Token) → xs ++ [] ≡ xs
-      nothing_more [] = refl
-      nothing_more (x ∷ xs) = ap (λ y. x ∷ y) (nothing_more xs)
 
   -- with the bracket it can go on to a file that is not within the limit
   pub file_deep : (p : Progress) (ts : List Token) (t : Token) → FileReads language before p ts → file_step language p t ≡ Err TooDeep → (more : List Token) × (lines : List StatedLine) × AreLinesOf language lines × ((ts ++ t ∷ []) ++ more ≡ file_tokens lines)

@@ -5,6 +5,7 @@ use Rattle.statement_tokens.specs.declared.place.Spot.{Spot}
 use Rattle.statement_tokens.specs.declared.token.Token.{Token}
 use Rattle.statement_tokens.specs.declared.token.TokenKind.{TokenKind}
 use Rattle.statement_tokens.specs.declared.token.TokenKind.TheVariants as kind
+use Rattle.statement_syntax.specs.declared.tree.Mark.TheVariants.{Adjoint}
 use Rattle.statement_syntax.specs.Limits.{bracket_limit}
 use Rattle.statement_syntax.specs.declared.tree.Name.{Name}
 use Rattle.statement_syntax.specs.declared.tree.Number.{Number}
@@ -80,7 +81,7 @@ sign-seen levels (led l) (product k fs) s at e at-is = sign_made levels (led l) 
 sign-seen levels (after d t) (product k fs) s at e at-is = sign_made levels (after d t) s (whole_term (product k fs))
 
 quote-seen : (levels : List Level) (head : Head) (part : Part) (at : Spot)
-    → (steps.quote_step (part_of part) >>= λ p. Ok (steps.outside (levels_of levels) (head_of head) p)) ≡ seen (step_quote levels head part at)
+    → (steps.mark_step (part_of part) Adjoint >>= λ p. Ok (steps.outside (levels_of levels) (head_of head) p)) ≡ seen (step_quote levels head part at)
 quote-seen levels head nothing at = refl
 quote-seen levels head (scaled n) at = refl
 quote-seen levels head (product l (one f)) at = refl

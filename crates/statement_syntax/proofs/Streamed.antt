@@ -1,6 +1,5 @@
 -- Tokens that come one after another, and what has been read of a file that begins with them.
-use Rattle.std.proofs.Common.{◌≡◌, ◌<◌, ◌≤◌, ℕ, suc, List, [], ◌∷◌, ◌++◌, ◌⊎◌, inl, inr, length, Option, Some, None, Result, Ok, Err, refl, sym, ap, ap₂, subst, ◌∙◌, append_assoc, append-nil, length-append, ◌+◌, arith}
-use Rattle.statement_tokens.specs.declared.place.Spot.{Spot}
+use Rattle.std.proofs.Common.{◌≡◌, ◌<◌, ℕ, List, [], ◌∷◌, ◌++◌, ◌⊎◌, inl, inr, length, Some, None, Result, Ok, Err, MatchResult, refl, sym, ap, ap₂, subst, ◌∙◌, append_assoc, append-nil, length-append, ◌+◌, arith}
 use Rattle.statement_tokens.specs.declared.token.Token.{Token}
 use Rattle.statement_tokens.specs.declared.language.Language.{Language}
 use Rattle.statement_tokens.specs.declared.language.Language.TheVariants.{First, Second}
@@ -21,12 +20,12 @@ use Rattle.statement_syntax.specs.declared.fault.SyntaxFault.{SyntaxFault}
 use Rattle.statement_syntax.specs.declared.fault.SyntaxFault.TheVariants as refusal
 use Rattle.statement_syntax.specs.Steps.{run}
 use Rattle.statement_syntax.specs.Lines.{file_step}
-use Rattle.statement_syntax.specs.Fault.{IsStatements, IsTreeOf, TellsFirstFault, IsWantOfMemory, fault_at, scan_fault, TellsScan}
+use Rattle.statement_syntax.specs.Fault.{IsStatements, IsTreeOf, TellsFirstFault, IsWantOfMemory, TellsScan}
 use Rattle.std.specs.Result.{IsErrAnd, IfErr}
 use Rattle.std.specs.Str.{IsUtf8, chars}
 use Rattle.statement_syntax.specs.Grammar.{StatedLine}
 use Rattle.statement_syntax.specs.Tree.{file_tree}
-use Rattle.statement_syntax.specs.Stages.{first_statements, behind_first, begun, left, StoppedAt, Refused, IsReadSoFar, Goes, IsFault, IsFront, LeavesFault, TextRead}
+use Rattle.statement_syntax.specs.Stages.{first_statements, behind_first, begun, left, Refused, IsReadSoFar, Goes, IsFault, IsFront, LeavesFault, TextRead}
 use Rattle.statement_syntax.proofs.Stopping.{goes_on, stops_at, is_found, is_only, is_first, told_scanned}
 
 -- the tokens are three or more, and tell the language
@@ -166,11 +165,10 @@ ends text old new language read is hands = record {
   so_far = is.so_far;
 }
 
-pub ends_ok : (text : List ℕ) (p : Progress) → AllTokens text (Ok p) → TextRead text (Ok p.statements)
-ends_ok text p all = (all.tokens, all.are, (p, all.so_far, refl))
-
-pub ends_err : (text : List ℕ) (e : SyntaxFault) → AllTokens text (Err e) → TextRead text (Err e)
-ends_err text e all = inr (all.tokens, all.are, all.so_far)
+pub all_read : (text : List ℕ) (read : Result Progress SyntaxFault) (r : Result (List Statement) SyntaxFault) → AllTokens text read
+    → MatchResult read (λ p. r ≡ Ok p.statements) (λ e. r ≡ Err e) → TextRead text r
+all_read text (Ok p) r all is = subst (TextRead text) (sym is) (all.tokens, all.are, (p, all.so_far, refl))
+all_read text (Err e) r all is = subst (TextRead text) (sym is) (inr (all.tokens, all.are, all.so_far))
 
 -- the fault that a scanner comes to is told
 pub is_fault : (whole : Result (List Token) Placed) (front : List Token) (old new : Scanner) (error : ScanError) (e : SyntaxFault)
@@ -246,8 +244,3 @@ memory_left start (refusal.Fault code l column) want = absurd want
 pub if_err : {A : Type 0} (r : Result A SyntaxFault) (P Q : SyntaxFault → Type 0) → IsErrAnd r P → ((e : SyntaxFault) → P e → Q e) → IfErr r Q
 if_err (Ok x) P Q is goes = tt
 if_err (Err e) P Q is goes = goes e is
-
-pub err_read : (text : List ℕ) (r : Result (List Statement) SyntaxFault) (P : SyntaxFault → Type 0) → IsErrAnd r P
-    → ((e : SyntaxFault) → P e → TextRead text (Err e)) → TextRead text r
-err_read text (Ok statements) P is goes = absurd is
-err_read text (Err e) P is goes = goes e is

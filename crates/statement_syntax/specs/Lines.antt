@@ -31,6 +31,7 @@ use Rattle.statement_syntax.specs.declared.line.Line.{Line}
 use Rattle.statement_syntax.specs.declared.line.Line.TheVariants as line
 use Rattle.statement_syntax.specs.declared.read.Progress.{Progress}
 use Rattle.statement_syntax.specs.Steps.{◌>>=◌, outside, empty_head, token_step, whole_sum}
+pub use Rattle.statement_syntax.specs.Steps.{name_in, number_in}
 use Rattle.statement_syntax.specs.Tree.{list_kind, sides_kind, pair_kind}
 
 abbrev pub Lined : Type 0
@@ -55,14 +56,6 @@ on_equals found other k = other
 abbrev pub on_end : {A : Type 0} → A → A → TokenKind → A
 on_end found other kind.End = found
 on_end found other k = other
-
-abbrev pub name_in : TokenKind → Spot → Result Name Misfit
-name_in (kind.Name x) at = Ok (named x at)
-name_in k at = Err Expected
-
-abbrev pub number_in : TokenKind → Spot → Result Number Misfit
-number_in (kind.Literal n) at = Ok (record { value = n; at = at })
-number_in k at = Err Expected
 
 -- a word that begins a statement in both languages
 abbrev pub common_opening : List ℕ → Option Opening

@@ -4,7 +4,6 @@ use Rattle.statement_tokens.specs.declared.place.Spot.{Spot}
 use Rattle.statement_syntax.specs.declared.tree.Name.{Name}
 use Rattle.statement_syntax.specs.declared.tree.Number.{Number}
 use Rattle.statement_syntax.specs.declared.tree.Mark.{Mark}
-use Rattle.statement_syntax.specs.declared.tree.Mark.TheVariants.{Adjoint, Power}
 use Rattle.statement_syntax.specs.declared.tree.Primary.{Primary}
 use Rattle.statement_syntax.specs.declared.tree.Factor.{Factor, roll-Factor, out-Factor}
 use Rattle.statement_syntax.specs.declared.tree.Term.{Term, roll-Term}
@@ -22,9 +21,5 @@ term_of at negative l fs = roll-Term (record { at = at; negative = negative; lit
 abbrev pub sum_of : Spot → List Term → Sum
 sum_of at terms = roll-Sum (record { at = at; terms = terms })
 
-abbrev pub marked_factor : Factor → Factor
-marked_factor f = factor_of (out-Factor f).at (out-Factor f).primary ((out-Factor f).marks ++ Adjoint ∷ [])
-
--- with a power behind it
-abbrev pub raised_factor : Factor → Spot → Number → Factor
-raised_factor f at n = factor_of (out-Factor f).at (out-Factor f).primary ((out-Factor f).marks ++ Power at n ∷ [])
+abbrev pub marked_factor : Factor → Mark → Factor
+marked_factor f mark = factor_of (out-Factor f).at (out-Factor f).primary ((out-Factor f).marks ++ mark ∷ [])

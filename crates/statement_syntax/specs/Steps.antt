@@ -8,6 +8,8 @@ use Rattle.statement_tokens.specs.declared.token.TokenKind.TheVariants as kind
 use Rattle.statement_syntax.specs.Limits.{bracket_limit}
 use Rattle.statement_syntax.specs.declared.tree.Name.{Name}
 use Rattle.statement_syntax.specs.declared.tree.Number.{Number}
+use Rattle.statement_syntax.specs.declared.tree.Mark.{Mark}
+use Rattle.statement_syntax.specs.declared.tree.Mark.TheVariants.{Adjoint, Power}
 use Rattle.statement_syntax.specs.declared.tree.Primary.{Primary, Letter, Identity, Bracket}
 use Rattle.statement_syntax.specs.declared.tree.Factor.{Factor}
 use Rattle.statement_syntax.specs.declared.tree.Term.{Term, out-Term}
@@ -23,7 +25,7 @@ use Rattle.statement_syntax.specs.declared.expression.ReadError.TheVariants as e
 use Rattle.statement_syntax.specs.declared.tree.Sum.{Sum}
 use Rattle.statement_syntax.specs.declared.expression.Part.{Part}
 use Rattle.statement_syntax.specs.declared.expression.Part.TheVariants.{Nothing, Scaled, Product}
-pub use Rattle.statement_syntax.specs.Nodes.{name_with, factor_of, term_of, sum_of, marked_factor, raised_factor}
+pub use Rattle.statement_syntax.specs.Nodes.{name_with, factor_of, term_of, sum_of, marked_factor}
 
 abbrev pub part_with : Part → Primary → Spot → Part
 part_with Nothing p at = Product at None [] (factor_of at p [])
@@ -74,10 +76,10 @@ sum_at head t = at_or head.at (out-Term t).at
 abbrev pub sum_with : Head → Term → Sum
 sum_with head t = sum_of (sum_at head t) (head.terms ++ t ∷ [])
 
-abbrev pub quote_step : Part → Result Part Misfit
-quote_step Nothing = Err Expected
-quote_step (Scaled n) = Err Expected
-quote_step (Product at l fs last) = Ok (Product at l fs (marked_factor last))
+abbrev pub mark_step : Part → Mark → Result Part Misfit
+mark_step Nothing mark = Err Expected
+mark_step (Scaled n) mark = Err Expected
+mark_step (Product at l fs last) mark = Ok (Product at l fs (marked_factor last mark))
 
 abbrev pub sign_by : Head → Result Term Misfit → Bool → Result Head Misfit
 sign_by head (Ok t) negative = Ok (record { at = Some (sum_at head t); terms = head.terms ++ t ∷ []; negative = negative })
@@ -137,23 +139,28 @@ outside_step levels head part kind.Open at = open_step levels head part at
 outside_step levels head part kind.Close at = close_step levels head part
 outside_step levels head part kind.OpenSquare at = Ok (record { levels = levels; head = head; part = part; focus = focus.Square at })
 outside_step levels head part kind.CloseSquare at = Err Expected
-outside_step levels head part kind.Quote at = quote_step part >>= λ p. Ok (outside levels head p)
+outside_step levels head part kind.Quote at = mark_step part Adjoint >>= λ p. Ok (outside levels head p)
 outside_step levels head part kind.Caret at = caret_step levels head part at
 outside_step levels head part kind.End at = Err Expected
 
+abbrev pub name_in : TokenKind → Spot → Result Name Misfit
+name_in (kind.Name x) at = Ok (name_with x at)
+name_in k at = Err Expected
+
+abbrev pub number_in : TokenKind → Spot → Result Number Misfit
+number_in (kind.Literal n) at = Ok (record { value = n; at = at })
+number_in k at = Err Expected
+
 abbrev pub square_step : List Level → Head → Part → Spot → TokenKind → Spot → Result Reading Misfit
-square_step levels head part left (kind.Name x) at = Ok
-    (record { levels = levels; head = head; part = part; focus = focus.Named left (record { text = x; at = at }) })
-square_step levels head part left k at = Err Expected
+square_step levels head part left k at = name_in k at >>= λ n. Ok (record { levels = levels; head = head; part = part; focus = focus.Named left n })
 
 abbrev pub named_step : List Level → Head → Part → Spot → Name → TokenKind → Result Reading Misfit
 named_step levels head part left n kind.CloseSquare = Ok (outside levels head (part_with part (Identity n) left))
 named_step levels head part left n k = Err Expected
 
 abbrev pub raised_step : List Level → Head → Spot → Option Number → List Factor → Factor → Spot → TokenKind → Spot → Result Reading Misfit
-raised_step levels head first l fs last caret (kind.Literal n) at = Ok
-    (outside levels head (Product first l fs (raised_factor last caret (record { value = n; at = at }))))
-raised_step levels head first l fs last caret k at = Err Expected
+raised_step levels head first l fs last caret k at =
+    number_in k at >>= λ n. Ok (outside levels head (Product first l fs (marked_factor last (Power caret n))))
 
 abbrev pub focus_step : List Level → Head → Part → Focus → TokenKind → Spot → Result Reading Misfit
 focus_step levels head part focus.Outside k at = outside_step levels head part k at

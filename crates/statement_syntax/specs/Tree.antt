@@ -21,7 +21,8 @@ use Rattle.statement_syntax.specs.Grammar.{by_weight, modelled, second_language,
 use Rattle.statement_syntax.specs.Grammar.{Lead, no_sign, lead_plus, lead_minus, Sign, plus, minus, Expr, first, joined, Product}
 use Rattle.statement_syntax.specs.Grammar.{zero_alone, factors, Factors, one, beside, Marked, plain, marked, raised, Prime, name, identity}
 use Rattle.statement_syntax.specs.Grammar.{bracket, zero_at}
-use Rattle.statement_syntax.specs.Nodes.{factor_of, term_of, sum_of, marked_factor, raised_factor}
+use Rattle.statement_syntax.specs.declared.tree.Mark.TheVariants.{Adjoint, Power}
+use Rattle.statement_syntax.specs.Nodes.{factor_of, term_of, sum_of, marked_factor}
 
 -- the place of the first token
 abbrev pub prime_at : Prime → Spot
@@ -86,8 +87,8 @@ abbrev mutual
 
   pub marked_tree : Marked → Factor
   marked_tree (plain p) = factor_of (prime_at p) (prime_tree p) []
-  marked_tree (marked f at) = marked_factor (marked_tree f)
-  marked_tree (raised f at n) = raised_factor (marked_tree f) at n
+  marked_tree (marked f at) = marked_factor (marked_tree f) Adjoint
+  marked_tree (raised f at n) = marked_factor (marked_tree f) (Power at n)
 
   pub prime_tree : Prime → Primary
   prime_tree (name n) = Letter n

@@ -6,8 +6,8 @@ ghost use Rattle.statement_syntax.specs.Steps.{outside_step, token_step, whole_s
 ghost use Rattle.statement_syntax.specs.declared.expression.Focus.TheVariants.{Outside};
 ghost use Rattle.statement_syntax.specs.declared.expression.ReadError.TheVariants as read_error;
 
-use crate::expected::number_in;
-use crate::part::{ended_part, part_with, quote_step, sign_step, sum_with};
+use crate::expected::{name_in, number_in};
+use crate::part::{ended_part, mark_step, part_with, sign_step, sum_with};
 use crate::stack::Stack;
 use crate::tree::{Factor, Mark, Name, Number, Primary, Sum, Term};
 use lists::Listing;
@@ -166,7 +166,7 @@ fn literal_step(reading: &mut Reading, number: Number) -> Result<(), Misfit>
 {
     match reading.part {
         Part::Nothing => {
-            reading.part = Part::Scaled(number);
+            drop(mem::replace(&mut reading.part, Part::Scaled(number)));
             Ok(())
         }
         _ => Err(Misfit::Expected),
@@ -203,10 +203,10 @@ fn outside_step(alloc: Global, reading: &mut Reading, token: Token) -> Result<()
         TokenKind::Open => open_step(alloc, reading, at),
         TokenKind::Close => close_step(alloc, reading),
         TokenKind::OpenSquare => {
-            reading.focus = Focus::Square(at);
+            drop(mem::replace(&mut reading.focus, Focus::Square(at)));
             Ok(())
         }
-        TokenKind::Quote => quote_step(&mut reading.part),
+        TokenKind::Quote => mark_step(&mut reading.part, Mark::Adjoint),
         TokenKind::Caret => Ok(caret_step(reading, at)?),
         _ => Err(ReadError::Misfit(Misfit::Expected)),
     }
@@ -225,13 +225,14 @@ fn caret_step(reading: &mut Reading, caret: Spot) -> Result<(), Misfit>
             factors,
             last,
         } => {
-            reading.focus = Focus::Raised {
+            let raised = Focus::Raised {
                 at,
                 literal,
                 factors,
                 last,
                 caret,
             };
+            drop(mem::replace(&mut reading.focus, raised));
             Ok(())
         }
         _ => Err(Misfit::Expected),
@@ -245,40 +246,41 @@ pub fn token_step(alloc: Global, reading: &mut Reading, token: Token) -> Result<
     match mem::replace(&mut reading.focus, Focus::Outside) {
         Focus::Outside => outside_step(alloc, reading, token),
         Focus::Square(left) => {
-            let Token { at, kind } = token;
-            match kind {
-                TokenKind::Name(text) => {
-                    reading.focus = Focus::Named(left, Name { text, at });
-                    Ok(())
-                }
-                _ => Err(ReadError::Misfit(Misfit::Expected)),
-            }
+            let named = Focus::Named(left, name_in(token)?);
+            drop(mem::replace(&mut reading.focus, named));
+            Ok(())
         }
         Focus::Named(left, name) => match token.kind {
             TokenKind::CloseSquare => {
+                drop(token);
                 Ok(part_with(alloc, &mut reading.part, Primary::Identity(name), left)?)
             }
-            _ => Err(ReadError::Misfit(Misfit::Expected)),
+            _ => {
+                drop((name, token));
+                Err(ReadError::Misfit(Misfit::Expected))
+            }
         },
         Focus::Raised {
             at,
             literal,
             factors,
-            mut last,
+            last,
             caret,
         } => {
-            let exponent = number_in(&token)?;
-            last.marks.push(Mark::Power {
-                at: caret,
-                exponent,
-            })?;
-            reading.part = Part::Product {
+            let product = Part::Product {
                 at,
                 literal,
                 factors,
                 last,
             };
-            Ok(())
+            drop(mem::replace(&mut reading.part, product));
+            let exponent = number_in(&token);
+            drop(token);
+            let power = Mark::Power {
+                at: caret,
+                exponent: exponent?,
+            };
+            mark_step(&mut reading.part, power)
         }
     }
 }

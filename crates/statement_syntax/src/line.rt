@@ -151,27 +151,22 @@ fn plain_line(
         line => {
             let next = bare_line(alloc, language, &line, token);
             drop(line);
-            next
+            Ok(next?)
         }
     }
 }
 
 // The same for a line that takes over nothing of what has been read.
-fn bare_line(
-    alloc: Global,
-    language: Language,
-    line: &Line,
-    token: Token,
-) -> Result<Line, ReadError>
+fn bare_line(alloc: Global, language: Language, line: &Line, token: Token) -> Result<Line, Misfit>
     requires { IsBare line.now }
-    ensures { Gives result (line_step language line.now token.kind token.at) }
+    ensures { result ≡ line_step language line.now token.kind token.at }
 {
     match line {
-        Line::Start => Ok(start_step(alloc, language, &token)?),
-        Line::Projection(at) => Ok(projection_step(*at, token)?),
-        Line::Order(at) => Ok(order_step(alloc, *at, &token)?),
+        Line::Start => start_step(alloc, language, &token),
+        Line::Projection(at) => projection_step(*at, token),
+        Line::Order(at) => order_step(alloc, *at, &token),
         Line::Model(at) => Ok(Line::Shape(*at, number_in(&token)?, no_pairs(alloc))),
-        _ => Err(ReadError::Misfit(Misfit::Expected)),
+        _ => Err(Misfit::Expected),
     }
 }
 

@@ -1,7 +1,7 @@
 //! The term that is read, and the sum that it ends.
 
 ghost use Rattle.std.specs.Prelude.{◌≡◌, [], ◌∷◌, ◌++◌, IfOk, OnOk};
-ghost use Rattle.statement_syntax.specs.Steps.{part_with, Gives, Turns, ended_part, sum_with, quote_step, sign_step};
+ghost use Rattle.statement_syntax.specs.Steps.{part_with, Gives, Turns, ended_part, sum_with, mark_step, sign_step};
 ghost use Rattle.statement_syntax.specs.declared.expression.Part.TheVariants.{Product};
 
 use crate::expression::{Head, Misfit, Part, ReadError};
@@ -103,11 +103,11 @@ pub fn sum_with(head: Head, term: Term) -> Result<Sum, AllocError>
 }
 
 /// A mark at the last factor.
-pub fn quote_step(part: &mut Part) -> Result<(), ReadError>
-    ensures { Turns result part.new (quote_step part.old) }
+pub fn mark_step(part: &mut Part, mark: Mark) -> Result<(), ReadError>
+    ensures { Turns result part.new (mark_step part.old mark) }
 {
     match part {
-        Part::Product { last, .. } => Ok(last.marks.push(Mark::Adjoint)?),
+        Part::Product { last, .. } => Ok(last.marks.push(mark)?),
         _ => Err(ReadError::Misfit(Misfit::Expected)),
     }
 }

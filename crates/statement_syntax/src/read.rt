@@ -1,6 +1,6 @@
 //! The tree of a text: its bytes, its tokens, its lines.
 
-ghost use Rattle.std.specs.Prelude.{◌≡◌, ◌<◌, ◌↔◌, ℕ, List, [], length, IfOk, IfErr, IsErr};
+ghost use Rattle.std.specs.Prelude.{◌≡◌, ◌<◌, ◌↔◌, ℕ, List, [], length, IfOk, IfErr, MatchResult, Ok, Err};
 ghost use Rattle.statement_syntax.specs.Grammar.{StatedLine};
 ghost use Rattle.statement_syntax.specs.Tree.{file_tree};
 ghost use Rattle.statement_syntax.specs.Fault.{IsStatements, IsTreeOf, TellsFirstFault, IsWantOfMemory};
@@ -72,10 +72,10 @@ fn first_statements(
     let mut statements = Listing::new(alloc);
     if let Language::Second = language {
         if let Some(word) = tokens.next() {
-            statements.push(Statement {
-                at: word.at,
-                kind: StatementKind::Language,
-            })?;
+            let at = word.at;
+            drop(word);
+            let kind = StatementKind::Language;
+            statements.push(Statement { at, kind })?;
         }
         drop(tokens.next());
         drop(tokens.next());
@@ -143,9 +143,21 @@ fn statements(alloc: Global, text: &[char]) -> Result<Listing<Statement>, Syntax
     let opening = opening(alloc, &mut scanner)?;
     let language = language_of(&opening);
     let mut read = opened(alloc, language, opening);
-    while let Some(token) = scanner.next(alloc, language)? {
-        go_on(alloc, language, &mut read, token);
+    loop {
+        match scanner.next(alloc, language) {
+            Ok(Some(token)) => go_on(alloc, language, &mut read, token),
+            Ok(None) => return statements_of(read),
+            Err(error) => {
+                drop(read);
+                return Err(SyntaxFault::from(error));
+            }
+        }
     }
+}
+
+fn statements_of(read: Result<Progress, SyntaxFault>) -> Result<Listing<Statement>, SyntaxFault>
+    ensures { MatchResult read (λ p. result ≡ Ok p.statements) (λ e. result ≡ Err e) }
+{
     let Progress { statements, line } = read?;
     drop(line);
     Ok(statements)

@@ -48,7 +48,7 @@ fn end_left(alloc: Global, left: &mut Option<Sum>, reading: &mut Reading) -> Res
     ensures { (word : SidesWord) → (at : Spot) → Turns result (Sides word at left.new reading.new) (left_end word at reading.old) }
 {
     let whole = mem::replace(reading, start_reading(alloc));
-    *left = Some(whole_sum(alloc, whole)?);
+    drop(mem::replace(left, Some(whole_sum(alloc, whole)?)));
     Ok(())
 }
 

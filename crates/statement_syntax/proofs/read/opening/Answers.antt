@@ -1,8 +1,8 @@
-use Rattle.std.proofs.Common.{◌≡◌, ◌∷◌, ◌++◌, [], Some, Ok, subst, rules, arith, inl}
+use Rattle.std.proofs.Common.{◌≡◌, ◌∷◌, ◌++◌, [], Ok, subst, rules, arith, inl}
 use Rattle.statement_tokens.specs.Scanned.{Hands}
 use Rattle.statement_syntax.specs.Fault.{TellsScan, IsWantOfMemory}
 use Rattle.statement_syntax.specs.Stages.{LeavesFault}
-use Rattle.statement_syntax.proofs.Streamed.{OpeningRead, none_read, front_left, opening_more, opening_all, opening_fault, memory_left, if_err}
+use Rattle.statement_syntax.proofs.Streamed.{none_read, front_left, opening_more, opening_all, opening_fault, memory_left, if_err}
 use Rattle.statement_syntax.proofs.read.opening.Goals as goal
 
 pub loop-init : goal.loop-init
