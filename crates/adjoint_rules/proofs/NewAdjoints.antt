@@ -11,7 +11,6 @@ use Rattle.definitions.proofs.Coefficients.{Same_refl, Same_sym, Same_trans, pol
 use Rattle.nc_polynomial.specs.Terms.{negated}
 use Rattle.nc_polynomial.specs.Shape.{IsCanonical}
 use Rattle.nc_polynomial.proofs.Shapes.{shaped-negated}
-use Rattle.nc_polynomial.proofs.Values.{negated-multiple}
 
 pub canonical-negated : (p : List Term) → IsCanonical p → IsCanonical (negated p)
 canonical-negated p h = record {
@@ -19,9 +18,6 @@ canonical-negated p h = record {
   short = All-map (λ (t : Term). length t.1 ≤ 500) (λ (t : Term). (neg_ℤ t.0, t.1)) p h.short;
   few = subst (λ n. n ≤ 20000) (sym (length-map p (λ (t : Term). (neg_ℤ t.0, t.1)))) h.few;
 }
-
-pub same-negated : (p : List Term) → SamePolynomial (negated p) (poly_multiple (negsuc 0) p)
-same-negated p = subst (SamePolynomial (negated p)) (negated-multiple p) (Same_refl (negated p))
 
 left_out : (q : Quiver) (p : List Term) → (poly_eq (adjoint_poly q p) p || poly_eq (adjoint_poly q p) (poly_multiple (negsuc 0) p)) ≡ true → AllZip SamePolynomial [] (new_adjoint q p)
 left_out q p e = subst (AllZip SamePolynomial []) (ap (λ b. cond b [] (adjoint_poly q p ∷ [])) (sym e)) tt

@@ -37,14 +37,35 @@ pub fn close_problem(alloc: Global, parts: Parts) -> Result<Problem, AllocError>
     ensures few { IfOk result (λ problem. length problem.generators ≤ generator_limit) }
     ensures counted { IfOk result (λ problem. problem.unit_count ≡ length (units_in problem.parts)) }
 {
+    match generators_of(alloc, &parts) {
+        Ok((generators, unit_count)) => Ok(Problem {
+            parts,
+            generators,
+            unit_count,
+        }),
+        Err(failed) => {
+            drop(parts);
+            Err(failed)
+        }
+    }
+}
+
+// The generators, and how many of them are relations of identities.
+fn generators_of(alloc: Global, parts: &Parts) -> Result<(Listing<Poly>, usize), AllocError>
+    requires { IsPosed parts.now }
+    ensures closed { IfOk result (λ made. IsClosed parts.now made.0) }
+    ensures counted { IfOk result (λ made. made.1 ≡ length (units_in parts.now)) }
+{
     let mut generators = parts.assumptions.duplicate()?;
-    push_adjoints(alloc, &mut generators, &parts)?;
+    if let Err(failed) = push_adjoints(alloc, &mut generators, parts) {
+        drop(generators);
+        return Err(failed);
+    }
     let others = generators.len();
-    push_all_units(alloc, &mut generators, &parts)?;
+    if let Err(failed) = push_all_units(alloc, &mut generators, parts) {
+        drop(generators);
+        return Err(failed);
+    }
     let unit_count = generators.len() - others;
-    Ok(Problem {
-        parts,
-        generators,
-        unit_count,
-    })
+    Ok((generators, unit_count))
 }

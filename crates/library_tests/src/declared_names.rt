@@ -1,8 +1,8 @@
 //! The names of statement files: what they stand for, and what abbreviations are written out as.
 use crate::texts::{Map, quiver_of, same, tree_of};
+use abbreviations::{Equation, abbreviation};
 use adjoint_rules::Shape;
 use quiver::Quiver;
-use abbreviations::{Equation, abbreviation};
 use statement_names::{NameStop, Names, read_names};
 use statement_syntax::{Factor, Primary, Sum, Tree};
 use std::alloc::{AllocError, Global};

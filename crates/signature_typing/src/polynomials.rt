@@ -14,11 +14,11 @@ ghost use Rattle.signature_typing.specs.Named.{AreNamed};
 
 use crate::TypeFault;
 use crate::fault::polynomial_fault;
+use abbreviations::{Equation, abbreviation};
 use expressions::equation_poly;
 use lists::Listing;
 use nc_polynomial::Poly;
 use quiver::Quiver;
-use abbreviations::{Equation, abbreviation};
 use statement_syntax::{Statement, StatementKind, Sum};
 use statement_tokens::Spot;
 use std::alloc::Global;

@@ -14,10 +14,10 @@ ghost use Rattle.signature_typing.specs.Named.{AreNamed, HasFaultObjects};
 
 use crate::TypeFault;
 use crate::fault::fault_at;
+use abbreviations::{Equation, abbreviation};
 use expressions::{SignatureFault, equation_signature};
 use lists::{Listing, Text};
 use quiver::{Quiver, Sig};
-use abbreviations::{Equation, abbreviation};
 use statement_syntax::{Statement, StatementKind, Sum};
 use statement_tokens::Spot;
 use std::alloc::{AllocError, Global};

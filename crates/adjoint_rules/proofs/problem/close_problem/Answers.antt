@@ -1,43 +1,11 @@
-use Rattle.std.proofs.Common.{◌≡◌, ◌+◌, ◌++◌, length, sym, ap, subst, append_assoc, arith}
-use Rattle.std.specs.List.{AllZip}
-use Rattle.std.proofs.lemmas.List.{length-append, length-map}
-use Rattle.definitions.specs.Poly.{SamePolynomial}
-use Rattle.adjoint_rules.specs.Problem.{polynomials, IsClosed, generators_in}
-use Rattle.adjoint_rules.specs.Parts.{adjoints_in, units_in}
 use Rattle.adjoint_rules.proofs.Counted.{few_closed}
-use Rattle.adjoint_rules.proofs.NewAdjoints.{AllZip-append, each_same}
 use Rattle.adjoint_rules.proofs.problem.close_problem.Goals as goal
-use Rattle.adjoint_rules.proofs.problem.close_problem.Goals.{After-len}
-
-closed : (c : After-len) → IsClosed c.args.parts c.push_all_units.new.generators
-closed c =
-    let p = c.args.parts in
-    let ps = polynomials p.assumptions in
-    let adjoint = polynomials c.push_adjoints.new.generators in
-    let start : AllZip SamePolynomial (polynomials c.in_ok-generators.generators) ps =
-    subst (λ gs. AllZip SamePolynomial (polynomials gs) ps) (sym c.in_ok-generators.ensures.same) (each_same ps) in
-    let whole : AllZip SamePolynomial (adjoint ++ units_in p) ((ps ++ adjoints_in p) ++ units_in p) =
-    AllZip-append SamePolynomial adjoint (units_in p) (ps ++ adjoints_in p) (units_in p) (c.in_ok-push_adjoints.ensures ps start) (each_same (units_in p)) in
-    let in_order : AllZip SamePolynomial (adjoint ++ units_in p) (generators_in p) =
-    subst (AllZip SamePolynomial (adjoint ++ units_in p)) (append_assoc ps (adjoints_in p) (units_in p)) whole in
-    record { same = subst (λ gs. AllZip SamePolynomial gs (generators_in p)) (sym c.in_ok-push_all_units.ensures) in_order }
-
--- the relations of identities are what is appended last
-longer : (c : After-len) → length c.push_all_units.new.generators ≡ length c.push_adjoints.new.generators + length (units_in c.args.parts)
-longer c =
-    omega (
-      arith,
-      ap length c.in_ok-push_all_units.ensures,
-      length-append (polynomials c.push_adjoints.new.generators) (units_in c.args.parts),
-      length-map c.push_adjoints.new.generators (λ f. f.terms),
-      length-map c.push_all_units.new.generators (λ f. f.terms),
-    )
 
 pub invariant_of-result : goal.invariant_of-result
 invariant_of-result c =
     record {
       posed = c.requires;
-      closed = closed c;
-      few = few_closed c.args.parts c.push_all_units.new.generators c.requires (closed c);
-      counted = omega (arith, longer c, c.len-others.ensures, c.len.ensures);
+      closed = c.in-Ok.ensures.closed;
+      few = few_closed c.args.parts _ c.requires c.in-Ok.ensures.closed;
+      counted = c.in-Ok.ensures.counted;
     }
