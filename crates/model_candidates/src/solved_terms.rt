@@ -1,5 +1,5 @@
 //! The terms of assumptions in which a solved letter stands, each with what stands before and behind this letter.
-ghost use Rattle.std.specs.Prelude.{◌≡◌, ◌<◌, ◌≤◌, true, ℕ, ℤ, List, drop, length, position, slice_get, take, Some, IfOk};
+ghost use Rattle.std.specs.Prelude.{◌≡◌, ◌<◌, ◌≤◌, true, ℕ, ℤ, List, drop, length, position, slice_get, take, Some, OnOk};
 ghost use Rattle.definitions.specs.Quiver.{IsTyped, is_path, leads};
 ghost use Rattle.quiver.specs.Declarations.{letter_count, object_count, quiver_of};
 ghost use Rattle.word_core.specs.Letters.{IsOver};
@@ -43,28 +43,29 @@ pub(crate) struct Known<'a> {
     pub coefficients: &'a [Listing<u32>],
 }
 
-/// The terms of the polynomial whose words have a solved letter.
+/// Makes the list that of the terms of the polynomial whose words have a solved letter.
 pub(crate) fn solved_terms(
     known: &Known,
     poly: &Poly,
     coefficients: &[u32],
     ends: Sig,
-) -> Result<Listing<SolvedTerm>, AllocError>
+    terms: &mut Listing<SolvedTerm>,
+) -> Result<(), AllocError>
     requires known { IsKnown known.now }
     requires source { ends.source.0 < object_count known.now.given.problem.now.parts.quiver }
     requires target { ends.target.0 < object_count known.now.given.problem.now.parts.quiver }
     requires typed { IsTyped (quiver_in known.now.given) ends.source.0 ends.target.0 poly.now.terms }
     requires coefficients { coefficients.now ≡ residues known.now.given.shape.now.modulus poly.now.terms }
-    ensures { IfOk result (λ terms. terms ≡ solved_terms (quiver_in known.now.given) known.now.given.shape.now
+    ensures { OnOk result (terms.new ≡ solved_terms (quiver_in known.now.given) known.now.given.shape.now
         known.now.given.problem.now.parts.solved (numbers_in known.now) (model_in known.now.given) ends.source.0 poly.now.terms) }
 {
-    let mut terms = Listing::new(known.alloc);
+    terms.truncate(0);
     for place in 0..poly.terms() {
         if let Some(term) = solved_term(known, poly, coefficients, place, ends) {
             terms.push(term)?;
         }
     }
-    Ok(terms)
+    Ok(())
 }
 
 // The term at this place, where its word has a solved letter.
@@ -111,8 +112,8 @@ fn solved_term(
     })
 }
 
-// The place of the first letter of the word that is a solved map or the adjoint of one: its unknowns have numbers.
-fn solved_place(known: &Known, word: &Word) -> Option<usize>
+/// The place of the first letter of the word that is a solved map or the adjoint of one: its unknowns have numbers.
+pub(crate) fn solved_place(known: &Known, word: &Word) -> Option<usize>
     requires known { IsKnown known.now }
     requires over { IsOver (letter_count known.now.given.problem.now.parts.quiver) word.now }
     ensures { result ≡ position (is_solved (quiver_in known.now.given) known.now.given.problem.now.parts.solved) word.now }
