@@ -4,7 +4,7 @@ ghost use Rattle.std.specs.List.{All, range_with_len};
 ghost use Rattle.matrix_models.specs.Matrix.{IsMatrix};
 ghost use Rattle.matrix_models.specs.Elimination.{row_of};
 ghost use Rattle.matrix_models.specs.Pivots.{Add, AreAgainst};
-ghost use Rattle.model_candidates.specs.Factors.{FitsTerm, HasSides, term_factor, terms_factor, row_with, rows_with};
+ghost use Rattle.model_candidates.specs.Factors.{FitsTerm, HasSides, line_factor, term_factor, terms_factor, row_with, rows_with};
 
 use crate::shape_matrices::ShapeMatrix;
 use crate::solved_terms::SolvedTerm;
@@ -96,41 +96,39 @@ fn add_products(modulus: u32, factors: &mut [u32], term: &SolvedTerm, row: u32, 
         → get_or factors.new k 0 % modulus ≡ (get_or factors.old k 0 + term_factor term.now row column k) % modulus }
 {
     for inner in 0..term.left.columns() {
-        let before = term.left.entry(row, inner);
-        if before != 0 {
-            let times = u64::from(term.coefficient) * u64::from(before) % u64::from(modulus);
-            add_line(modulus, factors, times as u32, term, row, inner, column);
-        }
+        add_line(modulus, factors, term, row, inner, column);
     }
 }
 
-// Adds to the factor of each unknown what it adds to the entry in this row of the letter's matrix alone, where `times` is the
-// coefficient times what stands before this row.
+// Adds to the factor of each unknown what it adds to the entry where it stands in this row of the letter's matrix.
 fn add_line(
     modulus: u32,
     factors: &mut [u32],
-    times: u32,
     term: &SolvedTerm,
-    ghost row: u32,
+    row: u32,
     inner: u32,
     column: u32,
 )
     requires term { FitsTerm modulus (length factors.old) term.now }
+    requires row { row < term.now.left.rows }
     requires inner { inner < term.now.left.columns }
     requires column { column < term.now.right.columns }
-    requires times { times ≡ (term.now.coefficient * entry_at term.now.left row inner) % modulus }
     requires below { All (λ factor. factor < modulus) factors.old }
     ensures len { length factors.new ≡ length factors.old }
     ensures below { All (λ factor. factor < modulus) factors.new }
-    ensures each { (k : ℕ) → k < length factors.old
-        → get_or factors.new k 0 % modulus ≡ (get_or factors.old k 0 + term.now.coefficient
-        * total term.now.right.rows (λ other. place_factor term.now row column k (inner * term.now.right.rows + other))) % modulus }
+    ensures each { (k : ℕ) → k < length factors.old → get_or factors.new k 0 % modulus
+        ≡ (get_or factors.old k 0 + term.now.coefficient * line_factor term.now row column k inner term.now.right.rows) % modulus }
 {
+    let before = term.left.entry(row, inner);
+    if before == 0 {
+        return;
+    }
+    let times = u64::from(term.coefficient) * u64::from(before) % u64::from(modulus);
     let width = term.right.rows();
     for other in 0..width {
         let behind = term.right.entry(other, column);
         let number = *term.numbers.at((inner * width + other) as usize) as usize;
-        factors[number] = with_multiple(modulus, factors[number], times, behind);
+        factors[number] = with_multiple(modulus, factors[number], times as u32, behind);
     }
 }
 
