@@ -1,5 +1,5 @@
 -- Where the entries that are solved for are 0, a term with a solved letter adds nothing to a value.
-use Rattle.std.proofs.Common.{◌≡◌, ℕ, zero, suc, ◌+◌, ◌*◌, ◌%◌, ◌<◌, ◌≤◌, ℤ, Bool, true, false, List, [], ◌∷◌, length, get_or, Some, slice_get, refl, sym, ap, subst, ◌∙◌, arith, mul-zero}
+use Rattle.std.proofs.Common.{◌≡◌, ℕ, zero, suc, ◌*◌, ◌%◌, ◌<◌, ◌≤◌, ℤ, Bool, true, false, List, [], ◌∷◌, length, get_or, Some, slice_get, refl, sym, ap, subst, ◌∙◌, arith, mul-zero}
 use Rattle.std.specs.List.{position}
 use Rattle.std.proofs.Math.Nat.{mod-eq_of_lt}
 use Rattle.std.proofs.lemmas.List.Elements.{All-from_recursion}
@@ -19,7 +19,7 @@ use Rattle.model_candidates.specs.Candidates.{is_solved, model_by, side_in, solv
 use Rattle.model_candidates.specs.Known.{IsKnown}
 use Rattle.model_candidates.specs.Plans.{has_few}
 use Rattle.model_candidates.specs.Residues.{residue}
-use Rattle.model_candidates.specs.WordRows.{model_in, product_in, quiver_in, term_entry}
+use Rattle.model_candidates.specs.WordRows.{model_in, quiver_in, term_entry}
 use Rattle.model_candidates.proofs.AffineValues.{count_with, count_without, few_words}
 use Rattle.model_candidates.proofs.AssumptionFactors.{solved_declared}
 use Rattle.model_candidates.proofs.WordFactors.{factor_one, factor_zero, unknowns}

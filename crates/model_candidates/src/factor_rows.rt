@@ -101,14 +101,7 @@ fn add_products(modulus: u32, factors: &mut [u32], term: &SolvedTerm, row: u32, 
 }
 
 // Adds to the factor of each unknown what it adds to the entry where it stands in this row of the letter's matrix.
-fn add_line(
-    modulus: u32,
-    factors: &mut [u32],
-    term: &SolvedTerm,
-    row: u32,
-    inner: u32,
-    column: u32,
-)
+fn add_line(modulus: u32, factors: &mut [u32], term: &SolvedTerm, row: u32, inner: u32, column: u32)
     requires term { FitsTerm modulus (length factors.old) term.now }
     requires row { row < term.now.left.rows }
     requires inner { inner < term.now.left.columns }
