@@ -10,7 +10,7 @@ use std::marker::Model;
 // The greatest number of entries of such a matrix.
 const ENTRY_LIMIT: usize = (SHAPE_SIDE_LIMIT * SHAPE_SIDE_LIMIT) as usize;
 
-/// Numbers in a list, as many as a matrix of a shape has entries at the most.
+/// Numbers in a list, as many as a matrix of a shape has entries at the most. The cells behind them are 0.
 #[derive(Clone, Copy)]
 pub(crate) struct Entries {
     cells: [u32; ENTRY_LIMIT],
@@ -18,10 +18,9 @@ pub(crate) struct Entries {
 }
 
 impl Model for Entries {
-    ghost use Rattle.std.specs.Prelude.{◌≡◌, ◌≤◌, ◌+◌, ◌-◌, ◌*◌, ◌++◌, ℕ, List, drop, length, replicate, take};
+    ghost use Rattle.std.specs.Prelude.{◌≡◌, ◌≤◌, ◌-◌, ◌++◌, ℕ, List, drop, length, replicate, take};
     ghost use Rattle.std.proofs.Common.{◌∙◌, ap, arith, sym};
     ghost use Rattle.std.proofs.lemmas.List.{length-take-le, take-append-drop};
-    ghost use Rattle.adjoint_rules.specs.Limits.{shape_side_limit};
 
     ghost Value = { List ℕ };
 
