@@ -9,7 +9,7 @@ ghost use Rattle.model_candidates.specs.Known.{IsKnown, numbers_in};
 ghost use Rattle.model_candidates.specs.Residues.{residues};
 ghost use Rattle.model_candidates.specs.WordRows.{model_in, quiver_in};
 
-use crate::shape_matrices::{Entries, ShapeMatrix};
+use crate::shape_matrices::{EntryNumbers, ShapeMatrix};
 use crate::value_matrices::product_of;
 use crate::word_rows::EntryValues;
 use adjoint_rules::Problem;
@@ -20,12 +20,12 @@ use std::alloc::{AllocError, Global};
 use word_core::Word;
 
 /// A term whose word has a solved letter.
-#[derive(Clone, Copy)]
+#[derive(Drop)]
 pub(crate) struct SolvedTerm {
     /// Its coefficient, modulo the modulus.
     pub coefficient: u32,
     /// The numbers of the unknowns in the letter's matrix, row by row.
-    pub numbers: Entries,
+    pub numbers: EntryNumbers,
     /// The product of the matrices before the letter.
     pub left: ShapeMatrix,
     /// The product of the matrices behind it.
@@ -105,7 +105,7 @@ fn push_term(
     };
     Ok(terms.push(SolvedTerm {
         coefficient: coefficients[place],
-        numbers: Entries::copy_of(numbers.as_slice()),
+        numbers: EntryNumbers::copy_of(numbers.as_slice()),
         left: product_of(given, word, 0, split, before),
         right: product_of(given, word, split + 1, end, behind),
     })?)

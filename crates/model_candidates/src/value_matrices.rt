@@ -42,8 +42,8 @@ pub(crate) fn product_of(
 // The list with the row's first entries behind it.
 fn push_row(entries: &mut Entries, row: &Row, columns: u32)
     requires side { columns ≤ shape_side_limit }
-    requires room { length entries.old + columns ≤ shape_side_limit * shape_side_limit }
-    ensures { entries.new ≡ entries.old ++ map (λ k. get_or row.now k 0) (range_with_len 0 columns) }
+    requires room { length entries.old.items + columns ≤ shape_side_limit * shape_side_limit }
+    ensures { entries.new.items ≡ entries.old.items ++ map (λ k. get_or row.now k 0) (range_with_len 0 columns) }
 {
     for column in 0..columns as usize {
         entries.push(row[column]);
@@ -54,8 +54,8 @@ fn push_row(entries: &mut Entries, row: &Row, columns: u32)
 pub(crate) fn push_residues(entries: &mut Entries, modulus: u32, sums: &Sums, columns: u32)
     requires modulus { 0 < modulus }
     requires side { columns ≤ shape_side_limit }
-    requires room { length entries.old + columns ≤ shape_side_limit * shape_side_limit }
-    ensures { entries.new ≡ entries.old ++ map (λ k. get_or sums.now k 0 % modulus) (range_with_len 0 columns) }
+    requires room { length entries.old.items + columns ≤ shape_side_limit * shape_side_limit }
+    ensures { entries.new.items ≡ entries.old.items ++ map (λ k. get_or sums.now k 0 % modulus) (range_with_len 0 columns) }
 {
     for column in 0..columns as usize {
         entries.push((sums[column] % u64::from(modulus)) as u32);

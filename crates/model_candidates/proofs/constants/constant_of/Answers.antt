@@ -16,7 +16,7 @@ loop-row-preserved c =
     let f : ℕ → ℕ → ℕ = entry_at (value_in x u v c.args.poly.now.terms) in
     let g : ℕ → ℕ = λ k. get_or c.constant_sums-sums.result k 0 % m in
     subst (AreRows m columns f (row + 1)) (sym c.push_residues.ensures)
-    (one_row_more m columns row f g c.loop-row.entries c.loop-row.invariant
+    (one_row_more m columns row f g c.loop-row.entries.items c.loop-row.invariant
     (λ k inside. mod-lt (get_or c.constant_sums-sums.result k 0) (positive x c.requires.known.given u v c.requires.source c.requires.target))
     (λ k inside. c.constant_sums-sums.ensures k (subst (λ n. k < n) c.side_at-columns.ensures.value inside)))
 
@@ -31,7 +31,7 @@ returns c =
     let columns = c.side_at-columns.result in
     let ends = value_ends x c.requires.known.given u v c.requires.source c.requires.target p in
     let all : c.loop-row.row ≡ rows = omega (arith, c.loop-row-test.false, c.loop-row.auto.row-end) in
-    let passed = subst (λ n. AreRows m columns (entry_at (value_in x u v p)) n c.loop-row.entries) all c.loop-row.invariant in
+    let passed = subst (λ n. AreRows m columns (entry_at (value_in x u v p)) n c.loop-row.entries.items) all c.loop-row.invariant in
     c.new.ensures
-    ∙ rows_of_matrix m rows columns (value_in x u v p) c.loop-row.entries ends.arrow (ends.target ∙ sym c.side_at-rows.ensures.value)
+    ∙ rows_of_matrix m rows columns (value_in x u v p) c.loop-row.entries.items ends.arrow (ends.target ∙ sym c.side_at-rows.ensures.value)
     (ends.source ∙ sym c.side_at-columns.ensures.value) passed

@@ -1,7 +1,7 @@
 use Rattle.std.proofs.Common.{◌≡◌, ◌+◌, ◌*◌, ◌%◌, ◌<◌, ℕ, List, length, get_or, set, sym, ap, ap₂, subst, ◌∙◌, arith}
 use Rattle.std.proofs.lemmas.List.{length-set}
 use Rattle.std.proofs.lemmas.List.Elements.{All-get_or, All-set}
-use Rattle.std.proofs.lemmas.Option.{slice_get_within}
+use Rattle.std.proofs.lemmas.Option.{get_or_from_slice_get, slice_get_within}
 use Rattle.matrix_models.specs.Matrix.{entry_at}
 use Rattle.model_candidates.proofs.FactorRows.{line_nothing, place_added}
 use Rattle.model_candidates.proofs.factor_rows.add_line.Goals as goal
@@ -19,9 +19,9 @@ pub bounds-factors-number : goal.bounds-factors-number
 bounds-factors-number c =
     let t = c.args.term.now in
     let place = c.args.inner * c.rows-width.result + c.loop-other.other in
-    let number = c.at-number.result in
-    let number_is : get_or t.numbers place 0 ≡ number = sym c.at-number.ensures.value in
-    let below = All-get_or (λ k. k < length c.args.factors.now) t.numbers place 0 (slice_get_within t.numbers place number c.at-number.ensures.there)
+    let number = c.at.result.now in
+    let number_is : get_or t.numbers place 0 ≡ number = get_or_from_slice_get t.numbers place number 0 c.at.ensures in
+    let below = All-get_or (λ k. k < length c.args.factors.now) t.numbers place 0 (slice_get_within t.numbers place number c.at.ensures)
     c.requires.term.below in
     omega (arith, number_is, below, c.loop-other.invariant.size)
 
@@ -29,9 +29,9 @@ pub bounds-factors-number-in-loop-other : goal.bounds-factors-number-in-loop-oth
 bounds-factors-number-in-loop-other c =
     let t = c.args.term.now in
     let place = c.args.inner * c.rows-width.result + c.loop-other.other in
-    let number = c.at-number.result in
-    let number_is : get_or t.numbers place 0 ≡ number = sym c.at-number.ensures.value in
-    let below = All-get_or (λ k. k < length c.args.factors.now) t.numbers place 0 (slice_get_within t.numbers place number c.at-number.ensures.there)
+    let number = c.at.result.now in
+    let number_is : get_or t.numbers place 0 ≡ number = get_or_from_slice_get t.numbers place number 0 c.at.ensures in
+    let below = All-get_or (λ k. k < length c.args.factors.now) t.numbers place 0 (slice_get_within t.numbers place number c.at.ensures)
     c.requires.term.below in
     omega (arith, number_is, below, c.loop-other.invariant.size)
 
@@ -44,14 +44,14 @@ loop-other-preserved c =
     let other = c.loop-other.other in
     let factors : List ℕ = c.loop-other.factors in
     let place = inner * c.rows-width.result + other in
-    let number = c.at-number.result in
+    let number = c.at.result.now in
     let before = c.entry-before.result in
     let behind = c.entry-behind.result in
     let times = (c.from.result * c.from-2.result) % c.from-3.result in
-    let read : get_or t.numbers place 0 ≡ number = sym c.at-number.ensures.value in
+    let read : get_or t.numbers place 0 ≡ number = get_or_from_slice_get t.numbers place number 0 c.at.ensures in
     let number_is : get_or t.numbers (inner * t.right.rows + other) 0 ≡ number =
     ap (λ w. get_or t.numbers (inner * w + other) 0) (sym c.rows-width.ensures) ∙ read in
-    let below = All-get_or (λ k. k < length c.args.factors.now) t.numbers place 0 (slice_get_within t.numbers place number c.at-number.ensures.there)
+    let below = All-get_or (λ k. k < length c.args.factors.now) t.numbers place 0 (slice_get_within t.numbers place number c.at.ensures)
     c.requires.term.below in
     let within : number < length factors = omega (arith, read, below, now.size) in
     let in_width : other < t.right.rows = subst (λ n. other < n) c.rows-width.ensures c.loop-other-test.true in

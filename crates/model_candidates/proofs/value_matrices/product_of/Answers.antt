@@ -14,7 +14,7 @@ loop-row-preserved c =
     let f : ℕ → ℕ → ℕ = entry_at (product_in x c.args.ends.source.0 (drop c.args.from (take c.args.to c.args.word.now))) in
     let g : ℕ → ℕ = λ k. get_or c.word_row-product.result k 0 in
     subst (AreRows m columns f (row + 1)) (sym c.push_row.ensures)
-    (one_row_more m columns row f g c.loop-row.entries c.loop-row.invariant
+    (one_row_more m columns row f g c.loop-row.entries.items c.loop-row.invariant
     (λ k inside. entry_below x c.requires.given c.word_row-product.result k c.word_row-product.ensures.below)
     (λ k inside. c.word_row-product.ensures.row k (subst (λ n. k < n) c.side_at-columns.ensures.value inside)))
 
@@ -29,7 +29,7 @@ returns c =
     let columns = c.side_at-columns.result in
     let ends = product_ends x c.requires.given u v w c.requires.source c.requires.leads in
     let all : c.loop-row.row ≡ rows = omega (arith, c.loop-row-test.false, c.loop-row.auto.row-end) in
-    let passed = subst (λ n. AreRows m columns (entry_at (product_in x u w)) n c.loop-row.entries) all c.loop-row.invariant in
+    let passed = subst (λ n. AreRows m columns (entry_at (product_in x u w)) n c.loop-row.entries.items) all c.loop-row.invariant in
     c.new.ensures
-    ∙ rows_of_matrix m rows columns (product_in x u w) c.loop-row.entries ends.arrow (ends.target ∙ sym c.side_at-rows.ensures.value)
+    ∙ rows_of_matrix m rows columns (product_in x u w) c.loop-row.entries.items ends.arrow (ends.target ∙ sym c.side_at-rows.ensures.value)
     (ends.source ∙ sym c.side_at-columns.ensures.value) passed

@@ -8,4 +8,4 @@ use Rattle.model_candidates.proofs.value_matrices.product_of.Given as goal
 abbrev pub invariant-loop-row : goal.invariant-loop-row
 invariant-loop-row l =
     AreRows l.given.shape.now.modulus l.columns
-    (entry_at (product_in l.given l.fn.ends.source.0 (drop l.fn.from (take l.fn.to l.word)))) l.row l.entries
+    (entry_at (product_in l.given l.fn.ends.source.0 (drop l.fn.from (take l.fn.to l.word)))) l.row l.entries.items

@@ -6,25 +6,25 @@ use Rattle.model_candidates.proofs.value_matrices.push_residues.Goals as goal
 
 pub push-requires : goal.push-requires
 push-requires c =
-    let start = c.args.entries.now in
+    let start = c.args.entries.now.items in
     let column = c.loop-column.column in
     let g : ℕ → ℕ = λ k. get_or c.args.sums.now k 0 % c.args.modulus in
-    let size : length c.loop-column.entries ≡ length start + column =
+    let size : length c.loop-column.entries.items ≡ length start + column =
     ap length c.loop-column.invariant ∙ length-append start (map g (range_with_len 0 column))
     ∙ ap (λ n. length start + n) (length-map-range_with_len g 0 column) in
-    let room : length c.loop-column.entries < 36 = omega (arith, size, c.requires.room, c.loop-column-test.true) in
-    room
+    let room : length c.loop-column.entries.items < 36 = omega (arith, size, c.requires.room, c.loop-column-test.true) in
+    (omega arith, room)
 
 pub loop-column-preserved : goal.loop-column-preserved
 loop-column-preserved c =
     let sums = c.args.sums.now in
     let m = c.args.modulus in
-    let start = c.args.entries.now in
+    let start = c.args.entries.now.items in
     let column = c.loop-column.column in
     let g : ℕ → ℕ = λ k. get_or sums k 0 % m in
-    let made : c.push.new.self ≡ c.loop-column.entries ++ (get_or sums column 0 % c.from.result) ∷ [] = search rules in
-    let pushed : c.push.new.self ≡ c.loop-column.entries ++ g column ∷ [] =
-    made ∙ ap (λ y. c.loop-column.entries ++ (get_or sums column 0 % y) ∷ []) c.from.ensures in
+    let made : c.push.new.self.items ≡ c.loop-column.entries.items ++ (get_or sums column 0 % c.from.result) ∷ [] = search rules in
+    let pushed : c.push.new.self.items ≡ c.loop-column.entries.items ++ g column ∷ [] =
+    made ∙ ap (λ y. c.loop-column.entries.items ++ (get_or sums column 0 % y) ∷ []) c.from.ensures in
     pushed ∙ ap (λ xs. xs ++ g column ∷ []) c.loop-column.invariant
     ∙ append_assoc start (map g (range_with_len 0 column)) (g column ∷ [])
     ∙ ap (λ xs. start ++ xs) (sym (map-range_with_len_more g 0 column column (omega arith)))

@@ -1,6 +1,0 @@
-use Rattle.std.proofs.Common.{◌≡◌, take}
-use Rattle.model_candidates.proofs.shape_matrices.Entries.copy_of.Given as goal
-
--- the numbers that were passed
-abbrev pub invariant-loop-number : goal.invariant-loop-number
-invariant-loop-number l = l.copy ≡ take l.number-index l.numbers
