@@ -1,6 +1,8 @@
 -- What is 0 outside of a stretch of a row stays as it is, and where a row's first factor can stand after a step.
-use Rattle.std.proofs.Common.{◌≡◌, ℕ, ◌+◌, ◌-◌, ◌*◌, ◌%◌, ◌<◌, ◌≤◌, List, length, get_or, set, Option, Some, None, ◌⊎◌, inl, inr, refl, sym, ap, ap₂, subst, ◌∙◌, arith, mul-zero, zero-mul}
+use Rattle.std.proofs.Common.{◌≡◌, ℕ, zero, suc, ◌+◌, ◌-◌, ◌*◌, ◌%◌, ◌<◌, ◌≤◌, List, length, get_or, set, Option, Some, None, ◌⊎◌, inl, inr, refl, sym, ap, ap₂, subst, ◌∙◌, arith, mul-zero, zero-mul}
+use Rattle.std.specs.Int.RustNames.{bit_or}
 use Rattle.std.proofs.lemmas.Bool.{cases_eq, cases_lt}
+use Rattle.std.proofs.lemmas.Nat.{le_or_l, le_or_r}
 use Rattle.std.proofs.lemmas.List.{get_or-set_same, get_or-set_other, length-set}
 use Rattle.std.proofs.Math.Nat.{zero-mod, mod-eq_of_lt}
 use Rattle.matrix_models.specs.Matrices.{total}
@@ -97,3 +99,21 @@ firsts-set pivots firsts place first row within are none = record {
     go at found (inr other) found_is =
         subst (λ x. HasNoFactor x found) (sym (get_or-set_other firsts place at first 0 other))
         (are.none_before at found (sym (get_or-set_other pivots place at (Some row) None other) ∙ found_is))
+
+-- numbers whose bits together are 0
+pub or_none : (a b : ℕ) → bit_or a b ≡ 0 → (a ≡ 0) × (b ≡ 0)
+or_none a b none =
+    let left = le_or_l a b in
+    let right = le_or_r a b in (omega (arith, none, left), omega (arith, none, right))
+
+-- what is so at eight places
+pub eight_places : (P : ℕ → Type 0) → P 0 → P 1 → P 2 → P 3 → P 4 → P 5 → P 6 → P 7 → (k : ℕ) → k < 8 → P k
+eight_places P a b c d e f g h zero within = a
+eight_places P a b c d e f g h (suc zero) within = b
+eight_places P a b c d e f g h (suc (suc zero)) within = c
+eight_places P a b c d e f g h (suc (suc (suc zero))) within = d
+eight_places P a b c d e f g h (suc (suc (suc (suc zero)))) within = e
+eight_places P a b c d e f g h (suc (suc (suc (suc (suc zero))))) within = f
+eight_places P a b c d e f g h (suc (suc (suc (suc (suc (suc zero)))))) within = g
+eight_places P a b c d e f g h (suc (suc (suc (suc (suc (suc (suc zero))))))) within = h
+eight_places P a b c d e f g h (suc (suc (suc (suc (suc (suc (suc (suc k)))))))) within = absurd (omega (arith, within))

@@ -1,6 +1,6 @@
 //! Elimination: an equation is added to pivots, or is found to be against them.
 
-ghost use Rattle.std.specs.Prelude.{◌≡◌, ◌≢◌, ℕ, ◌+◌, ◌-◌, ◌*◌, ◌%◌, ◌<◌, length, get_or, All, IfSome, IfNone, IsTrue, IsFalse};
+ghost use Rattle.std.specs.Prelude.{◌≡◌, ◌≢◌, ℕ, ◌+◌, ◌-◌, ◌*◌, ◌%◌, ◌<◌, ◌≤◌, length, get_or, All, IfSome, IfNone, IsTrue, IsFalse};
 ghost use Rattle.definitions.specs.Moduli.{IsFieldModulus};
 ghost use Rattle.matrix_models.specs.Elimination.{ArePivots, AreFirsts, IsPivot, IsFree, HasLast, HasNoFactor, LiesIn, MeetsAlike, IsAdded, IsAgainst};
 
@@ -92,7 +92,7 @@ fn reduce(
     ensures none { IfNone result (HasNoFactor (length pivots.now) row.new) }
 {
     let mut first = first_factor(row);
-    let mut left = pivots.len();
+    let mut left = behind_factors(row, pivots.len());
     while left > first {
         let last = left - 1;
         let factor = row[last];
@@ -114,14 +114,42 @@ fn reduce(
     None
 }
 
-// The first place of the row whose number isn't 0, and its length where there is none.
+// The first place of the row whose number isn't 0, and its length where there is none. Zeros are passed eight at a time.
 fn first_factor(row: &[u32]) -> usize
     ensures before { HasNoFactor result row.now }
     ensures there { result < length row.now → 0 < get_or row.now result 0 }
 {
-    row.iter()
-        .position(|factor| *factor > 0)
-        .unwrap_or(row.len())
+    let mut place = 0;
+    while row.len() - place >= 8 && are_zero(row, place) {
+        place += 8;
+    }
+    while place < row.len() && row[place] == 0 {
+        place += 1;
+    }
+    place
+}
+
+// A place from which on all of the first numbers, so many, are 0: the zeros before their end, as long as eight of them are left.
+fn behind_factors(row: &[u32], count: usize) -> usize
+    requires { count ≤ length row.now }
+    ensures within { result ≤ count }
+    ensures behind { (k : ℕ) → result ≤ k → k < count → get_or row.now k 0 ≡ 0 }
+{
+    let mut left = count;
+    while left >= 8 && are_zero(row, left - 8) {
+        left -= 8;
+    }
+    left
+}
+
+// Whether the eight numbers from this place on are 0.
+fn are_zero(row: &[u32], place: usize) -> bool
+    requires { place + 8 ≤ length row.now }
+    ensures { IsTrue result → (k : ℕ) → k < 8 → get_or row.now (place + k) 0 ≡ 0 }
+{
+    let front = row[place] | row[place + 1] | row[place + 2] | row[place + 3];
+    let back = row[place + 4] | row[place + 5] | row[place + 6] | row[place + 7];
+    front | back == 0
 }
 
 // Adds a multiple of another row, which lies in the stretch.

@@ -1,10 +1,10 @@
 -- Sums modulo m that are taken term by term.
-use Rattle.std.proofs.Common.{◌≡◌, ℕ, suc, ◌+◌, ◌-◌, ◌*◌, ◌/◌, ◌%◌, ◌<◌, ◌++◌, ◌∷◌, [], cond, nat_eq, List, length, get_or, set, map, take, ◌⊎◌, inl, inr, refl, sym, ap, ap₂, ◌∙◌, arith, mod-lt}
+use Rattle.std.proofs.Common.{◌≡◌, ℕ, zero, suc, ◌+◌, ◌-◌, ◌*◌, ◌/◌, ◌%◌, ◌<◌, ◌++◌, ◌∷◌, [], cond, nat_eq, List, length, get_or, set, map, take, ◌⊎◌, inl, inr, refl, sym, ap, ap₂, ◌∙◌, arith, mod-lt, mul-zero, zero-mul}
 use Rattle.std.proofs.Common.{eq-eqb, ne_eqb}
 use Rattle.std.specs.List.{All, sum_by, range_with_len}
 use Rattle.std.proofs.Math.Nat.{mod-mod, mod-eq_of_lt}
 use Rattle.std.proofs.lemmas.Bool.{cases_eq}
-use Rattle.std.proofs.lemmas.Nat.{mul-mod_first}
+use Rattle.std.proofs.lemmas.Nat.{div-mul-add, mod-mul-add, mul-mod_first}
 use Rattle.std.proofs.lemmas.List.{ext_get_or, get_or-set_same, get_or-set_other, take_more}
 use Rattle.std.proofs.lemmas.List.Elements.{All-get_or, All-map, All-from_get_or}
 use Rattle.std.proofs.lemmas.List.FromFn.{get_or-map-range_with_len, length-map-range_with_len}
@@ -12,9 +12,10 @@ use Rattle.std.proofs.lemmas.List.Sums.{sum_by_push}
 use Rattle.matrix_models.specs.Matrix.{Matrix, entry_at}
 use Rattle.matrix_models.specs.Matrices.{total}
 use Rattle.matrix_models.specs.Systems.{IsEquation}
+use Rattle.matrix_models.specs.Totals.{total_zero}
 use Rattle.matrix_models.proofs.Congruences.{add_alike}
 use Rattle.model_candidates.specs.declared.solved_terms.SolvedTerm.{SolvedTerm}
-use Rattle.model_candidates.specs.Factors.{place_factor, term_factor, terms_factor, row_with}
+use Rattle.model_candidates.specs.Factors.{line_factor, place_factor, term_factor, terms_factor, row_with}
 
 -- Numbers below m, so many, that are what the unknowns add in these terms.
 pub record AreSums (m n : ℕ) (ts : List SolvedTerm) (i j : ℕ) (factors : List ℕ) : Type 0 where
@@ -40,42 +41,90 @@ total_more n f =
     let next : n + 1 ≡ suc n = omega arith in
     ap (λ k. total k f) next
 
--- the factors after one place more
-module _ (m : ℕ) (t : SolvedTerm) (i j : ℕ) (start factors : List ℕ) (place number before behind : ℕ)
-    (number_is : get_or t.numbers place 0 ≡ number) (before_is : before ≡ entry_at t.left i (place / t.right.rows))
-    (behind_is : behind ≡ entry_at t.right (place % t.right.rows) j) (within : number < length factors)
+-- sums over rows
+pub total_split : (a b : ℕ) (f : ℕ → ℕ) → total (a + b) f ≡ total a f + total b (λ k. f (a + k))
+total_split a zero f =
+    let none : a + 0 ≡ a = omega arith in
+    let same : total a f ≡ total a f + 0 = omega arith in
+    ap (λ n. total n f) none ∙ same
+total_split a (suc b) f =
+    let next : a + suc b ≡ suc (a + b) = omega arith in
+    let sum : total a f + total b (λ k. f (a + k)) + f (a + b) ≡ total a f + (total b (λ k. f (a + k)) + f (a + b)) = omega arith in
+    ap (λ n. total n f) next ∙ ap (λ x. x + f (a + b)) (total_split a b f) ∙ sum
+
+-- the factors after one place more of a row
+module _ (m : ℕ) (t : SolvedTerm) (i j inner : ℕ) (start factors : List ℕ) (other number times before behind : ℕ)
+    (number_is : get_or t.numbers (inner * t.right.rows + other) 0 ≡ number) (times_is : times ≡ (t.coefficient * before) % m)
+    (before_is : before ≡ entry_at t.left i inner)
+    (behind_is : behind ≡ entry_at t.right other j) (in_width : other < t.right.rows) (within : number < length factors)
     (so_far : (k : ℕ) → k < length start
-    → get_or factors k 0 % m ≡ (get_or start k 0 + t.coefficient * total place (place_factor t i j k)) % m) where
+    → get_or factors k 0 % m ≡ (get_or start k 0 + t.coefficient * line_factor t i j k inner other) % m) where
   abbrev value : ℕ
-  value = (get_or factors number 0 + (t.coefficient * before) % m * behind) % m
+  value = (get_or factors number 0 + times * behind) % m
+
+  abbrev place : ℕ
+  place = inner * t.right.rows + other
 
   abbrev beside : ℕ
   beside = entry_at t.left i (place / t.right.rows) * entry_at t.right (place % t.right.rows) j
 
+  beside_is : beside ≡ before * behind
+  beside_is =
+      ap₂ (λ x y. entry_at t.left i x * entry_at t.right y j) (div-mul-add inner t.right.rows other in_width) (mod-mul-add inner t.right.rows other in_width)
+      ∙ ap₂ ◌*◌ (sym before_is) (sym behind_is)
+
   pub place_added : (k : ℕ) → k < length start
-      → get_or (set factors number value) k 0 % m ≡ (get_or start k 0 + t.coefficient * total (place + 1) (place_factor t i j k)) % m
-  place_added k inside = go (cases_eq number k) ∙ ap (λ x. (get_or start k 0 + t.coefficient * x) % m) (sym (total_more place (place_factor t i j k)))
+      → get_or (set factors number value) k 0 % m ≡ (get_or start k 0 + t.coefficient * line_factor t i j k inner (other + 1)) % m
+  place_added k inside =
+      go (cases_eq number k) ∙ ap (λ x. (get_or start k 0 + t.coefficient * x) % m)
+      (sym (total_more other (λ l. place_factor t i j k (inner * t.right.rows + l))))
     where
       sum : ℕ
-      sum = total place (place_factor t i j k)
+      sum = line_factor t i j k inner other
 
       go : (number ≡ k) ⊎ (number ≡ k → ⊥)
           → get_or (set factors number value) k 0 % m ≡ (get_or start k 0 + t.coefficient * (sum + place_factor t i j k place)) % m
       go (inl same) =
           let one : place_factor t i j k place ≡ 1 * (before * behind) =
-          ap₂ (λ b x. cond b 1 0 * x) (ap (λ x. nat_eq x k) number_is ∙ eq-eqb number k same) (ap₂ ◌*◌ (sym before_is) (sym behind_is)) in
+          ap₂ (λ b x. cond b 1 0 * x) (ap (λ x. nat_eq x k) number_is ∙ eq-eqb number k same) beside_is in
           let here : get_or (set factors number value) k 0 ≡ value =
           ap (λ x. get_or (set factors number value) x 0) (sym same) ∙ get_or-set_same factors number value 0 within in
           let old : get_or factors number 0 % m ≡ (get_or start k 0 + t.coefficient * sum) % m =
           ap (λ x. get_or factors x 0 % m) same ∙ so_far k inside in
-          ap (λ x. x % m) here ∙ product_added m t.coefficient before behind (get_or factors number 0) (get_or start k 0) sum old
+          ap (λ x. x % m) (here ∙ ap (λ x. (get_or factors number 0 + x * behind) % m) times_is)
+          ∙ product_added m t.coefficient before behind (get_or factors number 0) (get_or start k 0) sum old
           ∙ ap (λ x. (get_or start k 0 + t.coefficient * (sum + x)) % m) (sym one)
-      go (inr other) =
+      go (inr other_number) =
           let none : place_factor t i j k place ≡ 0 * beside =
-          ap (λ b. cond b 1 0 * beside) (ap (λ x. nat_eq x k) number_is ∙ ne_eqb number k other) in
-          ap (λ x. x % m) (get_or-set_other factors number k value 0 (λ same. other (sym same)))
+          ap (λ b. cond b 1 0 * beside) (ap (λ x. nat_eq x k) number_is ∙ ne_eqb number k other_number) in
+          ap (λ x. x % m) (get_or-set_other factors number k value 0 (λ same. other_number (sym same)))
           ∙ so_far k inside ∙ ap (λ x. x % m) (nothing_added t.coefficient beside (get_or start k 0) sum)
           ∙ ap (λ x. (get_or start k 0 + t.coefficient * (sum + x)) % m) (sym none)
+
+-- a row behind an entry that is 0
+pub line_nothing : (t : SolvedTerm) (i j k inner : ℕ) → entry_at t.left i inner ≡ 0 → line_factor t i j k inner t.right.rows ≡ 0
+line_nothing t i j k inner none =
+    total_zero t.right.rows (λ other. place_factor t i j k (inner * t.right.rows + other)) (λ other in_width.
+    let place = inner * t.right.rows + other in
+    let here : entry_at t.left i (place / t.right.rows) ≡ 0 =
+    ap (entry_at t.left i) (div-mul-add inner t.right.rows other in_width) ∙ none in
+    ap (λ x. cond (nat_eq (get_or t.numbers place 0) k) 1 0 * (x * entry_at t.right (place % t.right.rows) j)) here
+    ∙ ap (λ x. cond (nat_eq (get_or t.numbers place 0) k) 1 0 * x) (zero-mul (entry_at t.right (place % t.right.rows) j)) ∙ mul-zero (cond (nat_eq (get_or t.numbers place 0) k) 1 0))
+
+-- the factors after one row more
+pub line_added : (m : ℕ) (t : SolvedTerm) (i j k inner old new start : ℕ)
+    → old % m ≡ (start + t.coefficient * total (inner * t.right.rows) (place_factor t i j k)) % m
+    → new % m ≡ (old + t.coefficient * line_factor t i j k inner t.right.rows) % m
+    → new % m ≡ (start + t.coefficient * total ((inner + 1) * t.right.rows) (place_factor t i j k)) % m
+line_added m t i j k inner old new start so_far added =
+    let width = t.right.rows in
+    let sum = total (inner * width) (place_factor t i j k) in
+    let line = line_factor t i j k inner width in
+    let next : (inner + 1) * width ≡ inner * width + width = grind arith in
+    let both : (start + t.coefficient * sum) + t.coefficient * line ≡ start + t.coefficient * (sum + line) = grind arith in
+    added ∙ add_alike m old (start + t.coefficient * sum) (t.coefficient * line) (t.coefficient * line) so_far refl
+    ∙ ap (λ x. x % m) (both ∙ ap (λ x. start + t.coefficient * x)
+    (sym (ap (λ n. total n (place_factor t i j k)) next ∙ total_split (inner * width) width (place_factor t i j k))))
 
 -- the sum with one term more
 pub term_added : (m i j k old new index : ℕ) (ts : List SolvedTerm) (t : SolvedTerm) → index < length ts → t ≡ get_or ts index t

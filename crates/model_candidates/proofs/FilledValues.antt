@@ -30,6 +30,14 @@ All-filled P (true ∷ flags) (d ∷ drawn) (x ∷ values) of_drawn of_values =
     All-cons P x (filled flags drawn values) (All-head P x values of_values)
     (All-filled P flags drawn values (All-tail P d drawn of_drawn) (All-tail P x values of_values))
 
+-- filled with the same values again it stays what it is
+pub filled_again : (flags : List Bool) (drawn values : List ℕ) → filled flags drawn values ≡ filled flags (filled flags drawn values) values
+filled_again [] drawn values = refl
+filled_again (flag ∷ flags) [] values = refl
+filled_again (false ∷ flags) (d ∷ drawn) values = ap (λ xs. d ∷ xs) (filled_again flags drawn values)
+filled_again (true ∷ flags) (d ∷ drawn) [] = ap (λ xs. d ∷ xs) (filled_again flags drawn [])
+filled_again (true ∷ flags) (d ∷ drawn) (x ∷ values) = ap (λ xs. x ∷ xs) (filled_again flags drawn values)
+
 -- where the flag isn't set, the values count for nothing
 pub filled_unset : (flags : List Bool) (drawn values : List ℕ) (place : ℕ) → get_or flags place false ≡ false
     → get_or (filled flags drawn values) place 0 ≡ get_or (filled flags drawn []) place 0

@@ -41,4 +41,5 @@ pub mod SolvedTerms
 pub mod TermSums
 pub mod AssumptionRows
 pub mod KnownTerms
+pub mod KnownConstants
 pub mod MatrixRows

@@ -24,6 +24,7 @@ use Rattle.model_candidates.specs.LetterNumbers.{letter_value, number_at}
 use Rattle.model_candidates.proofs.AffineArrows.{model_at, represents_at}
 use Rattle.model_candidates.proofs.CandidateModels.{side_is_object}
 use Rattle.model_candidates.proofs.FactorSums.{factor_sum}
+use Rattle.model_candidates.proofs.FactorRows.{total_split}
 use Rattle.model_candidates.proofs.LetterEntries.{IsDeclared}
 use Rattle.model_candidates.proofs.SolvedPlaces.{first_place, no_place}
 use Rattle.model_candidates.proofs.SolvedTerms.{solved_at}
@@ -32,16 +33,6 @@ use Rattle.model_candidates.proofs.WordFactors.{unknowns, unit, unit_below, lett
 use Rattle.model_candidates.proofs.WordProducts.{product_is_arrow}
 
 -- sums over rows and columns
-total_split : (a b : ℕ) (f : ℕ → ℕ) → total (a + b) f ≡ total a f + total b (λ k. f (a + k))
-total_split a zero f =
-    let none : a + 0 ≡ a = omega arith in
-    let same : total a f ≡ total a f + 0 = omega arith in
-    ap (λ n. total n f) none ∙ same
-total_split a (suc b) f =
-    let next : a + suc b ≡ suc (a + b) = omega arith in
-    let sum : total a f + total b (λ k. f (a + k)) + f (a + b) ≡ total a f + (total b (λ k. f (a + k)) + f (a + b)) = omega arith in
-    ap (λ n. total n f) next ∙ ap (λ x. x + f (a + b)) (total_split a b f) ∙ sum
-
 total_places : (rows columns : ℕ) (f : ℕ → ℕ → ℕ) → total (rows * columns) (λ place. f (place / columns) (place % columns))
     ≡ total rows (λ i. total columns (f i))
 total_places zero columns f =

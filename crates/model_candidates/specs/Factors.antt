@@ -71,7 +71,11 @@ abbrev pub place_factor : SolvedTerm → ℕ → ℕ → ℕ → ℕ → ℕ
 place_factor t i j k place =
     (if nat_eq (get_or t.numbers place 0) k then 1 else 0) * (entry_at t.left i (place / t.right.rows) * entry_at t.right (place % t.right.rows) j)
 
--- at all places of the letter's matrix
+-- at the first places, so many, of a row of the letter's matrix
+abbrev pub line_factor : SolvedTerm → ℕ → ℕ → ℕ → ℕ → ℕ → ℕ
+line_factor t i j k inner count = total count (λ other. place_factor t i j k (inner * t.right.rows + other))
+
+-- at all places of it
 abbrev pub term_factor : SolvedTerm → ℕ → ℕ → ℕ → ℕ
 term_factor t i j k = t.coefficient * total (t.left.columns * t.right.rows) (place_factor t i j k)
 

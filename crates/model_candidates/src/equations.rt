@@ -10,17 +10,18 @@ ghost use Rattle.model_candidates.specs.Unknowns.{set_count, solved_flags};
 ghost use Rattle.model_candidates.specs.Plans.{AreEntryValues, FitsShape, IsAssumption, IsZeroAtSignature};
 ghost use Rattle.model_candidates.specs.Equations.{system_for};
 ghost use Rattle.model_candidates.specs.Factors.{equations_of, system_in};
-ghost use Rattle.model_candidates.specs.Known.{IsKnown};
+ghost use Rattle.model_candidates.specs.Known.{AreZeros, IsKnown};
 ghost use Rattle.model_candidates.specs.WordRows.{model_in, quiver_in};
 
 use crate::conditions::are_zero;
+use crate::constants::constant_of;
 use crate::factor_rows::add_rows;
 use crate::plan::{LinearAssumption, Plan};
-use crate::solved_terms::{Known, solved_terms};
+use crate::solved_terms::{Known, SolvedTerm, solved_terms};
 use crate::unknowns::{filled, unit_values};
-use crate::value_matrices::value_of;
 use crate::word_rows::EntryValues;
 use adjoint_rules::{Problem, Shape};
+use lists::Listing;
 use matrix_models::Pivots;
 use std::alloc::{AllocError, Global};
 
@@ -61,6 +62,7 @@ fn pivots_at(
     requires shape { IsShape (object_count problem.now.parts.quiver) shape.now }
     requires plan { FitsShape problem.now shape.now plan.now }
     requires values { AreEntryValues problem.now shape.now values.now }
+    requires zeros { AreZeros (solved_flags (quiver_of problem.now.parts.quiver) shape.now problem.now.parts.solved) values.now }
     ensures none { IfOk result (λ found. IfNone found (All (IsZeroAtSignature problem.now
         (model_by (quiver_of problem.now.parts.quiver) shape.now 0 values.now)) plan.now.assumptions.conditions
         → HasNoSolution (system_in problem.now shape.now (model_by (quiver_of problem.now.parts.quiver) shape.now 0 values.now)
@@ -101,8 +103,9 @@ fn pivots_with(known: &Known, plan: &Plan) -> Result<Option<Pivots>, AllocError>
         known.now.given.shape.now (model_in known.now.given) plan.now.unknowns plan.now.assumptions.equations))) }
 {
     let mut pivots = Pivots::new(known.alloc, known.given.shape.modulus, plan.unknowns)?;
+    let mut terms = Listing::new(known.alloc);
     for assumption in plan.assumptions.equations.as_slice() {
-        if !add_equations(known, plan.unknowns, *assumption, &mut pivots)? {
+        if !add_equations(known, plan.unknowns, *assumption, &mut terms, &mut pivots)? {
             return Ok(None);
         }
     }
@@ -110,11 +113,12 @@ fn pivots_with(known: &Known, plan: &Plan) -> Result<Option<Pivots>, AllocError>
 }
 
 // Adds the equations that say that the assumption is zero, up to the first that contradicts those before it, and tells whether
-// there is none such.
+// there is none such. The list that is lent for its terms keeps its memory for the next one.
 fn add_equations(
     known: &Known,
     unknowns: u32,
     assumption: LinearAssumption,
+    terms: &mut Listing<SolvedTerm>,
     pivots: &mut Pivots,
 ) -> Result<bool, AllocError>
     requires known { IsKnown known.now }
@@ -134,7 +138,7 @@ fn add_equations(
     let poly = known.given.problem.parts.assumptions.at(place);
     let coefficients = known.coefficients[place].as_slice();
     let ends = assumption.sig;
-    let value = value_of(&known.given, poly, coefficients, ends);
-    let terms = solved_terms(known, poly, coefficients, ends)?;
+    let value = constant_of(known, poly, coefficients, ends);
+    solved_terms(known, poly, coefficients, ends, terms)?;
     add_rows(known.alloc, unknowns, &value, terms.as_slice(), pivots)
 }

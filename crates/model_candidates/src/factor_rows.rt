@@ -4,7 +4,7 @@ ghost use Rattle.std.specs.List.{All, range_with_len};
 ghost use Rattle.matrix_models.specs.Matrix.{IsMatrix};
 ghost use Rattle.matrix_models.specs.Elimination.{row_of};
 ghost use Rattle.matrix_models.specs.Pivots.{Add, AreAgainst};
-ghost use Rattle.model_candidates.specs.Factors.{FitsTerm, HasSides, term_factor, terms_factor, row_with, rows_with};
+ghost use Rattle.model_candidates.specs.Factors.{FitsTerm, HasSides, line_factor, term_factor, terms_factor, row_with, rows_with};
 
 use crate::shape_matrices::ShapeMatrix;
 use crate::solved_terms::SolvedTerm;
@@ -95,25 +95,45 @@ fn add_products(modulus: u32, factors: &mut [u32], term: &SolvedTerm, row: u32, 
     ensures each { (k : ℕ) → k < length factors.old
         → get_or factors.new k 0 % modulus ≡ (get_or factors.old k 0 + term_factor term.now row column k) % modulus }
 {
-    let width = term.right.rows();
-    for place in 0..term.left.columns() * width {
-        let before = term.left.entry(row, place / width);
-        let behind = term.right.entry(place % width, column);
-        let number = *term.numbers.at(place as usize) as usize;
-        factors[number] = with_product(modulus, factors[number], term.coefficient, before, behind);
+    for inner in 0..term.left.columns() {
+        add_line(modulus, factors, term, row, inner, column);
     }
 }
 
-// The number with a product of three, modulo the modulus. A product with 0 costs no division.
-fn with_product(modulus: u32, number: u32, coefficient: u32, before: u32, behind: u32) -> u32
+// Adds to the factor of each unknown what it adds to the entry where it stands in this row of the letter's matrix.
+fn add_line(modulus: u32, factors: &mut [u32], term: &SolvedTerm, row: u32, inner: u32, column: u32)
+    requires term { FitsTerm modulus (length factors.old) term.now }
+    requires row { row < term.now.left.rows }
+    requires inner { inner < term.now.left.columns }
+    requires column { column < term.now.right.columns }
+    requires below { All (λ factor. factor < modulus) factors.old }
+    ensures len { length factors.new ≡ length factors.old }
+    ensures below { All (λ factor. factor < modulus) factors.new }
+    ensures each { (k : ℕ) → k < length factors.old → get_or factors.new k 0 % modulus
+        ≡ (get_or factors.old k 0 + term.now.coefficient * line_factor term.now row column k inner term.now.right.rows) % modulus }
+{
+    let before = term.left.entry(row, inner);
+    if before == 0 {
+        return;
+    }
+    let times = u64::from(term.coefficient) * u64::from(before) % u64::from(modulus);
+    let width = term.right.rows();
+    for other in 0..width {
+        let behind = term.right.entry(other, column);
+        let number = *term.numbers.at((inner * width + other) as usize) as usize;
+        factors[number] = with_multiple(modulus, factors[number], times as u32, behind);
+    }
+}
+
+// The number with a multiple of another number, modulo the modulus. A multiple of 0 costs no division.
+fn with_multiple(modulus: u32, number: u32, times: u32, other: u32) -> u32
     requires { number < modulus }
-    ensures value { result ≡ (number + (coefficient * before) % modulus * behind) % modulus }
+    ensures value { result ≡ (number + times * other) % modulus }
     ensures below { result < modulus }
 {
-    if before == 0 || behind == 0 {
+    if other == 0 {
         return number;
     }
-    let modulus = u64::from(modulus);
-    let product = u64::from(coefficient) * u64::from(before) % modulus * u64::from(behind);
-    ((u64::from(number) + product) % modulus) as u32
+    let sum = u64::from(number) + u64::from(times) * u64::from(other);
+    (sum % u64::from(modulus)) as u32
 }

@@ -3,6 +3,7 @@
 
 mod candidate_count;
 mod conditions;
+mod constants;
 mod drawn_values;
 mod entries;
 mod equations;

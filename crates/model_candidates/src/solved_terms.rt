@@ -1,10 +1,10 @@
 //! The terms of assumptions in which a solved letter stands, each with what stands before and behind this letter.
-ghost use Rattle.std.specs.Prelude.{◌≡◌, ◌<◌, ◌≤◌, true, ℕ, ℤ, List, drop, length, position, slice_get, take, Some, IfOk};
+ghost use Rattle.std.specs.Prelude.{◌≡◌, ◌<◌, ◌≤◌, ◌++◌, true, ℕ, ℤ, List, drop, length, position, slice_get, take, Some, OnOk};
 ghost use Rattle.definitions.specs.Quiver.{IsTyped, is_path, leads};
 ghost use Rattle.quiver.specs.Declarations.{letter_count, object_count, quiver_of};
 ghost use Rattle.word_core.specs.Letters.{IsOver};
 ghost use Rattle.model_candidates.specs.Candidates.{is_solved};
-ghost use Rattle.model_candidates.specs.Factors.{solved_term, solved_terms};
+ghost use Rattle.model_candidates.specs.Factors.{listed, solved_term, solved_terms};
 ghost use Rattle.model_candidates.specs.Known.{IsKnown, numbers_in};
 ghost use Rattle.model_candidates.specs.Residues.{residues};
 ghost use Rattle.model_candidates.specs.WordRows.{model_in, quiver_in};
@@ -43,56 +43,56 @@ pub(crate) struct Known<'a> {
     pub coefficients: &'a [Listing<u32>],
 }
 
-/// The terms of the polynomial whose words have a solved letter.
+/// Makes the list that of the terms of the polynomial whose words have a solved letter.
 pub(crate) fn solved_terms(
     known: &Known,
     poly: &Poly,
     coefficients: &[u32],
     ends: Sig,
-) -> Result<Listing<SolvedTerm>, AllocError>
+    terms: &mut Listing<SolvedTerm>,
+) -> Result<(), AllocError>
     requires known { IsKnown known.now }
     requires source { ends.source.0 < object_count known.now.given.problem.now.parts.quiver }
     requires target { ends.target.0 < object_count known.now.given.problem.now.parts.quiver }
     requires typed { IsTyped (quiver_in known.now.given) ends.source.0 ends.target.0 poly.now.terms }
     requires coefficients { coefficients.now ≡ residues known.now.given.shape.now.modulus poly.now.terms }
-    ensures { IfOk result (λ terms. terms ≡ solved_terms (quiver_in known.now.given) known.now.given.shape.now
+    ensures { OnOk result (terms.new ≡ solved_terms (quiver_in known.now.given) known.now.given.shape.now
         known.now.given.problem.now.parts.solved (numbers_in known.now) (model_in known.now.given) ends.source.0 poly.now.terms) }
 {
-    let mut terms = Listing::new(known.alloc);
+    terms.truncate(0);
     for place in 0..poly.terms() {
-        if let Some(term) = solved_term(known, poly, coefficients, place, ends) {
-            terms.push(term)?;
-        }
+        push_term(known, poly, coefficients, place, ends, terms)?;
     }
-    Ok(terms)
+    Ok(())
 }
 
-// The term at this place, where its word has a solved letter.
-fn solved_term(
+// Puts the term at this place behind the list, where its word has a solved letter.
+fn push_term(
     known: &Known,
     poly: &Poly,
     coefficients: &[u32],
     place: usize,
     ends: Sig,
-) -> Option<SolvedTerm>
+    terms: &mut Listing<SolvedTerm>,
+) -> Result<(), AllocError>
     requires known { IsKnown known.now }
     requires source { ends.source.0 < object_count known.now.given.problem.now.parts.quiver }
     requires target { ends.target.0 < object_count known.now.given.problem.now.parts.quiver }
     requires typed { IsTyped (quiver_in known.now.given) ends.source.0 ends.target.0 poly.now.terms }
     requires coefficients { coefficients.now ≡ residues known.now.given.shape.now.modulus poly.now.terms }
     requires place { place < length poly.now.terms }
-    ensures { (t : ℤ × List ℕ) → slice_get poly.now.terms place ≡ Some t
-        → result ≡ solved_term (quiver_in known.now.given) known.now.given.shape.now
-        known.now.given.problem.now.parts.solved (numbers_in known.now) (model_in known.now.given) ends.source.0 t }
+    ensures { OnOk result ((t : ℤ × List ℕ) → slice_get poly.now.terms place ≡ Some t
+        → terms.new ≡ terms.old ++ listed (solved_term (quiver_in known.now.given) known.now.given.shape.now
+        known.now.given.problem.now.parts.solved (numbers_in known.now) (model_in known.now.given) ends.source.0 t)) }
 {
     let given = &known.given;
     let word = poly.term(place).1;
     let Some(split) = solved_place(known, word) else {
-        return None;
+        return Ok(());
     };
     let (letter, end) = (word.letter(split), word.len());
     let Some(numbers) = &known.numbers[usize::from(letter.0)] else {
-        return None;
+        return Ok(());
     };
     let own = given.problem.parts.quiver.signature_of(letter);
     let before = Sig {
@@ -103,16 +103,16 @@ fn solved_term(
         source: ends.source,
         target: own.source,
     };
-    Some(SolvedTerm {
+    Ok(terms.push(SolvedTerm {
         coefficient: coefficients[place],
         numbers: EntryNumbers::copy_of(numbers.as_slice()),
         left: product_of(given, word, 0, split, before),
         right: product_of(given, word, split + 1, end, behind),
-    })
+    })?)
 }
 
-// The place of the first letter of the word that is a solved map or the adjoint of one: its unknowns have numbers.
-fn solved_place(known: &Known, word: &Word) -> Option<usize>
+/// The place of the first letter of the word that is a solved map or the adjoint of one: its unknowns have numbers.
+pub(crate) fn solved_place(known: &Known, word: &Word) -> Option<usize>
     requires known { IsKnown known.now }
     requires over { IsOver (letter_count known.now.given.problem.now.parts.quiver) word.now }
     ensures { result ≡ position (is_solved (quiver_in known.now.given) known.now.given.problem.now.parts.solved) word.now }

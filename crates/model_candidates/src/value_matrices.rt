@@ -1,17 +1,15 @@
-//! Matrices of products of letters and of values of polynomials, row by row from the values of the entries.
+//! Matrices of products of letters, row by row from the values of the entries.
 ghost use Rattle.std.specs.Prelude.{◌≡◌, ◌+◌, ◌*◌, ◌++◌, ◌%◌, ◌<◌, ◌≤◌, true, drop, get_or, length, map, take};
 ghost use Rattle.std.specs.List.{range_with_len};
-ghost use Rattle.definitions.specs.Quiver.{IsTyped, leads};
+ghost use Rattle.definitions.specs.Quiver.{leads};
 ghost use Rattle.quiver.specs.Declarations.{object_count};
 ghost use Rattle.adjoint_rules.specs.Limits.{shape_side_limit};
-ghost use Rattle.model_candidates.specs.Residues.{residues};
-ghost use Rattle.model_candidates.specs.WordRows.{AreTabled, product_in, quiver_in, value_in};
+ghost use Rattle.model_candidates.specs.WordRows.{AreTabled, product_in, quiver_in};
 
 use crate::entries::side_at;
 use crate::shape_matrices::{Entries, ShapeMatrix};
-use crate::value_rows::{Sums, row_sums};
+use crate::value_rows::Sums;
 use crate::word_rows::{EntryValues, Row, word_row};
-use nc_polynomial::Poly;
 use quiver::Sig;
 use word_core::Word;
 
@@ -41,31 +39,6 @@ pub(crate) fn product_of(
     ShapeMatrix::new(given.shape.modulus, rows, columns, entries)
 }
 
-/// The value of the polynomial at the signature.
-pub(crate) fn value_of(
-    given: &EntryValues,
-    poly: &Poly,
-    coefficients: &[u32],
-    ends: Sig,
-) -> ShapeMatrix
-    requires given { AreTabled given.now }
-    requires source { ends.source.0 < object_count given.now.problem.now.parts.quiver }
-    requires target { ends.target.0 < object_count given.now.problem.now.parts.quiver }
-    requires typed { IsTyped (quiver_in given.now) ends.source.0 ends.target.0 poly.now.terms }
-    requires coefficients { coefficients.now ≡ residues given.now.shape.now.modulus poly.now.terms }
-    ensures { result ≡ value_in given.now ends.source.0 ends.target.0 poly.now.terms }
-{
-    let modulus = given.shape.modulus;
-    let rows = side_at(given.shape, ends.target);
-    let columns = side_at(given.shape, ends.source);
-    let mut entries = Entries::new();
-    for row in 0..rows {
-        let sums = row_sums(given, poly, coefficients, ends, row);
-        push_residues(&mut entries, modulus, &sums, columns);
-    }
-    ShapeMatrix::new(modulus, rows, columns, entries)
-}
-
 // The list with the row's first entries behind it.
 fn push_row(entries: &mut Entries, row: &Row, columns: u32)
     requires side { columns ≤ shape_side_limit }
@@ -77,8 +50,8 @@ fn push_row(entries: &mut Entries, row: &Row, columns: u32)
     }
 }
 
-// The list with the first of these numbers behind it, modulo the modulus.
-fn push_residues(entries: &mut Entries, modulus: u32, sums: &Sums, columns: u32)
+/// The list with the first of these numbers behind it, modulo the modulus.
+pub(crate) fn push_residues(entries: &mut Entries, modulus: u32, sums: &Sums, columns: u32)
     requires modulus { 0 < modulus }
     requires side { columns ≤ shape_side_limit }
     requires room { length entries.old.items + columns ≤ shape_side_limit * shape_side_limit }

@@ -61,14 +61,8 @@ fn is_row_zero(given: &EntryValues, poly: &Poly, coefficients: &[u32], ends: Sig
     true
 }
 
-/// The entries in this row of the value, up to multiples of the modulus.
-pub(crate) fn row_sums(
-    given: &EntryValues,
-    poly: &Poly,
-    coefficients: &[u32],
-    ends: Sig,
-    row: u32,
-) -> Sums
+// The entries in this row of the value, up to multiples of the modulus.
+fn row_sums(given: &EntryValues, poly: &Poly, coefficients: &[u32], ends: Sig, row: u32) -> Sums
     requires given { AreTabled given.now }
     requires source { ends.source.0 < object_count given.now.problem.now.parts.quiver }
     requires target { ends.target.0 < object_count given.now.problem.now.parts.quiver }
@@ -89,8 +83,8 @@ pub(crate) fn row_sums(
     sums
 }
 
-// Adds a multiple of the row's first entries.
-fn add_multiple(modulus: u64, columns: u32, sums: &mut [u64], times: u32, row: &Row)
+/// Adds a multiple of the row's first entries.
+pub(crate) fn add_multiple(modulus: u64, columns: u32, sums: &mut [u64], times: u32, row: &Row)
     requires modulus { IsModulus modulus }
     requires size { length sums.old ≡ shape_side_limit }
     requires columns { columns ≤ shape_side_limit }

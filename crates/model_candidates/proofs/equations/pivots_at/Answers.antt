@@ -11,6 +11,7 @@ pub are_zero-requires-clause-known : goal.are_zero-requires-clause-known
 are_zero-requires-clause-known c =
     record {
       given = record { shape = c.requires.shape; tables = c.as_slice.ensures ∙ c.requires.plan.tables.letters; values = c.requires.values };
+      zeros = c.requires.zeros;
       numbers = c.as_slice-2.ensures ∙ c.requires.plan.numbers;
       coefficients = c.as_slice-3.ensures ∙ c.requires.plan.tables.assumptions;
     }
@@ -23,6 +24,7 @@ pub pivots_with-requires-clause-known : goal.pivots_with-requires-clause-known
 pivots_with-requires-clause-known c =
     record {
       given = record { shape = c.requires.shape; tables = c.as_slice.ensures ∙ c.requires.plan.tables.letters; values = c.requires.values };
+      zeros = c.requires.zeros;
       numbers = c.as_slice-2.ensures ∙ c.requires.plan.numbers;
       coefficients = c.as_slice-3.ensures ∙ c.requires.plan.tables.assumptions;
     }

@@ -11,7 +11,9 @@ use Rattle.model_candidates.specs.Unknowns.{filled, set_count, unit_values}
 use Rattle.model_candidates.specs.Plans.{AreEntryValues, IsAssumption, IsZeroAtSignature}
 use Rattle.model_candidates.specs.Equations.{system_for}
 use Rattle.model_candidates.specs.Factors.{equations_of, system_in}
+use Rattle.model_candidates.specs.Known.{AreZeros}
 use Rattle.model_candidates.proofs.AssumptionRows.{system_is}
+use Rattle.model_candidates.proofs.FilledValues.{filled_again}
 use Rattle.model_candidates.proofs.Found.{none_weaker, some_weaker}
 use Rattle.model_candidates.proofs.LinearRows.{length-unit_values}
 use Rattle.model_candidates.proofs.PlanSystems.{plan_filled, plan_hold, hold_filled}
@@ -97,3 +99,14 @@ returns-clause-pivots c =
     (recursion_from_All (IsAssumption problem 1) gs fits.assumptions.each) (equations_in c.as_slice-3.result.now) (ap equations_in values_are)
     ∙ ap (λ fs. system_for problem s fs gs drawn) (sym fits.solved) in
     IfOk-weaker c.pivots_at.result _ _ (λ found. some_weaker found _ _ (λ pivots. subst (StandFor pivots) system_same)) c.pivots_at.ensures.pivots
+
+pub pivots_at-requires-clause-zeros : goal.pivots_at-requires-clause-zeros
+pivots_at-requires-clause-zeros c =
+    let plan = c.args.plan.now in
+    let drawn = c.args.drawn.now in
+    let zeros_are = c.as_slice-2.ensures ∙ c.in_ok-zeros.ensures ∙ ap (λ n. unit_values n n) c.requires.plan.unknowns in
+    let values_are : c.as_slice-3.result.now ≡ filled plan.solved drawn (unit_values (set_count plan.solved) (set_count plan.solved)) =
+    c.as_slice-3.ensures ∙ c.in_ok-values.ensures ∙ ap₂ (λ fs xs. filled fs drawn xs) c.as_slice.ensures zeros_are in
+    subst (λ fs. AreZeros fs c.as_slice-3.result.now) c.requires.plan.solved
+    (subst (AreZeros plan.solved) (sym values_are)
+    (filled_again plan.solved drawn (unit_values (set_count plan.solved) (set_count plan.solved))))

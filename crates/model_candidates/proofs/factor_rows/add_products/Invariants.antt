@@ -4,11 +4,11 @@ use Rattle.matrix_models.specs.Matrices.{total}
 use Rattle.model_candidates.specs.Factors.{place_factor}
 use Rattle.model_candidates.proofs.factor_rows.add_products.Given as goal
 
--- with what the places that were passed add
-abbrev pub invariant-loop-place : goal.invariant-loop-place
-invariant-loop-place l = record {
+-- with what the rows that were passed add
+abbrev pub invariant-loop-inner : goal.invariant-loop-inner
+invariant-loop-inner l = record {
   size : length l.factors ≡ length l.initial.factors;
-  below : All (λ factor. factor < l.modulus) l.factors;
-  each : (k : ℕ) → k < length l.initial.factors
-      → get_or l.factors k 0 % l.modulus ≡ (get_or l.initial.factors k 0 + l.term.coefficient * total l.place (place_factor l.term l.fn.row l.fn.column k)) % l.modulus;
+  below : All (λ factor. factor < l.fn.modulus) l.factors;
+  each : (k : ℕ) → k < length l.initial.factors → get_or l.factors k 0 % l.fn.modulus
+      ≡ (get_or l.initial.factors k 0 + l.term.coefficient * total (l.inner * l.term.right.rows) (place_factor l.term l.fn.row l.fn.column k)) % l.fn.modulus;
 }

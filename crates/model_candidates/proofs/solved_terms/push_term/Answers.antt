@@ -1,4 +1,4 @@
-use Rattle.std.proofs.Common.{rules, ◌≡◌, ◌+◌, ◌*◌, ◌<◌, ◌≤◌, ℕ, ℤ, List, true, length, get_or, take, drop, Some, option_map, sym, ap, subst, ◌∙◌, arith}
+use Rattle.std.proofs.Common.{rules, ◌≡◌, ◌+◌, ◌*◌, ◌<◌, ◌≤◌, ◌++◌, ◌∷◌, [], ℕ, ℤ, List, true, length, get_or, take, drop, Some, option_map, sym, ap, subst, ◌∙◌, arith}
 use Rattle.std.specs.List.{All}
 use Rattle.std.proofs.lemmas.List.{take_all}
 use Rattle.std.proofs.lemmas.List.FromFn.{length-map-range_with_len}
@@ -13,12 +13,12 @@ use Rattle.model_candidates.specs.declared.solved_terms.SolvedTerm.{SolvedTerm}
 use Rattle.model_candidates.specs.Known.{numbers_in}
 use Rattle.model_candidates.specs.WordRows.{model_in}
 use Rattle.model_candidates.specs.LetterNumbers.{letter_numbers}
-use Rattle.model_candidates.specs.Factors.{letters_product, residue, term_around, solved_term}
+use Rattle.model_candidates.specs.Factors.{letters_product, residue, listed, term_around, solved_term}
 use Rattle.model_candidates.specs.LetterNumbers.{letter_values}
 use Rattle.model_candidates.proofs.ValueRows.{coefficient_at}
 use Rattle.model_candidates.proofs.WordRows.{few_numbers}
 use Rattle.model_candidates.proofs.SolvedTerms.{path_over, solved_at, numbers_there}
-use Rattle.model_candidates.proofs.solved_terms.solved_term.Goals as goal
+use Rattle.model_candidates.proofs.solved_terms.push_term.Goals as goal
 
 pub solved_place-requires-clause-over : goal.solved_place-requires-clause-over
 solved_place-requires-clause-over c =
@@ -123,8 +123,11 @@ returns c = λ t there.
     λ i. record { coefficient = coefficient_is i; numbers = numbers_is i; left = left_is i; right = right_is i } in
     let same : Some term ≡ Some t = sym c.term.ensures ∙ there in
     let term_is : term ≡ t = cc in
+    let one : Some made ≡ solved_term q s parts.solved numbers m u t =
     subst (λ r. Some made ≡ solved_term q s parts.solved numbers m u r) term_is
-    (ap Some made_is ∙ ap (option_map (term_around q s numbers m u term)) c.in-Some.ensures)
+    (ap Some made_is ∙ ap (option_map (term_around q s numbers m u term)) c.in-Some.ensures) in
+    let pushed : c.push.new.self ≡ c.args.terms.now ++ made ∷ [] = search rules in
+    pushed ∙ ap (λ o. c.args.terms.now ++ listed o) one
 
 pub bounds-known-from : goal.bounds-known-from
 bounds-known-from c =

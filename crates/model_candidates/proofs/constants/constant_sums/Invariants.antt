@@ -1,0 +1,14 @@
+use Rattle.std.proofs.Common.{◌≡◌, ℕ, ◌*◌, ◌%◌, ◌<◌, length, get_or, take}
+use Rattle.std.specs.List.{All, sum_by}
+use Rattle.adjoint_rules.specs.Limits.{shape_side_limit}
+use Rattle.model_candidates.specs.WordRows.{term_entry}
+use Rattle.model_candidates.proofs.constants.constant_sums.Given as goal
+
+-- what the terms that were passed add
+abbrev pub invariant-loop-place : goal.invariant-loop-place
+invariant-loop-place l = record {
+  size : length l.sums ≡ shape_side_limit;
+  below : All (λ sum. sum < l.modulus * l.modulus) l.sums;
+  each : (k : ℕ) → k < l.columns → get_or l.sums k 0 % l.modulus
+      ≡ sum_by (term_entry l.known.given l.fn.ends.source.0 l.fn.row k) (take l.place l.poly.terms) % l.modulus;
+}
