@@ -2,7 +2,6 @@
 use Rattle.std.proofs.Common.{◌≡◌, ◌⊎◌, inl, inr, ℕ, zero, suc, ◌+◌, ◌*◌, ◌<◌, ◌≤◌, ◌^◌, List, [], ◌∷◌, length, get_or, refl, sym, ap, ap₂, ◌∙◌, subst, arith}
 use Rattle.std.specs.Cmp.{nat_cmp_is}
 use Rattle.std.specs.Cmp.Lexicographic.{slice_cmp}
-use Rattle.std.specs.List.{All}
 use Rattle.std.specs.Ordering.{nat_cmp, ordering_then}
 use Rattle.std.specs.declared.cmp.Ordering.{Ordering}
 use Rattle.std.specs.declared.cmp.Ordering.TheVariants.{Less, Equal, Greater}
@@ -25,9 +24,11 @@ module _ (base : ℕ) (above : (a b p q : ℕ) → p < base → a < b → a * ba
   joined_cmp a b p q in_base other_in_base = sym (by_first (nat_cmp a b) (nat_cmp p q) refl refl)
     where
       by_second : a ≡ b → (o : Ordering) → o ≡ nat_cmp p q → o ≡ nat_cmp (a * base + p) (b * base + q)
-      by_second same Less e = nat_cmp_is (a * base + p) (b * base + q) Less (let low : p < q = ranked p q Less e in subst (λ n. a * base + p < n * base + q) same (omega (arith, low)))
+      by_second same Less e = nat_cmp_is (a * base + p) (b * base + q) Less
+          (let low : p < q = ranked p q Less e in subst (λ n. a * base + p < n * base + q) same (omega (arith, low)))
       by_second same Equal e = nat_cmp_is (a * base + p) (b * base + q) Equal (ap₂ (λ m n. m * base + n) same (ranked p q Equal e))
-      by_second same Greater e = nat_cmp_is (a * base + p) (b * base + q) Greater (let high : q < p = ranked p q Greater e in subst (λ n. n * base + q < a * base + p) same (omega (arith, high)))
+      by_second same Greater e = nat_cmp_is (a * base + p) (b * base + q) Greater
+          (let high : q < p = ranked p q Greater e in subst (λ n. n * base + q < a * base + p) same (omega (arith, high)))
 
       by_first : (o p' : Ordering) → o ≡ nat_cmp a b → p' ≡ nat_cmp p q → ordering_then o p' ≡ nat_cmp (a * base + p) (b * base + q)
       by_first Less r e f = nat_cmp_is (a * base + p) (b * base + q) Less (above a b p q in_base (ranked a b Less e))
@@ -76,7 +77,8 @@ letter-below w k over = go (cases_lt k (length w))
     go (inl inside) = over k 0 inside
     go (inr past) = subst (λ n. n < 65536) (sym (get_or_past w k 0 past)) (omega arith)
 
-front_cmp : (u v : List ℕ) → IsOver (2 ^ 16) u → IsOver (2 ^ 16) v → length u ≡ length v → ordering_then (nat_cmp (front_of u) (front_of v)) (slice_cmp nat_cmp u v) ≡ slice_cmp nat_cmp u v
+front_cmp : (u v : List ℕ) → IsOver (2 ^ 16) u → IsOver (2 ^ 16) v → length u ≡ length v
+    → ordering_then (nat_cmp (front_of u) (front_of v)) (slice_cmp nat_cmp u v) ≡ slice_cmp nat_cmp u v
 front_cmp u v over other same =
     let at : ℕ → Ordering = λ k. nat_cmp (get_or u k 0) (get_or v k 0) in
     let rest = slice_cmp nat_cmp u v in
@@ -101,7 +103,8 @@ fronted_cmp u v over other = go (nat_cmp (length u) (length v)) refl
     front : Ordering
     front = nat_cmp (front_of u) (front_of v)
 
-    go : (o : Ordering) → o ≡ nat_cmp (length u) (length v) → ordering_then o (ordering_then front (ordering_then o (slice_cmp nat_cmp u v))) ≡ ordering_then o (slice_cmp nat_cmp u v)
+    go : (o : Ordering) → o ≡ nat_cmp (length u) (length v)
+        → ordering_then o (ordering_then front (ordering_then o (slice_cmp nat_cmp u v))) ≡ ordering_then o (slice_cmp nat_cmp u v)
     go Less e = refl
     go Equal e = front_cmp u v over other (ranked (length u) (length v) Equal e)
     go Greater e = refl

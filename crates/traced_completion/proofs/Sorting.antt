@@ -42,7 +42,8 @@ distinct-permutation {K} e tells xs ys moved distinct = AllPairs-from_IsDistinct
 -- keys
 pub key_cmp-total : IsTotalOrder key_cmp
 key_cmp-total =
-    then_total (then_total (then_total (on_total (λ (k : Key). k.measure) nat_cmp_total) (on_total (λ (k : Key). length k.waiting.word) nat_cmp_total)) (on_total (λ (k : Key). k.front) nat_cmp_total))
+    then_total (then_total (then_total (on_total (λ (k : Key). k.measure) nat_cmp_total) (on_total (λ (k : Key). length k.waiting.word) nat_cmp_total))
+    (on_total (λ (k : Key). k.front) nat_cmp_total))
     (on_total (λ (k : Key). k.waiting) (waiting_cmp-total word_cmp word_cmp_total))
 
 module _ (compare : Compare) (measure : List ℕ → ℕ) (by_measure : (u v : List ℕ) → compare u v ≡ measured_cmp measure u v) where
@@ -58,7 +59,8 @@ module _ (compare : Compare) (measure : List ℕ → ℕ) (by_measure : (u v : L
       let by_number = nat_cmp (measure u) (measure v) in
       let by_length = nat_cmp (length u) (length v) in
       let by_front = nat_cmp (front_of u) (front_of v) in
-      ap₂ (λ (m : Ordering) (f : Ordering). ordering_then (ordering_then (ordering_then m by_length) f) (ordering_then (word_cmp u v) rest)) (ap₂ nat_cmp one.0.0 other.0.0) (ap₂ nat_cmp one.0.1 other.0.1)
+      ap₂ (λ (m : Ordering) (f : Ordering). ordering_then (ordering_then (ordering_then m by_length) f) (ordering_then (word_cmp u v) rest))
+      (ap₂ nat_cmp one.0.0 other.0.0) (ap₂ nat_cmp one.0.1 other.0.1)
       ∙ then_assoc (ordering_then (ordering_then by_number by_length) by_front) (word_cmp u v) rest
       ∙ ap (λ o. ordering_then o rest) (
       sym (then_assoc (ordering_then by_number by_length) by_front (word_cmp u v)) ∙ sym (then_assoc by_number by_length (ordering_then by_front (word_cmp u v)))
