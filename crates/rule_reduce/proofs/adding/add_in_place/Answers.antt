@@ -11,7 +11,9 @@ use Rattle.rule_reduce.proofs.adding.add_in_place.Goals.{In-Some}
 
 -- the first of the others is taken
 taken_is : (c : In-Some) → c.loop-coefficient.others.items ≡ (c.in-Some.coefficient, c.in-Some.word) ∷ c.pop_front.new.self.items
-taken_is c = c.in-Some.ensures.items ∙ ap (λ (t : Term). t ∷ c.pop_front.new.self.items) (ap₂ (λ a w. (a, w)) (sym c.in-Some.coefficient-is) (sym c.in-Some.word-is))
+taken_is c =
+    c.in-Some.ensures.items
+    ∙ ap (λ (t : Term). t ∷ c.pop_front.new.self.items) (ap₂ (λ a w. (a, w)) (sym c.in-Some.coefficient-is) (sym c.in-Some.word-is))
 
 -- the same, as the coefficient is passed on
 given_is : (c : In-Some) → c.loop-coefficient.others.items ≡ (to_z w128 (of_z w128 c.in-Some.coefficient), c.in-Some.word) ∷ c.pop_front.new.self.items
@@ -22,7 +24,8 @@ given_is c =
 others_in : (c : In-Some) → All (λ (t : Term). IsCoefficient t.0) c.pop_front.new.self.items
 others_in c =
     let one : Term = (c.in-Some.coefficient, c.in-Some.word) in
-    All-tail (λ (t : Term). IsCoefficient t.0) one c.pop_front.new.self.items (subst (All (λ (t : Term). IsCoefficient t.0)) (taken_is c) c.loop-coefficient.invariant.others_in)
+    All-tail (λ (t : Term). IsCoefficient t.0) one c.pop_front.new.self.items
+    (subst (All (λ (t : Term). IsCoefficient t.0)) (taken_is c) c.loop-coefficient.invariant.others_in)
 
 pub returns-in_err-place-clause-exact : goal.returns-in_err-place-clause-exact
 returns-in_err-place-clause-exact c =
@@ -30,7 +33,8 @@ returns-in_err-place-clause-exact c =
     let passed = (goal.at.returns-in_err-place-clause-exact c).In-Some in
     let e = c.in_err-place.field-0.0 in
     let rest = c.pop_front.new.self.items in
-    let why : Explains (sum_from at.place at.terms.items ((to_z w128 (of_z w128 c.in-Some.coefficient), c.in-Some.word) ∷ rest)) e = c.in_err-place.ensures.exact rest in
+    let why : Explains (sum_from at.place at.terms.items ((to_z w128 (of_z w128 c.in-Some.coefficient), c.in-Some.word) ∷ rest)) e =
+    c.in_err-place.ensures.exact rest in
     let back : c.from_residual.result ≡ Err e = search rules in
     rw back (subst (λ r. Explains r e) (sym (at.invariant.same ∙ ap (sum_from at.place at.terms.items) (given_is passed))) why)
 
