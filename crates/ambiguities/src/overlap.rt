@@ -1,12 +1,12 @@
 //! The word in which the leading words of an ambiguity meet.
 
-ghost use Rattle.std.specs.Prelude.{◌≡◌, IfOk};
+ghost use Rattle.std.specs.Prelude.{◌≡◌, ◌≤◌, ◌++◌, length, take, IfOk, OnOk};
 ghost use Rattle.word_core.specs.Letters.{IsOver};
 ghost use Rattle.ambiguities.specs.Ambiguities.{IsAmbiguity, overlap_word_of};
 
 use crate::{Ambiguity, Kind};
 use rule_reduce::{Rule, Rules, rule_with};
-use std::alloc::AllocError;
+use std::alloc::{AllocError, Global};
 use word_core::Word;
 use word_orders::WordOrder;
 
@@ -17,19 +17,39 @@ pub fn overlap_word<O: WordOrder>(rules: &Rules<O>, which: &Ambiguity) -> Result
     ensures exact { IfOk result (λ w. w ≡ overlap_word_of rules.now.rules which.now) }
     ensures over { IfOk result (IsOver (O.letters rules.now.order)) }
 {
-    make_word(rules.rules.as_slice(), which)
+    make_word(rules.rules.allocator(), rules.rules.as_slice(), which)
 }
 
-pub(crate) fn make_word(rules: &[Rule], which: &Ambiguity) -> Result<Word, AllocError>
+// The same word, of which that of an overlap is made with room for all its letters.
+pub(crate) fn make_word(
+    alloc: Global,
+    rules: &[Rule],
+    which: &Ambiguity,
+) -> Result<Word, AllocError>
     requires { IsAmbiguity rules.now which.now }
     ensures { IfOk result (λ w. w ≡ overlap_word_of rules.now which.now) }
 {
     let first = rule_with(rules, which.i);
     match which.kind {
         Kind::Overlap => {
-            let front = first.lead.slice(0, which.place as usize)?;
-            front.concat(&rule_with(rules, which.j).lead)
+            let second = &rule_with(rules, which.j).lead;
+            let place = which.place as usize;
+            let mut word = Word::with_room(alloc, place.saturating_add(second.len()))?;
+            push_first(&mut word, &first.lead, place)?;
+            push_first(&mut word, second, second.len())?;
+            Ok(word)
         }
         Kind::Inclusion => first.lead.copy(),
     }
+}
+
+// Puts the first letters of another word, as many as `count` says, behind the word.
+fn push_first(word: &mut Word, other: &Word, count: usize) -> Result<(), AllocError>
+    requires { count ≤ length other.now }
+    ensures { OnOk result (word.new ≡ word.old ++ take count other.now) }
+{
+    for place in 0..count {
+        word.push(other.letter(place))?;
+    }
+    Ok(())
 }

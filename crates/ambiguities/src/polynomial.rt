@@ -94,7 +94,7 @@ fn make_rows(alloc: Global, rules: &[Rule], which: &Ambiguity) -> Result<(Row, R
     let first = rule_with(rules, which.i);
     let second = rule_with(rules, which.j);
     let (of_first, of_second) = factors(first.leading, second.leading);
-    let word = make_word(rules, which)?;
+    let word = make_word(alloc, rules, which)?;
     let place = which.place as usize;
     let left = Row {
         coef: of_first,

@@ -18,17 +18,11 @@ use coef_int::Overflow;
 use lists::Listing;
 use nc_polynomial::{PolyFault, merge_terms};
 use std::alloc::{AllocError, Global};
+use std::collections::VecDeque;
 use word_core::Word;
 
 // How many terms come and go one by one before the others are merged.
 const MOVE_LIMIT: u32 = 16;
-
-// How far a sum in place has come: how many of the other terms are added, and the place behind the last one.
-#[derive(Clone, Copy)]
-struct Progress {
-    count: usize,
-    place: usize,
-}
 
 // The sum of two descending lists, for which the first one is changed.
 pub(crate) fn add_terms(
@@ -42,68 +36,66 @@ pub(crate) fn add_terms(
         (Explains (checked (sums terms others) (added terms others))) }
 {
     let mut sum = terms.into_vec();
-    let mut others = others.into_vec();
-    let done = add_in_place(&mut sum, &others)?;
-    if done.count == others.len() {
+    let mut others = VecDeque::from_vec(others.into_vec());
+    let place = add_in_place(&mut sum, &mut others)?;
+    let rest = Listing::from_vec(others.into_vec());
+    if rest.len() == 0 {
         return Ok(Listing::from_vec(sum));
     }
-    let behind = Listing::from_vec(sum.split_off(done.place)?);
-    let rest = Listing::from_vec(others.split_off(done.count)?);
+    let behind = Listing::from_vec(sum.split_off(place)?);
     let mut changed = merge_terms(alloc, behind, rest)?.into_vec();
     sum.append(&mut changed)?;
     Ok(Listing::from_vec(sum))
 }
 
-// Adds the first of the other terms: all, unless too many come or go.
+// Adds the first of the other terms, whose words are moved: all, unless too many come or go. The place behind the last one.
 fn add_in_place(
     terms: &mut Vec<(i128, Word)>,
-    others: &[(i128, Word)],
-) -> Result<Progress, PolyFault>
+    others: &mut VecDeque<(i128, Word)>,
+) -> Result<usize, PolyFault>
     requires shaped { IsShaped terms.old.items }
-    requires others_in { All (λ t. IsCoefficient t.0) others.now }
-    ensures counted { IfOk result (λ d. d.count ≤ length others.now) }
-    ensures in_range { IfOk result (λ d. d.place ≤ length terms.new.items) }
-    ensures shaped { IfOk result (λ d. IsShaped (drop d.place terms.new.items)) }
+    requires others_in { All (λ t. IsCoefficient t.0) others.old.items }
+    ensures in_range { IfOk result (λ place. place ≤ length terms.new.items) }
+    ensures shaped { IfOk result (λ place. IsShaped (drop place terms.new.items)) }
+    ensures others_in { IfOk result (λ _. All (λ t. IsCoefficient t.0) others.new.items) }
     ensures exact { MatchResult result
-        (λ d. sum_from 0 terms.old.items others.now ≡ sum_from d.place terms.new.items (drop d.count others.now))
-        (Explains (sum_from 0 terms.old.items others.now)) }
+        (λ place. sum_from 0 terms.old.items others.old.items ≡ sum_from place terms.new.items others.new.items)
+        (Explains (sum_from 0 terms.old.items others.old.items)) }
 {
     let mut place = 0;
     let mut moves = 0;
-    for count in 0..others.len() {
-        if moves == MOVE_LIMIT {
-            return Ok(Progress { count, place });
-        }
+    while let Some((coefficient, word)) = others.pop_front() {
         let length = terms.len();
-        place = add_term(terms, place, &others[count])?;
+        place = add_term(terms, place, coefficient, word)?;
         if terms.len() != length {
             moves += 1;
         }
+        if moves == MOVE_LIMIT {
+            return Ok(place);
+        }
     }
-    Ok(Progress {
-        count: others.len(),
-        place,
-    })
+    Ok(place)
 }
 
 // Adds a term to those from a place on. The place behind it.
 fn add_term(
     terms: &mut Vec<(i128, Word)>,
     from: usize,
-    term: &(i128, Word),
+    coefficient: i128,
+    word: Word,
 ) -> Result<usize, PolyFault>
     requires in_range { from ≤ length terms.old.items }
     requires shaped { IsShaped (drop from terms.old.items) }
-    requires term_in { IsCoefficient term.now.0 }
+    requires coefficient_in { IsCoefficient coefficient }
     ensures in_range { IfOk result (λ next. next ≤ length terms.new.items) }
     ensures shaped { IfOk result (λ next. IsShaped (drop next terms.new.items)) }
     ensures exact { MatchResult result
-        (λ next. (q : List Term) → sum_from from terms.old.items (term.now ∷ q) ≡ sum_from next terms.new.items q)
-        (λ e. (q : List Term) → Explains (sum_from from terms.old.items (term.now ∷ q)) e) }
+        (λ next. (q : List Term) → sum_from from terms.old.items ((coefficient, word) ∷ q) ≡ sum_from next terms.new.items q)
+        (λ e. (q : List Term) → Explains (sum_from from terms.old.items ((coefficient, word) ∷ q)) e) }
 {
-    match place_of(&terms[from..], &term.1) {
-        Ok(place) => Ok(add_at(terms, from + place, term.0)?),
-        Err(place) => Ok(put_at(terms, from + place, term)?),
+    match place_of(&terms[from..], &word) {
+        Ok(place) => Ok(add_at(terms, from + place, coefficient)?),
+        Err(place) => Ok(put_at(terms, from + place, coefficient, word)?),
     }
 }
 
@@ -134,21 +126,21 @@ fn add_at(terms: &mut Vec<(i128, Word)>, place: usize, value: i128) -> Result<us
     Ok(place + 1)
 }
 
-// Puts a copy of the term in at the place, unless its coefficient is zero. The place behind it.
+// Puts the term in at the place, unless its coefficient is zero. The place behind it.
 fn put_at(
     terms: &mut Vec<(i128, Word)>,
     place: usize,
-    term: &(i128, Word),
+    coefficient: i128,
+    word: Word,
 ) -> Result<usize, AllocError>
     requires { place ≤ length terms.old.items }
-    ensures { IfOk result (λ next. IsPut (take place terms.old.items) term.now.0 term.now.1 (drop place terms.old.items) next
+    ensures { IfOk result (λ next. IsPut (take place terms.old.items) coefficient word (drop place terms.old.items) next
         terms.new.items) }
 {
-    if term.0 == 0 {
+    if coefficient == 0 {
         return Ok(place);
     }
-    let copy = term.1.copy()?;
-    terms.insert(place, (term.0, copy))?;
+    terms.insert(place, (coefficient, word))?;
     Ok(place + 1)
 }
 

@@ -2,6 +2,7 @@ pub mod Comparing
 pub mod Ascending
 pub mod Staying
 pub mod StoreLemmas
+pub mod Fronts
 pub mod Sorting
 pub mod Advancing
 pub mod BlockLemmas

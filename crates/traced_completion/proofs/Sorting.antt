@@ -1,12 +1,11 @@
 -- Lists without repetitions, in whatever order, and new ambiguities sorted by their keys.
-use Rattle.std.proofs.Common.{◌≡◌, ◌≢◌, ◌⊎◌, inl, inr, ℕ, ◌+◌, ◌<◌, ◌≤◌, Bool, List, [], ◌∷◌, length, map, get_or, refl, sym, ap, ap₂, ◌∙◌, subst, arith}
+use Rattle.std.proofs.Common.{◌≡◌, ◌≢◌, ◌⊎◌, inl, inr, ℕ, ◌+◌, ◌<◌, ◌≤◌, ◌^◌, Bool, List, [], ◌∷◌, length, map, get_or, refl, sym, ap, ap₂, ◌∙◌, subst, arith}
 use Rattle.std.specs.Bool.{Decides}
 use Rattle.std.specs.Cmp.{IsTotalOrder}
 use Rattle.std.specs.List.{All, AllPairs, Contains}
 use Rattle.std.specs.List.Sorted.{IsPermutation, IsSorted}
 use Rattle.std.specs.Ordering.{is_lt, nat_cmp, ordering_then}
 use Rattle.std.specs.declared.cmp.Ordering.{Ordering}
-use Rattle.std.specs.declared.cmp.Ordering.TheVariants.{Less, Equal, Greater}
 use Rattle.std.proofs.lemmas.Bool.Decides.{same_from_decides}
 use Rattle.std.proofs.lemmas.Cmp.{nat_cmp_total, on_total, then_total}
 use Rattle.std.proofs.lemmas.List.{length-map, get_or-map}
@@ -29,8 +28,9 @@ use Rattle.ambiguities.proofs.Numbers.{rule_at-last}
 use Rattle.traced_completion.specs.declared.pending.waiting.Waiting.{Waiting}
 use Rattle.traced_completion.specs.declared.pending.key.Key.{Key}
 use Rattle.traced_completion.specs.StoreOrder.{ambiguity_cmp, waiting_cmp, waiting_of, AreNew}
-use Rattle.traced_completion.specs.Keys.{key_of, key_cmp}
+use Rattle.traced_completion.specs.Keys.{front_of, key_of, key_cmp}
 use Rattle.traced_completion.proofs.Comparing.{waiting_cmp-total}
+use Rattle.traced_completion.proofs.Fronts.{then_assoc, fronted_cmp}
 
 -- no two items are the same in another order either
 pub distinct-permutation : {K : Type 0} (e : K → K → Bool) → ((x y : K) → Decides (e x y) (x ≡ y)) → (xs ys : List K) → IsPermutation xs ys → AllPairs (λ x y. x ≢ y) xs → AllPairs (λ x y. x ≢ y) ys
@@ -41,17 +41,14 @@ distinct-permutation {K} e tells xs ys moved distinct = AllPairs-from_IsDistinct
 
 -- keys
 pub key_cmp-total : IsTotalOrder key_cmp
-key_cmp-total = then_total (on_total (λ (k : Key). k.measure) nat_cmp_total) (on_total (λ (k : Key). k.waiting) (waiting_cmp-total word_cmp word_cmp_total))
-
--- one comparison after two others
-then_assoc : (o p q : Ordering) → ordering_then o (ordering_then p q) ≡ ordering_then (ordering_then o p) q
-then_assoc Less p q = refl
-then_assoc Equal p q = refl
-then_assoc Greater p q = refl
+key_cmp-total =
+    then_total (then_total (then_total (on_total (λ (k : Key). k.measure) nat_cmp_total) (on_total (λ (k : Key). length k.waiting.word) nat_cmp_total))
+    (on_total (λ (k : Key). k.front) nat_cmp_total))
+    (on_total (λ (k : Key). k.waiting) (waiting_cmp-total word_cmp word_cmp_total))
 
 module _ (compare : Compare) (measure : List ℕ → ℕ) (by_measure : (u v : List ℕ) → compare u v ≡ measured_cmp measure u v) where
   abbrev IsExact : Key → Type 0
-  IsExact k = k.measure ≡ measure k.waiting.word
+  IsExact k = ((k.measure ≡ measure k.waiting.word) × (k.front ≡ front_of k.waiting.word)) × IsOver (2 ^ 16) k.waiting.word
 
   -- keys compare as their ambiguities do
   keys_compare : (k l : Key) → IsExact k → IsExact l → key_cmp k l ≡ waiting_cmp compare k.waiting l.waiting
@@ -59,10 +56,19 @@ module _ (compare : Compare) (measure : List ℕ → ℕ) (by_measure : (u v : L
       let u = k.waiting.word in
       let v = l.waiting.word in
       let rest = ambiguity_cmp k.waiting.which l.waiting.which in
-      ap₂ (λ m n. ordering_then (nat_cmp m n) (ordering_then (word_cmp u v) rest)) one other
-      ∙ then_assoc (nat_cmp (measure u) (measure v)) (word_cmp u v) rest ∙ ap (λ o. ordering_then o rest) (sym (by_measure u v))
+      let by_number = nat_cmp (measure u) (measure v) in
+      let by_length = nat_cmp (length u) (length v) in
+      let by_front = nat_cmp (front_of u) (front_of v) in
+      ap₂ (λ (m : Ordering) (f : Ordering). ordering_then (ordering_then (ordering_then m by_length) f) (ordering_then (word_cmp u v) rest))
+      (ap₂ nat_cmp one.0.0 other.0.0) (ap₂ nat_cmp one.0.1 other.0.1)
+      ∙ then_assoc (ordering_then (ordering_then by_number by_length) by_front) (word_cmp u v) rest
+      ∙ ap (λ o. ordering_then o rest) (
+      sym (then_assoc (ordering_then by_number by_length) by_front (word_cmp u v)) ∙ sym (then_assoc by_number by_length (ordering_then by_front (word_cmp u v)))
+      ∙ ap (ordering_then by_number) (fronted_cmp u v one.1 other.1) ∙ sym (by_measure u v)
+      )
 
-  module _ (rules : List Rule) (found : List Ambiguity) (keys : List Key) (moved : IsPermutation (map (key_of measure rules) found) keys) where
+  module _ (rules : List Rule) (found : List Ambiguity) (over : All (λ (k : Key). IsOver (2 ^ 16) k.waiting.word) (map (key_of measure rules) found)) (keys : List Key)
+      (moved : IsPermutation (map (key_of measure rules) found) keys) where
     abbrev in_order : List Waiting
     in_order = map (λ (k : Key). k.waiting) keys
 
@@ -74,11 +80,14 @@ module _ (compare : Compare) (measure : List ℕ → ℕ) (by_measure : (u v : L
     keys-moved = subst (λ xs. IsPermutation xs in_order) (unkeyed found) (IsPermutation-map (λ (k : Key). k.waiting) (map (key_of measure rules) found) keys moved)
 
     each-exact : All IsExact keys
-    each-exact = All-permutation IsExact (map (key_of measure rules) found) keys moved (All-map IsExact (key_of measure rules) found (λ k d inside. refl))
+    each-exact = All-permutation IsExact (map (key_of measure rules) found) keys moved (λ k d inside. (numbers k d inside, over k d inside))
+      where
+        numbers : All (λ (k : Key). (k.measure ≡ measure k.waiting.word) × (k.front ≡ front_of k.waiting.word)) (map (key_of measure rules) found)
+        numbers = All-map (λ (k : Key). (k.measure ≡ measure k.waiting.word) × (k.front ≡ front_of k.waiting.word)) (key_of measure rules) found (λ k d inside. (refl, refl))
 
     pub keys-sorted : IsSorted key_cmp keys → IsSorted (waiting_cmp compare) (map (λ (k : Key). k.waiting) keys)
     keys-sorted sorted k d low high =
-        let e : Key = record { measure = 0; waiting = d } in
+        let e : Key = record { measure = 0; front = 0; waiting = d } in
         let inside : k + 1 < length keys = omega (arith, high, length-map keys (λ (k : Key). k.waiting)) in
         let before : k < length keys = omega (arith, inside) in
         let x = get_or keys (k + 1) e in

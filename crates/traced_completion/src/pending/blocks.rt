@@ -126,8 +126,14 @@ fn cut(blocks: &mut Vec<Block>, count: usize) -> Result<usize, AllocError>
     Ok(number + 1)
 }
 
-// The greatest half of a block that stays whole.
+// The greatest half of a block that stays whole where there are no blocks, and where there are many. Putting one in moves half of a
+// block, and cutting a block in two moves half of the list of blocks.
+const LEAST_LIMIT: usize = 8;
+
 const HALF_LIMIT: usize = 32;
+
+// For how many blocks more the greatest half is greater by one.
+const LIMIT_STEP: usize = 128;
 
 // Makes two blocks of each long one. No ambiguity is moved to another place, whatever the answer.
 fn halve(blocks: &mut Vec<Block>) -> Result<(), AllocError>
@@ -135,11 +141,12 @@ fn halve(blocks: &mut Vec<Block>) -> Result<(), AllocError>
     ensures same { joined blocks.new.items ≡ joined blocks.old.items }
     ensures nonempty { All (λ b. 0 < length b) blocks.new.items }
 {
+    let limit = HALF_LIMIT.min(LEAST_LIMIT + blocks.len() / LIMIT_STEP);
     let mut number = blocks.len();
     while number > 0 {
         number -= 1;
         let half = blocks[number].len() / 2;
-        if half > HALF_LIMIT {
+        if half > limit {
             split(blocks, number, half)?;
         }
     }

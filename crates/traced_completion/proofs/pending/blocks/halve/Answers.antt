@@ -15,7 +15,7 @@ loop-number-preserved-in-Continue-1 c =
     let inside : number < length blocks = omega (arith, kept.within, c.loop-number-test.true) in
     let block : c.index.result.now ≡ get_or blocks number [] = c.index.ensures ∙ get_or_default blocks number c.index.result.now [] inside in
     let size : c.len-half.result ≡ length (get_or blocks number []) = c.len-half.ensures ∙ ap length block in
-    let some : 0 < half = omega (arith, c.if-half-gt-HALF_LIMIT.true) in
+    let some : 0 < half = omega (arith, c.if-half-limit.true) in
     let less : half < length (get_or blocks number []) = omega (arith, size, some) in
     let ok = c.in_ok-split.ensures.ok in
     record {

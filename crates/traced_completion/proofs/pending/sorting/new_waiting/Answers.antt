@@ -1,8 +1,9 @@
-use Rattle.std.proofs.Common.{rules, ◌≡◌, ◌≤◌, List, length, map, sym, ap, ◌∙◌, subst}
+use Rattle.std.proofs.Common.{rules, ◌≡◌, ◌≤◌, ◌^◌, List, length, map, sym, ap, ◌∙◌, subst}
 use Rattle.std.specs.List.{All, Contains}
 use Rattle.std.specs.List.Sorted.{IsPermutation, IsSorted}
 use Rattle.std.proofs.lemmas.List.Elements.{All-weaker, All-contains_itself}
 use Rattle.std.proofs.lemmas.Result.{IfOk-weaker}
+use Rattle.word_core.specs.Letters.{IsOver}
 use Rattle.ambiguities.specs.declared.ambiguity.Ambiguity.{Ambiguity}
 use Rattle.ambiguities.specs.Ambiguities.{IsAmbiguity}
 use Rattle.traced_completion.specs.declared.pending.key.Key.{Key}
@@ -33,13 +34,14 @@ returns-clause-new g c =
     let found : List Ambiguity = c.in_ok-found.found in
     let keys : List Key = c.sort_keys.new.keys.items in
     let same : c.as_slice.result.now ≡ found = search rules in
-    let made : c.in_ok-keys.keys.items ≡ map (key_of measure all) found = c.in_ok-keys.ensures ∙ ap (map (key_of measure all)) same in
+    let made : c.in_ok-keys.keys.items ≡ map (key_of measure all) found = c.in_ok-keys.ensures.exact ∙ ap (map (key_of measure all)) same in
+    let over = subst (All (λ (k : Key). IsOver (2 ^ 16) k.waiting.word)) made c.in_ok-keys.ensures.over in
     let moved : IsPermutation (map (key_of measure all) found) keys = subst (λ (xs : List Key). IsPermutation xs keys) made c.sort_keys.ensures.permutation in
     IfOk-weaker c.take_waiting.result _ _
     (λ items taken. record {
       found = found;
       exact = record { members = c.in_ok-found.ensures.members; ascending = c.in_ok-found.ensures.ascending };
-      moved = subst (IsPermutation _) (sym taken) (keys-moved compare measure (g.met.O.WordOrder.by_measure order) all found keys moved);
+      moved = subst (IsPermutation _) (sym taken) (keys-moved compare measure (g.met.O.WordOrder.by_measure order) all found over keys moved);
     })
     c.take_waiting.ensures
 
@@ -52,10 +54,11 @@ returns-clause-sorted g c =
     let found : List Ambiguity = c.in_ok-found.found in
     let keys : List Key = c.sort_keys.new.keys.items in
     let same : c.as_slice.result.now ≡ found = search rules in
-    let made : c.in_ok-keys.keys.items ≡ map (key_of measure all) found = c.in_ok-keys.ensures ∙ ap (map (key_of measure all)) same in
+    let made : c.in_ok-keys.keys.items ≡ map (key_of measure all) found = c.in_ok-keys.ensures.exact ∙ ap (map (key_of measure all)) same in
+    let over = subst (All (λ (k : Key). IsOver (2 ^ 16) k.waiting.word)) made c.in_ok-keys.ensures.over in
     let moved : IsPermutation (map (key_of measure all) found) keys = subst (λ (xs : List Key). IsPermutation xs keys) made c.sort_keys.ensures.permutation in
     let in_order : IsSorted (waiting_cmp compare) (map (λ (k : Key). k.waiting) keys) =
-    keys-sorted compare measure (g.met.O.WordOrder.by_measure order) all found keys moved c.in_ok-sort_keys.ensures.sorted in
+    keys-sorted compare measure (g.met.O.WordOrder.by_measure order) all found over keys moved c.in_ok-sort_keys.ensures.sorted in
     IfOk-weaker c.take_waiting.result _ _
     (λ items taken. sorted-up_to compare (g.met.O.WordOrder.admissible order).total _ (subst (IsSorted (waiting_cmp compare)) (sym taken) in_order))
     c.take_waiting.ensures
