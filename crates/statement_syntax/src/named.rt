@@ -45,7 +45,6 @@ fn map_names_step(at: Spot, names: Listing<Name>, token: Token) -> Result<Line, 
 {
     match &token.kind {
         TokenKind::Colon => {
-            drop(token);
             if names.len() == 0 {
                 return Err(ReadError::Misfit(Misfit::Expected));
             }
@@ -71,42 +70,31 @@ pub fn map_step(
     ensures { Gives result (map_step at names rest token.kind token.at) }
 {
     match rest {
-        MapRest::Names => {
-            drop(rest);
-            map_names_step(at, names, token)
-        }
+        MapRest::Names => map_names_step(at, names, token),
         MapRest::Colon => {
-            drop(rest);
             let rest = MapRest::Source(name_in(token)?);
             Ok(Line::Map { at, names, rest })
         }
         MapRest::Source(source) => match &token.kind {
             TokenKind::Arrow => {
-                drop(token);
                 let rest = MapRest::Arrow(source);
                 Ok(Line::Map { at, names, rest })
             }
-            _ => {
-                drop((names, source, token));
-                Err(ReadError::Misfit(Misfit::Expected))
-            }
+            _ => Err(ReadError::Misfit(Misfit::Expected)),
         },
         MapRest::Arrow(source) => {
             let rest = MapRest::Target(source, name_in(token)?);
             Ok(Line::Map { at, names, rest })
         }
         MapRest::Target(source, target) => {
-            let selfmade = is_word(&token, "self");
-            drop(token);
-            if !selfmade {
-                drop((names, source, target));
+            if !is_word(&token, "self") {
                 return Err(ReadError::Misfit(Misfit::Expected));
             }
             let kind = StatementKind::Maps {
                 names,
                 source,
                 target,
-                selfmade,
+                selfmade: true,
             };
             Ok(Line::Whole(Statement { at, kind }))
         }
