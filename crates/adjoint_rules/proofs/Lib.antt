@@ -6,3 +6,4 @@ pub mod Generators
 mod Examples
 pub mod Involution
 pub mod UnitLists
+pub mod LettersInPlay

@@ -1,5 +1,6 @@
 pub mod Limits
 pub mod Problem
+pub mod Claims
 pub mod Parts
 pub mod Props
 pub mod Laws

@@ -15,3 +15,5 @@ pub mod Occurrences
 pub mod Agreement
 pub mod Agreeing
 pub mod Marked
+pub mod Words
+pub mod OverLetters

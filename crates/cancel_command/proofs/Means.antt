@@ -10,9 +10,9 @@ use Rattle.quiver.proofs.Counts.{letters-quiver_of}
 use Rattle.adjoint_rules.specs.declared.problem.Problem.{Problem}
 use Rattle.adjoint_rules.specs.Problem.{polynomials, generators_in}
 use Rattle.adjoint_rules.proofs.Generators.{posed_quiver, generators_have_signatures, generators_are_zero, zero_along}
-use Rattle.claim_decider.specs.Decided.{claim_at}
+use Rattle.adjoint_rules.specs.Claims.{claim_at}
 use Rattle.definitions.proofs.StarSound.{star_sound}
-use Rattle.outcome_laws.proofs.ProvedMeans.{claim_typed, plain_generators}
+use Rattle.cofactor_checker.proofs.ProvedMeans.{claim_typed, plain_generators}
 use Rattle.cancel_rules.specs.declared.cancellation.Side.{Side}
 use Rattle.cancel_rules.specs.declared.cancellation.Side.TheVariants as side
 use Rattle.cancel_rules.specs.declared.cancellation.Cancellation.{Cancellation}

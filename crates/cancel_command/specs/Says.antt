@@ -9,7 +9,7 @@ use Rattle.definitions.specs.Soundness.{HasSignature, HasValueZero}
 use Rattle.quiver.specs.Declarations.{quiver_of}
 use Rattle.adjoint_rules.specs.declared.problem.Problem.{Problem}
 use Rattle.adjoint_rules.specs.Problem.{polynomials, generators_in}
-use Rattle.claim_decider.specs.Decided.{claim_at}
+use Rattle.adjoint_rules.specs.Claims.{claim_at}
 use Rattle.cancel_rules.specs.declared.cancellation.Cancellation.{Cancellation}
 use Rattle.cancel_rules.specs.Cancellations.{IsCancellationOf}
 use Rattle.cancel_rules.specs.Meaning.{AreMonic, AreEpic, MakesZeroByCancelling}

@@ -15,6 +15,8 @@ use Rattle.cofactor_checker.proofs.Descending.{weaker}
 use Rattle.cofactor_checker.proofs.Shown.{accepted_evidence_adds_up}
 use Rattle.cofactor_checker.proofs.EvidenceUnique.{evidence_refusal_is_unique, accepted_evidence_is_not_refused}
 use Rattle.cofactor_checker.proofs.EvidenceJudged.{evidence_is_judged}
+use Rattle.cofactor_checker.specs.ProvedMeans.{EvidenceAddsUp}
+use Rattle.cofactor_checker.proofs.ProvedMeans.{proved_means}
 use Rattle.adjoint_rules.specs.declared.problem.Problem.{Problem}
 use Rattle.adjoint_rules.specs.Problem.{polynomials}
 use Rattle.certificate_text.specs.Evidence.{IsEvidence, IsFirstFault}
@@ -23,8 +25,6 @@ use Rattle.command_shape.specs.Ending.{Ending}
 use Rattle.certificate_causes.specs.Refusals.{cause_text}
 use Rattle.certificate_causes.proofs.Told.{told, refusal_text}
 use Rattle.stated_problem.specs.Statement.{IsStated}
-use Rattle.outcome_laws.specs.Meanings.{EvidenceAddsUp}
-use Rattle.outcome_laws.proofs.ProvedMeans.{proved_means}
 use Rattle.check_command.specs.Answers.{claim_number, IsAccepted, IsRefused, named_text, AnswersEvidence, AnswersCheck, accepted_lines}
 use Rattle.check_command.specs.Says.{AcceptedMeans, SaysChecked}
 use Rattle.command_shape.proofs.BlockTexts.{IsKind, text_answered, text_answered_once, text_status, first_answered}

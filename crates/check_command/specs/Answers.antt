@@ -5,10 +5,10 @@ use Rattle.adjoint_rules.specs.Problem.{polynomials}
 use Rattle.cofactor_trace.specs.declared.evidence.Evidence.{Evidence}
 use Rattle.cofactor_trace.specs.declared.evidence.Evidence.TheVariants.{Plain, Lemmas}
 use Rattle.cofactor_trace.specs.declared.evidence.Format.TheVariants as format
+use Rattle.cofactor_trace.specs.LemmaRows.{denominator_of}
 use Rattle.cofactor_checker.specs.declared.refusal.Refusal.{Refusal}
 use Rattle.cofactor_checker.specs.Evidence.{AcceptsEvidence, RefusesEvidence}
 use Rattle.certificate_text.specs.Evidence.{IsEvidence, IsFirstFault}
-use Rattle.report_text.specs.Heads.{denominator_of}
 use Rattle.command_shape.specs.Ending.{Ending}
 use Rattle.certificate_causes.specs.Refusals.{claim_text, cause_text}
 use Rattle.stated_problem.specs.Statement.{OverStatement}

@@ -6,7 +6,7 @@ use Rattle.cofactor_trace.specs.declared.evidence.Evidence.{Evidence}
 use Rattle.cofactor_trace.specs.declared.evidence.Format.TheVariants.{Lemmas}
 use Rattle.adjoint_rules.specs.declared.problem.Problem.{Problem}
 use Rattle.certificate_text.specs.Evidence.{IsEvidence}
-use Rattle.outcome_laws.specs.ProvedMeans.{ProvedMeans}
+use Rattle.cofactor_checker.specs.ProvedMeans.{ProvedMeans}
 use Rattle.stated_problem.specs.Statement.{IsStated}
 use Rattle.check_command.specs.Answers.{claim_number, accepted_lines}
 

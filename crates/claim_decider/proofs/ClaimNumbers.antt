@@ -4,7 +4,7 @@ use Rattle.definitions.specs.Poly.{Term}
 use Rattle.nc_polynomial.specs.declared.poly.Poly.{Poly}
 use Rattle.adjoint_rules.specs.declared.problem.Problem.{Problem}
 use Rattle.adjoint_rules.specs.Problem.{polynomials}
-use Rattle.claim_decider.specs.Decided.{claim_at}
+use Rattle.adjoint_rules.specs.Claims.{claim_at}
 
 same_terms : (p q : Poly) → ◌≡◌ {A = Option Poly} (Some p) (Some q) → p.terms ≡ q.terms
 same_terms p q is = ap (λ (x : Poly). x.terms) (same is)

@@ -11,6 +11,7 @@ use Rattle.traced_rows.specs.declared.Made.{Made}
 use Rattle.rule_reduce.specs.declared.rule.Rule.{Rule}
 use Rattle.ambiguities.specs.declared.ambiguity.Ambiguity.{Ambiguity}
 use Rattle.adjoint_rules.specs.declared.problem.Problem.{Problem}
+use Rattle.adjoint_rules.specs.Claims.{claim_at}
 use Rattle.traced_completion.specs.declared.completion.Completion.{Completion}
 use Rattle.traced_completion.specs.declared.completion.Step.{Step}
 use Rattle.traced_completion.specs.declared.completion.Step.TheVariants as step
@@ -21,7 +22,7 @@ use Rattle.claim_decider.specs.declared.case.Case.{Case}
 use Rattle.claim_decider.specs.declared.case.Standing.{Standing}
 use Rattle.claim_decider.specs.declared.case.Standing.TheVariants.{Open, Settled}
 use Rattle.claim_decider.specs.Outcomes.{IsDone, IsOpen, GetsOutcome, after_round, by_closing, by_stop, IsOutcomeOf}
-use Rattle.claim_decider.specs.Decided.{claim_at, GetsOutcomeAt, GetsOutcomeBy, OneGetsOutcomeAt, IsLastRound, AreOutcomesOf}
+use Rattle.claim_decider.specs.Decided.{GetsOutcomeAt, GetsOutcomeBy, OneGetsOutcomeAt, IsLastRound, AreOutcomesOf}
 use Rattle.claim_decider.specs.Cases.{IsJudged, OpenFollows, StandingFollows, Follows, HasGot, IsOpenWith, Stands, IsCase, HasOutcome, IsSettled, Gives, case_numbers}
 use Rattle.claim_decider.proofs.CaseLists.{AllZip-kept, AllZip-mapped}
 

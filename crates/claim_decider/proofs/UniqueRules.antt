@@ -6,9 +6,10 @@ use Rattle.nc_polynomial.specs.declared.poly.Poly.{Poly}
 use Rattle.word_orders.specs.Admissible.{IsAdmissible}
 use Rattle.cofactor_trace.specs.declared.evidence.Format.{Format}
 use Rattle.adjoint_rules.specs.declared.problem.Problem.{Problem}
+use Rattle.adjoint_rules.specs.Claims.{claim_at}
 use Rattle.traced_completion.specs.PlainRun.{Setting, RunState, IsRunState}
 use Rattle.traced_completion.proofs.UniqueRuns.{states_unique}
-use Rattle.claim_decider.specs.Decided.{claim_at, GetsOutcomeBy, OneGetsOutcomeAt, AreLastRules, polynomials_in}
+use Rattle.claim_decider.specs.Decided.{GetsOutcomeBy, OneGetsOutcomeAt, AreLastRules, polynomials_in}
 use Rattle.claim_decider.specs.OutcomeLaws.{LastRulesAreUnique}
 use Rattle.claim_decider.proofs.UniqueOutcomes.{gets_once}
 

@@ -4,6 +4,7 @@ use Rattle.definitions.specs.Poly.{Term}
 use Rattle.nc_polynomial.specs.declared.poly.Poly.{Poly}
 use Rattle.cofactor_trace.specs.declared.evidence.Format.{Format}
 use Rattle.adjoint_rules.specs.declared.problem.Problem.{Problem}
+use Rattle.adjoint_rules.specs.Claims.{claim_at}
 use Rattle.traced_completion.specs.declared.completion.Completion.{Completion}
 use Rattle.traced_completion.specs.declared.completion.Step.{Step}
 use Rattle.traced_completion.specs.declared.completion.Step.TheVariants as step
@@ -15,7 +16,6 @@ use Rattle.claim_decider.specs.declared.case.Case.{Case}
 use Rattle.claim_decider.specs.declared.case.Standing.{Standing}
 use Rattle.claim_decider.specs.declared.case.Standing.TheVariants.{Open, Settled}
 use Rattle.claim_decider.specs.Outcomes.{IsLeft, IsDone, IsOpen, GetsOutcome}
-use Rattle.claim_decider.specs.Decided.{claim_at}
 
 -- the number of a claim of the problem
 pub record IsNumber (problem : Problem) (number : ℕ) : Type 0 where

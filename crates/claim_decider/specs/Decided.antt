@@ -1,24 +1,14 @@
 -- The outcomes of several claims, and the rules that are given with them.
-use Rattle.std.specs.Prelude.{◌≡◌, ◌≤◌, ◌⊎◌, ℕ, List, map, length, Contains}
-use Rattle.std.specs.List.{All, AllZip, range_with_len}
-use Rattle.definitions.specs.Poly.{Term}
-use Rattle.definitions.specs.Combination.{generator_at}
+use Rattle.std.specs.Prelude.{◌≡◌, ◌≤◌, ◌⊎◌, ℕ, List, map, Contains}
+use Rattle.std.specs.List.{All, AllZip}
 use Rattle.nc_polynomial.specs.declared.poly.Poly.{Poly}
 use Rattle.cofactor_trace.specs.declared.evidence.Format.{Format}
 use Rattle.rule_reduce.specs.declared.rule.Rule.{Rule}
 use Rattle.adjoint_rules.specs.declared.problem.Problem.{Problem}
-use Rattle.adjoint_rules.specs.Problem.{polynomials}
+use Rattle.adjoint_rules.specs.Claims.{claim_at}
 use Rattle.traced_completion.specs.PlainRun.{Setting, RunState, IsRunState}
 use Rattle.claim_decider.specs.declared.outcome.Outcome.{Outcome}
 use Rattle.claim_decider.specs.Outcomes.{GetsOutcome, IsOutcomeOf}
-
--- the claim of the problem with this number
-abbrev pub claim_at : Problem → ℕ → List Term
-claim_at problem number = generator_at (polynomials problem.parts.claims) number
-
--- the numbers of all claims
-abbrev pub claim_numbers : Problem → List ℕ
-claim_numbers problem = range_with_len 1 (length problem.parts.claims)
 
 -- the outcomes of the claims with these numbers, in their order
 abbrev pub AreOutcomesOf : Setting → Format → Problem → List ℕ → List Outcome → Type 0

@@ -4,7 +4,7 @@ ghost use Rattle.std.specs.List.{All, AllZip};
 ghost use Rattle.traced_completion.specs.declared.budget.Budget.{Budget};
 ghost use Rattle.traced_completion.specs.PlainRun.{start, setting_of};
 ghost use Rattle.traced_completion.specs.Completions.{IsCompletionOf, state_of};
-ghost use Rattle.claim_decider.specs.Decided.{claim_at};
+ghost use Rattle.adjoint_rules.specs.Claims.{claim_at};
 ghost use Rattle.claim_decider.specs.Cases.{IsJudged, StandingFollows, IsCase, IsNumber, HasRounds};
 
 use crate::Outcome;

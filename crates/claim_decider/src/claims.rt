@@ -5,7 +5,8 @@ ghost use Rattle.in_order_parallel.specs.Limits.{worker_limit};
 ghost use Rattle.traced_completion.specs.declared.budget.Budget.{Budget as Asked};
 ghost use Rattle.traced_completion.specs.PlainRun.{start, setting_of};
 ghost use Rattle.traced_completion.specs.Completions.{IsBudget, IsCompletionOf, state_of};
-ghost use Rattle.claim_decider.specs.Decided.{claim_numbers, AreOutcomesOf, AreLastRules, IsLastRound, polynomials_in};
+ghost use Rattle.adjoint_rules.specs.Claims.{claim_numbers};
+ghost use Rattle.claim_decider.specs.Decided.{AreOutcomesOf, AreLastRules, IsLastRound, polynomials_in};
 ghost use Rattle.claim_decider.specs.Cases.{IsNumber, IsOfProblem, HasRounds, Follows, IsCase, IsSettled, case_numbers, Gives};
 
 use crate::case::{Case, Standing, follow, open_case};

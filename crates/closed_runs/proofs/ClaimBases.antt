@@ -15,12 +15,13 @@ use Rattle.rule_reduce.specs.declared.rule.Rule.{Rule}
 use Rattle.rule_reduce.specs.RuleLists.{IsRule}
 use Rattle.completion_laws.proofs.TypedLaws.{typed_has_no_empty_word}
 use Rattle.adjoint_rules.specs.declared.problem.Problem.{Problem}
+use Rattle.adjoint_rules.specs.Claims.{claim_at, claim_numbers}
 use Rattle.traced_completion.specs.declared.budget.Budget.{Budget}
 use Rattle.traced_completion.specs.PlainRun.{Setting, setting_of}
-use Rattle.traced_completion.proofs.RunRules.{AreWords, words_from, words_nonempty, normal_words}
+use Rattle.ambiguities.proofs.Words.{AreWords, words_from, words_nonempty, normal_words}
 use Rattle.claim_decider.specs.declared.outcome.Outcome.{Outcome}
 use Rattle.claim_decider.specs.declared.outcome.Outcome.TheVariants as outcome
-use Rattle.claim_decider.specs.Decided.{claim_at, claim_numbers, AreOutcomesOf, AreLastRules, polynomials_in}
+use Rattle.claim_decider.specs.Decided.{AreOutcomesOf, AreLastRules, polynomials_in}
 use Rattle.outcome_laws.specs.Meanings.{IsOutcomeAt}
 use Rattle.outcome_laws.proofs.OpenRuns.{open_run}
 use Rattle.outcome_laws.proofs.OutcomeLetters.{outcomes_have_letters, last_rules_have_letters}

@@ -23,12 +23,13 @@ use Rattle.rule_reduce.specs.declared.state.State.{State}
 use Rattle.rule_reduce.specs.declared.fault.ReduceFault.{ReduceFault}
 use Rattle.rule_reduce.specs.NormalForms.{normal_form_of}
 use Rattle.adjoint_rules.specs.declared.problem.Problem.{Problem}
+use Rattle.adjoint_rules.specs.Claims.{claim_at}
 use Rattle.traced_completion.specs.PlainRun.{Setting, RunState, went, closed, IsCauseOf, IsRound, IsRunState}
 use Rattle.traced_completion.proofs.UniqueRuns.{states_unique, rounds_unique}
 use Rattle.claim_decider.specs.declared.outcome.Outcome.TheVariants as outcome
 use Rattle.claim_decider.specs.Outcomes.{IsOpen, IsLeft, IsHalted, IsCauseOfExpansion, IsCauseOfGathering, Expands, Gathers, IsProved, IsDoneWith, IsDoneBy}
 use Rattle.claim_decider.specs.Outcomes.{record_of, GetsOutcome, at_once, after_round, by_closing, by_stop}
-use Rattle.claim_decider.specs.Decided.{claim_at, GetsOutcomeBy, AreLastRules, polynomials_in}
+use Rattle.claim_decider.specs.Decided.{GetsOutcomeBy, AreLastRules, polynomials_in}
 use Rattle.claim_decider.proofs.UniqueOutcomes.{gets_once}
 use Rattle.outcome_laws.proofs.OpenRuns.{open_run}
 

@@ -40,10 +40,11 @@ use Rattle.completion_laws.proofs.Outside.{resolved_where_closed}
 use Rattle.completion_laws.proofs.ShapeLaws.{s_polynomials_are_shaped}
 use Rattle.adjoint_rules.specs.declared.problem.Problem.{Problem}
 use Rattle.adjoint_rules.specs.Problem.{polynomials}
+use Rattle.adjoint_rules.specs.Claims.{claim_at, claim_numbers}
 use Rattle.traced_completion.specs.declared.budget.Budget.{Budget}
 use Rattle.traced_completion.specs.PlainRun.{Setting, RunState, went, closed, stopped, Ends, IsRound, IsRunState, setting_of}
 use Rattle.claim_decider.specs.Outcomes.{IsOpen}
-use Rattle.claim_decider.specs.Decided.{claim_at, claim_numbers, polynomials_in}
+use Rattle.claim_decider.specs.Decided.{polynomials_in}
 use Rattle.outcome_laws.specs.KeptRuns.{done_after}
 use Rattle.outcome_laws.proofs.OpenRuns.{open_run}
 use Rattle.outcome_laws.proofs.ProblemStates.{state_kept, generators_are_reached}

@@ -19,9 +19,10 @@ use Rattle.confluence.proofs.Ideals.{all_from_numbers}
 use Rattle.confluence.proofs.RestLaws.{normal_forms_are_reduced, rests_of_ideal_are_zero}
 use Rattle.adjoint_rules.specs.declared.problem.Problem.{Problem}
 use Rattle.adjoint_rules.specs.Problem.{polynomials}
+use Rattle.adjoint_rules.specs.Claims.{claim_at}
 use Rattle.traced_completion.specs.declared.budget.Budget.{Budget}
 use Rattle.traced_completion.specs.PlainRun.{RunState, setting_of}
-use Rattle.claim_decider.specs.Decided.{claim_at, polynomials_in}
+use Rattle.claim_decider.specs.Decided.{polynomials_in}
 use Rattle.outcome_laws.proofs.ProblemStates.{state_kept}
 use Rattle.basis_text.specs.declared.basis.Basis.{Basis}
 use Rattle.closed_checker.specs.Rests.{order_of, rules_of}

@@ -1,7 +1,7 @@
 -- The report on a statement is read as the bases of its claims that are closed.
 use Rattle.std.proofs.Common.{sym, subst}
 use Rattle.std.specs.List.{All}
-use Rattle.claim_decider.specs.Decided.{claim_numbers}
+use Rattle.adjoint_rules.specs.Claims.{claim_numbers}
 use Rattle.outcome_laws.proofs.OutcomeLetters.{last_rules_have_letters}
 use Rattle.basis_text.specs.Back.{IsWritableBasis}
 use Rattle.report_text.specs.Report.{report_of}

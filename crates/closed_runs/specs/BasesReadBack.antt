@@ -5,6 +5,7 @@ use Rattle.nc_polynomial.specs.declared.poly.Poly.{Poly}
 use Rattle.quiver.specs.Declarations.{Declaration, IsDeclared}
 use Rattle.cofactor_trace.specs.declared.evidence.Format.{Format}
 use Rattle.adjoint_rules.specs.declared.problem.Problem.{Problem}
+use Rattle.adjoint_rules.specs.Claims.{claim_numbers}
 use Rattle.statement_syntax.specs.declared.tree.Statement.{Statement}
 use Rattle.statement_syntax.specs.Fault.{IsTreeOf}
 use Rattle.signature_typing.specs.Typing.{IsProblemOf}
@@ -12,7 +13,7 @@ use Rattle.traced_completion.specs.declared.budget.Budget.{Budget}
 use Rattle.traced_completion.specs.PlainRun.{setting_of}
 use Rattle.claim_decider.specs.declared.outcome.Outcome.{Outcome}
 use Rattle.claim_decider.specs.declared.outcome.Outcome.TheVariants as outcome
-use Rattle.claim_decider.specs.Decided.{claim_numbers, AreOutcomesOf, AreLastRules}
+use Rattle.claim_decider.specs.Decided.{AreOutcomesOf, AreLastRules}
 use Rattle.block_text.specs.Fault.{no_block}
 use Rattle.block_text.specs.Lines.{block_limit}
 use Rattle.block_text.specs.Back.{is_named}

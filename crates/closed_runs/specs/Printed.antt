@@ -2,10 +2,11 @@
 use Rattle.std.specs.Prelude.{◌⊎◌, ⊤}
 use Rattle.cofactor_trace.specs.declared.evidence.Format.{Format}
 use Rattle.adjoint_rules.specs.declared.problem.Problem.{Problem}
+use Rattle.adjoint_rules.specs.Claims.{claim_numbers}
 use Rattle.traced_completion.specs.declared.budget.Budget.{Budget}
 use Rattle.traced_completion.specs.PlainRun.{setting_of}
 use Rattle.claim_decider.specs.declared.outcome.Outcome.TheVariants as outcome
-use Rattle.claim_decider.specs.Decided.{claim_numbers, AreLastRules}
+use Rattle.claim_decider.specs.Decided.{AreLastRules}
 use Rattle.outcome_laws.specs.Meanings.{IsOutcomeAt}
 use Rattle.basis_text.specs.declared.basis.Basis.{Basis}
 use Rattle.closed_checker.specs.declared.refusal.ClosedRefusal.{ClosedRefusal}

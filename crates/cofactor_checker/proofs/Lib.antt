@@ -22,4 +22,5 @@ pub mod Blocks
 pub mod EvidenceUnique
 pub mod EvidenceJudged
 pub mod LetterSums
+pub mod ProvedMeans
 mod Examples

@@ -10,3 +10,4 @@ pub mod LemmaAcceptance
 pub mod Goals
 pub mod Evidence
 pub mod Laws
+pub mod ProvedMeans

@@ -10,6 +10,8 @@ use Rattle.cofactor_trace.specs.declared.evidence.CertFrom.TheVariants as cert
 use Rattle.cofactor_trace.specs.declared.evidence.LemmaRow.{LemmaRow}
 use Rattle.cofactor_trace.specs.declared.evidence.Lemma.{Lemma}
 use Rattle.cofactor_trace.specs.declared.evidence.LemmaCertificate.{LemmaCertificate}
+use Rattle.cofactor_trace.specs.declared.evidence.Evidence.{Evidence}
+use Rattle.cofactor_trace.specs.declared.evidence.Evidence.TheVariants as format
 
 -- the generator or the lemma, and the zero polynomial where there is none with the number
 abbrev pub cert_poly : List Poly → List Poly → CertFrom → Poly
@@ -47,3 +49,8 @@ pub record IsEvidenceOf (generators : List Poly) (lemmas : List Poly) (c : Lemma
   pub shares : All (IsShareOf c.denominator) (c.lemmas ++ c.goal ∷ [])
   pub lemmas_add_up : AreOfLemmas generators [] c.lemmas lemmas
   pub goal_adds_up : AddsUpTo generators lemmas c.goal p
+
+-- the denominator of evidence
+abbrev pub denominator_of : Evidence → ℤ
+denominator_of (format.Plain c) = c.denominator
+denominator_of (format.Lemmas c) = c.denominator

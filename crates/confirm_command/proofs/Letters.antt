@@ -16,12 +16,12 @@ use Rattle.rule_reduce.specs.NormalForms.{normal_form_of, halt_of}
 use Rattle.ambiguities.specs.declared.ambiguity.Ambiguity.{Ambiguity}
 use Rattle.ambiguities.specs.Ambiguities.{IsAmbiguity}
 use Rattle.ambiguities.specs.SPolynomials.{s_polynomial_of}
+use Rattle.ambiguities.proofs.Words.{words_over, s_words}
+use Rattle.ambiguities.proofs.OverLetters.{reduced_over}
 use Rattle.adjoint_rules.specs.declared.problem.Problem.{Problem}
 use Rattle.adjoint_rules.specs.Problem.{polynomials}
 use Rattle.basis_text.specs.declared.basis.Basis.{Basis}
 use Rattle.basis_text.specs.Written.{IsPolyOver}
-use Rattle.traced_completion.proofs.RunRules.{words_over, s_words}
-use Rattle.outcome_laws.proofs.OverRuns.{reduced_over}
 use Rattle.closed_checker.specs.declared.part.Part.{Part}
 use Rattle.closed_checker.specs.declared.part.Part.TheVariants as part
 use Rattle.closed_checker.specs.declared.refusal.ClosedRefusal.{ClosedRefusal}

@@ -16,8 +16,8 @@ use Rattle.certificate_text.specs.Evidence.{IsEvidence, IsFirstFault}
 use Rattle.certificate_text.proofs.EachText.{each_text_is_read, evidence_is_unique, first_fault_is_unique, evidence_has_no_fault}
 use Rattle.cofactor_checker.proofs.Descending.{weaker}
 use Rattle.cofactor_checker.proofs.Shown.{accepted_evidence_adds_up}
-use Rattle.outcome_laws.specs.ProvedMeans.{MeansZero, ProvedMeans}
-use Rattle.outcome_laws.proofs.ProvedMeans.{means_zero, proved_means}
+use Rattle.cofactor_checker.specs.ProvedMeans.{MeansZero, ProvedMeans}
+use Rattle.cofactor_checker.proofs.ProvedMeans.{means_zero, proved_means}
 use Rattle.equation_chain.specs.declared.fault.ChainFault.{ChainFault}
 use Rattle.equation_chain.specs.declared.fault.ChainFault.TheVariants as fault
 use Rattle.equation_chain.specs.Lines.{lines_of}

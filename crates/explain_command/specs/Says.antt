@@ -10,9 +10,9 @@ use Rattle.cofactor_trace.specs.declared.evidence.Format.TheVariants as format
 use Rattle.cofactor_trace.specs.Rows.{rows_of}
 use Rattle.adjoint_rules.specs.declared.problem.Problem.{Problem}
 use Rattle.adjoint_rules.specs.Problem.{polynomials}
+use Rattle.adjoint_rules.specs.Claims.{claim_at}
 use Rattle.certificate_text.specs.Evidence.{IsEvidence}
-use Rattle.claim_decider.specs.Decided.{claim_at}
-use Rattle.outcome_laws.specs.ProvedMeans.{MeansZero}
+use Rattle.cofactor_checker.specs.ProvedMeans.{MeansZero}
 use Rattle.equation_chain.specs.Steps.{steps_of, IsTypedStep}
 use Rattle.equation_chain.specs.Lines.{lines_of}
 use Rattle.equation_chain.specs.Chains.{IsChain}

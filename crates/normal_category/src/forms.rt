@@ -8,7 +8,7 @@ ghost use Rattle.quiver.specs.Declarations.{letter_count};
 ghost use Rattle.rule_reduce.specs.RuleLists.{IsRule, polynomials_of};
 ghost use Rattle.ambiguities.specs.Resolved.{Resolved};
 ghost use Rattle.adjoint_rules.specs.Problem.{polynomials};
-ghost use Rattle.claim_decider.specs.Decided.{claim_at};
+ghost use Rattle.adjoint_rules.specs.Claims.{claim_at};
 ghost use Rattle.normal_forms.specs.NormalForms.{normal_forms};
 ghost use Rattle.normal_forms.specs.SharpMeans.{SharpMeans};
 ghost use Rattle.normal_forms.proofs.Basis.{normal_forms_laws};

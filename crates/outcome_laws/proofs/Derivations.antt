@@ -29,6 +29,7 @@ use Rattle.rule_reduce.specs.RuleLists.{polynomials_of}
 use Rattle.rule_reduce.specs.NormalForms.{normal_form_of}
 use Rattle.adjoint_rules.specs.declared.problem.Problem.{Problem}
 use Rattle.adjoint_rules.specs.Problem.{polynomials}
+use Rattle.adjoint_rules.specs.Claims.{claim_at}
 use Rattle.confluence.specs.Reductions.{IsReduced}
 use Rattle.completion_laws.specs.Rests.{IsEarlier}
 use Rattle.completion_laws.specs.Kept.{AreRecorded}
@@ -37,7 +38,6 @@ use Rattle.completion_laws.proofs.RowSums.{traced_sum-by_rules}
 use Rattle.traced_completion.specs.declared.budget.Budget.{Budget}
 use Rattle.traced_completion.specs.PlainRun.{RunState, IsRunState, setting_of}
 use Rattle.claim_decider.specs.Outcomes.{record_of}
-use Rattle.claim_decider.specs.Decided.{claim_at}
 use Rattle.claim_decider.proofs.Judging.{claim_record}
 use Rattle.outcome_laws.specs.KeptRuns.{done_after}
 use Rattle.outcome_laws.proofs.ProblemPolynomials.{claim_is, generators_shaped}

@@ -10,9 +10,9 @@ use Rattle.cofactor_trace.specs.Rows.{rows_of}
 use Rattle.cofactor_trace.specs.LemmaRows.{IsEvidenceOf}
 use Rattle.adjoint_rules.specs.declared.problem.Problem.{Problem}
 use Rattle.adjoint_rules.specs.Problem.{polynomials}
+use Rattle.adjoint_rules.specs.Claims.{claim_at}
 use Rattle.traced_completion.specs.declared.budget.Budget.{Budget}
 use Rattle.claim_decider.specs.declared.outcome.Outcome.TheVariants as outcome
-use Rattle.claim_decider.specs.Decided.{claim_at}
 use Rattle.outcome_laws.specs.Meanings.{IsOutcomeAt}
 use Rattle.outcome_laws.proofs.Meanings.{derived_claims_add_up}
 

@@ -12,7 +12,7 @@ use Rattle.quiver.specs.Declarations.{letter_count}
 use Rattle.ambiguities.specs.Resolved.{is_below}
 use Rattle.adjoint_rules.specs.declared.problem.Problem.{Problem}
 use Rattle.adjoint_rules.specs.Problem.{polynomials}
-use Rattle.claim_decider.specs.Decided.{claim_at}
+use Rattle.adjoint_rules.specs.Claims.{claim_at}
 use Rattle.outcome_laws.specs.Counts.{short_ambiguities}
 use Rattle.outcome_laws.specs.Enough.{enough_pairs, HasEnough}
 

@@ -33,9 +33,9 @@ use Rattle.quiver.specs.Declarations.{letter_count}
 use Rattle.traced_completion.specs.declared.budget.Budget.{Budget}
 use Rattle.traced_completion.specs.PlainRun.{Setting, setting_of}
 use Rattle.adjoint_rules.proofs.Counted.{few_units_closed}
+use Rattle.adjoint_rules.specs.Claims.{claim_at}
 use Rattle.claim_decider.specs.declared.outcome.Outcome.TheVariants as outcome
 use Rattle.claim_decider.specs.Outcomes.{evidence_of_zero, record_of, certificate_of}
-use Rattle.claim_decider.specs.Decided.{claim_at}
 use Rattle.nc_polynomial.specs.Limits.{word_limit}
 use Rattle.outcome_laws.specs.EvidenceLimits.{IsRowWithin, IsLemmaRowWithin, IsLemmaWithin, IsWithinLimits, EvidenceFits}
 use Rattle.outcome_laws.proofs.EvidenceRanges.{expansion_ranged, gathered_positive}

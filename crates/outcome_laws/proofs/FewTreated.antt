@@ -19,6 +19,7 @@ use Rattle.rule_reduce.proofs.Numbers.{rule_at-all}
 use Rattle.ambiguities.specs.declared.ambiguity.Ambiguity.{Ambiguity}
 use Rattle.ambiguities.specs.Ambiguities.{IsAmbiguity, overlap_word_of}
 use Rattle.adjoint_rules.specs.declared.problem.Problem.{Problem}
+use Rattle.adjoint_rules.specs.Claims.{claim_at}
 use Rattle.completion_laws.specs.Kept.{AreApart}
 use Rattle.completion_laws.specs.Conclusions.{NothingPendingBelow}
 use Rattle.completion_laws.proofs.MoreAmbiguities.{ambiguity_more, overlap_word-more}
@@ -31,7 +32,6 @@ use Rattle.traced_completion.specs.PlainRun.{Setting, RunState, IsRunState, take
 use Rattle.traced_completion.proofs.Ascending.{contains-first}
 use Rattle.traced_completion.proofs.StoreLemmas.{pending-over}
 use Rattle.claim_decider.specs.Outcomes.{IsOpen}
-use Rattle.claim_decider.specs.Decided.{claim_at}
 use Rattle.outcome_laws.specs.KeptRuns.{done_after, IsKeptState}
 use Rattle.outcome_laws.proofs.LaterRounds.{BeginsWith}
 use Rattle.outcome_laws.proofs.WholeRuns.{runs_are_kept, first_is_least_pending}

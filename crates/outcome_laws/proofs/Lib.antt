@@ -42,5 +42,4 @@ pub mod FewTreated
 pub mod Stops
 pub mod Outcomes
 mod EnoughExamples
-pub mod ProvedMeans
 pub mod ProblemStates

@@ -31,12 +31,12 @@ use Rattle.ambiguities.specs.declared.ambiguity.Ambiguity.{Ambiguity}
 use Rattle.ambiguities.specs.Ambiguities.{IsAmbiguity}
 use Rattle.ambiguities.specs.SPolynomials.{s_rows_of}
 use Rattle.ambiguities.proofs.Numbers.{rule_at-first, rule_at-last}
+use Rattle.ambiguities.proofs.Words.{AreWords, normal_words, s_words}
 use Rattle.adjoint_rules.specs.Problem.{polynomials}
 use Rattle.traced_completion.specs.UnitsFirst.{units_first}
 use Rattle.rule_making.specs.Making.{Rest, leads_negative, IsMadeFrom}
 use Rattle.traced_completion.specs.RunLaws.{HasWords}
 use Rattle.traced_completion.specs.PlainRun.{Setting, RunState, IsRunState}
-use Rattle.traced_completion.proofs.RunRules.{AreWords, normal_words, s_words}
 use Rattle.nc_polynomial.specs.Limits.{word_limit}
 use Rattle.outcome_laws.proofs.AmbiguitiesWithin.{s_polynomial_fits, s_rows_short}
 use Rattle.outcome_laws.proofs.ReducedWithin.{Fits, IsShortRow, reduced_within}

@@ -5,7 +5,8 @@ use Rattle.nc_polynomial.specs.declared.poly.Poly.{Poly}
 use Rattle.cofactor_trace.specs.declared.evidence.Evidence.TheVariants as evidence
 use Rattle.adjoint_rules.specs.declared.problem.Problem.{Problem}
 use Rattle.claim_decider.specs.declared.outcome.Outcome.TheVariants as outcome
-use Rattle.outcome_laws.specs.Meanings.{Follows, EvidenceAddsUp, OutcomeMeans}
+use Rattle.cofactor_checker.specs.ProvedMeans.{EvidenceAddsUp}
+use Rattle.outcome_laws.specs.Meanings.{Follows, OutcomeMeans}
 
 -- evidence that names another claim does not add up
 another_claim : (problem : Problem) → EvidenceAddsUp problem 2 (evidence.Plain (record { claim = 1; denominator = pos 1; rows = [] })) → ⊥

@@ -25,13 +25,14 @@ use Rattle.rule_reduce.specs.RuleLists.{polynomials_of}
 use Rattle.rule_reduce.specs.NormalForms.{normal_form_of}
 use Rattle.adjoint_rules.specs.declared.problem.Problem.{Problem}
 use Rattle.adjoint_rules.specs.Problem.{polynomials}
+use Rattle.adjoint_rules.specs.Claims.{claim_at}
 use Rattle.traced_completion.specs.declared.budget.Budget.{Budget}
 use Rattle.traced_completion.specs.PlainRun.{RunState, IsRunState, setting_of}
 use Rattle.claim_decider.specs.declared.outcome.Outcome.{Outcome}
 use Rattle.claim_decider.specs.declared.outcome.Outcome.TheVariants as outcome
 use Rattle.claim_decider.specs.Outcomes.{record_of, Expands, Gathers, IsProved, evidence_of_zero, IsDoneBy, IsDoneWith, GetsOutcome, at_once, after_round, by_closing, by_stop}
-use Rattle.claim_decider.specs.Decided.{claim_at}
-use Rattle.outcome_laws.specs.Meanings.{OutcomeMeans, HaltMeans, EvidenceAddsUp, DerivedClaimsAddUp, ClosedClaimsAreOutside, LeastWordsBoundDerivations, HaltedCertificatesAreInside, OutcomesMeanWhatTheySay}
+use Rattle.cofactor_checker.specs.ProvedMeans.{EvidenceAddsUp}
+use Rattle.outcome_laws.specs.Meanings.{OutcomeMeans, HaltMeans, DerivedClaimsAddUp, ClosedClaimsAreOutside, LeastWordsBoundDerivations, HaltedCertificatesAreInside, OutcomesMeanWhatTheySay}
 use Rattle.outcome_laws.proofs.OpenRuns.{open_run, closed_outside, stop_means}
 use Rattle.outcome_laws.proofs.Derivations.{follows, expansion_adds_up, gathering_adds_up, gathering_names}
 

@@ -20,6 +20,7 @@ use Rattle.ambiguities.specs.declared.ambiguity.Ambiguity.{Ambiguity}
 use Rattle.ambiguities.specs.Resolved.{ComesBelow}
 use Rattle.adjoint_rules.specs.declared.problem.Problem.{Problem}
 use Rattle.adjoint_rules.specs.Problem.{polynomials}
+use Rattle.adjoint_rules.specs.Claims.{claim_at}
 use Rattle.confluence.specs.Reductions.{IsNonzero, IsReduced}
 use Rattle.confluence.proofs.RestLaws.{normal_forms_are_reduced}
 use Rattle.completion_laws.specs.Conclusions.{NothingPendingBelow}
@@ -31,7 +32,6 @@ use Rattle.rule_making.specs.Making.{Recorded}
 use Rattle.traced_completion.specs.Pending.{AreAllPending, ambiguities_of}
 use Rattle.traced_completion.specs.PlainRun.{Setting, RunState, went, closed, stopped, Ends, taken_count, TreatsFirst, TreatsPending, IsRound, IsRunState, setting_of}
 use Rattle.claim_decider.specs.Outcomes.{IsLeft, IsOpen}
-use Rattle.claim_decider.specs.Decided.{claim_at}
 use Rattle.outcome_laws.specs.KeptRuns.{done_after, IsKeptState}
 use Rattle.outcome_laws.proofs.RunsKept.{letters_below}
 use Rattle.outcome_laws.proofs.WholeRuns.{runs_are_kept, closed_is_nothing_pending, first_is_least_pending}

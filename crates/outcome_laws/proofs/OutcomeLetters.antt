@@ -24,6 +24,7 @@ use Rattle.rule_reduce.specs.RuleLists.{IsRule}
 use Rattle.quiver.specs.Declarations.{Declaration, letter_count}
 use Rattle.adjoint_rules.specs.declared.problem.Problem.{Problem}
 use Rattle.adjoint_rules.specs.Problem.{polynomials, HasLettersInPlay, IsInPlay, numbers}
+use Rattle.adjoint_rules.specs.Claims.{claim_at}
 use Rattle.certificate_text.specs.Evidence.{IsRowOver, IsLemmaRowOver}
 use Rattle.certificate_text.specs.Written.{IsLemmaOver, IsEvidenceOver}
 use Rattle.traced_completion.specs.declared.budget.Budget.{Budget}
@@ -34,13 +35,13 @@ use Rattle.traced_completion.proofs.ReducibleGenerators.{generators_reducible}
 use Rattle.traced_completion.proofs.RunStates.{states_rules}
 use Rattle.claim_decider.specs.declared.outcome.Outcome.{Outcome}
 use Rattle.claim_decider.specs.Outcomes.{evidence_of_zero, record_of, certificate_of}
-use Rattle.claim_decider.specs.Decided.{claim_at}
 use Rattle.basis_text.specs.Written.{IsPolyOver}
 use Rattle.report_text.specs.Report.{IsLeastOver}
 use Rattle.outcome_laws.specs.OutcomeLetters.{IsOutcomeOver, OutcomesHaveLetters, LastRulesHaveLetters}
 use Rattle.outcome_laws.proofs.EvidenceWords.{expanded_words, gathered_words}
 use Rattle.outcome_laws.proofs.OutcomeWays.{Way, no_terms, expanded, gathered, left_over, given_up, with_run, way, IsProvedBy}
-use Rattle.outcome_laws.proofs.OverRuns.{AreOver, IsOverRow, reduced_over, records_over, least_over}
+use Rattle.ambiguities.proofs.OverLetters.{AreOver, IsOverRow, reduced_over}
+use Rattle.outcome_laws.proofs.OverRuns.{records_over, least_over}
 use Rattle.outcome_laws.proofs.Results.{split_last}
 
 -- the problem

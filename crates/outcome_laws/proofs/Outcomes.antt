@@ -19,11 +19,11 @@ use Rattle.rule_reduce.specs.declared.state.State.{State}
 use Rattle.rule_reduce.specs.declared.fault.ReduceFault.{ReduceFault}
 use Rattle.rule_reduce.specs.NormalForms.{normal_form_of}
 use Rattle.adjoint_rules.specs.declared.problem.Problem.{Problem}
+use Rattle.adjoint_rules.specs.Claims.{claim_at}
 use Rattle.traced_completion.specs.declared.budget.Budget.{Budget}
 use Rattle.traced_completion.specs.PlainRun.{RunState, stopped, IsRound, setting_of}
 use Rattle.claim_decider.specs.declared.outcome.Outcome.{Outcome}
 use Rattle.claim_decider.specs.Outcomes.{IsOpen, IsHalted, IsCauseOfExpansion, IsCauseOfGathering, Expands, Gathers, IsProved, IsDoneBy, IsDoneWith, record_of, GetsOutcome, at_once, after_round, by_closing, by_stop}
-use Rattle.claim_decider.specs.Decided.{claim_at}
 use Rattle.outcome_laws.proofs.OpenRuns.{closed_outside}
 use Rattle.outcome_laws.specs.Enough.{HasEnough, PairsSuffice, PairsAreEnough, PairsAreEnoughForEach}
 use Rattle.outcome_laws.proofs.FewTreated.{open_runs_treat_few}

@@ -24,8 +24,8 @@ use Rattle.confluence.specs.Reductions.{HasLettersBelow}
 use Rattle.completion_laws.specs.Conclusions.{AreAllDone}
 use Rattle.traced_completion.specs.UnitsFirst.{units_first}
 use Rattle.adjoint_rules.proofs.Counted.{few_units_closed}
+use Rattle.adjoint_rules.specs.Claims.{claim_at}
 use Rattle.rule_reduce.proofs.WordsKept.{words_with_coefficients}
-use Rattle.claim_decider.specs.Decided.{claim_at}
 use Rattle.outcome_laws.specs.KeptRuns.{IsGenerator}
 use Rattle.outcome_laws.proofs.Turns.{each_generator_has_its_turn}
 

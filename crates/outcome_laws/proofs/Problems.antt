@@ -13,12 +13,13 @@ use Rattle.nc_polynomial.proofs.Shapes.{IsDescending-from_recursion}
 use Rattle.cofactor_trace.specs.declared.evidence.Format.{Format}
 use Rattle.adjoint_rules.specs.declared.problem.Problem.{Problem}
 use Rattle.adjoint_rules.specs.Problem.{polynomials}
+use Rattle.adjoint_rules.specs.Claims.{claim_at, claim_numbers}
 use Rattle.traced_completion.specs.declared.budget.Budget.{Budget}
 use Rattle.traced_completion.specs.PlainRun.{Setting, RunState, start, setting_of, IsRunState}
 use Rattle.traced_completion.proofs.Ascending.{contains-first, contains-rest}
 use Rattle.traced_completion.proofs.RunStates.{states_bounded}
 use Rattle.claim_decider.specs.declared.outcome.Outcome.{Outcome}
-use Rattle.claim_decider.specs.Decided.{claim_at, claim_numbers, AreOutcomesOf, GetsOutcomeBy, OneGetsOutcomeAt, polynomials_in}
+use Rattle.claim_decider.specs.Decided.{AreOutcomesOf, GetsOutcomeBy, OneGetsOutcomeAt, polynomials_in}
 use Rattle.nc_polynomial.specs.Limits.{word_limit}
 use Rattle.outcome_laws.specs.Existence.{EachStateHasARound, EachClaimHasAnOutcome, EachProblemHasOutcomes}
 use Rattle.outcome_laws.proofs.Rounds.{has_round}

@@ -24,6 +24,7 @@ use Rattle.rule_reduce.specs.NormalForms.{normal_form_of}
 use Rattle.ambiguities.specs.declared.ambiguity.Ambiguity.{Ambiguity}
 use Rattle.ambiguities.specs.Ambiguities.{IsAmbiguity}
 use Rattle.ambiguities.specs.SPolynomials.{s_rows_of, s_polynomial_of}
+use Rattle.ambiguities.proofs.Words.{AreWords, words_from}
 use Rattle.traced_completion.specs.declared.pending.waiting.Waiting.{Waiting}
 use Rattle.traced_completion.specs.Results.{and_then, halted, each_in_turn, unless_overflow}
 use Rattle.rule_making.specs.Making.{Recorded, Rest, rest_with, negated_row, negated_rows, leads_negative, IsMadeFrom, Adds}
@@ -32,7 +33,7 @@ use Rattle.traced_completion.specs.Pending.{AreAllPending, ambiguities_of}
 use Rattle.traced_completion.specs.RunLaws.{HasWords}
 use Rattle.traced_completion.specs.PlainRun.{Setting, RunState, went, closed, stopped, recorded, Ends, taken_count, IsTreated, TreatsFirst, TreatsPending, IsRoundZero, IsLaterRound, IsRunState}
 use Rattle.traced_completion.proofs.StoreLemmas.{pending-all}
-use Rattle.traced_completion.proofs.RunRules.{AreWords, words_from, made_is_rule}
+use Rattle.traced_completion.proofs.RunRules.{made_is_rule}
 use Rattle.outcome_laws.proofs.Results.{same_ok, no_error, fits_first, none_append}
 
 some_is : (x y : Rest) → ◌≡◌ {A = Option Rest} (Some x) (Some y) → x ≡ y

@@ -14,11 +14,11 @@ use Rattle.cofactor_trace.specs.Expansion.{letter_count}
 use Rattle.cofactor_trace.specs.Lemmas as gathering
 use Rattle.cofactor_trace.specs.GatheringLaws.{parts_of, NamesWithin, NameEarlier}
 use Rattle.adjoint_rules.specs.declared.problem.Problem.{Problem}
+use Rattle.adjoint_rules.specs.Claims.{claim_at}
 use Rattle.traced_completion.specs.declared.budget.Budget.{Budget}
 use Rattle.traced_completion.specs.PlainRun.{setting_of}
 use Rattle.claim_decider.specs.declared.outcome.Outcome.TheVariants as outcome
 use Rattle.claim_decider.specs.Outcomes.{IsOutcomeOf}
-use Rattle.claim_decider.specs.Decided.{claim_at}
 use Rattle.nc_polynomial.specs.Limits.{word_limit}
 use Rattle.cofactor_trace.specs.Limits.{row_limit, letter_limit}
 

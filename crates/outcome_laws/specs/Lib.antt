@@ -6,4 +6,3 @@ pub mod EvidenceLimits
 pub mod Existence
 pub mod Counts
 pub mod Enough
-pub mod ProvedMeans

@@ -1,28 +1,24 @@
 -- What an outcome of a claim means.
 use Rattle.std.specs.Prelude.{◌≡◌, ℕ, List, Some}
 use Rattle.definitions.specs.Poly.{Term}
-use Rattle.definitions.specs.Combination.{IsCombination, InRationalIdeal}
+use Rattle.definitions.specs.Combination.{InRationalIdeal}
 use Rattle.word_orders.specs.Specified.{asked_cmp}
 use Rattle.nc_polynomial.specs.declared.poly.Poly.{Poly}
 use Rattle.quiver.specs.Declarations.{letter_count}
-use Rattle.cofactor_trace.specs.declared.Certificate.{Certificate}
-use Rattle.cofactor_trace.specs.declared.evidence.LemmaCertificate.{LemmaCertificate}
 use Rattle.cofactor_trace.specs.declared.evidence.Evidence.{Evidence}
-use Rattle.cofactor_trace.specs.declared.evidence.Evidence.TheVariants as evidence
 use Rattle.cofactor_trace.specs.declared.evidence.Format.{Format}
 use Rattle.cofactor_trace.specs.declared.halt.Place.TheVariants as place
 use Rattle.cofactor_trace.specs.declared.halt.Halt.{Halt}
-use Rattle.cofactor_trace.specs.Rows.{rows_of}
-use Rattle.cofactor_trace.specs.LemmaRows.{IsEvidenceOf}
+use Rattle.cofactor_checker.specs.ProvedMeans.{EvidenceAddsUp}
 use Rattle.ambiguities.specs.Resolved.{ComesBelow}
 use Rattle.adjoint_rules.specs.declared.problem.Problem.{Problem}
 use Rattle.adjoint_rules.specs.Problem.{polynomials}
+use Rattle.adjoint_rules.specs.Claims.{claim_at}
 use Rattle.traced_completion.specs.declared.budget.Budget.{Budget}
 use Rattle.traced_completion.specs.PlainRun.{setting_of}
 use Rattle.claim_decider.specs.declared.outcome.Outcome.{Outcome}
 use Rattle.claim_decider.specs.declared.outcome.Outcome.TheVariants as outcome
 use Rattle.claim_decider.specs.Outcomes.{IsOutcomeOf}
-use Rattle.claim_decider.specs.Decided.{claim_at}
 
 -- some positive multiple of the claim with this number is a combination of the generators; a number of no claim has the claim zero
 abbrev pub Follows : Problem → ℕ → Type 0
@@ -32,22 +28,6 @@ Follows problem number = InRationalIdeal (polynomials problem.generators) (claim
 abbrev pub FollowsBelow : Problem → List ℕ → ℕ → Type 0
 FollowsBelow problem word number =
     ComesBelow (letter_count problem.parts.quiver) (asked_cmp problem.parts.order) (polynomials problem.generators) word (claim_at problem number)
-
--- The certificate names the claim, and its rows over the generators add up to its denominator, which is positive, times the claim.
-pub record CertificateAddsUp (problem : Problem) (number : ℕ) (c : Certificate) : Type 0 where
-  pub claim : c.claim ≡ number
-  pub combination : IsCombination (polynomials problem.generators) (rows_of c.rows) c.denominator (claim_at problem number)
-
--- The certificate names the claim, and there are polynomials of its lemmas with which it is evidence of the claim.
-pub record LemmaCertificateAddsUp (problem : Problem) (number : ℕ) (c : LemmaCertificate) : Type 0 where
-  pub claim : c.claim ≡ number
-  pub lemmas : List (List Term)
-  pub evidence : IsEvidenceOf (polynomials problem.generators) lemmas c (claim_at problem number)
-
--- The evidence is the claim's, and it adds up.
-abbrev pub EvidenceAddsUp : Problem → ℕ → Evidence → Type 0
-EvidenceAddsUp problem number (evidence.Plain c) = CertificateAddsUp problem number c
-EvidenceAddsUp problem number (evidence.Lemmas c) = LemmaCertificateAddsUp problem number c
 
 -- Below the least word that is pending the claim is no combination, and where the work stopped in making its certificate it follows.
 pub record HaltMeans (problem : Problem) (number : ℕ) (h : Halt) : Type 0 where

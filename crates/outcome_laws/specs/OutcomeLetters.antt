@@ -5,6 +5,7 @@ use Rattle.nc_polynomial.specs.declared.poly.Poly.{Poly}
 use Rattle.quiver.specs.Declarations.{Declaration}
 use Rattle.cofactor_trace.specs.declared.evidence.Format.{Format}
 use Rattle.adjoint_rules.specs.declared.problem.Problem.{Problem}
+use Rattle.adjoint_rules.specs.Claims.{claim_at}
 use Rattle.certificate_text.specs.Written.{IsEvidenceOver}
 use Rattle.basis_text.specs.Written.{IsPolyOver}
 use Rattle.report_text.specs.Report.{IsLeastOver}
@@ -13,7 +14,7 @@ use Rattle.traced_completion.specs.PlainRun.{setting_of}
 use Rattle.claim_decider.specs.declared.outcome.Outcome.{Outcome}
 use Rattle.claim_decider.specs.declared.outcome.Outcome.TheVariants as outcome
 use Rattle.claim_decider.specs.Outcomes.{IsOutcomeOf}
-use Rattle.claim_decider.specs.Decided.{claim_at, AreLastRules}
+use Rattle.claim_decider.specs.Decided.{AreLastRules}
 
 -- The letters of the evidence, of what is left, or of the least overlap word are letters of the quiver.
 abbrev pub IsOutcomeOver : List Declaration → Outcome → Type 0

@@ -8,11 +8,12 @@ use Rattle.nc_polynomial.specs.declared.poly.Poly.{Poly}
 use Rattle.cofactor_trace.specs.declared.halt.Halt.{Halt}
 use Rattle.adjoint_rules.specs.declared.problem.Problem.{Problem}
 use Rattle.adjoint_rules.specs.Problem.{polynomials}
+use Rattle.adjoint_rules.specs.Claims.{claim_at, claim_numbers}
 use Rattle.traced_completion.specs.PlainRun.{setting_of}
 use Rattle.claim_decider.specs.declared.outcome.Outcome.{Outcome}
 use Rattle.claim_decider.specs.declared.outcome.Outcome.TheVariants as outcome
 use Rattle.claim_decider.specs.Outcomes.{IsOutcomeOf}
-use Rattle.claim_decider.specs.Decided.{claim_at, claim_numbers, AreOutcomesOf, AreLastRules}
+use Rattle.claim_decider.specs.Decided.{AreOutcomesOf, AreLastRules}
 use Rattle.claim_decider.proofs.UniqueOutcomes.{outcomes_unique}
 use Rattle.claim_decider.proofs.UniqueRules.{last_rules_unique}
 use Rattle.representations.specs.Evidence.{IsEvidenceSound}
@@ -22,7 +23,7 @@ use Rattle.outcome_laws.specs.Meanings.{OutcomeMeans, HaltMeans}
 use Rattle.outcome_laws.proofs.AskedOrders.{asked_rank, asked_cmp-admissible}
 use Rattle.outcome_laws.proofs.Meanings.{outcomes_mean_what_they_say}
 use Rattle.outcome_laws.proofs.Problems.{each_problem_has_outcomes}
-use Rattle.outcome_laws.proofs.ProvedMeans.{proved_means}
+use Rattle.cofactor_checker.proofs.ProvedMeans.{proved_means}
 use Rattle.report_text.specs.declared.verdict.Verdict.{Verdict}
 use Rattle.report_text.specs.Report.{report_of, status_of}
 use Rattle.command_shape.specs.Ending.{Ending}

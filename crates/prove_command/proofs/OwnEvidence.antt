@@ -5,8 +5,8 @@ use Rattle.std.proofs.lemmas.List.Elements.{All-nil, All-cons, All-weaker}
 use Rattle.nc_polynomial.specs.declared.poly.Poly.{Poly}
 use Rattle.matrix_models.specs.declared.model.Model.{Model}
 use Rattle.adjoint_rules.specs.declared.problem.Problem.{Problem}
+use Rattle.adjoint_rules.specs.Claims.{claim_numbers}
 use Rattle.claim_decider.specs.declared.outcome.Outcome.{Outcome}
-use Rattle.claim_decider.specs.Decided.{claim_numbers}
 use Rattle.model_checker.specs.Models.{Refutes}
 use Rattle.model_search.specs.LeastBreaking.{LeastBreaks}
 use Rattle.model_search.proofs.LeastBreaking.{least_refutes}

@@ -2,12 +2,13 @@
 use Rattle.std.proofs.Common.{ℕ, List, sym, subst}
 use Rattle.std.specs.List.{All}
 use Rattle.adjoint_rules.specs.declared.problem.Problem.{Problem}
+use Rattle.adjoint_rules.specs.Claims.{claim_at}
 use Rattle.traced_completion.specs.PlainRun.{setting_of}
 use Rattle.cofactor_trace.specs.declared.halt.Halt.{Halt}
 use Rattle.claim_decider.specs.declared.outcome.Outcome.{Outcome}
 use Rattle.claim_decider.specs.declared.outcome.Outcome.TheVariants as outcome
 use Rattle.claim_decider.specs.Outcomes.{IsOutcomeOf}
-use Rattle.claim_decider.specs.Decided.{claim_at, AreOutcomesOf}
+use Rattle.claim_decider.specs.Decided.{AreOutcomesOf}
 use Rattle.model_search.proofs.LeastBreaking.{least_refutes}
 use Rattle.outcome_laws.specs.OutcomeLetters.{IsOutcomeOver}
 use Rattle.outcome_laws.proofs.OutcomeLetters.{outcomes_have_letters}

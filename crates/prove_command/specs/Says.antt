@@ -4,14 +4,14 @@ use Rattle.std.specs.List.{AllZip}
 use Rattle.definitions.specs.Category.{Structure}
 use Rattle.nc_polynomial.specs.declared.poly.Poly.{Poly}
 use Rattle.adjoint_rules.specs.declared.problem.Problem.{Problem}
-use Rattle.claim_decider.specs.Decided.{claim_numbers}
+use Rattle.adjoint_rules.specs.Claims.{claim_numbers}
 use Rattle.model_checker.specs.RefutedMeans.{RefutedMeans}
 use Rattle.report_text.specs.declared.verdict.Verdict.{Verdict}
 use Rattle.report_text.specs.declared.verdict.Verdict.TheVariants.{Proved, NotDerivable, Refuted, Undecided, NotRefuted}
 use Rattle.report_text.specs.Report.{report_of}
 use Rattle.report_readback.specs.OwnEvidence.{IsItsOwnEvidence}
 use Rattle.outcome_laws.specs.Meanings.{Follows, HaltMeans}
-use Rattle.outcome_laws.specs.ProvedMeans.{ProvedMeans}
+use Rattle.cofactor_checker.specs.ProvedMeans.{ProvedMeans}
 use Rattle.command_shape.specs.Ending.{Ending}
 use Rattle.stated_problem.specs.Statement.{OverStatement}
 use Rattle.prove_command.specs.declared.prove.Asked.{Asked}

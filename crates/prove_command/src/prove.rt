@@ -4,7 +4,7 @@ ghost use Rattle.std.specs.List.{All, AllZip};
 ghost use Rattle.in_order_parallel.specs.Limits.{worker_limit};
 ghost use Rattle.command_words.specs.Calls.{IsInRange};
 ghost use Rattle.command_words.specs.declared.call.Call.TheVariants.{Prove};
-ghost use Rattle.claim_decider.specs.Decided.{claim_numbers};
+ghost use Rattle.adjoint_rules.specs.Claims.{claim_numbers};
 ghost use Rattle.model_candidates.specs.Candidates.{IsLeastBreaking, NoneBreaks};
 ghost use Rattle.basis_text.specs.Written.{IsPolyOver};
 ghost use Rattle.report_text.specs.Report.{IsVerdictOver};

@@ -3,7 +3,7 @@ use Rattle.std.proofs.Common.{◌≡◌, ◌⊎◌, inl, inr, ℕ, List, [], ref
 use Rattle.std.specs.List.{All, AllZip}
 use Rattle.matrix_models.specs.declared.model.Model.{Model}
 use Rattle.adjoint_rules.specs.declared.problem.Problem.{Problem}
-use Rattle.claim_decider.specs.Decided.{claim_numbers}
+use Rattle.adjoint_rules.specs.Claims.{claim_numbers}
 use Rattle.model_candidates.specs.Candidates.{all_candidate_count, NoneBreaks}
 use Rattle.model_search.specs.LeastBreaking.{LeastBreaks}
 use Rattle.model_search.proofs.LeastBreaking.{least_once, none_least, least_or_none, least_refutes, least_means}

@@ -3,7 +3,7 @@ use Rattle.std.specs.Prelude.{ℕ, ◌≡◌, List, []}
 use Rattle.std.specs.List.{AllZip}
 use Rattle.matrix_models.specs.declared.model.Model.{Model}
 use Rattle.adjoint_rules.specs.declared.problem.Problem.{Problem}
-use Rattle.claim_decider.specs.Decided.{claim_numbers}
+use Rattle.adjoint_rules.specs.Claims.{claim_numbers}
 use Rattle.model_candidates.specs.Candidates.{all_candidate_count, NoneBreaks}
 use Rattle.model_search.specs.LeastBreaking.{LeastBreaks}
 use Rattle.report_text.specs.declared.verdict.Verdict.{Verdict}

@@ -2,7 +2,7 @@
 use Rattle.std.specs.Prelude.{ℕ, ⊤, List}
 use Rattle.std.specs.List.{AllZip}
 use Rattle.adjoint_rules.specs.declared.problem.Problem.{Problem}
-use Rattle.claim_decider.specs.Decided.{claim_numbers}
+use Rattle.adjoint_rules.specs.Claims.{claim_numbers}
 use Rattle.model_checker.specs.RefutedMeans.{RefutedMeans}
 use Rattle.report_text.specs.declared.verdict.Verdict.{Verdict}
 use Rattle.report_text.specs.declared.verdict.Verdict.TheVariants.{Proved, NotDerivable, Refuted, Undecided, NotRefuted}

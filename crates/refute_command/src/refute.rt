@@ -2,7 +2,7 @@
 ghost use Rattle.std.specs.Prelude.{◌≡◌, ◌<◌, ◌≤◌, ℕ, IfOk};
 ghost use Rattle.std.specs.List.{All, AllZip};
 ghost use Rattle.in_order_parallel.specs.Limits.{worker_limit};
-ghost use Rattle.claim_decider.specs.Decided.{claim_numbers};
+ghost use Rattle.adjoint_rules.specs.Claims.{claim_numbers};
 ghost use Rattle.model_search.specs.LeastBreaking.{IsFoundFor};
 ghost use Rattle.report_text.specs.Report.{IsVerdictOver};
 ghost use Rattle.refute_command.specs.Answers.{IsSearchedOn, AnswersSearch};

@@ -13,11 +13,12 @@ use Rattle.cofactor_checker.specs.Acceptance.{IsMemory}
 use Rattle.cofactor_checker.proofs.EvidenceJudged.{evidence_is_judged}
 use Rattle.adjoint_rules.specs.declared.problem.Problem.{Problem}
 use Rattle.adjoint_rules.specs.Problem.{polynomials}
+use Rattle.adjoint_rules.specs.Claims.{claim_at, claim_numbers}
 use Rattle.traced_completion.specs.declared.budget.Budget.{Budget}
 use Rattle.traced_completion.specs.PlainRun.{setting_of}
 use Rattle.claim_decider.specs.declared.outcome.Outcome.{Outcome}
 use Rattle.claim_decider.specs.declared.outcome.Outcome.TheVariants as outcome
-use Rattle.claim_decider.specs.Decided.{claim_at, claim_numbers, AreOutcomesOf}
+use Rattle.claim_decider.specs.Decided.{AreOutcomesOf}
 use Rattle.outcome_laws.specs.EvidenceLimits.{IsCertificateWithin, IsLemmaCertificateWithin, IsWithinLimits}
 use Rattle.outcome_laws.proofs.EvidenceFits.{evidence_fits}
 use Rattle.outcome_laws.specs.Meanings.{IsOutcomeAt}

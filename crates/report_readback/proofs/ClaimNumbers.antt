@@ -4,7 +4,7 @@ use Rattle.std.specs.List.{All}
 use Rattle.std.proofs.lemmas.List.FromFn.{length-range_with_len, get_or-range_with_len}
 use Rattle.cofactor_checker.specs.Rows.{IsNumberUpTo}
 use Rattle.adjoint_rules.specs.declared.problem.Problem.{Problem}
-use Rattle.claim_decider.specs.Decided.{claim_numbers}
+use Rattle.adjoint_rules.specs.Claims.{claim_numbers}
 
 pub numbers_there : (problem : Problem) → All (IsNumberUpTo (length problem.parts.claims)) (claim_numbers problem)
 numbers_there problem = λ k d below.

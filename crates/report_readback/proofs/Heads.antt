@@ -13,13 +13,14 @@ use Rattle.cofactor_trace.specs.declared.halt.Cause.{Cause}
 use Rattle.cofactor_trace.specs.declared.halt.Cause.TheVariants as cause
 use Rattle.cofactor_trace.specs.declared.halt.Place.{Place}
 use Rattle.cofactor_trace.specs.declared.halt.Place.TheVariants as place
+use Rattle.cofactor_trace.specs.LemmaRows.{denominator_of}
 use Rattle.block_text.specs.Back.{comment, is_named, IsLineText}
 use Rattle.certificate_text.specs.Back.{part_text}
 use Rattle.block_text.proofs.PolysBack.{nothing_is_line, word_is_line}
 use Rattle.block_text.proofs.TextsBack.{literal, line_text-append}
 use Rattle.report_text.specs.declared.verdict.Verdict.{Verdict}
 use Rattle.report_text.specs.declared.verdict.Verdict.TheVariants as verdict
-use Rattle.report_text.specs.Heads.{denominator_of, row_count, denominator_text, proved_text, overflow_text, cause_text, place_text, least_text, undecided_text, said_of, head_line}
+use Rattle.report_text.specs.Heads.{row_count, denominator_text, proved_text, overflow_text, cause_text, place_text, least_text, undecided_text, said_of, head_line}
 use Rattle.report_text.specs.Report.{IsLeastOver}
 use Rattle.report_readback.specs.ReadBack.{IsWritableVerdict}
 use Rattle.report_readback.proofs.Numerals.{either, decimal_is_line, signed_is_line}

@@ -18,12 +18,13 @@ use Rattle.rule_reduce.specs.declared.rule.Rule.{Rule}
 use Rattle.rule_reduce.specs.RuleLists.{polynomials_of}
 use Rattle.adjoint_rules.specs.declared.problem.Problem.{Problem}
 use Rattle.adjoint_rules.specs.Problem.{polynomials}
+use Rattle.adjoint_rules.specs.Claims.{claim_at}
 use Rattle.traced_completion.specs.declared.budget.Budget.{Budget}
 use Rattle.traced_completion.specs.PlainRun.{setting_of}
 use Rattle.claim_decider.specs.declared.outcome.Outcome.TheVariants as outcome
 use Rattle.claim_decider.specs.Outcomes.{record_of, evidence_of_zero}
-use Rattle.claim_decider.specs.Decided.{claim_at}
-use Rattle.outcome_laws.specs.Meanings.{IsOutcomeAt, LemmaCertificateAddsUp}
+use Rattle.cofactor_checker.specs.ProvedMeans.{LemmaCertificateAddsUp}
+use Rattle.outcome_laws.specs.Meanings.{IsOutcomeAt}
 use Rattle.outcome_laws.proofs.Derivations.{gathering_adds_up}
 use Rattle.outcome_laws.proofs.Meanings.{derived_claims_add_up}
 use Rattle.outcome_laws.proofs.OutcomeWays.{Way, no_terms, expanded, gathered, left_over, given_up, with_run, way}

@@ -9,12 +9,13 @@ use Rattle.cofactor_trace.specs.declared.evidence.Format.{Format}
 use Rattle.cofactor_trace.specs.declared.halt.Halt.{Halt}
 use Rattle.cofactor_checker.specs.Rows.{IsNumberUpTo}
 use Rattle.adjoint_rules.specs.declared.problem.Problem.{Problem}
+use Rattle.adjoint_rules.specs.Claims.{claim_at, claim_numbers}
 use Rattle.traced_completion.specs.declared.budget.Budget.{Budget}
 use Rattle.traced_completion.specs.PlainRun.{setting_of}
 use Rattle.claim_decider.specs.declared.outcome.Outcome.{Outcome}
 use Rattle.claim_decider.specs.declared.outcome.Outcome.TheVariants as outcome
 use Rattle.claim_decider.specs.Outcomes.{IsOutcomeOf}
-use Rattle.claim_decider.specs.Decided.{claim_at, claim_numbers, AreOutcomesOf}
+use Rattle.claim_decider.specs.Decided.{AreOutcomesOf}
 use Rattle.outcome_laws.proofs.EvidenceFits.{evidence_fits}
 use Rattle.outcome_laws.proofs.OutcomeLetters.{outcomes_have_letters, last_rules_have_letters}
 use Rattle.report_text.specs.declared.verdict.Verdict.{Verdict}

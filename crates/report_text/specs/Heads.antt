@@ -5,6 +5,7 @@ use Rattle.std.specs.List.{flat_map}
 use Rattle.coef_int.specs.declared.Overflow.{Overflow}
 use Rattle.nc_polynomial.specs.Limits.{word_limit, term_limit}
 use Rattle.cofactor_trace.specs.Limits.{row_limit, letter_limit}
+use Rattle.cofactor_trace.specs.LemmaRows.{denominator_of}
 use Rattle.quiver.specs.Declarations.{Declaration}
 use Rattle.cofactor_trace.specs.declared.evidence.Evidence.{Evidence}
 use Rattle.cofactor_trace.specs.declared.evidence.Evidence.TheVariants as format
@@ -17,11 +18,6 @@ use Rattle.cofactor_trace.specs.declared.halt.Place.TheVariants as place
 use Rattle.block_text.specs.Written.{word_text}
 use Rattle.report_text.specs.declared.verdict.Verdict.{Verdict}
 use Rattle.report_text.specs.declared.verdict.Verdict.TheVariants as verdict
-
--- proved
-abbrev pub denominator_of : Evidence → ℤ
-denominator_of (format.Plain c) = c.denominator
-denominator_of (format.Lemmas c) = c.denominator
 
 -- how many rows all lemmas have, and the goal
 abbrev pub lemma_row_count : LemmaCertificate → ℕ

@@ -19,6 +19,7 @@ use Rattle.rule_reduce.specs.NormalForms.{normal_form_of}
 use Rattle.ambiguities.specs.declared.ambiguity.Ambiguity.{Ambiguity}
 use Rattle.ambiguities.specs.Ambiguities.{IsAmbiguity}
 use Rattle.ambiguities.specs.SPolynomials.{s_rows_of, s_polynomial_of}
+use Rattle.ambiguities.proofs.Words.{AreWords, words_from, normal_words, s_words}
 use Rattle.traced_completion.specs.declared.pending.waiting.Waiting.{Waiting}
 use Rattle.traced_completion.specs.Results.{and_then, halted, each_in_turn, unless_overflow}
 use Rattle.rule_making.specs.Making.{Recorded, Rest, rest_with, Adds}
@@ -31,7 +32,7 @@ use Rattle.cofactor_trace.specs.declared.halt.Halt.{Halt}
 use Rattle.traced_completion.proofs.StoreLemmas.{pending-all}
 use Rattle.traced_completion.proofs.FirstReductions.{each_length}
 use Rattle.traced_completion.proofs.Transitions.{taken_length}
-use Rattle.traced_completion.proofs.RunRules.{AreWords, words_from, normal_words, s_words, made_is_rule}
+use Rattle.traced_completion.proofs.RunRules.{made_is_rule}
 
 ok_is : {A : Type 0} (x y : A) → ◌≡◌ {A = Result A ReduceFault} (Ok x) (Ok y) → x ≡ y
 ok_is x y same = cc

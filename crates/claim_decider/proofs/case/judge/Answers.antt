@@ -8,7 +8,7 @@ use Rattle.cofactor_trace.specs.declared.halt.Place.TheVariants as place
 use Rattle.rule_reduce.specs.declared.state.State.{State}
 use Rattle.rule_reduce.specs.NormalForms.{ExplainsHalt, normal_form_of}
 use Rattle.traced_completion.specs.PlainRun.{setting_of, IsCauseOf}
-use Rattle.claim_decider.specs.Decided.{claim_at}
+use Rattle.adjoint_rules.specs.Claims.{claim_at}
 use Rattle.claim_decider.specs.Outcomes.{halted_at, record_of, IsProved, IsDoneBy}
 use Rattle.claim_decider.proofs.ClaimNumbers.{claim_at-place, nothing}
 use Rattle.claim_decider.proofs.Judging.{same_reduction, left, done_by_fault, done_by_zero, claim_record}

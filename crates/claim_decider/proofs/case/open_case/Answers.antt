@@ -3,7 +3,7 @@ use Rattle.nc_polynomial.specs.declared.poly.Poly.{Poly}
 use Rattle.traced_completion.specs.PlainRun.{start, setting_of}
 use Rattle.rule_reduce.specs.NormalForms.{start_of}
 use Rattle.claim_decider.specs.declared.outcome.Outcome.TheVariants as outcome
-use Rattle.claim_decider.specs.Decided.{claim_at}
+use Rattle.adjoint_rules.specs.Claims.{claim_at}
 use Rattle.claim_decider.specs.Outcomes.{at_once}
 use Rattle.claim_decider.proofs.ClaimNumbers.{claim_at-place, nothing}
 use Rattle.claim_decider.proofs.Judging.{left, no_rules}

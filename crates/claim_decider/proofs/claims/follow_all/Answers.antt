@@ -2,7 +2,7 @@ use Rattle.std.proofs.Common.{rules, ◌≡◌, ◌<◌, ◌-◌, get_or, length
 use Rattle.traced_completion.specs.PlainRun.{setting_of}
 use Rattle.traced_completion.specs.Completions.{state_of}
 use Rattle.claim_decider.specs.declared.case.Case.{Case}
-use Rattle.claim_decider.specs.Decided.{claim_at}
+use Rattle.adjoint_rules.specs.Claims.{claim_at}
 use Rattle.claim_decider.specs.Cases.{IsNumber, Follows, StandingFollows}
 use Rattle.claim_decider.proofs.CaseLists.{same_item, others_stay, one_more}
 use Rattle.claim_decider.proofs.claims.follow_all.Goals as goal

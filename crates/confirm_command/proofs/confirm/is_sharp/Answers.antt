@@ -8,7 +8,7 @@ use Rattle.rule_reduce.specs.declared.rule.Rule.{Rule}
 use Rattle.rule_reduce.specs.RuleLists.{IsRule, polynomials_of}
 use Rattle.ambiguities.specs.Resolved.{Resolved}
 use Rattle.adjoint_rules.specs.Problem.{polynomials}
-use Rattle.claim_decider.specs.Decided.{claim_at}
+use Rattle.adjoint_rules.specs.Claims.{claim_at}
 use Rattle.normal_category.specs.Faults.{AreSharp}
 use Rattle.normal_category.specs.Tests.{is_sharp}
 use Rattle.confirm_command.proofs.Means.{rules_generate, rules_miss_claim, rules_from_test, test_from_rules, same_test}

@@ -1,5 +1,5 @@
 use Rattle.report_readback.proofs.Declared.{declared_names_are_names}
-use Rattle.claim_decider.specs.Decided.{claim_numbers}
+use Rattle.adjoint_rules.specs.Claims.{claim_numbers}
 use Rattle.outcome_laws.proofs.OutcomeLetters.{last_rules_have_letters}
 use Rattle.report_readback.proofs.ModelReports.{reports_read_back_as_models}
 use Rattle.report_readback.proofs.Outcomes.{verdicts_writable, few_verdicts}

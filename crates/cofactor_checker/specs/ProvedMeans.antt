@@ -1,18 +1,38 @@
--- What it means in a category that a claim is proved by evidence.
+-- When evidence adds up to a claim of a problem, and what that means in a category.
 use Rattle.std.specs.Prelude.{ℕ, ℤ, ◌≡◌, false, List}
 use Rattle.std.specs.List.{AllByRecursion}
 use Rattle.definitions.specs.Category.{Structure, InvolutionLaws}
+use Rattle.definitions.specs.Combination.{IsCombination}
 use Rattle.definitions.specs.Poly.{Term}
 use Rattle.definitions.specs.Quiver.{Quiver}
 use Rattle.definitions.specs.Representation.{Representation, StarRepresents, Cancels}
 use Rattle.definitions.specs.Soundness.{HasSignature, HasValueZero, MakesZero}
 use Rattle.quiver.specs.Declarations.{quiver_of}
+use Rattle.cofactor_trace.specs.declared.Certificate.{Certificate}
+use Rattle.cofactor_trace.specs.declared.evidence.LemmaCertificate.{LemmaCertificate}
 use Rattle.cofactor_trace.specs.declared.evidence.Evidence.{Evidence}
+use Rattle.cofactor_trace.specs.declared.evidence.Evidence.TheVariants as evidence
+use Rattle.cofactor_trace.specs.Rows.{rows_of}
+use Rattle.cofactor_trace.specs.LemmaRows.{IsEvidenceOf, denominator_of}
 use Rattle.adjoint_rules.specs.declared.problem.Problem.{Problem}
 use Rattle.adjoint_rules.specs.Problem.{polynomials, generators_in}
-use Rattle.claim_decider.specs.Decided.{claim_at}
-use Rattle.report_text.specs.Heads.{denominator_of}
-use Rattle.outcome_laws.specs.Meanings.{EvidenceAddsUp}
+use Rattle.adjoint_rules.specs.Claims.{claim_at}
+
+-- The certificate names the claim, and its rows over the generators add up to its denominator, which is positive, times the claim.
+pub record CertificateAddsUp (problem : Problem) (number : ℕ) (c : Certificate) : Type 0 where
+  pub claim : c.claim ≡ number
+  pub combination : IsCombination (polynomials problem.generators) (rows_of c.rows) c.denominator (claim_at problem number)
+
+-- The certificate names the claim, and there are polynomials of its lemmas with which it is evidence of the claim.
+pub record LemmaCertificateAddsUp (problem : Problem) (number : ℕ) (c : LemmaCertificate) : Type 0 where
+  pub claim : c.claim ≡ number
+  pub lemmas : List (List Term)
+  pub evidence : IsEvidenceOf (polynomials problem.generators) lemmas c (claim_at problem number)
+
+-- The evidence is the claim's, and it adds up.
+abbrev pub EvidenceAddsUp : Problem → ℕ → Evidence → Type 0
+EvidenceAddsUp problem number (evidence.Plain c) = CertificateAddsUp problem number c
+EvidenceAddsUp problem number (evidence.Lemmas c) = LemmaCertificateAddsUp problem number c
 
 -- Whatever the involution, each star representation in which d cancels and the assumptions have the value zero gives the claim the value zero.
 pub record MakesZeroByStar {Object Arrow : Type 0} (s : Structure Object Arrow) (q : Quiver) (assumptions : List (List Term)) (d : ℤ)

@@ -13,14 +13,13 @@ use Rattle.quiver.specs.Declarations.{quiver_of}
 use Rattle.cofactor_trace.specs.declared.evidence.Evidence.{Evidence}
 use Rattle.cofactor_trace.specs.declared.evidence.Evidence.TheVariants.{Plain, Lemmas}
 use Rattle.cofactor_trace.specs.Rows.{rows_of}
+use Rattle.cofactor_trace.specs.LemmaRows.{denominator_of}
 use Rattle.adjoint_rules.specs.declared.problem.Problem.{Problem}
 use Rattle.adjoint_rules.specs.Problem.{polynomials, numbers, generators_in}
 use Rattle.adjoint_rules.proofs.Generators.{posed_quiver, claims_have_signatures, marked_are_objects, generators_have_signatures, generators_are_zero, makes_zero}
-use Rattle.claim_decider.specs.Decided.{claim_at}
+use Rattle.adjoint_rules.specs.Claims.{claim_at}
 use Rattle.representations.specs.Evidence.{IsEvidenceSound}
-use Rattle.outcome_laws.specs.Meanings.{EvidenceAddsUp}
-use Rattle.report_text.specs.Heads.{denominator_of}
-use Rattle.outcome_laws.specs.ProvedMeans.{MakesZeroByStar, MeansZero, ProvedMeans}
+use Rattle.cofactor_checker.specs.ProvedMeans.{EvidenceAddsUp, MakesZeroByStar, MeansZero, ProvedMeans}
 
 -- the polynomial with a number from 1 to the count has what each of them has
 get_one : (q : Quiver) (ps : List (List (ℤ × List ℕ))) (n : ℕ) → n < length ps → AllByRecursion (HasSignature q) ps → HasSignature q (get_or ps n [])

@@ -1,0 +1,98 @@
+-- Words that have letters, all below a number: reductions and S-polynomials keep them.
+use Rattle.std.proofs.Common.{◌≡◌, ◌<◌, ◌+◌, ℕ, ℤ, ◌*ℤ◌, List, [], ◌∷◌, ◌++◌, length, take, drop, Some, Ok, sym, ap, ◌∙◌, subst, arith}
+use Rattle.std.specs.List.{All, AllByRecursion}
+use Rattle.std.proofs.lemmas.List.{length-append}
+use Rattle.std.proofs.lemmas.List.Elements.{All-from_recursion, recursion_from_All, All-contains, All-append, All-take, All-drop}
+use Rattle.definitions.specs.Poly.{Term, poly_between}
+use Rattle.word_core.specs.Letters.{IsOver}
+use Rattle.word_orders.specs.Admissible.{Compare}
+use Rattle.nc_polynomial.specs.Terms.{scaled, products, aligned, added, sums}
+use Rattle.nc_polynomial.specs.Arithmetic.{combined}
+use Rattle.nc_polynomial.specs.Product.{and_then}
+use Rattle.nc_polynomial.proofs.Chains.{sized-value, finished-value}
+use Rattle.nc_polynomial.proofs.Shapes.{all-scaled, all-totals, all-aligned}
+use Rattle.rule_reduce.specs.declared.rule.Rule.{Rule}
+use Rattle.rule_reduce.specs.declared.state.State.{State}
+use Rattle.rule_reduce.specs.declared.state.Choice.{Choice}
+use Rattle.rule_reduce.specs.RuleLists.{IsRule, rule_at, entries_of}
+use Rattle.rule_reduce.specs.Choices.{choice_of}
+use Rattle.rule_reduce.specs.Steps.{moved, move_of}
+use Rattle.rule_reduce.specs.NormalForms.{start_of, normal_form_of}
+use Rattle.rule_reduce.proofs.Chosen.{found}
+use Rattle.rule_reduce.proofs.LettersKept.{each-moved}
+use Rattle.rule_reduce.proofs.Numbers.{rule_at-all, rule_at-polynomial}
+use Rattle.rule_reduce.proofs.Runs.{reduction_keeps}
+use Rattle.ambiguities.specs.declared.ambiguity.Ambiguity.{Ambiguity}
+use Rattle.ambiguities.specs.Ambiguities.{IsAmbiguity, lead_at, overlap_word_of}
+use Rattle.ambiguities.specs.SPolynomials.{first_row, second_row, row_multiple, s_polynomial_of}
+use Rattle.ambiguities.proofs.Bounds.{over_overlap_word}
+use Rattle.ambiguities.proofs.Multiples.{passed}
+
+combined_is : (a : ℤ) (p : List Term) (b : ℤ) (q r : List Term) → combined a p b q ≡ Ok r → added (scaled a p) (scaled b q) ≡ r
+combined_is a p b q r ends = finished-value (products a p ++ (products b q ++ sums (scaled a p) (scaled b q))) (added (scaled a p) (scaled b q)) r ends
+
+-- words
+module _ (letters : ℕ) where
+  abbrev pub IsWord : List ℕ → Type 0
+  IsWord w = (0 < length w) × IsOver letters w
+
+  abbrev pub AreWords : List Term → Type 0
+  AreWords p = AllByRecursion (λ t. IsWord t.1) p
+
+  pub words_from : (p : List Term) → AllByRecursion (λ t. 0 < length t.1) p → AllByRecursion (λ t. IsOver letters t.1) p → AreWords p
+  words_from [] some over = tt
+  words_from (t ∷ p) some over = ((some.0, over.0), words_from p some.1 over.1)
+
+  pub words_nonempty : (p : List Term) → AreWords p → AllByRecursion (λ t. 0 < length t.1) p
+  words_nonempty [] each = tt
+  words_nonempty (t ∷ p) each = (each.0.0, words_nonempty p each.1)
+
+  pub words_over : (p : List Term) → AreWords p → AllByRecursion (λ t. IsOver letters t.1) p
+  words_over [] each = tt
+  words_over (t ∷ p) each = (each.0.1, words_over p each.1)
+
+  word_around : (l w r : List ℕ) → IsOver letters l → IsOver letters r → IsWord w → IsWord (l ++ (w ++ r))
+  word_around l w r left right is = (
+    omega (arith, length-append l (w ++ r), length-append w r, is.0),
+    All-append (λ a. a < letters) l (w ++ r) left (All-append (λ a. a < letters) w r is.1 right),
+  )
+
+  words_around : (l r : List ℕ) → IsOver letters l → IsOver letters r → (p : List Term) → AreWords p → AllByRecursion (λ t. IsWord (l ++ (t.1 ++ r))) p
+  words_around l r left right [] each = tt
+  words_around l r left right (t ∷ p) each = (word_around l t.1 r left right each.0, words_around l r left right p each.1)
+
+  words_between : (l r : List ℕ) → IsOver letters l → IsOver letters r → (p : List Term) → AreWords p → AreWords (poly_between l p r)
+  words_between l r left right [] each = tt
+  words_between l r left right (t ∷ p) each = (word_around l t.1 r left right each.0, words_between l r left right p each.1)
+
+  module _ (compare : Compare) (rules : List Rule) (are_rules : All (IsRule letters compare) rules) where
+    rule_words : (n : ℕ) (g : Rule) → rule_at rules n ≡ Some g → AreWords g.poly.terms
+    rule_words n g has =
+        let is = rule_at-all (IsRule letters compare) rules n g has are_rules in
+        words_from g.poly.terms (recursion_from_All (λ (t : Term). 0 < length t.1) g.poly.terms is.nonempty) (recursion_from_All (λ (t : Term). IsOver letters t.1) g.poly.terms is.over)
+
+    step_words : (c : Choice) (g : Rule) (s : State) → choice_of compare (entries_of rules) s.rest ≡ Some c → rule_at rules c.number ≡ Some g → AreWords s.rest → AreWords (moved (move_of c g) s).rest
+    step_words c g s chosen has before =
+        let one = found compare rules s.rest c chosen in
+        let word : IsWord c.word = All-contains (λ (t : Term). IsWord t.1) s.rest (c.coefficient, c.word) (All-from_recursion (λ (t : Term). IsWord t.1) s.rest before) one.term in
+        each-moved IsWord (move_of c g) s before
+        (words_around (take c.place c.word) (drop (c.place + length g.lead) c.word) (All-take (λ a. a < letters) c.place c.word word.1) (All-drop (λ a. a < letters) (c.place + length g.lead) c.word word.1) g.poly.terms (rule_words c.number g has))
+
+    -- a reduction keeps them
+    pub normal_words : (p : List Term) (steps : ℕ) (s : State) → AreWords p → normal_form_of compare rules p steps ≡ Ok s → AreWords s.rest
+    normal_words p steps s each ends = (reduction_keeps (λ (t : State). AreWords t.rest) compare rules step_words steps steps (start_of p) s ends each).kept
+
+    -- and so does an S-polynomial
+    pub s_words : (a : Ambiguity) → IsAmbiguity rules a → (p : List Term) → s_polynomial_of rules a ≡ Ok p → AreWords p
+    s_words a is p ends =
+        let one = first_row rules a in
+        let two = second_row rules a in
+        let word : IsOver letters (overlap_word_of rules a) = over_overlap_word letters compare rules a are_rules is in
+        let first = passed (row_multiple rules one) (λ m. and_then (row_multiple rules two) (λ n. combined one.coef m two.coef n)) p ends in
+        let second = passed (row_multiple rules two) (λ n. combined one.coef first.value two.coef n) p first.rest in
+        let left_words = words_between one.left one.right (λ i x inside. absurd (omega (arith, inside))) (All-drop (λ a. a < letters) (length (lead_at rules a.i)) (overlap_word_of rules a) word) is.first.poly.terms (rule_words a.i is.first is.first_numbered) in
+        let right_words = words_between two.left two.right (All-take (λ a. a < letters) a.place (overlap_word_of rules a) word) (All-drop (λ a. a < letters) (a.place + length (lead_at rules a.j)) (overlap_word_of rules a) word) is.second.poly.terms (rule_words a.j is.second is.second_numbered) in
+        let left : AreWords first.value = subst AreWords (ap (λ q. poly_between one.left q one.right) (sym (rule_at-polynomial rules a.i is.first is.first_numbered)) ∙ sized-value _ first.value first.given) left_words in
+        let right : AreWords second.value = subst AreWords (ap (λ q. poly_between two.left q two.right) (sym (rule_at-polynomial rules a.j is.second is.second_numbered)) ∙ sized-value _ second.value second.given) right_words in
+        subst AreWords (combined_is one.coef first.value two.coef second.value p second.rest)
+        (all-totals IsWord (aligned (scaled one.coef first.value) (scaled two.coef second.value)) (all-aligned IsWord (scaled one.coef first.value) (scaled two.coef second.value) (all-scaled IsWord one.coef first.value left) (all-scaled IsWord two.coef second.value right)))
