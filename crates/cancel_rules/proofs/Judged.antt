@@ -10,7 +10,7 @@ use Rattle.definitions.specs.Quiver.{Quiver}
 use Rattle.definitions.specs.Combination.{generator_at}
 use Rattle.definitions.specs.Soundness.{HasSignature}
 use Rattle.nc_polynomial.specs.Terms.{products}
-use Rattle.cofactor_trace.specs.declared.evidence.Lemma.{Lemma}
+use Rattle.traced_rows.specs.declared.evidence.Lemma.{Lemma}
 use Rattle.cofactor_checker.specs.Rows.{IsNumberUpTo}
 use Rattle.cofactor_checker.specs.Lemmas.{LemmaPasses, term_total}
 use Rattle.cofactor_checker.specs.LemmaAcceptance.{HasScale, IsTight}

@@ -13,8 +13,8 @@ use Rattle.definitions.proofs.StarSound.{all-append, star_sound}
 use Rattle.definitions.proofs.Values.{value_at-linear}
 use Rattle.representations.specs.Cancelling.{IsMonic, IsEpic}
 use Rattle.representations.proofs.Lemmas as lemmas
-use Rattle.cofactor_trace.specs.declared.evidence.Lemma.{Lemma}
-use Rattle.cofactor_trace.specs.LemmaRows.{AddsUpTo, IsShareOf}
+use Rattle.traced_rows.specs.declared.evidence.Lemma.{Lemma}
+use Rattle.traced_rows.specs.LemmaRows.{AddsUpTo, IsShareOf}
 use Rattle.cancel_rules.specs.declared.cancellation.Side.{Side}
 use Rattle.cancel_rules.specs.declared.cancellation.Side.TheVariants as side
 use Rattle.cancel_rules.specs.declared.cancellation.Item.{Item}

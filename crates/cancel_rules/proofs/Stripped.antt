@@ -12,7 +12,7 @@ use Rattle.definitions.proofs.Paths.{step, split}
 use Rattle.definitions.proofs.Values.{word_at, word_at_is_arrow, group_at, value_at-linear}
 use Rattle.definitions.proofs.Rows.{path_value-append, between_is_zero}
 use Rattle.representations.specs.Cancelling.{IsMonic, IsEpic}
-use Rattle.cofactor_trace.proofs.Between.{between-nothing}
+use Rattle.traced_rows.proofs.Between.{between-nothing}
 use Rattle.cancel_rules.proofs.Words.{coefficient_front, coefficient_behind}
 
 -- whether a word has a letter

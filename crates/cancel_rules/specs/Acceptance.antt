@@ -11,8 +11,8 @@ use Rattle.definitions.specs.Quiver.{Quiver}
 use Rattle.definitions.specs.Combination.{generator_at}
 use Rattle.nc_polynomial.specs.Terms.{products}
 use Rattle.quiver.specs.Declarations.{Declaration, letter_count, quiver_of}
-use Rattle.cofactor_trace.specs.declared.evidence.Lemma.{Lemma}
-use Rattle.cofactor_trace.specs.declared.evidence.LemmaRow.{LemmaRow}
+use Rattle.traced_rows.specs.declared.evidence.Lemma.{Lemma}
+use Rattle.traced_rows.specs.declared.evidence.LemmaRow.{LemmaRow}
 use Rattle.adjoint_rules.specs.declared.problem.Problem.{Problem}
 use Rattle.adjoint_rules.specs.Problem.{polynomials}
 use Rattle.cofactor_checker.specs.Rows.{IsNumberUpTo}

@@ -6,7 +6,7 @@ use Rattle.definitions.specs.Poly.{Poly, SamePolynomial}
 use Rattle.definitions.specs.Quiver.{Quiver, letters}
 use Rattle.definitions.specs.Combination.{generator_at}
 use Rattle.definitions.specs.Soundness.{HasSignature}
-use Rattle.cofactor_trace.specs.LemmaRows.{AddsUpTo, IsShareOf}
+use Rattle.traced_rows.specs.LemmaRows.{AddsUpTo, IsShareOf}
 use Rattle.cancel_rules.specs.declared.cancellation.Side.{Side}
 use Rattle.cancel_rules.specs.declared.cancellation.Side.TheVariants as side
 use Rattle.cancel_rules.specs.declared.cancellation.Item.{Item}

@@ -1,6 +1,6 @@
 //! Proofs that cancel letters.
 
-use cofactor_trace::Lemma;
+use traced_rows::Lemma;
 use lists::Listing;
 use word_core::Letter;
 

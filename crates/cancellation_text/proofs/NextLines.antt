@@ -3,7 +3,7 @@ use Rattle.std.proofs.Common.{◌≡◌, ◌<◌, ◌+◌, ℕ, ℤ, false, List
 use Rattle.std.proofs.lemmas.List.Elements.{All-push}
 use Rattle.word_core.specs.declared.letter.Letter.{Letter}
 use Rattle.quiver.specs.Declarations.{Declaration}
-use Rattle.cofactor_trace.specs.declared.evidence.Lemma.{Lemma}
+use Rattle.traced_rows.specs.declared.evidence.Lemma.{Lemma}
 use Rattle.cancel_rules.specs.declared.cancellation.Side.TheVariants.{Left, Right}
 use Rattle.cancel_rules.specs.declared.cancellation.Item.{Item}
 use Rattle.cancel_rules.specs.declared.cancellation.Item.TheVariants as item

@@ -4,7 +4,7 @@ use Rattle.std.specs.List.{list_any}
 use Rattle.std.specs.Option.{option_map, option_and_then}
 use Rattle.word_core.specs.declared.letter.Letter.{Letter}
 use Rattle.quiver.specs.Declarations.{Declaration}
-use Rattle.cofactor_trace.specs.declared.evidence.Lemma.{Lemma}
+use Rattle.traced_rows.specs.declared.evidence.Lemma.{Lemma}
 use Rattle.cofactor_trace.specs.Limits.{row_limit}
 use Rattle.cancel_rules.specs.declared.cancellation.Side.{Side}
 use Rattle.cancel_rules.specs.declared.cancellation.Side.TheVariants.{Left, Right}

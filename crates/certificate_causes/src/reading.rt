@@ -1,7 +1,7 @@
 //! The certificates of an evidence text.
 ghost use Rattle.std.specs.Prelude.{◌≤◌, IfOk, IfErr, length};
 ghost use Rattle.std.specs.List.{All};
-ghost use Rattle.cofactor_trace.specs.declared.evidence.Format.TheVariants.{Lemmas};
+ghost use Rattle.traced_rows.specs.declared.evidence.Format.TheVariants.{Lemmas};
 ghost use Rattle.certificate_text.specs.Evidence.{IsEvidence, IsFirstFault, IsCheckableEvidence};
 ghost use Rattle.command_shape.specs.FileWords.{evidence_limit};
 ghost use Rattle.command_shape.specs.Blocks.{OverEvidence};
@@ -9,7 +9,7 @@ ghost use Rattle.command_shape.specs.Stop.{StopsBy};
 
 use block_text::CertFault;
 use certificate_text::read_evidence;
-use cofactor_trace::Evidence;
+use traced_rows::Evidence;
 use command_shape::{Stop, refused_evidence};
 use lists::Listing;
 use quiver::Quiver;

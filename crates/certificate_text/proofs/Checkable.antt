@@ -6,15 +6,15 @@ use Rattle.std.proofs.lemmas.List.{length-append}
 use Rattle.std.proofs.lemmas.List.Elements.{All-nil, All-cons, All-head, All-tail, All-weaker}
 use Rattle.coef_int.specs.Range.{IsCoefficient}
 use Rattle.quiver.specs.Declarations.{Declaration}
-use Rattle.cofactor_trace.specs.declared.CertRow.{CertRow}
-use Rattle.cofactor_trace.specs.declared.Certificate.{Certificate}
-use Rattle.cofactor_trace.specs.declared.evidence.LemmaRow.{LemmaRow}
-use Rattle.cofactor_trace.specs.declared.evidence.Lemma.{Lemma}
-use Rattle.cofactor_trace.specs.declared.evidence.LemmaCertificate.{LemmaCertificate}
-use Rattle.cofactor_trace.specs.declared.evidence.Evidence.{Evidence}
-use Rattle.cofactor_trace.specs.declared.evidence.Evidence.TheVariants as block
-use Rattle.cofactor_trace.specs.declared.evidence.Format.{Format}
-use Rattle.cofactor_trace.specs.declared.evidence.Format.TheVariants as format
+use Rattle.traced_rows.specs.declared.certificate.CertRow.{CertRow}
+use Rattle.traced_rows.specs.declared.certificate.Certificate.{Certificate}
+use Rattle.traced_rows.specs.declared.evidence.LemmaRow.{LemmaRow}
+use Rattle.traced_rows.specs.declared.evidence.Lemma.{Lemma}
+use Rattle.traced_rows.specs.declared.evidence.LemmaCertificate.{LemmaCertificate}
+use Rattle.traced_rows.specs.declared.evidence.Evidence.{Evidence}
+use Rattle.traced_rows.specs.declared.evidence.Evidence.TheVariants as block
+use Rattle.traced_rows.specs.declared.evidence.Format.{Format}
+use Rattle.traced_rows.specs.declared.evidence.Format.TheVariants as format
 use Rattle.cofactor_trace.specs.Limits.{row_limit}
 use Rattle.block_text.specs.declared.fault.Flaw.TheVariants.{UnknownName, NumberTooLarge}
 use Rattle.block_text.specs.Fault.{asked}

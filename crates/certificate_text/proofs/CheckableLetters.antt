@@ -2,8 +2,8 @@
 use Rattle.std.proofs.Common.{List}
 use Rattle.std.proofs.lemmas.List.Elements.{All-weaker}
 use Rattle.quiver.specs.Declarations.{Declaration}
-use Rattle.cofactor_trace.specs.declared.evidence.Evidence.{Evidence}
-use Rattle.cofactor_trace.specs.declared.evidence.Evidence.TheVariants as block
+use Rattle.traced_rows.specs.declared.evidence.Evidence.{Evidence}
+use Rattle.traced_rows.specs.declared.evidence.Evidence.TheVariants as block
 use Rattle.certificate_text.specs.Evidence.{IsCheckableLemma, IsCheckableEvidence}
 use Rattle.certificate_text.specs.Written.{IsLemmaOver, IsEvidenceOver}
 

@@ -1,7 +1,7 @@
 -- Each text is evidence or has a first fault, in one way.
 use Rattle.std.proofs.Common.{List}
 use Rattle.quiver.specs.Declarations.{Declaration}
-use Rattle.cofactor_trace.specs.declared.evidence.Format.{Format}
+use Rattle.traced_rows.specs.declared.evidence.Format.{Format}
 use Rattle.block_text.specs.Laws.{EachIsRead, ValuesAreUnique, FaultIsUnique, ValuesHaveNoFault, AreTold}
 use Rattle.block_text.proofs.TextLaws.{are_told}
 use Rattle.certificate_text.specs.Evidence.{certificate_kind, IsEvidence, IsFirstFault}

@@ -6,12 +6,12 @@ use Rattle.std.proofs.lemmas.Grind.{flat_map-append}
 use Rattle.std.proofs.lemmas.List.{length-append, map-append}
 use Rattle.std.proofs.lemmas.List.Elements.{All-nil, All-push}
 use Rattle.quiver.specs.Declarations.{Declaration}
-use Rattle.cofactor_trace.specs.declared.CertRow.{CertRow}
-use Rattle.cofactor_trace.specs.declared.Certificate.{Certificate}
-use Rattle.cofactor_trace.specs.declared.evidence.Lemma.{Lemma}
-use Rattle.cofactor_trace.specs.declared.evidence.LemmaRow.{LemmaRow}
-use Rattle.cofactor_trace.specs.declared.evidence.Format.{Format}
-use Rattle.cofactor_trace.specs.declared.evidence.Format.TheVariants.{Plain, Lemmas}
+use Rattle.traced_rows.specs.declared.certificate.CertRow.{CertRow}
+use Rattle.traced_rows.specs.declared.certificate.Certificate.{Certificate}
+use Rattle.traced_rows.specs.declared.evidence.Lemma.{Lemma}
+use Rattle.traced_rows.specs.declared.evidence.LemmaRow.{LemmaRow}
+use Rattle.traced_rows.specs.declared.evidence.Format.{Format}
+use Rattle.traced_rows.specs.declared.evidence.Format.TheVariants.{Plain, Lemmas}
 use Rattle.block_text.specs.declared.fault.Flaw.TheVariants.{BadLine, NumberTooLarge}
 use Rattle.certificate_text.specs.declared.place.Size.{Size}
 use Rattle.certificate_text.specs.declared.place.Opened.{Opened}

@@ -2,10 +2,10 @@
 use Rattle.std.proofs.Common.{List, IsTrue}
 use Rattle.std.specs.List.{list_all}
 use Rattle.quiver.specs.Declarations.{Declaration, IsDeclared}
-use Rattle.cofactor_trace.specs.declared.evidence.Evidence.{Evidence}
-use Rattle.cofactor_trace.specs.declared.evidence.Evidence.TheVariants.{Plain, Lemmas}
-use Rattle.cofactor_trace.specs.declared.evidence.Format.{Format}
-use Rattle.cofactor_trace.specs.declared.evidence.Format.TheVariants as format
+use Rattle.traced_rows.specs.declared.evidence.Evidence.{Evidence}
+use Rattle.traced_rows.specs.declared.evidence.Evidence.TheVariants.{Plain, Lemmas}
+use Rattle.traced_rows.specs.declared.evidence.Format.{Format}
+use Rattle.traced_rows.specs.declared.evidence.Format.TheVariants as format
 use Rattle.block_text.specs.Laws.{IsReadBetween, AreReadInParts, AreReadBack}
 use Rattle.block_text.proofs.TextLaws.{are_read_back}
 use Rattle.certificate_text.specs.Evidence.{certificate_kind, other_words, HasCertificates}

@@ -7,7 +7,7 @@ use Rattle.std.proofs.lemmas.List.{length-append}
 use Rattle.std.proofs.lemmas.List.Elements.{All-nil, All-push, All-from_recursion}
 use Rattle.std.proofs.lemmas.Option.{option_and_then_some}
 use Rattle.quiver.specs.Declarations.{Declaration}
-use Rattle.cofactor_trace.specs.declared.CertRow.{CertRow}
+use Rattle.traced_rows.specs.declared.certificate.CertRow.{CertRow}
 use Rattle.block_text.specs.declared.fault.Flaw.{Flaw}
 use Rattle.block_text.specs.declared.fault.Flaw.TheVariants.{UnknownName, NumberTooLarge, TooMany}
 use Rattle.certificate_text.specs.declared.place.Size.{Size}

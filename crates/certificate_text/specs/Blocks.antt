@@ -1,8 +1,8 @@
 -- The grammar of evidence text: blocks as trees of tokens, and the lines that they are.
 use Rattle.std.specs.Prelude.{◌≡◌, ⊤, ℕ, ◌+◌, ◌∷◌, ◌++◌, false, IsTrue, List, [], map, codes, if◌then◌else◌}
 use Rattle.std.specs.List.{All, flat_map}
-use Rattle.cofactor_trace.specs.declared.evidence.Format.{Format}
-use Rattle.cofactor_trace.specs.declared.evidence.Format.TheVariants.{Plain, Lemmas}
+use Rattle.traced_rows.specs.declared.evidence.Format.{Format}
+use Rattle.traced_rows.specs.declared.evidence.Format.TheVariants.{Plain, Lemmas}
 use Rattle.block_text.specs.Letters.{is_number}
 use Rattle.block_text.specs.Lines.{Line, claim_line}
 use Rattle.certificate_text.specs.Lines.{RowTokens, is_value, is_row}

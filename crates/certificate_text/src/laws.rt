@@ -3,7 +3,7 @@ ghost use Rattle.std.specs.Prelude.{List};
 ghost use Rattle.block_text.specs.Laws.{EachIsRead, ValuesAreUnique, FaultIsUnique, ValuesHaveNoFault};
 ghost use Rattle.certificate_text.specs.Back.{IsReadBack, ArePartsReadBack};
 ghost use Rattle.certificate_text.specs.Evidence.{IsEvidence, IsFirstFault};
-ghost use Rattle.cofactor_trace.specs.declared.evidence.Format.{Format};
+ghost use Rattle.traced_rows.specs.declared.evidence.Format.{Format};
 ghost use Rattle.quiver.specs.Declarations.{Declaration};
 
 /// Each text is evidence, or has a first fault.

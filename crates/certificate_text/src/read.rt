@@ -5,8 +5,8 @@ ghost use Rattle.std.specs.List.{All};
 ghost use Rattle.block_text.specs.Fault.{ExplainsBy};
 ghost use Rattle.certificate_text.specs.Evidence.{IsEvidence, IsFirstFault, IsCheckable, IsCheckableEvidence};
 ghost use Rattle.certificate_text.specs.Reading.{IsPlain};
-ghost use Rattle.cofactor_trace.specs.declared.evidence.Evidence.TheVariants as Evidence;
-ghost use Rattle.cofactor_trace.specs.declared.evidence.Format.TheVariants as Format;
+ghost use Rattle.traced_rows.specs.declared.evidence.Evidence.TheVariants as Evidence;
+ghost use Rattle.traced_rows.specs.declared.evidence.Format.TheVariants as Format;
 
 use crate::step::Certificates;
 use block_text::{ReadText, read_blocks};

@@ -3,10 +3,10 @@ use Rattle.std.proofs.Common.{◌≡◌, List, [], ◌∷◌, length, refl, ap, 
 use Rattle.std.specs.List.{flat_map}
 use Rattle.std.proofs.lemmas.List.{length-append}
 use Rattle.quiver.specs.Declarations.{Declaration}
-use Rattle.cofactor_trace.specs.declared.evidence.Lemma.{Lemma}
-use Rattle.cofactor_trace.specs.declared.evidence.LemmaRow.{LemmaRow}
-use Rattle.cofactor_trace.specs.declared.evidence.Evidence.{Evidence}
-use Rattle.cofactor_trace.specs.declared.evidence.Evidence.TheVariants.{Plain, Lemmas}
+use Rattle.traced_rows.specs.declared.evidence.Lemma.{Lemma}
+use Rattle.traced_rows.specs.declared.evidence.LemmaRow.{LemmaRow}
+use Rattle.traced_rows.specs.declared.evidence.Evidence.{Evidence}
+use Rattle.traced_rows.specs.declared.evidence.Evidence.TheVariants.{Plain, Lemmas}
 use Rattle.cofactor_checker.specs.declared.accepted.Accepted.{Accepted}
 use Rattle.cofactor_checker.specs.Lemmas.{row_count}
 use Rattle.cofactor_checker.specs.LemmaAcceptance.{IsRanged}

@@ -4,7 +4,7 @@ use Rattle.std.specs.List.{All}
 use Rattle.std.proofs.lemmas.List.Elements.{All-contains}
 use Rattle.nc_polynomial.specs.declared.poly.Poly.{Poly}
 use Rattle.word_orders.specs.Admissible.{IsAdmissible}
-use Rattle.cofactor_trace.specs.declared.evidence.Format.{Format}
+use Rattle.traced_rows.specs.declared.evidence.Format.{Format}
 use Rattle.adjoint_rules.specs.declared.problem.Problem.{Problem}
 use Rattle.adjoint_rules.specs.Claims.{claim_at}
 use Rattle.traced_completion.specs.PlainRun.{Setting, RunState, IsRunState}

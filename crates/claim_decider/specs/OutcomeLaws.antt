@@ -3,7 +3,7 @@ use Rattle.std.specs.Prelude.{◌≡◌, ℕ, List}
 use Rattle.definitions.specs.Poly.{Term}
 use Rattle.nc_polynomial.specs.declared.poly.Poly.{Poly}
 use Rattle.word_orders.specs.Admissible.{IsAdmissible}
-use Rattle.cofactor_trace.specs.declared.evidence.Format.{Format}
+use Rattle.traced_rows.specs.declared.evidence.Format.{Format}
 use Rattle.adjoint_rules.specs.declared.problem.Problem.{Problem}
 use Rattle.traced_completion.specs.PlainRun.{Setting}
 use Rattle.claim_decider.specs.declared.outcome.Outcome.{Outcome}

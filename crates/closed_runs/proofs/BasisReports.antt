@@ -5,8 +5,8 @@ use Rattle.std.proofs.lemmas.List.{length-append, length-map, map-append, nil_fr
 use Rattle.std.proofs.lemmas.List.Elements.{All-nil, All-cons, All-head, All-tail}
 use Rattle.nc_polynomial.specs.declared.poly.Poly.{Poly}
 use Rattle.quiver.specs.Declarations.{Declaration, IsDeclared}
-use Rattle.cofactor_trace.specs.declared.evidence.Format.{Format}
-use Rattle.cofactor_trace.specs.declared.evidence.Format.TheVariants as format
+use Rattle.traced_rows.specs.declared.evidence.Format.{Format}
+use Rattle.traced_rows.specs.declared.evidence.Format.TheVariants as format
 use Rattle.matrix_models.specs.declared.model.Model.{Model}
 use Rattle.block_text.specs.Fault.{no_block}
 use Rattle.block_text.specs.Lines.{content, block_limit}

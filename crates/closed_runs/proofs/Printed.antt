@@ -15,7 +15,7 @@ use Rattle.nc_polynomial.specs.Shape.{IsShaped}
 use Rattle.nc_polynomial.specs.declared.poly.Poly.{Poly}
 use Rattle.nc_polynomial.specs.declared.fault.PolyFault.{PolyFault}
 use Rattle.quiver.specs.Declarations.{letter_count}
-use Rattle.cofactor_trace.specs.declared.evidence.Format.{Format}
+use Rattle.traced_rows.specs.declared.evidence.Format.{Format}
 use Rattle.cofactor_trace.specs.declared.halt.Halt.{Halt}
 use Rattle.rule_reduce.specs.declared.rule.Rule.{Rule}
 use Rattle.rule_reduce.specs.declared.state.State.{State}

@@ -8,7 +8,7 @@ use Rattle.definitions.specs.Combination.{InRationalIdeal}
 use Rattle.word_core.specs.Letters.{IsOver}
 use Rattle.word_orders.proofs.AskedOrders.{asked_rank}
 use Rattle.quiver.specs.Declarations.{letter_count}
-use Rattle.cofactor_trace.specs.declared.evidence.Format.{Format}
+use Rattle.traced_rows.specs.declared.evidence.Format.{Format}
 use Rattle.nc_polynomial.specs.declared.poly.Poly.{Poly}
 use Rattle.rule_reduce.specs.declared.rule.Rule.{Rule}
 use Rattle.rule_reduce.specs.RuleLists.{polynomials_of}

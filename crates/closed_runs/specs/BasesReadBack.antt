@@ -3,7 +3,7 @@ use Rattle.std.specs.Prelude.{◌≡◌, ◌<◌, ◌≤◌, ℕ, suc, List, [],
 use Rattle.std.specs.List.{All, list_all}
 use Rattle.nc_polynomial.specs.declared.poly.Poly.{Poly}
 use Rattle.quiver.specs.Declarations.{Declaration, IsDeclared}
-use Rattle.cofactor_trace.specs.declared.evidence.Format.{Format}
+use Rattle.traced_rows.specs.declared.evidence.Format.{Format}
 use Rattle.adjoint_rules.specs.declared.problem.Problem.{Problem}
 use Rattle.adjoint_rules.specs.Claims.{claim_numbers}
 use Rattle.statement_syntax.specs.declared.tree.Statement.{Statement}

@@ -1,6 +1,6 @@
 -- What becomes of the bases that are printed of closed claims: they are closed, or their check stops.
 use Rattle.std.specs.Prelude.{◌⊎◌, ⊤}
-use Rattle.cofactor_trace.specs.declared.evidence.Format.{Format}
+use Rattle.traced_rows.specs.declared.evidence.Format.{Format}
 use Rattle.adjoint_rules.specs.declared.problem.Problem.{Problem}
 use Rattle.adjoint_rules.specs.Claims.{claim_numbers}
 use Rattle.traced_completion.specs.declared.budget.Budget.{Budget}

@@ -1,6 +1,6 @@
 -- The bases that are printed of closed claims are sharp.
 use Rattle.std.specs.Prelude.{◌≡◌, ℕ, true, List}
-use Rattle.cofactor_trace.specs.declared.evidence.Format.{Format}
+use Rattle.traced_rows.specs.declared.evidence.Format.{Format}
 use Rattle.adjoint_rules.specs.declared.problem.Problem.{Problem}
 use Rattle.traced_completion.specs.declared.budget.Budget.{Budget}
 use Rattle.basis_text.specs.declared.basis.Basis.{Basis}

@@ -6,9 +6,9 @@ use Rattle.coef_int.specs.Operations.{first_overflow}
 use Rattle.definitions.specs.Combination.{Row, row_sum}
 use Rattle.definitions.specs.Poly.{coefficient_of, poly_multiple, SamePolynomial}
 use Rattle.nc_polynomial.specs.Terms.{products}
-use Rattle.cofactor_trace.specs.declared.CertRow.{CertRow}
-use Rattle.cofactor_trace.specs.declared.Certificate.{Certificate}
-use Rattle.cofactor_trace.specs.Rows.{rows_of}
+use Rattle.traced_rows.specs.declared.certificate.CertRow.{CertRow}
+use Rattle.traced_rows.specs.declared.certificate.Certificate.{Certificate}
+use Rattle.traced_rows.specs.Rows.{rows_of}
 use Rattle.cofactor_checker.specs.Rows.{IsNumberUpTo, RowsPass, LacksGenerator, Overflows, Outgrows}
 use Rattle.cofactor_checker.specs.Difference.{IsLeastDifference}
 use Rattle.cofactor_checker.specs.Acceptance.{Begins, Accepts, Refuses, IsMemory}

@@ -12,8 +12,8 @@ use Rattle.coef_int.specs.Operations.{first_overflow}
 use Rattle.word_core.specs.Canonical.{word_cmp}
 use Rattle.word_core.proofs.Order.{word_cmp-itself, word_cmp-turned, word_cmp-turned_back, word_cmp-trans}
 use Rattle.nc_polynomial.specs.Terms.{products}
-use Rattle.cofactor_trace.specs.declared.Certificate.{Certificate}
-use Rattle.cofactor_trace.specs.Rows.{rows_of}
+use Rattle.traced_rows.specs.declared.certificate.Certificate.{Certificate}
+use Rattle.traced_rows.specs.Rows.{rows_of}
 use Rattle.definitions.specs.Poly.{word_eq, coefficient_of, poly_multiple, SamePolynomial}
 use Rattle.definitions.specs.Combination.{Row, row_sum}
 use Rattle.definitions.proofs.Linear.{word_eq-true, coefficient_other}

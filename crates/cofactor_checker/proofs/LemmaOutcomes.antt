@@ -4,11 +4,11 @@ use Rattle.coef_int.specs.Operations.{first_overflow}
 use Rattle.nc_polynomial.specs.Terms.{products}
 use Rattle.nc_polynomial.specs.declared.poly.Poly.{Poly}
 use Rattle.adjoint_rules.specs.Problem.{polynomials}
-use Rattle.cofactor_trace.specs.declared.evidence.Lemma.{Lemma}
-use Rattle.cofactor_trace.specs.declared.evidence.LemmaCertificate.{LemmaCertificate}
+use Rattle.traced_rows.specs.declared.evidence.Lemma.{Lemma}
+use Rattle.traced_rows.specs.declared.evidence.LemmaCertificate.{LemmaCertificate}
 use Rattle.cofactor_checker.specs.declared.accepted.Accepted.{Accepted}
 use Rattle.cofactor_checker.proofs.RowSums.{Names}
-use Rattle.cofactor_trace.specs.LemmaRows.{IsEvidenceOf}
+use Rattle.traced_rows.specs.LemmaRows.{IsEvidenceOf}
 use Rattle.cofactor_checker.specs.Lemmas.{lemma_polynomial, RefusesLemma, RefusesLemmaRows, RefusesLemmas, row_count}
 use Rattle.cofactor_checker.specs.LemmaAcceptance.{goal_claim, all_polynomials, HasShares, GoalBegins, HasLemmas, AcceptsLemmas, RefusesLemmaCertificate}
 use Rattle.cofactor_checker.specs.Goals.{RefusesGoal}

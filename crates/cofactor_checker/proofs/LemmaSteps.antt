@@ -4,7 +4,7 @@ use Rattle.std.proofs.lemmas.List.{drop_all, append-nil}
 use Rattle.nc_polynomial.proofs.Steps.{drop_next}
 use Rattle.nc_polynomial.specs.declared.poly.Poly.{Poly}
 use Rattle.adjoint_rules.specs.Problem.{polynomials}
-use Rattle.cofactor_trace.specs.declared.evidence.Lemma.{Lemma}
+use Rattle.traced_rows.specs.declared.evidence.Lemma.{Lemma}
 use Rattle.cofactor_checker.specs.Lemmas.{lemma_polynomial, lemma_polynomials, term_total, LemmaPasses, LemmasPass, RefusesLemma, RefusesLemmas, row_count}
 use Rattle.cofactor_checker.specs.declared.refusal.Refusal.{Refusal}
 

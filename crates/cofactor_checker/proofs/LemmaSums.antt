@@ -9,10 +9,10 @@ use Rattle.definitions.specs.Poly.{coefficient_of, poly_multiple, poly_sum, poly
 use Rattle.nc_polynomial.specs.Collected.{collected}
 use Rattle.nc_polynomial.proofs.CollectedTerms.{coefficient_of-collected}
 use Rattle.nc_polynomial.proofs.Divisors.{quotient_times}
-use Rattle.cofactor_trace.specs.declared.evidence.Lemma.{Lemma}
-use Rattle.cofactor_trace.specs.declared.evidence.LemmaRow.{LemmaRow}
-use Rattle.cofactor_trace.specs.declared.evidence.LemmaCertificate.{LemmaCertificate}
-use Rattle.cofactor_trace.specs.LemmaRows.{lemma_sum, AddsUpTo, AreOfLemmas, IsShareOf, IsEvidenceOf}
+use Rattle.traced_rows.specs.declared.evidence.Lemma.{Lemma}
+use Rattle.traced_rows.specs.declared.evidence.LemmaRow.{LemmaRow}
+use Rattle.traced_rows.specs.declared.evidence.LemmaCertificate.{LemmaCertificate}
+use Rattle.traced_rows.specs.LemmaRows.{lemma_sum, AddsUpTo, AreOfLemmas, IsShareOf, IsEvidenceOf}
 use Rattle.cofactor_checker.specs.PlainRows.{plain_sum}
 use Rattle.cofactor_checker.specs.Lemmas.{lemma_polynomial, lemma_polynomials, LemmaPasses, LemmasPass}
 use Rattle.cofactor_checker.specs.LemmaAcceptance.{goal_claim, all_polynomials, AcceptsLemmas}

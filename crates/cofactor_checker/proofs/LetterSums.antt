@@ -22,8 +22,8 @@ use Rattle.nc_polynomial.proofs.CollectedTerms.{coefficient_of-collected, descen
 use Rattle.nc_polynomial.proofs.Distinct.{distinct-descending, words_listed}
 use Rattle.quiver.specs.Declarations.{letter_count, quiver_of}
 use Rattle.quiver.proofs.Counts.{letters-quiver_of}
-use Rattle.cofactor_trace.specs.declared.evidence.LemmaRow.{LemmaRow}
-use Rattle.cofactor_trace.specs.declared.evidence.Lemma.{Lemma}
+use Rattle.traced_rows.specs.declared.evidence.LemmaRow.{LemmaRow}
+use Rattle.traced_rows.specs.declared.evidence.Lemma.{Lemma}
 use Rattle.adjoint_rules.specs.declared.problem.Problem.{Problem}
 use Rattle.adjoint_rules.specs.Problem.{polynomials}
 use Rattle.adjoint_rules.proofs.Generators.{claims_have_signatures, generators_have_signatures}

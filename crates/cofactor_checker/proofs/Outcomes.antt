@@ -11,8 +11,8 @@ use Rattle.nc_polynomial.specs.Collected.{coefficient_in}
 use Rattle.nc_polynomial.specs.Terms.{products}
 use Rattle.nc_polynomial.specs.declared.poly.Poly.{Poly}
 use Rattle.adjoint_rules.specs.Problem.{polynomials}
-use Rattle.cofactor_trace.specs.declared.Certificate.{Certificate}
-use Rattle.cofactor_trace.specs.Rows.{rows_of}
+use Rattle.traced_rows.specs.declared.certificate.Certificate.{Certificate}
+use Rattle.traced_rows.specs.Rows.{rows_of}
 use Rattle.cofactor_checker.specs.Acceptance.{claim_of, IsPosed, Begins, Accepts, Refuses, IsMemory}
 use Rattle.cofactor_checker.specs.Difference.{IsLeastDifference}
 use Rattle.cofactor_checker.specs.Rows.{RowPasses, RowsPass}

@@ -6,9 +6,9 @@ use Rattle.std.proofs.lemmas.List.{get_or_append_left, get_or-append-add}
 use Rattle.definitions.specs.Combination.{generator_at}
 use Rattle.nc_polynomial.specs.declared.poly.Poly.{Poly}
 use Rattle.adjoint_rules.specs.Problem.{polynomials}
-use Rattle.cofactor_trace.specs.LemmaRows.{cert_poly}
-use Rattle.cofactor_trace.specs.declared.evidence.CertFrom.{CertFrom}
-use Rattle.cofactor_trace.specs.declared.evidence.CertFrom.TheVariants as cert
+use Rattle.traced_rows.specs.LemmaRows.{cert_poly}
+use Rattle.traced_rows.specs.declared.evidence.CertFrom.{CertFrom}
+use Rattle.traced_rows.specs.declared.evidence.CertFrom.TheVariants as cert
 use Rattle.cofactor_checker.specs.Rows.{IsNumberUpTo}
 use Rattle.cofactor_checker.proofs.RowSums.{generator_at-numbered, length-polynomials}
 use Rattle.cofactor_checker.specs.PlainRows.{place_of}

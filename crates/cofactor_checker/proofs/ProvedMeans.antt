@@ -10,10 +10,10 @@ use Rattle.definitions.specs.Generators.{generators_of}
 use Rattle.definitions.proofs.StarSound.{star_sound}
 use Rattle.definitions.proofs.UnitSound.{unit_sound}
 use Rattle.quiver.specs.Declarations.{quiver_of}
-use Rattle.cofactor_trace.specs.declared.evidence.Evidence.{Evidence}
-use Rattle.cofactor_trace.specs.declared.evidence.Evidence.TheVariants.{Plain, Lemmas}
-use Rattle.cofactor_trace.specs.Rows.{rows_of}
-use Rattle.cofactor_trace.specs.LemmaRows.{denominator_of}
+use Rattle.traced_rows.specs.declared.evidence.Evidence.{Evidence}
+use Rattle.traced_rows.specs.declared.evidence.Evidence.TheVariants.{Plain, Lemmas}
+use Rattle.traced_rows.specs.Rows.{rows_of}
+use Rattle.traced_rows.specs.LemmaRows.{denominator_of}
 use Rattle.adjoint_rules.specs.declared.problem.Problem.{Problem}
 use Rattle.adjoint_rules.specs.Problem.{polynomials, numbers, generators_in}
 use Rattle.adjoint_rules.proofs.Generators.{posed_quiver, claims_have_signatures, marked_are_objects, generators_have_signatures, generators_are_zero, makes_zero}

@@ -15,8 +15,8 @@ use Rattle.definitions.specs.Poly.{coefficient_of}
 use Rattle.definitions.specs.Combination.{Row, generator_at, row_poly, row_sum}
 use Rattle.definitions.proofs.Coefficients.{coefficient_of-append}
 use Rattle.nc_polynomial.specs.declared.poly.Poly.{Poly}
-use Rattle.cofactor_trace.specs.declared.CertRow.{CertRow}
-use Rattle.cofactor_trace.specs.Rows.{row_of, rows_of}
+use Rattle.traced_rows.specs.declared.certificate.CertRow.{CertRow}
+use Rattle.traced_rows.specs.Rows.{row_of, rows_of}
 use Rattle.nc_polynomial.specs.Collected.{coefficient_in}
 use Rattle.adjoint_rules.specs.Problem.{polynomials}
 use Rattle.cofactor_checker.specs.Operations.{adding_operations, row_operations}

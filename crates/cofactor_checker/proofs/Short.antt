@@ -3,9 +3,9 @@ use Rattle.std.proofs.Common.{inl, inr, ℕ, suc, ℤ, ◌+◌, List, [], ◌∷
 use Rattle.std.proofs.lemmas.Option.{slice_get_within, get_or_from_slice_get}
 use Rattle.std.specs.Int.RustNames.{unsigned_abs}
 use Rattle.nc_polynomial.specs.Content.{DividesEach}
-use Rattle.cofactor_trace.specs.declared.evidence.Lemma.{Lemma}
-use Rattle.cofactor_trace.specs.declared.evidence.LemmaRow.{LemmaRow}
-use Rattle.cofactor_trace.specs.declared.evidence.LemmaCertificate.{LemmaCertificate}
+use Rattle.traced_rows.specs.declared.evidence.Lemma.{Lemma}
+use Rattle.traced_rows.specs.declared.evidence.LemmaRow.{LemmaRow}
+use Rattle.traced_rows.specs.declared.evidence.LemmaCertificate.{LemmaCertificate}
 use Rattle.cofactor_checker.specs.declared.accepted.Accepted.{Accepted}
 use Rattle.cofactor_checker.proofs.Outcomes.{passes_there}
 use Rattle.cofactor_checker.specs.PlainRows.{plain_rows}

@@ -1,5 +1,5 @@
 -- evidence that passes each test shows its claim
-use Rattle.cofactor_trace.specs.declared.evidence.Evidence.TheVariants.{Plain, Lemmas}
+use Rattle.traced_rows.specs.declared.evidence.Evidence.TheVariants.{Plain, Lemmas}
 use Rattle.cofactor_checker.proofs.Outcomes.{combination_from_accepts}
 use Rattle.cofactor_checker.specs.Laws.{AcceptedEvidenceAddsUp}
 use Rattle.cofactor_checker.proofs.LemmaSums.{shows}

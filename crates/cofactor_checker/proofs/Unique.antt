@@ -11,8 +11,8 @@ use Rattle.word_core.proofs.Order.{word_cmp-cases}
 use Rattle.definitions.specs.Combination.{Row, row_sum}
 use Rattle.definitions.specs.Poly.{coefficient_of, poly_multiple, SamePolynomial}
 use Rattle.nc_polynomial.specs.Terms.{products}
-use Rattle.cofactor_trace.specs.declared.Certificate.{Certificate}
-use Rattle.cofactor_trace.specs.Rows.{rows_of}
+use Rattle.traced_rows.specs.declared.certificate.Certificate.{Certificate}
+use Rattle.traced_rows.specs.Rows.{rows_of}
 use Rattle.cofactor_checker.specs.Acceptance.{claim_of, Begins, SumDiffers, Refuses, IsMemory}
 use Rattle.cofactor_checker.specs.Laws.{RefusalIsUnique}
 use Rattle.cofactor_checker.specs.Operations.{row_operations}

@@ -4,11 +4,11 @@ use Rattle.std.specs.List.{All}
 use Rattle.coef_int.specs.Range.{IsCoefficient}
 use Rattle.definitions.specs.Poly.{Poly}
 use Rattle.definitions.specs.Combination.{IsCombination}
-use Rattle.cofactor_trace.specs.declared.Certificate.{Certificate}
-use Rattle.cofactor_trace.specs.declared.evidence.Evidence.{Evidence}
-use Rattle.cofactor_trace.specs.declared.evidence.Evidence.TheVariants.{Plain, Lemmas}
-use Rattle.cofactor_trace.specs.LemmaRows.{IsEvidenceOf}
-use Rattle.cofactor_trace.specs.Rows.{rows_of}
+use Rattle.traced_rows.specs.declared.certificate.Certificate.{Certificate}
+use Rattle.traced_rows.specs.declared.evidence.Evidence.{Evidence}
+use Rattle.traced_rows.specs.declared.evidence.Evidence.TheVariants.{Plain, Lemmas}
+use Rattle.traced_rows.specs.LemmaRows.{IsEvidenceOf}
+use Rattle.traced_rows.specs.Rows.{rows_of}
 use Rattle.cofactor_checker.specs.declared.accepted.Accepted.{Accepted}
 use Rattle.cofactor_checker.specs.declared.refusal.Refusal.{Refusal}
 use Rattle.cofactor_checker.specs.Acceptance.{claim_of, Accepts, Refuses}

@@ -1,7 +1,7 @@
 -- The goal of a certificate, over generators and lemmas: whether its rows add up to its scale times the claim, and else what is told of it.
 use Rattle.std.specs.Prelude.{ℕ, ℤ, List}
 use Rattle.definitions.specs.Poly.{Poly, coefficient_of, poly_multiple, SamePolynomial}
-use Rattle.cofactor_trace.specs.declared.evidence.Lemma.{Lemma}
+use Rattle.traced_rows.specs.declared.evidence.Lemma.{Lemma}
 use Rattle.cofactor_checker.specs.Difference.{IsLeastDifference}
 use Rattle.cofactor_checker.specs.PlainRows.{plain_sum}
 use Rattle.cofactor_checker.specs.Lemmas.{LemmaRowsPass, RefusesLemmaRows}

@@ -1,8 +1,8 @@
 -- What accepted evidence shows, and that each certificate and each evidence has one outcome.
 use Rattle.std.specs.Prelude.{◌≡◌, ◌⊎◌, List}
 use Rattle.definitions.specs.Poly.{Poly}
-use Rattle.cofactor_trace.specs.declared.Certificate.{Certificate}
-use Rattle.cofactor_trace.specs.declared.evidence.Evidence.{Evidence}
+use Rattle.traced_rows.specs.declared.certificate.Certificate.{Certificate}
+use Rattle.traced_rows.specs.declared.evidence.Evidence.{Evidence}
 use Rattle.cofactor_checker.specs.declared.refusal.Refusal.{Refusal}
 use Rattle.cofactor_checker.specs.Acceptance.{Accepts, Refuses, IsMemory}
 use Rattle.cofactor_checker.specs.Evidence.{AcceptsEvidence, RefusesEvidence, ShowsClaim}

@@ -9,9 +9,9 @@ use Rattle.nc_polynomial.specs.declared.fault.PolyFault.TheVariants as fault
 use Rattle.nc_polynomial.specs.Collected.{collected}
 use Rattle.nc_polynomial.specs.Content.{DividesEach}
 use Rattle.nc_polynomial.specs.Faults.{sized}
-use Rattle.cofactor_trace.specs.declared.evidence.CertFrom.{CertFrom}
-use Rattle.cofactor_trace.specs.declared.evidence.LemmaRow.{LemmaRow}
-use Rattle.cofactor_trace.specs.declared.evidence.Lemma.{Lemma}
+use Rattle.traced_rows.specs.declared.evidence.CertFrom.{CertFrom}
+use Rattle.traced_rows.specs.declared.evidence.LemmaRow.{LemmaRow}
+use Rattle.traced_rows.specs.declared.evidence.Lemma.{Lemma}
 use Rattle.cofactor_checker.specs.Rows.{RowsPass, LacksGenerator, Overflows, Outgrows}
 use Rattle.cofactor_checker.specs.PlainRows.{plain_rows, plain_sum, IsGenerator, IsLemma}
 use Rattle.cofactor_checker.specs.declared.refusal.Refusal.{Refusal}

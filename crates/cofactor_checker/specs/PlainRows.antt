@@ -2,9 +2,9 @@
 use Rattle.std.specs.Prelude.{ℕ, ◌+◌, List, ◌++◌, length, map, nat_lt, nat_le, ◌&&◌, if◌then◌else◌, ⊤}
 use Rattle.definitions.specs.Poly.{Poly}
 use Rattle.definitions.specs.Combination.{Row, row_sum}
-use Rattle.cofactor_trace.specs.declared.evidence.CertFrom.{CertFrom}
-use Rattle.cofactor_trace.specs.declared.evidence.CertFrom.TheVariants as cert
-use Rattle.cofactor_trace.specs.declared.evidence.LemmaRow.{LemmaRow}
+use Rattle.traced_rows.specs.declared.evidence.CertFrom.{CertFrom}
+use Rattle.traced_rows.specs.declared.evidence.CertFrom.TheVariants as cert
+use Rattle.traced_rows.specs.declared.evidence.LemmaRow.{LemmaRow}
 
 -- the place in that list, counted from 1, and 0 where there is no such generator or lemma
 abbrev pub place_of : ℕ → ℕ → CertFrom → ℕ

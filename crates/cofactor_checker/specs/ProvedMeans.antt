@@ -8,12 +8,12 @@ use Rattle.definitions.specs.Quiver.{Quiver}
 use Rattle.definitions.specs.Representation.{Representation, StarRepresents, Cancels}
 use Rattle.definitions.specs.Soundness.{HasSignature, HasValueZero, MakesZero}
 use Rattle.quiver.specs.Declarations.{quiver_of}
-use Rattle.cofactor_trace.specs.declared.Certificate.{Certificate}
-use Rattle.cofactor_trace.specs.declared.evidence.LemmaCertificate.{LemmaCertificate}
-use Rattle.cofactor_trace.specs.declared.evidence.Evidence.{Evidence}
-use Rattle.cofactor_trace.specs.declared.evidence.Evidence.TheVariants as evidence
-use Rattle.cofactor_trace.specs.Rows.{rows_of}
-use Rattle.cofactor_trace.specs.LemmaRows.{IsEvidenceOf, denominator_of}
+use Rattle.traced_rows.specs.declared.certificate.Certificate.{Certificate}
+use Rattle.traced_rows.specs.declared.evidence.LemmaCertificate.{LemmaCertificate}
+use Rattle.traced_rows.specs.declared.evidence.Evidence.{Evidence}
+use Rattle.traced_rows.specs.declared.evidence.Evidence.TheVariants as evidence
+use Rattle.traced_rows.specs.Rows.{rows_of}
+use Rattle.traced_rows.specs.LemmaRows.{IsEvidenceOf, denominator_of}
 use Rattle.adjoint_rules.specs.declared.problem.Problem.{Problem}
 use Rattle.adjoint_rules.specs.Problem.{polynomials, generators_in}
 use Rattle.adjoint_rules.specs.Claims.{claim_at}

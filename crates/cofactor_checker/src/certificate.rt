@@ -3,14 +3,14 @@ ghost use Rattle.std.specs.Prelude.{◌≡◌, ◌≤◌, length, All, IfOk, IfE
 ghost use Rattle.adjoint_rules.specs.Problem.{polynomials};
 ghost use Rattle.coef_int.specs.Range.{IsCoefficient};
 ghost use Rattle.cofactor_checker.specs.Acceptance.{claim_of, Accepts, Refuses, IsMemory};
-ghost use Rattle.cofactor_trace.specs.Rows.{rows_of};
+ghost use Rattle.traced_rows.specs.Rows.{rows_of};
 ghost use Rattle.definitions.specs.Combination.{IsCombination};
 
 use crate::compare::{least_difference, overflow_of_multiple};
 use crate::rows::{add_rows, numbered};
 use crate::{Accepted, Refusal};
 use adjoint_rules::Problem;
-use cofactor_trace::Certificate;
+use traced_rows::Certificate;
 use nc_polynomial::Poly;
 use std::alloc::Global;
 

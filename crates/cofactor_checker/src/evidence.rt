@@ -8,7 +8,7 @@ use crate::certificate::check;
 use crate::lemma_certificate::check_lemmas;
 use crate::{Accepted, Refusal};
 use adjoint_rules::Problem;
-use cofactor_trace::Evidence;
+use traced_rows::Evidence;
 use std::alloc::Global;
 
 /// Whether the evidence shows its claim: its lemmas and its rows add up, over the generators of the problem.

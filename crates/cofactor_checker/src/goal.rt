@@ -9,7 +9,7 @@ ghost use Rattle.cofactor_checker.specs.LemmaAcceptance.{HasScale, IsRanged};
 use crate::Refusal;
 use crate::compare::least_difference;
 use crate::lemma_rows::add_lemma_rows;
-use cofactor_trace::Lemma;
+use traced_rows::Lemma;
 use nc_polynomial::Poly;
 use std::alloc::Global;
 

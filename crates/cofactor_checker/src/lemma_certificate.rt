@@ -10,7 +10,7 @@ use crate::lemmas::make_lemmas;
 use crate::rows::numbered;
 use crate::scales::{divides, first_loose, have_scales};
 use crate::{Accepted, Refusal};
-use cofactor_trace::LemmaCertificate;
+use traced_rows::LemmaCertificate;
 use nc_polynomial::Poly;
 use std::alloc::Global;
 

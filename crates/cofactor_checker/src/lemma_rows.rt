@@ -13,7 +13,7 @@ ghost use Rattle.cofactor_checker.specs.Lemmas.{LemmaRowsPass, RefusesLemmaRows}
 use crate::Refusal;
 use crate::rows::{SUM_LIMIT, numbered};
 use crate::sum::add_row;
-use cofactor_trace::{CertFrom, LemmaRow};
+use traced_rows::{CertFrom, LemmaRow};
 use nc_polynomial::{Poly, SumFault};
 use std::alloc::Global;
 use std::collections::BTreeMap;

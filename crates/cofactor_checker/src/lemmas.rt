@@ -6,7 +6,7 @@ ghost use Rattle.cofactor_checker.specs.LemmaAcceptance.{HasScale, IsRanged};
 
 use crate::Refusal;
 use crate::polynomial::make_polynomial;
-use cofactor_trace::Lemma;
+use traced_rows::Lemma;
 use lists::Listing;
 use nc_polynomial::Poly;
 use std::alloc::Global;

@@ -7,7 +7,7 @@ ghost use Rattle.cofactor_checker.specs.LemmaAcceptance.{HasScale, IsRanged};
 use crate::Refusal;
 use crate::lemma_rows::add_lemma_rows;
 use crate::scales::divides;
-use cofactor_trace::Lemma;
+use traced_rows::Lemma;
 use nc_polynomial::table::descending;
 use nc_polynomial::{Poly, PolyFault};
 use std::alloc::Global;

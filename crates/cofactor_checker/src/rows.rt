@@ -1,7 +1,7 @@
 //! The rows of a certificate, added up.
 ghost use Rattle.std.specs.Prelude.{◌≡◌, ◌≤◌, ◌-◌, length, All, OnOk, IfOk, IfErr, IfSome, IfNone, slice_get, Some};
 ghost use Rattle.coef_int.specs.Range.{IsCoefficient};
-ghost use Rattle.cofactor_trace.specs.Rows.{rows_of};
+ghost use Rattle.traced_rows.specs.Rows.{rows_of};
 ghost use Rattle.definitions.specs.Combination.{row_sum};
 ghost use Rattle.adjoint_rules.specs.Problem.{polynomials};
 ghost use Rattle.cofactor_checker.specs.Rows.{IsNumberUpTo, RowsPass};
@@ -10,7 +10,7 @@ ghost use Rattle.cofactor_checker.specs.RowRefusals.{RefusesRow};
 
 use crate::Refusal;
 use crate::sum::add_row;
-use cofactor_trace::CertRow;
+use traced_rows::CertRow;
 use nc_polynomial::{Poly, SumFault};
 use std::alloc::Global;
 use std::collections::BTreeMap;

@@ -3,7 +3,7 @@ ghost use Rattle.std.specs.Prelude.{◌≡◌, ◌≤◌, ◌%◌, nat_eq, ◌�
 ghost use Rattle.std.specs.Int.RustNames.{unsigned_abs};
 ghost use Rattle.cofactor_checker.specs.LemmaAcceptance.{HasScale, AreTight, IsFirstLoose};
 
-use cofactor_trace::Lemma;
+use traced_rows::Lemma;
 
 /// Whether a number divides another.
 pub fn divides(by: i128, value: i128) -> bool

@@ -13,16 +13,16 @@ use Rattle.nc_polynomial.proofs.Divisors.{quotient_times}
 use Rattle.traced_rows.specs.declared.Origin.{Origin}
 use Rattle.traced_rows.specs.declared.Row.{Row}
 use Rattle.traced_rows.specs.declared.Made.{Made}
-use Rattle.cofactor_trace.specs.declared.CertRow.{CertRow}
-use Rattle.cofactor_trace.specs.declared.Cofactors.{Cofactors}
-use Rattle.cofactor_trace.specs.Rows.{rows_of}
+use Rattle.traced_rows.specs.declared.certificate.CertRow.{CertRow}
+use Rattle.traced_rows.specs.declared.certificate.Cofactors.{Cofactors}
+use Rattle.traced_rows.specs.Rows.{rows_of}
 use Rattle.traced_rows.specs.Traces.{origin_poly, traced_poly, traced_sum}
 use Rattle.cofactor_trace.specs.Gathered.{gathered}
 use Rattle.cofactor_trace.specs.Expansion.{Known, denominators, common_denominator, share, joined_rows, joined, content_of, divided_row, primitive, record_expansion}
 use Rattle.cofactor_trace.specs.Laws.{Traces}
 use Rattle.cofactor_trace.proofs.Divisors.{content-first, content-each, content-positive, quotient_positive, product_positive, common_multiple-each, common_multiple-positive}
 use Rattle.cofactor_trace.proofs.RecordLaws.{primitive_is}
-use Rattle.cofactor_trace.proofs.Between.{between-same, between-multiple}
+use Rattle.traced_rows.proofs.Between.{between-same, between-multiple}
 use Rattle.cofactor_trace.proofs.Values.{value, value-sum, value-append, value-gathered, value-joined}
 
 -- integers

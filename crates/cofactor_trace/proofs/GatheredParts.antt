@@ -13,9 +13,9 @@ use Rattle.coef_int.specs.Operations.{product_of, exact_value, first_overflow}
 use Rattle.coef_int.specs.Divisor.{gcd_of}
 use Rattle.traced_rows.specs.declared.Row.{Row}
 use Rattle.traced_rows.specs.declared.Made.{Made}
-use Rattle.cofactor_trace.specs.declared.evidence.LemmaRow.{LemmaRow}
-use Rattle.cofactor_trace.specs.declared.evidence.Lemma.{Lemma}
-use Rattle.cofactor_trace.specs.declared.evidence.LemmaCertificate.{LemmaCertificate}
+use Rattle.traced_rows.specs.declared.evidence.LemmaRow.{LemmaRow}
+use Rattle.traced_rows.specs.declared.evidence.Lemma.{Lemma}
+use Rattle.traced_rows.specs.declared.evidence.LemmaCertificate.{LemmaCertificate}
 use Rattle.cofactor_trace.specs.declared.fault.GatherFault.TheVariants as fault
 use Rattle.cofactor_trace.specs.Expansion.{lcm_of, common_multiple, multiple_products, unless}
 use Rattle.cofactor_trace.specs.Needed.{IsRecord, is_named, Numbered, needed_from, needed_rules}

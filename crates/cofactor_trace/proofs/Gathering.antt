@@ -4,7 +4,7 @@ use Rattle.std.specs.List.{All}
 use Rattle.std.proofs.lemmas.List.Elements.{All-nil, All-cons}
 use Rattle.coef_int.specs.declared.Overflow.{Overflow}
 use Rattle.coef_int.specs.Range.{IsCoefficient}
-use Rattle.cofactor_trace.specs.declared.CertRow.{CertRow}
+use Rattle.traced_rows.specs.declared.certificate.CertRow.{CertRow}
 use Rattle.cofactor_trace.specs.declared.table.Multiple.{Multiple}
 use Rattle.cofactor_trace.specs.Gathered.{kept_row}
 use Rattle.cofactor_trace.specs.Table.{before}

@@ -15,16 +15,16 @@ use Rattle.nc_polynomial.proofs.Units.{one-*ℤ}
 use Rattle.traced_rows.specs.declared.Origin.{Origin}
 use Rattle.traced_rows.specs.declared.Row.{Row}
 use Rattle.traced_rows.specs.declared.Made.{Made}
-use Rattle.cofactor_trace.specs.declared.evidence.Lemma.{Lemma}
-use Rattle.cofactor_trace.specs.declared.evidence.LemmaCertificate.{LemmaCertificate}
+use Rattle.traced_rows.specs.declared.evidence.Lemma.{Lemma}
+use Rattle.traced_rows.specs.declared.evidence.LemmaCertificate.{LemmaCertificate}
 use Rattle.cofactor_trace.specs.declared.replacement.Replacement.{Replacement}
 use Rattle.cofactor_trace.specs.Laws.{Traces, AreTraces}
 use Rattle.traced_rows.specs.Traces.{origin_poly, traced_poly, traced_sum}
 use Rattle.cofactor_trace.specs.Needed.{IsRecord, AreRecords, Numbered}
 use Rattle.cofactor_trace.specs.Lemmas.{naming_of, direct_of, lemma_rules, lemma_records, lemma_number, lemma_row, lemma_of, signed}
-use Rattle.cofactor_trace.specs.LemmaRows.{cert_poly, lemma_row_poly, lemma_sum, AddsUpTo, AreOfLemmas, IsShareOf, IsEvidenceOf}
+use Rattle.traced_rows.specs.LemmaRows.{cert_poly, lemma_row_poly, lemma_sum, AddsUpTo, AreOfLemmas, IsShareOf, IsEvidenceOf}
 use Rattle.cofactor_trace.specs.GatheringLaws.{lemma_polys, GatheringsAddUp}
-use Rattle.cofactor_trace.proofs.Between.{between-same, between-multiple, between-nothing}
+use Rattle.traced_rows.proofs.Between.{between-same, between-multiple, between-nothing}
 use Rattle.cofactor_trace.proofs.Divisors.{common_multiple-each, common_multiple-positive}
 use Rattle.cofactor_trace.proofs.Closure.{is_numbered}
 use Rattle.cofactor_trace.proofs.NamingLaws.{are_records}

@@ -8,7 +8,7 @@ use Rattle.traced_rows.specs.declared.Origin.{Origin}
 use Rattle.traced_rows.specs.declared.Origin.TheVariants as origin
 use Rattle.traced_rows.specs.declared.Row.{Row}
 use Rattle.traced_rows.specs.declared.Made.{Made}
-use Rattle.cofactor_trace.specs.declared.evidence.CertFrom.TheVariants as cert
+use Rattle.traced_rows.specs.declared.evidence.CertFrom.TheVariants as cert
 use Rattle.cofactor_trace.specs.declared.replacement.Replacement.{Replacement}
 use Rattle.cofactor_trace.specs.Needed.{IsRecord, AreRecords, is_rule, Numbered, needed_rules}
 use Rattle.cofactor_trace.specs.Lemmas.{signed_generator, single_row, direct_of, is_lemma, lemma_at, lemma_rules, lemma_number, naming_of, signed}

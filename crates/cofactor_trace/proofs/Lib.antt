@@ -7,7 +7,6 @@ pub mod SizeLaws
 pub mod TableLaws
 pub mod RecordLaws
 pub mod NeededLaws
-pub mod Between
 pub mod Values
 pub mod Balance
 pub mod Closure

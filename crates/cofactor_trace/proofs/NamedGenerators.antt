@@ -9,8 +9,8 @@ use Rattle.traced_rows.specs.declared.Origin.{Origin}
 use Rattle.traced_rows.specs.declared.Origin.TheVariants as origin
 use Rattle.traced_rows.specs.declared.Row.{Row}
 use Rattle.traced_rows.specs.declared.Made.{Made}
-use Rattle.cofactor_trace.specs.declared.CertRow.{CertRow}
-use Rattle.cofactor_trace.specs.declared.Cofactors.{Cofactors}
+use Rattle.traced_rows.specs.declared.certificate.CertRow.{CertRow}
+use Rattle.traced_rows.specs.declared.certificate.Cofactors.{Cofactors}
 use Rattle.cofactor_trace.specs.declared.table.Multiple.{Multiple}
 use Rattle.cofactor_trace.specs.declared.fault.ExpandFault.{ExpandFault}
 use Rattle.cofactor_trace.specs.Expansion.{Known, common_denominator, joined, joined_rows, joined_row, share, record_expansion}

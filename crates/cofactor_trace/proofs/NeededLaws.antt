@@ -6,7 +6,7 @@ use Rattle.nc_polynomial.proofs.Steps.{drop_next}
 use Rattle.std.specs.BTreeMap.{insert_entry}
 use Rattle.std.specs.Ordering.{nat_cmp}
 use Rattle.traced_rows.specs.declared.Made.{Made}
-use Rattle.cofactor_trace.specs.declared.Cofactors.{Cofactors}
+use Rattle.traced_rows.specs.declared.certificate.Cofactors.{Cofactors}
 use Rattle.cofactor_trace.specs.Expansion.{record_expansion}
 use Rattle.cofactor_trace.specs.Needed.{Numbered, Expansions, is_rule, is_named, needed_from, needed_rules, known_from, and_then, expansion_from, expansion_of, IsAmongFirst}
 use Rattle.cofactor_trace.specs.Faults.{Explains}

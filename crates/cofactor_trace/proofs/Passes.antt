@@ -15,14 +15,14 @@ use Rattle.traced_rows.specs.declared.Origin.{Origin}
 use Rattle.traced_rows.specs.declared.Origin.TheVariants as origin
 use Rattle.traced_rows.specs.declared.Row.{Row}
 use Rattle.traced_rows.specs.declared.Made.{Made}
-use Rattle.cofactor_trace.specs.declared.Cofactors.{Cofactors}
+use Rattle.traced_rows.specs.declared.certificate.Cofactors.{Cofactors}
 use Rattle.cofactor_trace.specs.declared.fault.ExpandFault.{ExpandFault}
-use Rattle.cofactor_trace.specs.Rows.{rows_of}
+use Rattle.traced_rows.specs.Rows.{rows_of}
 use Rattle.cofactor_trace.specs.Expansion.{record_expansion}
 use Rattle.cofactor_trace.specs.Laws.{Traces, ExpansionsBalance}
 use Rattle.cofactor_trace.specs.Needed.{IsRecord, is_rule, is_named, Numbered, needed_rules, Expansions, none, known_from, and_then, expansion_from}
 use Rattle.cofactor_trace.proofs.Balance.{IsKnown, record_balances}
-use Rattle.cofactor_trace.proofs.Between.{between-nothing}
+use Rattle.traced_rows.proofs.Between.{between-nothing}
 use Rattle.cofactor_trace.proofs.Closure.{or_cases, or_left, or_right, names, record_names, records_from, is_numbered, named_is_needed, Above, needed_ascend, numbered_above}
 use Rattle.cofactor_trace.proofs.NeededLaws.{records_of, AreNumbered, numbered_from}
 

@@ -3,7 +3,7 @@ use Rattle.std.proofs.Common.{◌≡◌, ℕ, ◌+◌, ◌-◌, ◌^◌, ◌≤�
 use Rattle.std.specs.Prelude.{if◌then◌else◌}
 use Rattle.std.proofs.lemmas.Bool.Decides.{nat_tests}
 use Rattle.std.proofs.lemmas.List.Sums.{sum_by-cons}
-use Rattle.cofactor_trace.specs.declared.CertRow.{CertRow}
+use Rattle.traced_rows.specs.declared.certificate.CertRow.{CertRow}
 use Rattle.cofactor_trace.specs.declared.size.Size.{Size}
 use Rattle.cofactor_trace.specs.declared.fault.ExpandFault.{ExpandFault}
 use Rattle.cofactor_trace.specs.declared.fault.ExpandFault.TheVariants as fault

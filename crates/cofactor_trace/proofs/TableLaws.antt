@@ -18,7 +18,7 @@ use Rattle.coef_int.specs.declared.Overflow.{Overflow}
 use Rattle.coef_int.specs.Range.{is_coefficient}
 use Rattle.coef_int.specs.Operations.{sum_of, first_overflow}
 use Rattle.nc_polynomial.proofs.Chains.{or_first, first-append}
-use Rattle.cofactor_trace.specs.declared.CertRow.{CertRow}
+use Rattle.traced_rows.specs.declared.certificate.CertRow.{CertRow}
 use Rattle.cofactor_trace.specs.declared.table.Multiple.{Multiple}
 use Rattle.cofactor_trace.specs.Multiples.{multiple_of, multiple_cmp, multiple_cmp_total}
 use Rattle.cofactor_trace.specs.Gathered.{multiples_of, coefficients_at, kept_row, gathered, running_sums, sums_of_gathering}

@@ -13,13 +13,13 @@ use Rattle.definitions.specs.Combination.{generator_at, row_poly, row_sum}
 use Rattle.definitions.proofs.Coefficients.{coefficient_of-append, coefficient_of-multiple}
 use Rattle.definitions.proofs.Integers.{*ℤ_assoc, *ℤ-+ℤ, +ℤ-*ℤ, +ℤ_left_comm}
 use Rattle.traced_rows.specs.declared.Row.{Row}
-use Rattle.cofactor_trace.specs.declared.CertRow.{CertRow}
+use Rattle.traced_rows.specs.declared.certificate.CertRow.{CertRow}
 use Rattle.cofactor_trace.specs.declared.table.Multiple.{Multiple}
-use Rattle.cofactor_trace.specs.Rows.{row_of, rows_of}
+use Rattle.traced_rows.specs.Rows.{row_of, rows_of}
 use Rattle.cofactor_trace.specs.Multiples.{multiple_of, multiple_cmp}
 use Rattle.cofactor_trace.specs.Gathered.{multiples_of, total_at, coefficients_at, kept_row, gathered}
 use Rattle.cofactor_trace.specs.Expansion.{joined_row}
-use Rattle.cofactor_trace.proofs.Between.{between-append, between-multiple, between-between}
+use Rattle.traced_rows.proofs.Between.{between-append, between-multiple, between-between}
 use Rattle.cofactor_trace.proofs.TableLaws.{is_among, equal, itself, turned_round, among_all, among_inserted, sorted-multiples}
 
 module _ (generators : List (List (ℤ × List ℕ))) (w : List ℕ) where

@@ -5,13 +5,13 @@ use Rattle.coef_int.specs.Range.{IsCoefficient}
 use Rattle.definitions.specs.Poly.{Poly}
 use Rattle.definitions.specs.Combination.{generator_at}
 use Rattle.traced_rows.specs.declared.Made.{Made}
-use Rattle.cofactor_trace.specs.declared.evidence.CertFrom.{CertFrom}
-use Rattle.cofactor_trace.specs.declared.evidence.CertFrom.TheVariants as cert
-use Rattle.cofactor_trace.specs.declared.evidence.Lemma.{Lemma}
-use Rattle.cofactor_trace.specs.declared.evidence.LemmaCertificate.{LemmaCertificate}
+use Rattle.traced_rows.specs.declared.evidence.CertFrom.{CertFrom}
+use Rattle.traced_rows.specs.declared.evidence.CertFrom.TheVariants as cert
+use Rattle.traced_rows.specs.declared.evidence.Lemma.{Lemma}
+use Rattle.traced_rows.specs.declared.evidence.LemmaCertificate.{LemmaCertificate}
 use Rattle.cofactor_trace.specs.Needed.{IsRecord, AreRecords}
 use Rattle.cofactor_trace.specs.Laws.{Traces, AreTraces, NamesUpTo}
-use Rattle.cofactor_trace.specs.LemmaRows.{IsEvidenceOf}
+use Rattle.traced_rows.specs.LemmaRows.{IsEvidenceOf}
 use Rattle.cofactor_trace.specs.Lemmas.{lemma_rules, row_count, letter_count, gathered_of}
 use Rattle.cofactor_trace.specs.Limits.{row_limit, letter_limit}
 

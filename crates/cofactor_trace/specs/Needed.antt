@@ -9,7 +9,7 @@ use Rattle.coef_int.specs.Range.{IsCoefficient}
 use Rattle.traced_rows.specs.declared.Origin.{Origin}
 use Rattle.traced_rows.specs.declared.Origin.TheVariants as origin
 use Rattle.traced_rows.specs.declared.Made.{Made}
-use Rattle.cofactor_trace.specs.declared.Cofactors.{Cofactors}
+use Rattle.traced_rows.specs.declared.certificate.Cofactors.{Cofactors}
 use Rattle.cofactor_trace.specs.declared.fault.ExpandFault.{ExpandFault}
 use Rattle.cofactor_trace.specs.Expansion.{Known, record_expansion}
 

@@ -2,7 +2,7 @@
 use Rattle.std.specs.Prelude.{pos, ◌<ℤ◌}
 use Rattle.std.specs.List.{All}
 use Rattle.coef_int.specs.Range.{IsCoefficient}
-use Rattle.cofactor_trace.specs.declared.Cofactors.{Cofactors}
+use Rattle.traced_rows.specs.declared.certificate.Cofactors.{Cofactors}
 
 -- The denominator is positive, and it and each number of a row is a coefficient.
 pub record IsRanged (c : Cofactors) : Type 0 where

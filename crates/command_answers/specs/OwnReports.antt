@@ -1,6 +1,6 @@
 -- What `check` and `model` answer to a report of `prove` or `refute` on the same statement.
 use Rattle.std.specs.Prelude.{ℕ, ◌≡◌, ◌+◌, List, ◌++◌, length, Some}
-use Rattle.cofactor_trace.specs.declared.evidence.Evidence.{Evidence}
+use Rattle.traced_rows.specs.declared.evidence.Evidence.{Evidence}
 use Rattle.matrix_models.specs.declared.model.Model.{Model}
 use Rattle.adjoint_rules.specs.declared.problem.Problem.{Problem}
 use Rattle.cofactor_checker.specs.declared.refusal.Refusal.{Refusal}

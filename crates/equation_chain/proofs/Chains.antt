@@ -8,8 +8,8 @@ use Rattle.std.proofs.Math.Seq.{take-append_seam, take-append-add}
 use Rattle.definitions.specs.Poly.{Term, coefficient_of}
 use Rattle.definitions.proofs.Coefficients.{coefficient_of-multiple}
 use Rattle.nc_polynomial.proofs.Shapes.{Descends, recursion_from_IsDescending}
-use Rattle.cofactor_trace.specs.declared.CertRow.{CertRow}
-use Rattle.cofactor_trace.specs.declared.Certificate.{Certificate}
+use Rattle.traced_rows.specs.declared.certificate.CertRow.{CertRow}
+use Rattle.traced_rows.specs.declared.certificate.Certificate.{Certificate}
 use Rattle.adjoint_rules.specs.declared.problem.Problem.{Problem}
 use Rattle.adjoint_rules.specs.Problem.{polynomials}
 use Rattle.equation_chain.specs.Steps.{is_step, steps_in, steps_of}

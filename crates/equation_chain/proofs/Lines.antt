@@ -21,9 +21,9 @@ use Rattle.nc_polynomial.proofs.CollectedTerms.{coefficient_of-collected, descen
 use Rattle.nc_polynomial.proofs.Values.{SamePolynomial-added, SamePolynomial-scaled}
 use Rattle.nc_polynomial.proofs.Chains.{sized-value, finished-value}
 use Rattle.nc_polynomial.proofs.Around.{shaped-between}
-use Rattle.cofactor_trace.specs.declared.CertRow.{CertRow}
-use Rattle.cofactor_trace.specs.declared.Certificate.{Certificate}
-use Rattle.cofactor_trace.specs.Rows.{row_of, rows_of}
+use Rattle.traced_rows.specs.declared.certificate.CertRow.{CertRow}
+use Rattle.traced_rows.specs.declared.certificate.Certificate.{Certificate}
+use Rattle.traced_rows.specs.Rows.{row_of, rows_of}
 use Rattle.adjoint_rules.specs.declared.problem.Problem.{Problem}
 use Rattle.adjoint_rules.specs.Problem.{polynomials}
 use Rattle.equation_chain.specs.Steps.{generator_of}

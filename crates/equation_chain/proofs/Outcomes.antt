@@ -13,8 +13,8 @@ use Rattle.nc_polynomial.specs.Faults.{sized, has_long_word, unless_overflow, fi
 use Rattle.nc_polynomial.specs.Limits.{term_limit}
 use Rattle.nc_polynomial.specs.Product.{moved_result, and_then}
 use Rattle.std.specs.Prelude.{nat_lt, if◌then◌else◌}
-use Rattle.cofactor_trace.specs.declared.CertRow.{CertRow}
-use Rattle.cofactor_trace.specs.declared.Certificate.{Certificate}
+use Rattle.traced_rows.specs.declared.certificate.CertRow.{CertRow}
+use Rattle.traced_rows.specs.declared.certificate.Certificate.{Certificate}
 use Rattle.adjoint_rules.specs.declared.problem.Problem.{Problem}
 use Rattle.adjoint_rules.specs.Problem.{polynomials}
 use Rattle.cofactor_checker.specs.declared.refusal.Refusal.{Refusal}

@@ -13,7 +13,7 @@ use Rattle.std.proofs.lemmas.Grind.{flat_map-append}
 use Rattle.definitions.specs.Poly.{Term, Poly}
 use Rattle.word_core.specs.Letters.{IsOver}
 use Rattle.quiver.specs.Declarations.{Declaration, letter_count}
-use Rattle.cofactor_trace.specs.declared.CertRow.{CertRow}
+use Rattle.traced_rows.specs.declared.certificate.CertRow.{CertRow}
 use Rattle.certificate_text.specs.Evidence.{IsRowOver}
 use Rattle.block_text.specs.Written.{letter_text, gap_text, word_text, factor_text, later_text, poly_text}
 use Rattle.equation_chain.specs.Written.{line_text, use_text, steps_text, lines_text}

@@ -14,7 +14,7 @@ use Rattle.nc_polynomial.specs.declared.poly.Poly.{Poly}
 use Rattle.quiver.specs.declared.named.Sig.{Sig}
 use Rattle.quiver.specs.Declarations.{Declaration, quiver_of}
 use Rattle.quiver.specs.Signatures.{ends_of}
-use Rattle.cofactor_trace.specs.Rows.{row_of, rows_of}
+use Rattle.traced_rows.specs.Rows.{row_of, rows_of}
 use Rattle.adjoint_rules.specs.declared.problem.Problem.{Problem}
 use Rattle.adjoint_rules.specs.Problem.{polynomials, IsTypedOf}
 use Rattle.adjoint_rules.proofs.Generators.{generators_have_signatures}

@@ -17,8 +17,8 @@ use Rattle.nc_polynomial.specs.Shape.{IsShaped}
 use Rattle.nc_polynomial.proofs.Shapes.{recursion_from_IsDescending}
 use Rattle.nc_polynomial.proofs.Distinct.{AreDistinct, distinct-descending, first_coefficient, words_listed}
 use Rattle.quiver.specs.Declarations.{quiver_of}
-use Rattle.cofactor_trace.specs.declared.CertRow.{CertRow}
-use Rattle.cofactor_trace.specs.Rows.{row_of}
+use Rattle.traced_rows.specs.declared.certificate.CertRow.{CertRow}
+use Rattle.traced_rows.specs.Rows.{row_of}
 use Rattle.adjoint_rules.specs.declared.problem.Problem.{Problem}
 use Rattle.adjoint_rules.specs.Problem.{polynomials}
 use Rattle.adjoint_rules.proofs.Generators.{generators_have_signatures}

@@ -15,9 +15,9 @@ use Rattle.definitions.proofs.Linear.{word_eq-true}
 use Rattle.definitions.proofs.Projection.{coefficient_of-between_zero}
 use Rattle.definitions.proofs.Sound.{sound}
 use Rattle.quiver.specs.Declarations.{quiver_of}
-use Rattle.cofactor_trace.specs.declared.CertRow.{CertRow}
-use Rattle.cofactor_trace.specs.declared.Certificate.{Certificate}
-use Rattle.cofactor_trace.specs.Rows.{row_of, rows_of}
+use Rattle.traced_rows.specs.declared.certificate.CertRow.{CertRow}
+use Rattle.traced_rows.specs.declared.certificate.Certificate.{Certificate}
+use Rattle.traced_rows.specs.Rows.{row_of, rows_of}
 use Rattle.adjoint_rules.specs.declared.problem.Problem.{Problem}
 use Rattle.adjoint_rules.specs.Problem.{polynomials}
 use Rattle.adjoint_rules.proofs.Generators.{posed_quiver, generators_have_signatures}

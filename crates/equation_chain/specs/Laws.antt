@@ -6,8 +6,8 @@ use Rattle.definitions.specs.Quiver.{IsTyped}
 use Rattle.definitions.specs.Combination.{IsCombination}
 use Rattle.definitions.specs.Soundness.{MakesZero}
 use Rattle.quiver.specs.Declarations.{quiver_of}
-use Rattle.cofactor_trace.specs.declared.Certificate.{Certificate}
-use Rattle.cofactor_trace.specs.Rows.{rows_of}
+use Rattle.traced_rows.specs.declared.certificate.Certificate.{Certificate}
+use Rattle.traced_rows.specs.Rows.{rows_of}
 use Rattle.adjoint_rules.specs.declared.problem.Problem.{Problem}
 use Rattle.adjoint_rules.specs.Problem.{polynomials}
 use Rattle.equation_chain.specs.declared.fault.ChainFault.{ChainFault}

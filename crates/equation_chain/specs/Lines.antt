@@ -4,9 +4,9 @@ use Rattle.std.specs.List.{range_with_len, sum_by}
 use Rattle.definitions.specs.Poly.{Poly, poly_sum, poly_multiple}
 use Rattle.definitions.specs.Combination.{row_sum}
 use Rattle.nc_polynomial.specs.Collected.{collected}
-use Rattle.cofactor_trace.specs.declared.CertRow.{CertRow}
-use Rattle.cofactor_trace.specs.declared.Certificate.{Certificate}
-use Rattle.cofactor_trace.specs.Rows.{rows_of}
+use Rattle.traced_rows.specs.declared.certificate.CertRow.{CertRow}
+use Rattle.traced_rows.specs.declared.certificate.Certificate.{Certificate}
+use Rattle.traced_rows.specs.Rows.{rows_of}
 use Rattle.adjoint_rules.specs.declared.problem.Problem.{Problem}
 use Rattle.adjoint_rules.specs.Problem.{polynomials}
 use Rattle.cofactor_checker.specs.Acceptance.{claim_of}

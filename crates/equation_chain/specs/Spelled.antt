@@ -7,7 +7,7 @@ use Rattle.std.specs.List.{All, flat_map, zip, join_with_byte, range_with_len}
 use Rattle.definitions.specs.Poly.{Poly, Term}
 use Rattle.word_core.specs.Letters.{IsOver}
 use Rattle.quiver.specs.Declarations.{Declaration, letter_count}
-use Rattle.cofactor_trace.specs.declared.CertRow.{CertRow}
+use Rattle.traced_rows.specs.declared.certificate.CertRow.{CertRow}
 use Rattle.block_text.specs.Written.{letter_text, factor_text}
 
 -- the table has the text of each letter of the quiver

@@ -7,9 +7,9 @@ use Rattle.definitions.specs.Quiver.{IsPath}
 use Rattle.definitions.specs.Combination.{Row, generator_at, is_typed_row}
 use Rattle.quiver.specs.Declarations.{quiver_of}
 use Rattle.quiver.specs.Signatures.{ends_of}
-use Rattle.cofactor_trace.specs.declared.CertRow.{CertRow}
-use Rattle.cofactor_trace.specs.declared.Certificate.{Certificate}
-use Rattle.cofactor_trace.specs.Rows.{row_of}
+use Rattle.traced_rows.specs.declared.certificate.CertRow.{CertRow}
+use Rattle.traced_rows.specs.declared.certificate.Certificate.{Certificate}
+use Rattle.traced_rows.specs.Rows.{row_of}
 use Rattle.adjoint_rules.specs.declared.problem.Problem.{Problem}
 use Rattle.adjoint_rules.specs.Problem.{polynomials}
 

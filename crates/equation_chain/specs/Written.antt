@@ -4,7 +4,7 @@ use Rattle.std.specs.Fmt.{signed_decimal}
 use Rattle.std.specs.List.{flat_map, zip}
 use Rattle.definitions.specs.Poly.{Poly}
 use Rattle.quiver.specs.Declarations.{Declaration}
-use Rattle.cofactor_trace.specs.declared.CertRow.{CertRow}
+use Rattle.traced_rows.specs.declared.certificate.CertRow.{CertRow}
 use Rattle.block_text.specs.Written.{word_text, poly_text}
 use Rattle.certificate_text.specs.Written.{opening_text}
 

@@ -9,7 +9,7 @@ ghost use Rattle.equation_chain.specs.Written.{chain_text};
 use crate::Chain;
 use crate::text::{LetterTexts, letter_texts, put_line, put_opening, put_use};
 use block_text::put;
-use cofactor_trace::CertRow;
+use traced_rows::CertRow;
 use nc_polynomial::Poly;
 use quiver::Quiver;
 use std::alloc::{AllocError, Global};

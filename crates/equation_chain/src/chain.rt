@@ -9,7 +9,7 @@ use crate::ChainFault;
 use crate::line::{Line, first_line, next_line};
 use adjoint_rules::Problem;
 use cofactor_checker::check;
-use cofactor_trace::{CertRow, Certificate};
+use traced_rows::{CertRow, Certificate};
 use lists::{Duplicate, Listing};
 use nc_polynomial::Poly;
 use std::alloc::Global;

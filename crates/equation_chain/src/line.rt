@@ -7,14 +7,14 @@ ghost use Rattle.nc_polynomial.specs.Faults.{Explains};
 ghost use Rattle.equation_chain.specs.Chains.{less_step};
 ghost use Rattle.equation_chain.specs.Lines.{letters_in};
 ghost use Rattle.equation_chain.specs.Faults.{IsAccepted, StepsPass, IsFirstFault, IsMemory};
-ghost use Rattle.cofactor_trace.specs.declared.CertRow.{CertRow as StepRow};
+ghost use Rattle.traced_rows.specs.declared.certificate.CertRow.{CertRow as StepRow};
 ghost use Rattle.equation_chain.specs.Made.{IsLineBefore, GoesOn, IsLineBehind, StopsLine, Tells};
 
 use crate::ChainFault;
 use crate::step::{is_step, numbered};
 use adjoint_rules::Problem;
 use coef_int::negate;
-use cofactor_trace::{CertRow, Certificate};
+use traced_rows::{CertRow, Certificate};
 use nc_polynomial::{Poly, PolyFault};
 
 /// The greatest number of letters that the lines of a chain have together.

@@ -7,7 +7,7 @@ ghost use Rattle.quiver.specs.Signatures.{ends_of};
 ghost use Rattle.equation_chain.specs.Steps.{claim_ends, generator_of, is_step, steps_of};
 
 use adjoint_rules::Problem;
-use cofactor_trace::{CertRow, Certificate};
+use traced_rows::{CertRow, Certificate};
 use nc_polynomial::Poly;
 use quiver::{Quiver, Sig};
 use word_core::{Object, Word};

@@ -9,7 +9,7 @@ ghost use Rattle.certificate_text.specs.Written.{opening_text};
 ghost use Rattle.equation_chain.specs.Spelled.{AreTexts, word_by, term_by, first_by, later_by, poly_by, line_by, use_by};
 
 use block_text::{put, put_integer, put_number, write_word};
-use cofactor_trace::CertRow;
+use traced_rows::CertRow;
 use lists::Listing;
 use nc_polynomial::Poly;
 use quiver::Quiver;

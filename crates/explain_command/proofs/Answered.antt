@@ -6,10 +6,10 @@ use Rattle.definitions.specs.Poly.{Term}
 use Rattle.definitions.specs.Soundness.{HasSignature, IsSound, MakesZero}
 use Rattle.representations.specs.Evidence.{IsEvidenceSound}
 use Rattle.quiver.specs.Declarations.{Declaration, quiver_of}
-use Rattle.cofactor_trace.specs.declared.Certificate.{Certificate}
-use Rattle.cofactor_trace.specs.declared.evidence.Evidence.{Evidence}
-use Rattle.cofactor_trace.specs.declared.evidence.Evidence.TheVariants.{Plain, Lemmas}
-use Rattle.cofactor_trace.specs.declared.evidence.Format.TheVariants as format
+use Rattle.traced_rows.specs.declared.certificate.Certificate.{Certificate}
+use Rattle.traced_rows.specs.declared.evidence.Evidence.{Evidence}
+use Rattle.traced_rows.specs.declared.evidence.Evidence.TheVariants.{Plain, Lemmas}
+use Rattle.traced_rows.specs.declared.evidence.Format.TheVariants as format
 use Rattle.adjoint_rules.specs.declared.problem.Problem.{Problem}
 use Rattle.adjoint_rules.specs.Problem.{polynomials}
 use Rattle.certificate_text.specs.Evidence.{IsEvidence, IsFirstFault}

@@ -2,8 +2,8 @@
 use Rattle.std.proofs.Common.{List, [], refl, sym, subst, ◌∙◌}
 use Rattle.std.proofs.lemmas.List.{append-nil}
 use Rattle.definitions.specs.Category.{Structure}
-use Rattle.cofactor_trace.specs.declared.evidence.Evidence.{Evidence}
-use Rattle.cofactor_trace.specs.declared.evidence.Format.TheVariants as format
+use Rattle.traced_rows.specs.declared.evidence.Evidence.{Evidence}
+use Rattle.traced_rows.specs.declared.evidence.Format.TheVariants as format
 use Rattle.certificate_text.specs.Evidence.{IsEvidence}
 use Rattle.stated_problem.specs.Statement.{faulty, stated}
 use Rattle.stated_problem.proofs.Statements.{over_problem}

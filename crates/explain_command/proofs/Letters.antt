@@ -1,7 +1,7 @@
 -- Refusals name letters of the quiver alone.
-use Rattle.cofactor_trace.specs.declared.Certificate.{Certificate}
-use Rattle.cofactor_trace.specs.declared.evidence.Evidence.{Evidence}
-use Rattle.cofactor_trace.specs.declared.evidence.Evidence.TheVariants.{Plain, Lemmas}
+use Rattle.traced_rows.specs.declared.certificate.Certificate.{Certificate}
+use Rattle.traced_rows.specs.declared.evidence.Evidence.{Evidence}
+use Rattle.traced_rows.specs.declared.evidence.Evidence.TheVariants.{Plain, Lemmas}
 use Rattle.adjoint_rules.specs.declared.problem.Problem.{Problem}
 use Rattle.certificate_text.specs.Evidence.{IsCheckable, IsCheckableEvidence}
 use Rattle.equation_chain.specs.declared.fault.ChainFault.{ChainFault}

@@ -1,9 +1,9 @@
 -- What `explain` answers.
 use Rattle.std.specs.Prelude.{ℕ, List}
 use Rattle.adjoint_rules.specs.declared.problem.Problem.{Problem}
-use Rattle.cofactor_trace.specs.declared.evidence.Evidence.{Evidence}
-use Rattle.cofactor_trace.specs.declared.evidence.Evidence.TheVariants.{Plain, Lemmas}
-use Rattle.cofactor_trace.specs.declared.evidence.Format.TheVariants as format
+use Rattle.traced_rows.specs.declared.evidence.Evidence.{Evidence}
+use Rattle.traced_rows.specs.declared.evidence.Evidence.TheVariants.{Plain, Lemmas}
+use Rattle.traced_rows.specs.declared.evidence.Format.TheVariants as format
 use Rattle.certificate_text.specs.Evidence.{IsEvidence, IsFirstFault}
 use Rattle.equation_chain.specs.Faults as chain
 use Rattle.command_shape.specs.Ending.{Ending}

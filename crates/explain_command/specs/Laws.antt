@@ -3,8 +3,8 @@ use Rattle.std.specs.Prelude.{ℕ, ◌≡◌, List}
 use Rattle.std.specs.List.{AllByRecursion}
 use Rattle.definitions.specs.Category.{Structure}
 use Rattle.adjoint_rules.specs.declared.problem.Problem.{Problem}
-use Rattle.cofactor_trace.specs.declared.evidence.Evidence.{Evidence}
-use Rattle.cofactor_trace.specs.declared.evidence.Format.TheVariants.{Lemmas}
+use Rattle.traced_rows.specs.declared.evidence.Evidence.{Evidence}
+use Rattle.traced_rows.specs.declared.evidence.Format.TheVariants.{Lemmas}
 use Rattle.certificate_text.specs.Evidence.{IsEvidence}
 use Rattle.command_shape.specs.Ending.{Ending, refused_statement}
 use Rattle.stated_problem.specs.Statement.{IsStated, IsRefusedStatement}

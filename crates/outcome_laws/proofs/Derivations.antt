@@ -8,14 +8,14 @@ use Rattle.traced_rows.specs.declared.Origin.{Origin}
 use Rattle.traced_rows.specs.declared.Origin.TheVariants as origin
 use Rattle.traced_rows.specs.declared.Row.{Row}
 use Rattle.traced_rows.specs.declared.Made.{Made}
-use Rattle.cofactor_trace.specs.declared.Cofactors.{Cofactors}
-use Rattle.cofactor_trace.specs.declared.evidence.LemmaCertificate.{LemmaCertificate}
+use Rattle.traced_rows.specs.declared.certificate.Cofactors.{Cofactors}
+use Rattle.traced_rows.specs.declared.evidence.LemmaCertificate.{LemmaCertificate}
 use Rattle.traced_rows.specs.Traces.{traced_sum}
 use Rattle.cofactor_trace.specs.Needed.{IsAmongFirst, IsRecord, AreRecords, expansion_of}
 use Rattle.cofactor_trace.specs.Lemmas.{gathered_of}
 use Rattle.cofactor_trace.specs.Laws.{Traces}
-use Rattle.cofactor_trace.specs.Rows.{rows_of}
-use Rattle.cofactor_trace.specs.LemmaRows.{IsEvidenceOf}
+use Rattle.traced_rows.specs.Rows.{rows_of}
+use Rattle.traced_rows.specs.LemmaRows.{IsEvidenceOf}
 use Rattle.cofactor_trace.specs.GatheringLaws.{lemma_polys}
 use Rattle.cofactor_trace.proofs.GatheredParts.{parts}
 use Rattle.cofactor_trace.proofs.LemmaBalance.{gatherings_add_up}

@@ -7,7 +7,7 @@ use Rattle.definitions.specs.Combination.{generator_at}
 use Rattle.word_core.specs.Overlap.{overlap_places}
 use Rattle.word_orders.specs.declared.any.OrderSpec.TheVariants as asked
 use Rattle.word_orders.specs.Specified.{asked_cmp}
-use Rattle.cofactor_trace.proofs.Between.{between-nothing}
+use Rattle.traced_rows.proofs.Between.{between-nothing}
 use Rattle.quiver.specs.Declarations.{letter_count}
 use Rattle.ambiguities.specs.Resolved.{is_below}
 use Rattle.adjoint_rules.specs.declared.problem.Problem.{Problem}

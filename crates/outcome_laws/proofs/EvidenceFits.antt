@@ -8,14 +8,14 @@ use Rattle.definitions.specs.Poly.{Term}
 use Rattle.nc_polynomial.specs.declared.poly.Poly.{Poly}
 use Rattle.traced_rows.specs.declared.Row.{Row}
 use Rattle.traced_rows.specs.declared.Made.{Made}
-use Rattle.cofactor_trace.specs.declared.Cofactors.{Cofactors}
-use Rattle.cofactor_trace.specs.declared.evidence.LemmaRow.{LemmaRow}
-use Rattle.cofactor_trace.specs.declared.evidence.Lemma.{Lemma}
-use Rattle.cofactor_trace.specs.declared.evidence.LemmaCertificate.{LemmaCertificate}
-use Rattle.cofactor_trace.specs.declared.evidence.Evidence.{Evidence}
-use Rattle.cofactor_trace.specs.declared.evidence.Evidence.TheVariants as evidence
-use Rattle.cofactor_trace.specs.declared.evidence.Format.{Format}
-use Rattle.cofactor_trace.specs.declared.evidence.Format.TheVariants as format
+use Rattle.traced_rows.specs.declared.certificate.Cofactors.{Cofactors}
+use Rattle.traced_rows.specs.declared.evidence.LemmaRow.{LemmaRow}
+use Rattle.traced_rows.specs.declared.evidence.Lemma.{Lemma}
+use Rattle.traced_rows.specs.declared.evidence.LemmaCertificate.{LemmaCertificate}
+use Rattle.traced_rows.specs.declared.evidence.Evidence.{Evidence}
+use Rattle.traced_rows.specs.declared.evidence.Evidence.TheVariants as evidence
+use Rattle.traced_rows.specs.declared.evidence.Format.{Format}
+use Rattle.traced_rows.specs.declared.evidence.Format.TheVariants as format
 use Rattle.cofactor_trace.specs.declared.halt.Halt.{Halt}
 use Rattle.cofactor_trace.specs.Laws.{NamesUpTo}
 use Rattle.cofactor_trace.specs.Needed.{IsRecord, expansion_of}

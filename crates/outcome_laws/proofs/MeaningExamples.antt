@@ -2,7 +2,7 @@
 use Rattle.std.proofs.Common.{pos, [], refl, arith}
 use Rattle.std.proofs.lemmas.Int.{ints}
 use Rattle.nc_polynomial.specs.declared.poly.Poly.{Poly}
-use Rattle.cofactor_trace.specs.declared.evidence.Evidence.TheVariants as evidence
+use Rattle.traced_rows.specs.declared.evidence.Evidence.TheVariants as evidence
 use Rattle.adjoint_rules.specs.declared.problem.Problem.{Problem}
 use Rattle.claim_decider.specs.declared.outcome.Outcome.TheVariants as outcome
 use Rattle.cofactor_checker.specs.ProvedMeans.{EvidenceAddsUp}

@@ -10,7 +10,7 @@ use Rattle.word_orders.proofs.AskedOrders.{asked_rank, asked_cmp-admissible}
 use Rattle.nc_polynomial.specs.Shape.{IsCanonical}
 use Rattle.nc_polynomial.specs.declared.poly.Poly.{Poly}
 use Rattle.nc_polynomial.proofs.Shapes.{IsDescending-from_recursion}
-use Rattle.cofactor_trace.specs.declared.evidence.Format.{Format}
+use Rattle.traced_rows.specs.declared.evidence.Format.{Format}
 use Rattle.adjoint_rules.specs.declared.problem.Problem.{Problem}
 use Rattle.adjoint_rules.specs.Problem.{polynomials}
 use Rattle.adjoint_rules.specs.Claims.{claim_at, claim_numbers}

@@ -5,8 +5,8 @@ use Rattle.definitions.specs.Combination.{InRationalIdeal}
 use Rattle.word_orders.specs.Specified.{asked_cmp}
 use Rattle.nc_polynomial.specs.declared.poly.Poly.{Poly}
 use Rattle.quiver.specs.Declarations.{letter_count}
-use Rattle.cofactor_trace.specs.declared.evidence.Evidence.{Evidence}
-use Rattle.cofactor_trace.specs.declared.evidence.Format.{Format}
+use Rattle.traced_rows.specs.declared.evidence.Evidence.{Evidence}
+use Rattle.traced_rows.specs.declared.evidence.Format.{Format}
 use Rattle.cofactor_trace.specs.declared.halt.Place.TheVariants as place
 use Rattle.cofactor_trace.specs.declared.halt.Halt.{Halt}
 use Rattle.cofactor_checker.specs.ProvedMeans.{EvidenceAddsUp}

@@ -10,7 +10,7 @@ use Rattle.adjoint_rules.specs.declared.problem.Problem.{Problem}
 use Rattle.adjoint_rules.specs.Claims.{claim_numbers}
 use Rattle.claim_decider.specs.declared.outcome.Outcome.{Outcome}
 use Rattle.claim_decider.specs.declared.outcome.Outcome.TheVariants as outcome
-use Rattle.cofactor_trace.specs.declared.evidence.Evidence.{Evidence}
+use Rattle.traced_rows.specs.declared.evidence.Evidence.{Evidence}
 use Rattle.cofactor_trace.specs.declared.halt.Halt.{Halt}
 use Rattle.model_candidates.specs.Candidates.{IsLeastBreaking, NoneBreaks}
 use Rattle.model_checker.specs.Models.{IsClaimNumber}

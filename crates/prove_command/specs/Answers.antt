@@ -2,10 +2,10 @@
 use Rattle.std.specs.Prelude.{◌≡◌, ◌==◌, ℕ, true, false, List, [], ◌∷◌, if◌then◌else◌, ⊤}
 use Rattle.nc_polynomial.specs.declared.poly.Poly.{Poly}
 use Rattle.quiver.specs.Declarations.{Declaration}
-use Rattle.cofactor_trace.specs.declared.evidence.Evidence.{Evidence}
+use Rattle.traced_rows.specs.declared.evidence.Evidence.{Evidence}
 use Rattle.cofactor_trace.specs.declared.halt.Halt.{Halt}
-use Rattle.cofactor_trace.specs.declared.evidence.Format.{Format}
-use Rattle.cofactor_trace.specs.declared.evidence.Format.TheVariants as format
+use Rattle.traced_rows.specs.declared.evidence.Format.{Format}
+use Rattle.traced_rows.specs.declared.evidence.Format.TheVariants as format
 use Rattle.matrix_models.specs.declared.model.Model.{Model}
 use Rattle.adjoint_rules.specs.declared.problem.Problem.{Problem}
 use Rattle.adjoint_rules.specs.Claims.{claim_numbers}

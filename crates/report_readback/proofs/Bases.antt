@@ -6,7 +6,7 @@ use Rattle.std.proofs.lemmas.List.{append-nil, append_assoc}
 use Rattle.std.proofs.lemmas.List.Elements.{All-nil, All-cons, All-append, All-map, All-weaker}
 use Rattle.nc_polynomial.specs.declared.poly.Poly.{Poly}
 use Rattle.quiver.specs.Declarations.{Declaration, IsDeclared}
-use Rattle.cofactor_trace.specs.declared.evidence.Format.TheVariants.{Lemmas}
+use Rattle.traced_rows.specs.declared.evidence.Format.TheVariants.{Lemmas}
 use Rattle.block_text.specs.Tokens.{tokens_of}
 use Rattle.block_text.specs.Written.{poly_text}
 use Rattle.block_text.specs.Back.{other, is_named, IsLineText, ended, IsBodyLine}

@@ -7,13 +7,13 @@ use Rattle.coef_int.specs.declared.Overflow.{Overflow}
 use Rattle.nc_polynomial.specs.Limits.{word_limit, term_limit}
 use Rattle.cofactor_trace.specs.Limits.{row_limit, letter_limit}
 use Rattle.quiver.specs.Declarations.{Declaration, IsDeclared}
-use Rattle.cofactor_trace.specs.declared.evidence.Evidence.{Evidence}
+use Rattle.traced_rows.specs.declared.evidence.Evidence.{Evidence}
 use Rattle.cofactor_trace.specs.declared.halt.Halt.{Halt}
 use Rattle.cofactor_trace.specs.declared.halt.Cause.{Cause}
 use Rattle.cofactor_trace.specs.declared.halt.Cause.TheVariants as cause
 use Rattle.cofactor_trace.specs.declared.halt.Place.{Place}
 use Rattle.cofactor_trace.specs.declared.halt.Place.TheVariants as place
-use Rattle.cofactor_trace.specs.LemmaRows.{denominator_of}
+use Rattle.traced_rows.specs.LemmaRows.{denominator_of}
 use Rattle.block_text.specs.Back.{comment, is_named, IsLineText}
 use Rattle.certificate_text.specs.Back.{part_text}
 use Rattle.block_text.proofs.PolysBack.{nothing_is_line, word_is_line}

@@ -7,10 +7,10 @@ use Rattle.std.proofs.lemmas.List.{length-append}
 use Rattle.std.proofs.lemmas.List.Elements.{All-head, All-tail, recursion_from_All, All-from_recursion}
 use Rattle.definitions.specs.Poly.{Term, coefficient_of, poly_multiple, SamePolynomial}
 use Rattle.nc_polynomial.specs.Shape.{IsCanonical}
-use Rattle.cofactor_trace.specs.declared.evidence.Lemma.{Lemma}
-use Rattle.cofactor_trace.specs.declared.evidence.LemmaCertificate.{LemmaCertificate}
+use Rattle.traced_rows.specs.declared.evidence.Lemma.{Lemma}
+use Rattle.traced_rows.specs.declared.evidence.LemmaCertificate.{LemmaCertificate}
 use Rattle.cofactor_trace.specs.GatheringLaws.{NamesWithin, NameEarlier}
-use Rattle.cofactor_trace.specs.LemmaRows.{AreOfLemmas, IsShareOf, IsEvidenceOf}
+use Rattle.traced_rows.specs.LemmaRows.{AreOfLemmas, IsShareOf, IsEvidenceOf}
 use Rattle.cofactor_checker.specs.Rows.{IsNumberUpTo}
 use Rattle.cofactor_checker.specs.declared.refusal.Refusal.{Refusal}
 use Rattle.cofactor_checker.specs.declared.refusal.Refusal.TheVariants as refusal

@@ -7,13 +7,13 @@ use Rattle.definitions.specs.Combination.{generator_at}
 use Rattle.nc_polynomial.specs.Shape.{IsCanonical}
 use Rattle.nc_polynomial.proofs.Shapes.{IsDescending-from_recursion}
 use Rattle.traced_rows.specs.declared.Made.{Made}
-use Rattle.cofactor_trace.specs.declared.evidence.Evidence.TheVariants as evidence
-use Rattle.cofactor_trace.specs.declared.evidence.Format.{Format}
-use Rattle.cofactor_trace.specs.declared.evidence.Format.TheVariants as format
-use Rattle.cofactor_trace.specs.declared.evidence.LemmaCertificate.{LemmaCertificate}
+use Rattle.traced_rows.specs.declared.evidence.Evidence.TheVariants as evidence
+use Rattle.traced_rows.specs.declared.evidence.Format.{Format}
+use Rattle.traced_rows.specs.declared.evidence.Format.TheVariants as format
+use Rattle.traced_rows.specs.declared.evidence.LemmaCertificate.{LemmaCertificate}
 use Rattle.cofactor_trace.specs.Lemmas.{lemma_rules}
 use Rattle.cofactor_trace.specs.GatheringLaws.{lemma_polys}
-use Rattle.cofactor_trace.specs.LemmaRows.{AreOfLemmas, IsEvidenceOf}
+use Rattle.traced_rows.specs.LemmaRows.{AreOfLemmas, IsEvidenceOf}
 use Rattle.rule_reduce.specs.declared.rule.Rule.{Rule}
 use Rattle.rule_reduce.specs.RuleLists.{polynomials_of}
 use Rattle.adjoint_rules.specs.declared.problem.Problem.{Problem}

@@ -8,7 +8,7 @@ use Rattle.std.proofs.lemmas.List.Elements.{All-nil, All-cons, All-head, All-tai
 use Rattle.std.proofs.lemmas.List.Folds.{flat_map-map}
 use Rattle.std.proofs.lemmas.List.FromFn.{length-range_with_len, get_or-range_with_len}
 use Rattle.quiver.specs.Declarations.{Declaration, IsDeclared, object_count, letter_count, object_name, letter_name}
-use Rattle.cofactor_trace.specs.declared.evidence.Format.TheVariants.{Lemmas}
+use Rattle.traced_rows.specs.declared.evidence.Format.TheVariants.{Lemmas}
 use Rattle.matrix_models.specs.Matrix.{Matrix, entry_at}
 use Rattle.matrix_models.specs.declared.model.Model.{Model}
 use Rattle.block_text.specs.Letters.{is_name}

@@ -20,11 +20,11 @@ use Rattle.nc_polynomial.proofs.CollectedTerms.{coefficient_of-collected, descen
 use Rattle.nc_polynomial.proofs.Kept.{scaled_by_nonzero}
 use Rattle.nc_polynomial.proofs.Shapes.{Descends, recursion_from_IsDescending, descending-scaled, nonzero-scaled}
 use Rattle.nc_polynomial.proofs.Unique.{descending_unique}
-use Rattle.cofactor_trace.specs.declared.evidence.CertFrom.{CertFrom}
-use Rattle.cofactor_trace.specs.declared.evidence.CertFrom.TheVariants as cert
-use Rattle.cofactor_trace.specs.declared.evidence.Lemma.{Lemma}
+use Rattle.traced_rows.specs.declared.evidence.CertFrom.{CertFrom}
+use Rattle.traced_rows.specs.declared.evidence.CertFrom.TheVariants as cert
+use Rattle.traced_rows.specs.declared.evidence.Lemma.{Lemma}
 use Rattle.cofactor_trace.specs.GatheringLaws.{IsWithin, NamesWithin}
-use Rattle.cofactor_trace.specs.LemmaRows.{AddsUpTo}
+use Rattle.traced_rows.specs.LemmaRows.{AddsUpTo}
 use Rattle.cofactor_checker.specs.Rows.{IsNumberUpTo}
 use Rattle.cofactor_checker.specs.declared.refusal.Refusal.{Refusal}
 use Rattle.cofactor_checker.specs.declared.refusal.Refusal.TheVariants as refusal

@@ -5,13 +5,13 @@ use Rattle.std.proofs.lemmas.Int.{ints}
 use Rattle.std.proofs.lemmas.List.Elements.{All-nil, All-cons, All-head, All-tail}
 use Rattle.coef_int.specs.Range.{IsCoefficient}
 use Rattle.quiver.specs.Declarations.{Declaration}
-use Rattle.cofactor_trace.specs.declared.Certificate.{Certificate}
-use Rattle.cofactor_trace.specs.declared.evidence.CertFrom.{CertFrom}
-use Rattle.cofactor_trace.specs.declared.evidence.CertFrom.TheVariants as cert
-use Rattle.cofactor_trace.specs.declared.evidence.Lemma.{Lemma}
-use Rattle.cofactor_trace.specs.declared.evidence.LemmaCertificate.{LemmaCertificate}
-use Rattle.cofactor_trace.specs.declared.evidence.Evidence.{Evidence}
-use Rattle.cofactor_trace.specs.declared.evidence.Evidence.TheVariants as evidence
+use Rattle.traced_rows.specs.declared.certificate.Certificate.{Certificate}
+use Rattle.traced_rows.specs.declared.evidence.CertFrom.{CertFrom}
+use Rattle.traced_rows.specs.declared.evidence.CertFrom.TheVariants as cert
+use Rattle.traced_rows.specs.declared.evidence.Lemma.{Lemma}
+use Rattle.traced_rows.specs.declared.evidence.LemmaCertificate.{LemmaCertificate}
+use Rattle.traced_rows.specs.declared.evidence.Evidence.{Evidence}
+use Rattle.traced_rows.specs.declared.evidence.Evidence.TheVariants as evidence
 use Rattle.cofactor_trace.specs.GatheringLaws.{IsWithin, NamesWithin, NameEarlier}
 use Rattle.adjoint_rules.specs.declared.problem.Problem.{Problem}
 use Rattle.adjoint_rules.specs.Limits.{generator_limit}

@@ -1,8 +1,8 @@
 -- What is answered to the evidence of a derived claim: it is accepted, or a limit is passed in adding it up.
 use Rattle.std.specs.Prelude.{◌⊎◌, ⊤, ℕ, List, length}
 use Rattle.std.specs.List.{All}
-use Rattle.cofactor_trace.specs.declared.evidence.Evidence.{Evidence}
-use Rattle.cofactor_trace.specs.declared.evidence.Format.{Format}
+use Rattle.traced_rows.specs.declared.evidence.Evidence.{Evidence}
+use Rattle.traced_rows.specs.declared.evidence.Format.{Format}
 use Rattle.cofactor_checker.specs.declared.refusal.Refusal.{Refusal}
 use Rattle.cofactor_checker.specs.Rows.{IsNumberUpTo}
 use Rattle.cofactor_checker.specs.declared.refusal.Refusal.TheVariants as refusal

@@ -1,8 +1,8 @@
 -- How many rows lemmas have.
 use Rattle.std.proofs.Common.{List}
 use Rattle.std.specs.List.{flat_map}
-use Rattle.cofactor_trace.specs.declared.evidence.Lemma.{Lemma}
-use Rattle.cofactor_trace.specs.declared.evidence.LemmaRow.{LemmaRow}
+use Rattle.traced_rows.specs.declared.evidence.Lemma.{Lemma}
+use Rattle.traced_rows.specs.declared.evidence.LemmaRow.{LemmaRow}
 
 -- the rows of lemmas
 abbrev pub rows_in : List Lemma → List LemmaRow

@@ -5,11 +5,11 @@ use Rattle.std.specs.List.{flat_map}
 use Rattle.coef_int.specs.declared.Overflow.{Overflow}
 use Rattle.nc_polynomial.specs.Limits.{word_limit, term_limit}
 use Rattle.cofactor_trace.specs.Limits.{row_limit, letter_limit}
-use Rattle.cofactor_trace.specs.LemmaRows.{denominator_of}
+use Rattle.traced_rows.specs.LemmaRows.{denominator_of}
 use Rattle.quiver.specs.Declarations.{Declaration}
-use Rattle.cofactor_trace.specs.declared.evidence.Evidence.{Evidence}
-use Rattle.cofactor_trace.specs.declared.evidence.Evidence.TheVariants as format
-use Rattle.cofactor_trace.specs.declared.evidence.LemmaCertificate.{LemmaCertificate}
+use Rattle.traced_rows.specs.declared.evidence.Evidence.{Evidence}
+use Rattle.traced_rows.specs.declared.evidence.Evidence.TheVariants as format
+use Rattle.traced_rows.specs.declared.evidence.LemmaCertificate.{LemmaCertificate}
 use Rattle.cofactor_trace.specs.declared.halt.Halt.{Halt}
 use Rattle.cofactor_trace.specs.declared.halt.Cause.{Cause}
 use Rattle.cofactor_trace.specs.declared.halt.Cause.TheVariants as cause

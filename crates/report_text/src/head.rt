@@ -2,7 +2,7 @@
 
 ghost use Rattle.std.specs.Prelude.{◌≡◌, ◌++◌, OnOk, decimal};
 ghost use Rattle.std.specs.Fmt.{signed_decimal};
-ghost use Rattle.cofactor_trace.specs.LemmaRows.{denominator_of};
+ghost use Rattle.traced_rows.specs.LemmaRows.{denominator_of};
 ghost use Rattle.report_text.specs.Heads.{lemma_row_count, row_count, denominator_text, proved_text, not_derivable_text};
 ghost use Rattle.report_text.specs.Heads.{not_refuted_text, overflow_text, cause_text, place_text, least_text, undecided_text, said_of};
 ghost use Rattle.report_text.specs.Heads.{head_line};

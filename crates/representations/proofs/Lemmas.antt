@@ -17,13 +17,13 @@ use Rattle.definitions.proofs.Rows.{between_is_zero}
 use Rattle.definitions.proofs.StarSound.{all-append, star_sound}
 use Rattle.definitions.proofs.Values.{multiple-times, word_at, word_at_is_arrow, group_at, value_at-linear}
 use Rattle.nc_polynomial.proofs.Divisors.{quotient_times}
-use Rattle.cofactor_trace.specs.declared.evidence.CertFrom.{CertFrom}
-use Rattle.cofactor_trace.specs.declared.evidence.CertFrom.TheVariants as cert
-use Rattle.cofactor_trace.specs.declared.evidence.LemmaRow.{LemmaRow}
-use Rattle.cofactor_trace.specs.declared.evidence.Lemma.{Lemma}
-use Rattle.cofactor_trace.specs.declared.evidence.LemmaCertificate.{LemmaCertificate}
-use Rattle.cofactor_trace.specs.LemmaRows.{cert_poly, lemma_row_poly, lemma_sum, AddsUpTo, AreOfLemmas, IsShareOf, IsEvidenceOf}
-use Rattle.cofactor_trace.proofs.Between.{between-append, between-multiple, between-between, between-nothing, between-same}
+use Rattle.traced_rows.specs.declared.evidence.CertFrom.{CertFrom}
+use Rattle.traced_rows.specs.declared.evidence.CertFrom.TheVariants as cert
+use Rattle.traced_rows.specs.declared.evidence.LemmaRow.{LemmaRow}
+use Rattle.traced_rows.specs.declared.evidence.Lemma.{Lemma}
+use Rattle.traced_rows.specs.declared.evidence.LemmaCertificate.{LemmaCertificate}
+use Rattle.traced_rows.specs.LemmaRows.{cert_poly, lemma_row_poly, lemma_sum, AddsUpTo, AreOfLemmas, IsShareOf, IsEvidenceOf}
+use Rattle.traced_rows.proofs.Between.{between-append, between-multiple, between-between, between-nothing, between-same}
 use Rattle.representations.specs.Evidence.{IsEvidenceSound, IsEvidenceStarSound}
 
 module _ {Object Arrow : Type 0} {s : Structure Object Arrow} (laws : PreadditiveLaws s) (q : Quiver) (f : Representation Object Arrow) (rep : Represents s q f) where

@@ -7,8 +7,8 @@ use Rattle.definitions.specs.Quiver.{Quiver, IsQuiver}
 use Rattle.definitions.specs.Representation.{Representation, StarRepresents, Cancels}
 use Rattle.definitions.specs.Generators.{generators_of}
 use Rattle.definitions.specs.Soundness.{HasSignature, HasValueZero, MakesZero}
-use Rattle.cofactor_trace.specs.declared.evidence.LemmaCertificate.{LemmaCertificate}
-use Rattle.cofactor_trace.specs.LemmaRows.{IsEvidenceOf}
+use Rattle.traced_rows.specs.declared.evidence.LemmaCertificate.{LemmaCertificate}
+use Rattle.traced_rows.specs.LemmaRows.{IsEvidenceOf}
 
 -- Evidence with lemmas proves its claim: neither rows nor lemmas need be typed.
 pub record IsEvidenceSound {Object Arrow : Type 0} (s : Structure Object Arrow) : Type 0 where

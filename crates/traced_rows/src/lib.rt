@@ -1,6 +1,11 @@
-//! Rows over generators and rules, and records of how polynomials were made.
+//! Rows over generators and rules, records of how polynomials were made, and certificates.
 #![tactic(auto)]
 
+mod certificate;
+mod evidence;
+
+pub use certificate::{CertRow, Certificate, Cofactors};
+pub use evidence::{CertFrom, Evidence, Format, Lemma, LemmaCertificate, LemmaRow};
 use lists::{Duplicate, Listing};
 use std::alloc::AllocError;
 use word_core::Word;

@@ -1,5 +1,5 @@
 use Rattle.std.proofs.Common.{◌≡◌, rules}
-use Rattle.cofactor_trace.specs.declared.evidence.Format.TheVariants.{Lemmas}
+use Rattle.traced_rows.specs.declared.evidence.Format.TheVariants.{Lemmas}
 use Rattle.certificate_text.specs.Evidence.{IsFirstFault}
 use Rattle.command_shape.specs.Ending.{refused_evidence}
 use Rattle.command_shape.specs.Texts.{evidence_fault}

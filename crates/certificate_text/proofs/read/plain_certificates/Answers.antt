@@ -2,7 +2,7 @@ use Rattle.std.proofs.Common.{◌≡◌, ◌++◌, ◌∷◌, [], length, map, s
 use Rattle.std.specs.Vec.Iter.{into_iter_items}
 use Rattle.std.proofs.lemmas.List.{map-append}
 use Rattle.std.proofs.lemmas.List.Elements.{All-rest}
-use Rattle.cofactor_trace.specs.declared.evidence.Evidence.TheVariants as block
+use Rattle.traced_rows.specs.declared.evidence.Evidence.TheVariants as block
 use Rattle.certificate_text.specs.Reading.{IsPlain}
 use Rattle.certificate_text.proofs.read.plain_certificates.Goals as goal
 

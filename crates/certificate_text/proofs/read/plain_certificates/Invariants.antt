@@ -1,7 +1,7 @@
 use Rattle.std.proofs.Common.{◌≡◌, ◌++◌, map, length}
 use Rattle.std.specs.List.{All}
 use Rattle.std.specs.Vec.Iter.{into_iter_items, into_iter_len}
-use Rattle.cofactor_trace.specs.declared.evidence.Evidence.TheVariants as block
+use Rattle.traced_rows.specs.declared.evidence.Evidence.TheVariants as block
 use Rattle.certificate_text.specs.Reading.{IsPlain}
 use Rattle.certificate_text.proofs.read.plain_certificates.Given as goal
 

@@ -1,8 +1,8 @@
 use Rattle.std.proofs.Common.{rules, subst, ◌≡◌, List, ℕ}
 use Rattle.std.specs.List.{All}
 use Rattle.quiver.specs.Declarations.{Declaration}
-use Rattle.cofactor_trace.specs.declared.evidence.Evidence.{Evidence}
-use Rattle.cofactor_trace.specs.declared.evidence.Format.TheVariants as Format
+use Rattle.traced_rows.specs.declared.evidence.Evidence.{Evidence}
+use Rattle.traced_rows.specs.declared.evidence.Format.TheVariants as Format
 use Rattle.block_text.proofs.EachText.{values_read, fault_told}
 use Rattle.block_text.specs.Steps.{all_values}
 use Rattle.std.proofs.Common.{Ok}

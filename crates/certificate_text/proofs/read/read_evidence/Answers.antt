@@ -1,4 +1,4 @@
-use Rattle.cofactor_trace.specs.declared.evidence.Format.TheVariants as Format
+use Rattle.traced_rows.specs.declared.evidence.Format.TheVariants as Format
 use Rattle.block_text.proofs.EachText.{values_told}
 use Rattle.certificate_text.specs.Evidence.{certificate_kind}
 use Rattle.certificate_text.specs.Reading.{certificate_steps}

@@ -1,6 +1,6 @@
 use Rattle.std.proofs.Common.{◌≡◌, List, Err, subst, rules}
-use Rattle.cofactor_trace.specs.declared.evidence.Evidence.{Evidence}
-use Rattle.cofactor_trace.specs.declared.evidence.Format.TheVariants.{Lemmas}
+use Rattle.traced_rows.specs.declared.evidence.Evidence.{Evidence}
+use Rattle.traced_rows.specs.declared.evidence.Format.TheVariants.{Lemmas}
 use Rattle.adjoint_rules.specs.declared.problem.Problem.{Problem}
 use Rattle.block_text.specs.Fault.{Fault}
 use Rattle.certificate_text.specs.Evidence.{IsEvidence, IsFirstFault}

@@ -5,7 +5,7 @@ use Rattle.definitions.specs.Poly.{coefficient_of}
 use Rattle.definitions.specs.Combination.{row_sum}
 use Rattle.nc_polynomial.specs.Collected.{coefficient_in}
 use Rattle.nc_polynomial.specs.Terms.{products}
-use Rattle.cofactor_trace.specs.Rows.{rows_of}
+use Rattle.traced_rows.specs.Rows.{rows_of}
 use Rattle.adjoint_rules.specs.Problem.{polynomials}
 use Rattle.cofactor_checker.specs.Acceptance.{AddsUp, Accepts, SumDiffers, Refuses}
 use Rattle.cofactor_checker.specs.RowRefusals.{RefusesRow}

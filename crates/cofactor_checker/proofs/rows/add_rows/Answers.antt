@@ -3,7 +3,7 @@ use mir.Syntax.{w128}
 use Rattle.std.specs.BTreeMap.{btree_map_len}
 use Rattle.coef_int.specs.Operations.{first_overflow}
 use Rattle.definitions.specs.Combination.{generator_at}
-use Rattle.cofactor_trace.specs.Rows.{row_of, rows_of}
+use Rattle.traced_rows.specs.Rows.{row_of, rows_of}
 use Rattle.nc_polynomial.specs.Collected.{coefficient_in}
 use Rattle.adjoint_rules.specs.Problem.{polynomials}
 use Rattle.cofactor_checker.specs.Operations.{adding_operations}

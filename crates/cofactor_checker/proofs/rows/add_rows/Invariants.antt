@@ -1,7 +1,7 @@
 use Rattle.std.proofs.Common.{◌≡◌}
 use Rattle.std.specs.BTreeMap.{IsOrdered}
 use Rattle.word_core.specs.Canonical.{word_cmp}
-use Rattle.cofactor_trace.specs.Rows.{rows_of}
+use Rattle.traced_rows.specs.Rows.{rows_of}
 use Rattle.adjoint_rules.specs.Problem.{polynomials}
 use Rattle.cofactor_checker.proofs.RowSums.{SumsUpTo}
 use Rattle.cofactor_checker.proofs.rows.add_rows.Given as goal

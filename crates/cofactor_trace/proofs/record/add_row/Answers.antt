@@ -4,7 +4,7 @@ use Rattle.std.specs.Option.{option_map}
 use Rattle.coef_int.specs.Range.{IsCoefficient}
 use Rattle.coef_int.specs.Operations.{product_of}
 use Rattle.nc_polynomial.proofs.Chains.{first-fits}
-use Rattle.cofactor_trace.specs.declared.CertRow.{CertRow}
+use Rattle.traced_rows.specs.declared.certificate.CertRow.{CertRow}
 use Rattle.cofactor_trace.specs.declared.fault.ExpandFault.TheVariants as fault
 use Rattle.cofactor_trace.specs.Expansion.{share, joined_row, overflow_in}
 use Rattle.cofactor_trace.specs.Faults.{IsFirst}

@@ -3,7 +3,7 @@ use Rattle.std.specs.List.{All}
 use Rattle.std.specs.Map.{values_of}
 use Rattle.std.proofs.lemmas.List.Elements.{All-head, All-tail, All-append}
 use Rattle.coef_int.specs.Range.{IsCoefficient}
-use Rattle.cofactor_trace.specs.declared.CertRow.{CertRow}
+use Rattle.traced_rows.specs.declared.certificate.CertRow.{CertRow}
 use Rattle.cofactor_trace.specs.Gathered.{kept_row}
 use Rattle.cofactor_trace.specs.Table.{IsInRange, Sum, Entries, before, rows_in}
 use Rattle.cofactor_trace.proofs.Gathering.{behind, behind-before, kept_row-in_range}

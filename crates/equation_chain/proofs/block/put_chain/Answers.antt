@@ -2,7 +2,7 @@ use Rattle.std.proofs.Common.{rules, ◌≡◌, ◌++◌, List, ℕ, codes, sym,
 use Rattle.std.specs.List.{All, AllByRecursion}
 use Rattle.std.proofs.lemmas.List.Elements.{recursion_from_All}
 use Rattle.nc_polynomial.specs.declared.poly.Poly.{Poly}
-use Rattle.cofactor_trace.specs.declared.CertRow.{CertRow}
+use Rattle.traced_rows.specs.declared.certificate.CertRow.{CertRow}
 use Rattle.adjoint_rules.specs.Problem.{polynomials}
 use Rattle.certificate_text.specs.Evidence.{IsRowOver}
 use Rattle.certificate_text.specs.Written.{opening_text}

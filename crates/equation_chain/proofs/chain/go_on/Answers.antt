@@ -1,5 +1,5 @@
 use Rattle.std.proofs.Common.{◌≡◌, ◌++◌, [], ◌∷◌, Some, false, subst, ap, ◌∙◌}
-use Rattle.cofactor_trace.specs.declared.CertRow.{CertRow}
+use Rattle.traced_rows.specs.declared.certificate.CertRow.{CertRow}
 use Rattle.equation_chain.specs.Steps.{is_step}
 use Rattle.equation_chain.specs.Made.{GoesOn}
 use Rattle.equation_chain.proofs.Making.{making_stays, making_goes_on}

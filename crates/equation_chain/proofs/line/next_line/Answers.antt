@@ -1,7 +1,7 @@
 use Rattle.std.proofs.Common.{rules, arith, ◌≡◌, Some, Err, true, false}
 use Rattle.std.proofs.lemmas.List.Elements.{recursion_from_All}
 use Rattle.coef_int.specs.Range.{IsCoefficient}
-use Rattle.cofactor_trace.specs.declared.CertRow.{CertRow}
+use Rattle.traced_rows.specs.declared.certificate.CertRow.{CertRow}
 use Rattle.equation_chain.specs.Steps.{is_step, generator_of}
 use Rattle.equation_chain.specs.Made.{GoesOn}
 use Rattle.equation_chain.proofs.Numbered.{poly_named, poly_absent}

@@ -1,6 +1,6 @@
 -- The rows of a certificate as rows over its generators.
 use Rattle.std.specs.Prelude.{List, map}
-use Rattle.cofactor_trace.specs.declared.CertRow.{CertRow}
+use Rattle.traced_rows.specs.declared.certificate.CertRow.{CertRow}
 use Rattle.definitions.specs.Combination.{Row}
 
 -- the same integer, words and number of a generator
