@@ -10,18 +10,18 @@ use Rattle.command_words.specs.Usage.{usage_text}
 use Rattle.command_words.proofs.Unique.{one_call}
 use Rattle.command_shape.specs.declared.files.FileWord.{FileWord}
 use Rattle.command_words.specs.declared.call.Call.{Call}
-use Rattle.command_answers.specs.CallFiles.{files_of}
+use Rattle.command_runs.specs.CallFiles.{files_of}
 use Rattle.command_runs.specs.Call.{IsCalled, IsTaken}
 use Rattle.command_shape.specs.Ending.{Ending, usage, too_long}
 use Rattle.command_runs.specs.Files.{AfterFiles, AreHeld, IsMissing, IsFirstTooLong}
-use Rattle.command_answers.specs.Answers.{Answers}
+use Rattle.command_runs.specs.Answers.{Answers}
 use Rattle.command_runs.specs.Ends.{EndsBy, MayEnd, other_words, called}
 use Rattle.command_runs.specs.Put.{IsPut, whole, in_part}
 use Rattle.command_runs.specs.Run.{Run, SaysLoadFailed, SaysTooLong, SaysAnswer}
-use Rattle.command_answers.specs.Says.{Says}
+use Rattle.command_runs.specs.Says.{Says}
 use Rattle.command_runs.specs.Headline.{HasMeaning}
 use Rattle.command_runs.proofs.AfterFiles.{Failed, Long, All, Kind, failed, long, all, kind, held, missing, first_too_long, after_weaker}
-use Rattle.command_answers.proofs.Commands.{answers_once, answer_status, answers_say}
+use Rattle.command_runs.proofs.Commands.{answers_once, answer_status, answers_say}
 
 status_is : {ending end : Ending} → ending ≡ end → ending.status ≡ end.status
 status_is same = ap (λ (e : Ending). e.status) same

@@ -1,3 +1,5 @@
+pub mod Commands
+mod OwnReports
 pub mod AfterFiles
 pub mod Endings
 pub mod Prefix

@@ -4,11 +4,11 @@ use Rattle.std.specs.declared.alloc.Global.{Global}
 use Rattle.flow_io.specs.Told.{Told}
 use Rattle.command_words.specs.declared.call.Call.{Call}
 use Rattle.command_words.specs.Usage.{usage_text}
-use Rattle.command_answers.specs.CallFiles.{files_of}
+use Rattle.command_runs.specs.CallFiles.{files_of}
 use Rattle.command_runs.specs.Call.{IsCalled, IsTaken}
 use Rattle.command_shape.specs.Ending.{Ending, usage}
 use Rattle.command_runs.specs.Files.{AfterFiles}
-use Rattle.command_answers.specs.Answers.{Answers}
+use Rattle.command_runs.specs.Answers.{Answers}
 
 -- Words that are no call end in the usage line. A call ends at its files, or goes on as it answers their contents.
 pub data EndsBy (answers : Call → List (List ℕ) → Ending → Type 0) (words : List (String Global)) (told : List ℕ → Told) (rose : List ℕ

@@ -3,8 +3,8 @@ use Rattle.std.specs.Prelude.{ℕ, ◌≢◌, List, String}
 use Rattle.std.specs.declared.alloc.Global.{Global}
 use Rattle.definitions.specs.Category.{Structure}
 use Rattle.command_shape.specs.Ending.{Ending}
-use Rattle.command_answers.specs.Answers.{Answers}
-use Rattle.command_answers.specs.Says.{Says}
+use Rattle.command_runs.specs.Answers.{Answers}
+use Rattle.command_runs.specs.Says.{Says}
 use Rattle.command_runs.specs.Ends.{EndsBy}
 use Rattle.command_runs.specs.Put.{IsPut}
 use Rattle.command_runs.specs.Run.{Run}

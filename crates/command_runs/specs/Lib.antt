@@ -1,3 +1,8 @@
+pub mod CallFiles
+pub mod Answers
+pub mod Says
+pub mod Laws
+pub mod OwnReports
 pub mod Call
 pub mod Files
 pub mod Ends

@@ -6,11 +6,11 @@ use Rattle.flow_io.specs.Causes.{Rose}
 use Rattle.flow_io.specs.Told.{Told, MayExceed}
 use Rattle.command_words.specs.declared.call.Call.{Call}
 use Rattle.command_shape.specs.declared.files.FileWord.{FileWord}
-use Rattle.command_answers.specs.CallFiles.{files_of}
+use Rattle.command_runs.specs.CallFiles.{files_of}
 use Rattle.command_runs.specs.Call.{IsCalled, IsTaken}
 use Rattle.command_shape.specs.Ending.{Ending, load_failed, too_long}
 use Rattle.command_runs.specs.Files.{RoseAt, WereLoaded, AreHeld, IsReached, IsMissing, IsFirstTooLong}
-use Rattle.command_answers.specs.Answers.{Answers}
+use Rattle.command_runs.specs.Answers.{Answers}
 use Rattle.command_runs.specs.Ends.{MayEnd}
 
 -- What the devices tell of a run: of each file, of the names whose count of faults rose, of the bytes that were put, of the sink that is

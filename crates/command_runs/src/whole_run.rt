@@ -3,8 +3,8 @@ ghost use Rattle.std.specs.Prelude.{◌≡◌, IfOk, IfErr, IsTrue};
 ghost use Rattle.std.specs.Io.KnownBytes.{Appends};
 ghost use Rattle.flow_io.specs.Causes.{Rose};
 ghost use Rattle.command_words.specs.Calls.{IsInRange};
-ghost use Rattle.command_answers.specs.Answers.{Answers};
-ghost use Rattle.command_answers.specs.CallFiles.{files_of};
+ghost use Rattle.command_runs.specs.Answers.{Answers};
+ghost use Rattle.command_runs.specs.CallFiles.{files_of};
 ghost use Rattle.command_runs.specs.Ends.{MayEnd};
 ghost use Rattle.command_runs.specs.Files.{RoseAt, WereLoaded, AfterFiles};
 ghost use Rattle.command_runs.specs.Put.{IsPut};
@@ -13,10 +13,11 @@ ghost use Rattle.command_runs.specs.Run.{seen, IsReported, IsSinkFailure, IsCutS
 ghost use Rattle.command_runs.specs.Run.{TellsTooLong, IsAnswered, IsComplete};
 ghost use Rattle.command_runs.specs.Headline.{MeansAsSaid};
 
+use crate::answers::answer;
+use crate::call::call_files;
 use crate::files::load_files;
 use cancel_rules::cancellation_sound;
 use category_laws::Preadditive;
-use command_answers::{answer, call_files};
 use command_shape::{Ending, Stop};
 use command_words::{Call, Refusal, read_words, usage_text};
 use flow_io::{Shelf, Sink, put_all};

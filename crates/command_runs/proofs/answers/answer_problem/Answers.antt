@@ -3,10 +3,10 @@ use Rattle.adjoint_rules.specs.declared.problem.Problem.{Problem}
 use Rattle.command_words.specs.declared.call.Call.{Call}
 use Rattle.report_text.specs.Report.{report_of}
 use Rattle.prove_command.specs.declared.prove.Asked.{Asked}
-use Rattle.command_answers.specs.Answers.{AnswersOver}
+use Rattle.command_runs.specs.Answers.{AnswersOver}
 use Rattle.prove_command.specs.Answers.{asked_by, AnswersClaims}
 use Rattle.command_shape.specs.Stop.{EndsAs}
-use Rattle.command_answers.proofs.answers.answer_problem.Goals as goal
+use Rattle.command_runs.proofs.answers.answer_problem.Goals as goal
 
 pub returns-in-Prove : goal.returns-in-Prove
 returns-in-Prove g c =

@@ -2,10 +2,10 @@ use Rattle.std.proofs.Common.{◌≡◌, ◌∙◌, ◌≤◌, ℕ, List, [], le
 use Rattle.command_words.specs.declared.call.Call.{Call}
 use Rattle.command_shape.specs.FileWords.{statement_limit, evidence_limit}
 use Rattle.command_shape.proofs.Stops.{memory_ends}
-use Rattle.command_answers.specs.CallFiles.{written_by}
-use Rattle.command_answers.specs.Answers.{Answers}
-use Rattle.command_answers.proofs.Commands.{answered, are_contents, are_short, other_default, no_item}
-use Rattle.command_answers.proofs.answers.answer.Goals as goal
+use Rattle.command_runs.specs.CallFiles.{written_by}
+use Rattle.command_runs.specs.Answers.{Answers}
+use Rattle.command_runs.proofs.Commands.{answered, are_contents, are_short, other_default, no_item}
+use Rattle.command_runs.proofs.answers.answer.Goals as goal
 
 -- a call without files
 pub returns-in_err-statement-in-empty : goal.returns-in_err-statement-in-empty

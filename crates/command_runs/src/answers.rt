@@ -5,8 +5,8 @@ ghost use Rattle.command_words.specs.Calls.{IsInRange};
 ghost use Rattle.command_shape.specs.FileWords.{statement_limit, evidence_limit};
 ghost use Rattle.stated_problem.specs.Statement.{OverStatement};
 ghost use Rattle.command_shape.specs.Stop.{EndsAs};
-ghost use Rattle.command_answers.specs.CallFiles.{files_of, written_by};
-ghost use Rattle.command_answers.specs.Answers.{AnswersOver, Answers};
+ghost use Rattle.command_runs.specs.CallFiles.{files_of, written_by};
+ghost use Rattle.command_runs.specs.Answers.{AnswersOver, Answers};
 
 use adjoint_rules::Problem;
 use cancel_command::judge_cancellations;

@@ -1,6 +1,6 @@
 //! The files of a call.
 ghost use Rattle.std.specs.Prelude.{◌≡◌, IfOk};
-ghost use Rattle.command_answers.specs.CallFiles.{files_of};
+ghost use Rattle.command_runs.specs.CallFiles.{files_of};
 
 use command_shape::{FileWord, pair_files, statement_file};
 use command_words::Call;

@@ -2,8 +2,8 @@
 use Rattle.std.specs.Prelude.{ℕ, ◌≡◌, List, length}
 use Rattle.command_words.specs.declared.call.Call.{Call}
 use Rattle.command_shape.specs.Ending.{Ending}
-use Rattle.command_answers.specs.CallFiles.{files_of}
-use Rattle.command_answers.specs.Answers.{Answers}
+use Rattle.command_runs.specs.CallFiles.{files_of}
+use Rattle.command_runs.specs.Answers.{Answers}
 
 -- a call has at most one ending over the contents of its files
 abbrev pub AnswersOnce : Type 0

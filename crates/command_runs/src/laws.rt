@@ -1,6 +1,6 @@
 //! What users ask of all answers.
-ghost use Rattle.command_answers.specs.Laws.{AnswersOnce, EachCallHasAnEnding};
-ghost use Rattle.command_answers.specs.OwnReports.{ReportsAreChecked, ReportsAreConfirmed};
+ghost use Rattle.command_runs.specs.Laws.{AnswersOnce, EachCallHasAnEnding};
+ghost use Rattle.command_runs.specs.OwnReports.{ReportsAreChecked, ReportsAreConfirmed};
 
 /// A call has one ending at most over the contents of its files: it depends on these alone.
 pub fn a_call_is_answered_once()

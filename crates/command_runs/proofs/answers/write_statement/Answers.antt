@@ -6,9 +6,9 @@ use Rattle.command_words.specs.declared.call.Call.TheVariants.{Bench}
 use Rattle.report_text.specs.Bench.{bench_statement}
 use Rattle.command_shape.specs.FileWords.{statement_limit}
 use Rattle.prove_command.proofs.BenchSize.{bench_fits}
-use Rattle.command_answers.specs.CallFiles.{written_by}
-use Rattle.command_answers.proofs.Commands.{no_file_written}
-use Rattle.command_answers.proofs.answers.write_statement.Goals as goal
+use Rattle.command_runs.specs.CallFiles.{written_by}
+use Rattle.command_runs.proofs.Commands.{no_file_written}
+use Rattle.command_runs.proofs.answers.write_statement.Goals as goal
 
 pub returns-in-Bench-clause-written : goal.returns-in-Bench-clause-written
 returns-in-Bench-clause-written c =

@@ -13,7 +13,7 @@ use Rattle.model_command.specs.Answers.{AnswersModelText}
 use Rattle.confirm_command.specs.Answers.{AnswersBases}
 use Rattle.explain_command.specs.Answers.{AnswersChains}
 use Rattle.cancel_command.specs.Answers.{AnswersCancellations}
-use Rattle.command_answers.specs.CallFiles.{AreContents, statement_of, evidence_of}
+use Rattle.command_runs.specs.CallFiles.{AreContents, statement_of, evidence_of}
 
 -- over the problem of its statement, one line a command; the bytes are its text of evidence
 abbrev pub AnswersOver : Call → List ℕ → Problem → Ending → Type 0

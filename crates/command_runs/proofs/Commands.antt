@@ -26,10 +26,10 @@ use Rattle.model_command.proofs.Answered.{model_owes}
 use Rattle.confirm_command.proofs.Answered.{confirm_owes}
 use Rattle.explain_command.proofs.Answered.{explain_owes}
 use Rattle.cancel_command.proofs.Answered.{cancel_owes}
-use Rattle.command_answers.specs.CallFiles.{files_of, AreContents, written_by, statement_of, evidence_of}
-use Rattle.command_answers.specs.Answers.{AnswersOver, Answers}
-use Rattle.command_answers.specs.Says.{SaysOver, Says}
-use Rattle.command_answers.specs.Laws.{AnswersOnce, EachCallHasAnEnding}
+use Rattle.command_runs.specs.CallFiles.{files_of, AreContents, written_by, statement_of, evidence_of}
+use Rattle.command_runs.specs.Answers.{AnswersOver, Answers}
+use Rattle.command_runs.specs.Says.{SaysOver, Says}
+use Rattle.command_runs.specs.Laws.{AnswersOnce, EachCallHasAnEnding}
 
 -- one line a command
 call_owes : (call : Call) (statement evidence : List ℕ)

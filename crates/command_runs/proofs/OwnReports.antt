@@ -27,7 +27,7 @@ use Rattle.certificate_causes.specs.Refusals.{cause_text}
 use Rattle.check_command.proofs.Answered.{certificates_are_judged}
 use Rattle.model_command.specs.Answers.{confirmed_lines, AnswersModelText}
 use Rattle.model_command.proofs.Answered.{models_are_judged}
-use Rattle.command_answers.specs.OwnReports.{IsReportOn, of_prove, of_refute, no_blocks, ChecksReport, ConfirmsReport, ReportsAreChecked, ReportsAreConfirmed}
+use Rattle.command_runs.specs.OwnReports.{IsReportOn, of_prove, of_refute, no_blocks, ChecksReport, ConfirmsReport, ReportsAreChecked, ReportsAreConfirmed}
 
 -- each report is its own evidence
 own : (statement : List ℕ) (problem : Problem) (report : Ending) → IsStated statement problem → IsReportOn problem report → (verdicts : List Verdict) × IsItsOwnEvidence problem report.report verdicts

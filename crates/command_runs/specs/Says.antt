@@ -13,7 +13,7 @@ use Rattle.model_command.specs.Says.{SaysConfirmed}
 use Rattle.confirm_command.specs.Says.{SaysClosed}
 use Rattle.explain_command.specs.Says.{SaysExplained}
 use Rattle.cancel_command.specs.Says.{SaysCancelled}
-use Rattle.command_answers.specs.CallFiles.{AreContents, statement_of, evidence_of}
+use Rattle.command_runs.specs.CallFiles.{AreContents, statement_of, evidence_of}
 
 -- what the ending of a call says, by its statement and its text of evidence
 abbrev pub SaysOver : {Object Arrow : Type 0} → Structure Object Arrow → Call → List ℕ → List ℕ → Ending → Type 0

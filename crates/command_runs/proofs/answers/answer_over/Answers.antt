@@ -1,7 +1,7 @@
 use Rattle.std.proofs.Common.{◌≡◌, Err, rules}
-use Rattle.command_answers.specs.Answers.{AnswersOver}
+use Rattle.command_runs.specs.Answers.{AnswersOver}
 use Rattle.stated_problem.proofs.Over.{refused_statement_ends, stated_ends}
-use Rattle.command_answers.proofs.answers.answer_over.Goals as goal
+use Rattle.command_runs.proofs.answers.answer_over.Goals as goal
 
 -- the statement is refused
 pub returns-in_err-problem : goal.returns-in_err-problem

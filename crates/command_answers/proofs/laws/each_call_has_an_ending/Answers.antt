@@ -1,5 +1,0 @@
-use Rattle.command_answers.proofs.Commands as lemma
-use Rattle.command_answers.proofs.laws.each_call_has_an_ending.Goals as goal
-
-pub returns : goal.returns
-returns c = lemma.each_call_has_an_ending

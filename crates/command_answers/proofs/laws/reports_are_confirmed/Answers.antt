@@ -1,5 +1,0 @@
-use Rattle.command_answers.proofs.OwnReports.{reports_are_confirmed}
-use Rattle.command_answers.proofs.laws.reports_are_confirmed.Goals as goal
-
-pub returns : goal.returns
-returns c = reports_are_confirmed
