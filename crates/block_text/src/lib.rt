@@ -33,4 +33,6 @@ pub use number::{
 pub use poly::{put_poly, write_poly};
 pub use polynomial::read_polynomial;
 pub use read::{ReadText, read_blocks};
-pub use write::{put, put_integer, put_letter, put_number, put_word, write_word};
+pub use write::{
+    put, put_integer, put_labelled, put_letter, put_number, put_signed, put_word, write_word,
+};

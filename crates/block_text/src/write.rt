@@ -34,6 +34,22 @@ pub fn put_integer(out: &mut Vec<u8>, integer: i128) -> Result<(), AllocError>
     put(out, buffer.format(integer))
 }
 
+/// A text and then a number.
+pub fn put_labelled(out: &mut Vec<u8>, label: &str, number: u128) -> Result<(), AllocError>
+    ensures { OnOk result (out.new.items ≡ out.old.items ++ (label.now ++ decimal number)) }
+{
+    put(out, label)?;
+    put_number(out, number)
+}
+
+/// A text and then an integer.
+pub fn put_signed(out: &mut Vec<u8>, label: &str, integer: i128) -> Result<(), AllocError>
+    ensures { OnOk result (out.new.items ≡ out.old.items ++ (label.now ++ signed_decimal integer)) }
+{
+    put(out, label)?;
+    put_integer(out, integer)
+}
+
 /// A letter behind bytes.
 pub fn put_letter(out: &mut Vec<u8>, quiver: &Quiver, letter: Letter) -> Result<(), AllocError>
     requires { letter.0 < letter_count quiver.now }

@@ -3,9 +3,9 @@ ghost use Rattle.std.specs.Prelude.{◌≡◌, Some, IfOk, OnOk};
 ghost use Rattle.command_shape.specs.Judged.{Puts};
 ghost use Rattle.cancel_command.specs.Texts.{refusal_text, HasRefusalLetters};
 
+use block_text::put_labelled;
 use cancel_rules::CancelRefusal;
 use certificate_causes::put_cause;
-use command_shape::put_labelled;
 use quiver::Quiver;
 use std::alloc::{AllocError, Global};
 

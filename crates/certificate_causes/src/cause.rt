@@ -8,10 +8,9 @@ ghost use Rattle.command_shape.specs.Judged.{Puts};
 ghost use Rattle.certificate_causes.specs.Letters.{HasLetters};
 ghost use Rattle.certificate_causes.specs.Refusals.{claim_text, operation_text, cause_text};
 
-use block_text::{put, put_integer, put_word};
+use block_text::{put, put_integer, put_labelled, put_signed, put_word};
 use coef_int::Overflow;
 use cofactor_checker::{Accepted, KEPT_LIMIT, Refusal, SUM_LIMIT};
-use command_shape::{put_labelled, put_signed};
 use quiver::Quiver;
 use std::alloc::{AllocError, Global};
 use word_core::Word;

@@ -9,11 +9,11 @@ ghost use Rattle.command_shape.specs.Stop.{StopsBy};
 
 use block_text::CertFault;
 use certificate_text::read_evidence;
-use traced_rows::Evidence;
 use command_shape::{Stop, refused_evidence};
 use lists::Listing;
 use quiver::Quiver;
 use std::alloc::Global;
+use traced_rows::Evidence;
 
 /// The certificates of the text, or the ending that tells its first fault.
 pub fn certificates_of(

@@ -2,8 +2,7 @@
 ghost use Rattle.std.specs.Prelude.{◌≡◌, IfOk};
 ghost use Rattle.command_shape.specs.Ending.{usage, load_failed, too_long, refused_statement, refused_evidence};
 
-use crate::write::put_labelled;
-use block_text::put;
+use block_text::{put, put_labelled};
 use std::alloc::{AllocError, Global};
 use std::marker::Model;
 

@@ -4,8 +4,7 @@ ghost use Rattle.command_shape.specs.Ending.{refused_statement, refused_evidence
 ghost use Rattle.command_shape.specs.Texts.{limit_text, place_text, ends_text, statement_fault, line_text, evidence_fault};
 
 use crate::ending::Ending;
-use crate::write::put_labelled;
-use block_text::{put, put_number};
+use block_text::{put, put_labelled, put_number};
 use lists::Text;
 use std::alloc::{AllocError, Global};
 

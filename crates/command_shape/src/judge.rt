@@ -9,9 +9,8 @@ ghost use Rattle.command_shape.specs.Stop.{EndsAs};
 
 use crate::ending::Ending;
 use crate::stop::Stop;
-use crate::write::put_labelled;
 use adjoint_rules::Problem;
-use block_text::put;
+use block_text::{put, put_labelled};
 use std::alloc::{AllocError, Global};
 
 /// What judging a block comes to.

@@ -6,11 +6,9 @@ mod fault;
 mod files;
 mod judge;
 mod stop;
-mod write;
 
 pub use ending::Ending;
 pub use fault::{refused_evidence, refused_statement};
 pub use files::{FileWord, pair_files, statement_file};
 pub use judge::{Judge, Judged, judge_blocks};
 pub use stop::Stop;
-pub use write::{put_labelled, put_signed};

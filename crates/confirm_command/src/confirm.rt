@@ -16,9 +16,9 @@ ghost use Rattle.confirm_command.specs.Answers.{AcceptsBasis, RefusesBasis, Answ
 use crate::refusal::refusal_text;
 use adjoint_rules::Problem;
 use basis_text::{Basis, read_bases};
-use block_text::{CertFault, put};
+use block_text::{CertFault, put, put_labelled};
 use closed_checker::confirm_closed;
-use command_shape::{Ending, Judge, Judged, Stop, judge_blocks, put_labelled, refused_evidence};
+use command_shape::{Ending, Judge, Judged, Stop, judge_blocks, refused_evidence};
 use lists::Listing;
 use normal_category::normal_forms;
 use quiver::Quiver;

@@ -6,10 +6,9 @@ ghost use Rattle.command_shape.specs.Judged.{Puts};
 ghost use Rattle.confirm_command.specs.Texts.{kind_text, ambiguity_text, part_text, left_text, stop_text, got_text, refusal_text, HasRefusalLetters};
 
 use ambiguities::{Ambiguity, Kind};
-use block_text::{put, put_poly};
+use block_text::{put, put_labelled, put_poly};
 use closed_checker::{ClosedRefusal, Part};
 use cofactor_trace::Cause;
-use command_shape::put_labelled;
 use nc_polynomial::Poly;
 use quiver::Quiver;
 use report_text::put_cause;

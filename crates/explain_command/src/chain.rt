@@ -10,10 +10,9 @@ ghost use Rattle.equation_chain.specs.Written.{lines_text};
 ghost use Rattle.explain_command.specs.Texts.{head_text, certificate_explained, text_before};
 
 use adjoint_rules::Problem;
-use block_text::put;
+use block_text::{put, put_labelled, put_signed};
 use cofactor_checker::check;
 use cofactor_trace::Certificate;
-use command_shape::{put_labelled, put_signed};
 use equation_chain::{
     ChainFault, LetterTexts, Line, count_steps, first_line, letter_texts, next_line, put_line,
     put_opening, put_use,

@@ -3,9 +3,8 @@ ghost use Rattle.std.specs.Prelude.{◌≡◌, Some, IfOk, OnOk};
 ghost use Rattle.command_shape.specs.Judged.{Puts};
 ghost use Rattle.explain_command.specs.Refusals.{fault_text, refusal_text, HasFaultLetters, HasRefusalLetters};
 
-use block_text::put;
+use block_text::{put, put_labelled};
 use certificate_causes::{put_cause, put_overflow, put_past};
-use command_shape::put_labelled;
 use equation_chain::{ChainFault, LETTER_LIMIT};
 use quiver::Quiver;
 use std::alloc::{AllocError, Global};

@@ -4,8 +4,7 @@ ghost use Rattle.quiver.specs.Declarations.{letter_count};
 ghost use Rattle.command_shape.specs.Judged.{Puts};
 ghost use Rattle.model_command.specs.Texts.{HasModelLetter, claim_confirmed, map_cause, model_cause};
 
-use block_text::put;
-use command_shape::put_labelled;
+use block_text::{put, put_labelled};
 use model_checker::ModelRefusal;
 use quiver::Quiver;
 use std::alloc::{AllocError, Global};

@@ -1,7 +1,6 @@
 //! The head line of a verdict.
 
-ghost use Rattle.std.specs.Prelude.{◌≡◌, ◌++◌, OnOk, decimal};
-ghost use Rattle.std.specs.Fmt.{signed_decimal};
+ghost use Rattle.std.specs.Prelude.{◌≡◌, ◌++◌, OnOk};
 ghost use Rattle.traced_rows.specs.LemmaRows.{denominator_of};
 ghost use Rattle.report_text.specs.Heads.{lemma_row_count, row_count, denominator_text, proved_text, not_derivable_text};
 ghost use Rattle.report_text.specs.Heads.{not_refuted_text, overflow_text, cause_text, place_text, least_text, undecided_text, said_of};
@@ -9,7 +8,7 @@ ghost use Rattle.report_text.specs.Heads.{head_line};
 ghost use Rattle.report_text.specs.Report.{IsLeastOver, IsVerdictOver};
 
 use crate::Verdict;
-use block_text::{put, put_integer, put_number, put_word};
+use block_text::{put, put_integer, put_labelled, put_number, put_signed, put_word};
 use coef_int::Overflow;
 use cofactor_trace::{Cause, Evidence, Halt, LETTER_LIMIT, LemmaCertificate, Place, ROW_LIMIT};
 use nc_polynomial::{TERM_LIMIT, WORD_LIMIT};
@@ -43,22 +42,6 @@ fn row_count(evidence: &Evidence) -> u128
         Evidence::Plain(certificate) => certificate.rows.len() as u128,
         Evidence::Lemmas(certificate) => lemma_row_count(certificate),
     }
-}
-
-// A text and then a number.
-fn put_labelled(out: &mut Vec<u8>, label: &str, number: u128) -> Result<(), AllocError>
-    ensures { OnOk result (out.new.items ≡ out.old.items ++ (label.now ++ decimal number)) }
-{
-    put(out, label)?;
-    put_number(out, number)
-}
-
-// A text and then an integer.
-fn put_signed(out: &mut Vec<u8>, label: &str, integer: i128) -> Result<(), AllocError>
-    ensures { OnOk result (out.new.items ≡ out.old.items ++ (label.now ++ signed_decimal integer)) }
-{
-    put(out, label)?;
-    put_integer(out, integer)
 }
 
 fn put_denominator(out: &mut Vec<u8>, denominator: i128) -> Result<(), AllocError>
