@@ -1,7 +1,7 @@
 //! Ambiguities: two rules, and how and where their leading words meet.
 
 /// How the leading words of two rules meet.
-#[derive(Clone, Copy, Debug, PartialEq, Eq)]
+#[derive(Clone, Copy)]
 pub enum Kind {
     /// An end of the first word is a beginning of the second, and neither word is all of it.
     Overlap,
@@ -10,7 +10,7 @@ pub enum Kind {
 }
 
 /// Two rules, by their numbers, whose leading words meet at a place of the first one, counted from 0.
-#[derive(Clone, Copy, Debug, PartialEq, Eq)]
+#[derive(Clone, Copy)]
 pub struct Ambiguity {
     /// The number of the first rule.
     pub i: u32,

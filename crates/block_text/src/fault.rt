@@ -20,7 +20,7 @@ pub enum CertFault {
 }
 
 /// What can be wrong with a line.
-#[derive(Clone, Copy, Debug, PartialEq, Eq)]
+#[derive(Clone, Copy)]
 pub enum Flaw {
     /// The line does not fit the grammar at its place.
     BadLine,
@@ -46,7 +46,7 @@ pub enum TextFlaw {
 }
 
 /// Why a line is not read.
-#[derive(Debug, Drop)]
+#[derive(Drop)]
 pub enum LineFault {
     Flaw(Flaw),
     Memory(AllocError),

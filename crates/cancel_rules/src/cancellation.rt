@@ -5,7 +5,7 @@ use lists::Listing;
 use word_core::Letter;
 
 /// The end of a word at which a letter is taken off.
-#[derive(Clone, Copy, Debug, PartialEq, Eq)]
+#[derive(Clone, Copy)]
 pub enum Side {
     /// In front: the letter is applied last, and is to be monic.
     Left,

@@ -4,7 +4,7 @@ use statement_tokens::Spot;
 use thiserror::Error;
 
 /// The first fault of the signatures in an equation, and its place.
-#[derive(Clone, Copy, Debug, PartialEq, Eq, Error)]
+#[derive(Clone, Copy, Debug, Error)]
 pub enum SignatureFault {
     /// In a product the source of the part so far, the left one, is not the target of the factor at this place.
     #[error("the part so far does not fit the factor")]

@@ -64,7 +64,7 @@ impl From<SizeFault> for PolyFault {
 }
 
 /// What stops terms from being added one by one.
-#[derive(Debug, Drop)]
+#[derive(Drop)]
 pub enum SumFault {
     /// The first sum that is no coefficient.
     Overflow(Overflow),

@@ -3,7 +3,7 @@
 use thiserror::Error;
 
 /// Why rules make no category of normal forms of a statement.
-#[derive(Clone, Copy, Debug, Drop, PartialEq, Eq, Error)]
+#[derive(Clone, Copy, Debug, Drop, Error)]
 pub enum SharpFault {
     /// The words of the rule with this number are no paths of one signature.
     #[error("the words of rule {rule} are not paths of one signature")]

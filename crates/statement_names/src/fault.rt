@@ -9,7 +9,7 @@ use std::alloc::{AllocError, AllocFailed};
 use thiserror::Error;
 
 /// What is wrong with a name, a literal or a statement, with its place.
-#[derive(Clone, Copy, Debug, PartialEq, Eq, Error)]
+#[derive(Clone, Copy, Debug, Error)]
 pub enum NameFault {
     /// The name isn't declared, or it is a map's where an object stands, or an object's where a map stands.
     #[error("line {}, column {}: no such name", at.line, at.column)]

@@ -20,7 +20,7 @@ pub struct Name {
 }
 
 /// The value of a literal with its place.
-#[derive(Clone, Copy, Debug)]
+#[derive(Clone, Copy)]
 pub struct Number {
     pub value: i128,
     pub at: Spot,
@@ -99,7 +99,7 @@ pub enum Primary {
 }
 
 /// What may stand behind a primary, any number of times.
-#[derive(Clone, Copy, Debug)]
+#[derive(Clone, Copy)]
 pub enum Mark {
     /// `'`
     Adjoint,

@@ -6,7 +6,7 @@ ghost use Rattle.statement_tokens.specs.Language.{is_language_word, is_two, is_e
 use crate::token::{Token, TokenKind};
 
 /// The languages of statements.
-#[derive(Clone, Copy, Debug)]
+#[derive(Clone, Copy)]
 pub enum Language {
     /// That of each file that names none.
     First,

@@ -1,7 +1,7 @@
 //! What a completion may spend.
 
 /// How many ambiguities are treated at most, and how many steps a reduction makes.
-#[derive(Clone, Copy, Debug, PartialEq, Eq)]
+#[derive(Clone, Copy)]
 pub struct Budget {
     /// From 1 to 1,000,000.
     pub pairs: u32,

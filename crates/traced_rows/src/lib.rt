@@ -11,7 +11,7 @@ use std::alloc::AllocError;
 use word_core::Word;
 
 /// What a row is over: a generator or a rule, with its number counted from 1.
-#[derive(Clone, Copy, Debug, PartialEq, Eq)]
+#[derive(Clone, Copy)]
 pub enum Origin {
     /// The generator with this number.
     Generator(u32),

@@ -10,7 +10,7 @@ use std::cmp::Ordering;
 use word_core::Word;
 
 /// The canonical order: length first, and then letter by letter from the left.
-#[derive(Clone, Copy, Debug)]
+#[derive(Clone, Copy)]
 pub struct DegLex;
 
 impl DegLex {
