@@ -53,7 +53,10 @@ fn problem_of(alloc: Global, tree: &Tree) -> Result<Problem, Stop>
                 limit,
             },
         ) => {
-            let ending = refused_statement(alloc, code, (line, column), limit, &left, &right)?;
+            let told = refused_statement(alloc, code, (line, column), limit, &left, &right);
+            drop(left);
+            drop(right);
+            let ending = told?;
             Err(Stop::Ended(ending))
         }
         Err(TypeFault::Memory(failed)) => Err(Stop::Memory(failed)),
