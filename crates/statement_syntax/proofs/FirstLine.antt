@@ -3,17 +3,9 @@ use Rattle.std.proofs.Common.{◌≡◌, Bool, true, false, List, [], ◌∷◌,
 use Rattle.std.specs.Prelude.{◌&&◌, if◌then◌else◌, pos, codes}
 use Rattle.std.proofs.lemmas.Slice.Eq.{bytes_eq-Decides}
 use Rattle.std.proofs.lemmas.Bool.Decides.{Decides-int_eq}
-use Rattle.statement_tokens.specs.declared.place.Spot.{Spot}
-use Rattle.statement_tokens.specs.declared.token.Token.{Token}
-use Rattle.statement_tokens.specs.declared.token.TokenKind.{TokenKind}
-use Rattle.statement_tokens.specs.declared.token.TokenKind.TheVariants as kind
-use Rattle.statement_tokens.specs.declared.language.Language.{Language}
-use Rattle.statement_tokens.specs.declared.language.Language.TheVariants.{First, Second}
+use Rattle.statement_syntax.specs.Types.{Spot, Token, TokenKind, TokenKind as kind, Language, First, Second, StatementKind as statement, Object, Solve}
+use Rattle.statement_syntax.specs.Types.{Eliminate, Assume, Claim, Pinv, Inverse, Inner}
 use Rattle.statement_tokens.specs.Language.{is_language_word, is_two, is_end, language_of}
-use Rattle.statement_syntax.specs.declared.tree.StatementKind.TheVariants as statement
-use Rattle.statement_syntax.specs.declared.line.ListWord.TheVariants.{Object, Solve, Eliminate}
-use Rattle.statement_syntax.specs.declared.line.SidesWord.TheVariants.{Assume, Claim}
-use Rattle.statement_syntax.specs.declared.line.PairWord.TheVariants.{Pinv, Inverse, Inner}
 use Rattle.statement_syntax.specs.Grammar.{sign_token, number_token, word_token, two_at, Stated, listed, mapped, sides, paired, projected, by_degree, by_weight, modelled, second_language, stated_tokens, IsOf, NamesLanguage, StatedLine, AreLinesOf, IsFileOf, file_tokens, FileFits}
 use Rattle.statement_syntax.specs.Tree.{file_tree}
 use Rattle.statement_syntax.specs.Stages.{first_statements, behind_first}

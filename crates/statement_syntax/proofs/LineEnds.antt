@@ -2,27 +2,8 @@
 use Rattle.std.proofs.Common.{◌≡◌, false, List, [], ◌∷◌, ◌++◌, Option, Some, None, Result, Ok, Err, refl, sym, ap, ap₂, subst, ◌∙◌, append_assoc}
 use Rattle.std.specs.Prelude.{codes, pos}
 use Rattle.std.proofs.lemmas.List.{append-nil}
-use Rattle.statement_tokens.specs.declared.place.Spot.{Spot}
-use Rattle.statement_tokens.specs.declared.token.Token.{Token}
-use Rattle.statement_tokens.specs.declared.language.Language.{Language}
-use Rattle.statement_tokens.specs.declared.token.TokenKind.TheVariants as kind
-use Rattle.statement_syntax.specs.declared.tree.Name.{Name}
-use Rattle.statement_syntax.specs.declared.tree.Number.{Number}
-use Rattle.statement_syntax.specs.declared.tree.Sum.{Sum}
-use Rattle.statement_syntax.specs.declared.tree.Statement.{Statement}
-use Rattle.statement_syntax.specs.declared.tree.StatementKind.{StatementKind}
-use Rattle.statement_syntax.specs.declared.tree.StatementKind.TheVariants as statement
-use Rattle.statement_syntax.specs.declared.expression.Misfit.{Misfit}
-use Rattle.statement_syntax.specs.declared.expression.Misfit.TheVariants.{Expected}
-use Rattle.statement_syntax.specs.declared.expression.Reading.{Reading}
-use Rattle.statement_syntax.specs.declared.line.ListWord.{ListWord}
-use Rattle.statement_syntax.specs.declared.line.SidesWord.{SidesWord}
-use Rattle.statement_syntax.specs.declared.line.PairWord.{PairWord}
-use Rattle.statement_syntax.specs.declared.line.MapRest.{MapRest}
-use Rattle.statement_syntax.specs.declared.line.MapRest.TheVariants as rest
-use Rattle.statement_syntax.specs.declared.line.Pairs.{Pairs}
-use Rattle.statement_syntax.specs.declared.line.Line.{Line}
-use Rattle.statement_syntax.specs.declared.line.Line.TheVariants as line
+use Rattle.statement_syntax.specs.Types.{Spot, Token, Language, TokenKind as kind, Name, Number, Sum, Statement, StatementKind, StatementKind as statement}
+use Rattle.statement_syntax.specs.Types.{Misfit, Expected, Reading, ListWord, SidesWord, PairWord, MapRest, MapRest as rest, Pairs, Line, Line as line}
 use Rattle.statement_syntax.specs.Steps.{◌>>=◌, whole_sum}
 use Rattle.statement_syntax.specs.Grammar.{Expr, first, no_sign, factors, one, plain, name, expr_tokens, sign_token, name_token, number_token, word_token, names_tokens, pairs_tokens, sides_text, no_word, Stated, listed, mapped, sides, paired, projected, by_degree, by_weight, modelled, stated_tokens, StatedFits, IsOf}
 use Rattle.statement_syntax.specs.Tree.{sides_kind}

@@ -1,8 +1,6 @@
 -- Items read one after another, whatever a step does.
 use Rattle.std.proofs.Common.{◌≡◌, List, [], ◌∷◌, ◌++◌, ◌⊎◌, inl, inr, Result, Ok, Err, refl, sym, ap, ◌∙◌}
-use Rattle.statement_tokens.specs.declared.token.Token.{Token}
-use Rattle.statement_syntax.specs.declared.expression.Misfit.{Misfit}
-use Rattle.statement_syntax.specs.declared.expression.Misfit.TheVariants.{TooDeep}
+use Rattle.statement_syntax.specs.Types.{Token, Misfit, TooDeep}
 use Rattle.statement_syntax.specs.Steps.{◌>>=◌, run}
 
 pub bind_ok : {A B : Type 0} (r : Result A Misfit) (f : A → Result B Misfit) (y : B) → (r >>= f) ≡ Ok y → (x : A) × (r ≡ Ok x) × (f x ≡ Ok y)

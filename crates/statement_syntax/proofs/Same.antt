@@ -1,17 +1,9 @@
 -- The program's steps are those of the definition, seen without the places of signs.
 use Rattle.std.proofs.Common.{◌≡◌, zero, suc, Bool, true, false, cond, ltb, List, [], ◌∷◌, ◌++◌, length, Option, Some, None, Result, Ok, Err, refl, sym, ap, ap₂, ◌∙◌}
 use Rattle.std.specs.Prelude.{ℤ, pos, negsuc}
-use Rattle.statement_tokens.specs.declared.place.Spot.{Spot}
-use Rattle.statement_tokens.specs.declared.token.Token.{Token}
-use Rattle.statement_tokens.specs.declared.token.TokenKind.{TokenKind}
-use Rattle.statement_tokens.specs.declared.token.TokenKind.TheVariants as kind
-use Rattle.statement_syntax.specs.declared.tree.Mark.TheVariants.{Adjoint}
+use Rattle.statement_syntax.specs.Types.{Spot, Token, TokenKind, TokenKind as kind, Adjoint, Name, Number, Term, out-Term, out-roll-Term, Misfit, Expected}
+use Rattle.statement_syntax.specs.Types.{TooDeep}
 use Rattle.statement_syntax.specs.Limits.{bracket_limit}
-use Rattle.statement_syntax.specs.declared.tree.Name.{Name}
-use Rattle.statement_syntax.specs.declared.tree.Number.{Number}
-use Rattle.statement_syntax.specs.declared.tree.Term.{Term, out-Term, out-roll-Term}
-use Rattle.statement_syntax.specs.declared.expression.Misfit.{Misfit}
-use Rattle.statement_syntax.specs.declared.expression.Misfit.TheVariants.{Expected, TooDeep}
 use Rattle.statement_syntax.specs.Grammar.{no_sign, lead_plus, lead_minus, Sign, plus, minus, Product, zero_alone, factors, Factors, one, beside, Prime, name, identity, bracket}
 use Rattle.statement_syntax.proofs.Machine.{Head, led, after, Part, nothing, scaled, product, Focus, outside, square, named, behind_caret, Level, State, fresh, add, lone_literal, whole_term, with_term, step_literal, lead_of, sign_after, step_sign, step_quote, step_caret, close_after, step_open, step_outside, step_square, step_named, step_power, step_by, step, end_by, whole}
 use Rattle.statement_syntax.specs.Steps as steps

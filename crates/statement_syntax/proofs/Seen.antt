@@ -1,14 +1,6 @@
 -- What the program keeps of a state, which is all but the places of signs.
 use Rattle.std.specs.Prelude.{true, false, List, [], ◌∷◌, Option, Some, None, Result, Ok, Err}
-use Rattle.statement_syntax.specs.declared.tree.Sum.{Sum}
-use Rattle.statement_syntax.specs.declared.expression.Misfit.{Misfit}
-use Rattle.statement_syntax.specs.declared.expression.Part.{Part}
-use Rattle.statement_syntax.specs.declared.expression.Part.TheVariants as part
-use Rattle.statement_syntax.specs.declared.expression.Head.{Head}
-use Rattle.statement_syntax.specs.declared.expression.Level.{Level}
-use Rattle.statement_syntax.specs.declared.expression.Reading.{Reading}
-use Rattle.statement_syntax.specs.declared.expression.Focus.{Focus}
-use Rattle.statement_syntax.specs.declared.expression.Focus.TheVariants as focus
+use Rattle.statement_syntax.specs.Types.{Sum, Misfit, Part, Part as part, Head, Level, Reading, Focus, Focus as focus}
 use Rattle.statement_syntax.specs.Grammar.{no_sign, lead_plus, lead_minus, Expr}
 use Rattle.statement_syntax.specs.Tree.{expr_at, expr_terms, expr_tree, is_minus, literal_or, factors_at, front_trees, last_tree}
 use Rattle.statement_syntax.proofs.Machine as machine

@@ -3,26 +3,11 @@ use Rattle.std.proofs.Common.{◌≡◌, ℕ, List, [], ◌∷◌, ◌++◌, inl
 use Rattle.std.proofs.lemmas.List.{append-nil, map-append}
 use Rattle.std.specs.Str.{IsUtf8, chars}
 use Rattle.std.specs.Str.Lossy.{utf8_valid_len}
-use Rattle.statement_tokens.specs.declared.place.Spot.{Spot}
-use Rattle.statement_tokens.specs.declared.token.Token.{Token}
-use Rattle.statement_tokens.specs.declared.language.Language.{Language}
-use Rattle.statement_tokens.specs.declared.token.TokenKind.TheVariants as kind
-use Rattle.statement_syntax.specs.declared.tree.Statement.{Statement}
-use Rattle.statement_syntax.specs.declared.expression.Misfit.{Misfit}
-use Rattle.statement_syntax.specs.declared.expression.Misfit.TheVariants.{Expected, TooDeep}
-use Rattle.statement_syntax.specs.declared.line.Line.TheVariants as line
-use Rattle.statement_syntax.specs.declared.read.Progress.{Progress}
-use Rattle.statement_syntax.specs.declared.fault.Fault.{Fault}
-use Rattle.statement_syntax.specs.declared.fault.Fault.TheVariants as fault
-use Rattle.statement_syntax.specs.declared.fault.SyntaxFault.{SyntaxFault}
-use Rattle.statement_syntax.specs.declared.fault.SyntaxFault.TheVariants as refusal
-use Rattle.statement_syntax.specs.declared.expression.ReadError.{ReadError}
-use Rattle.statement_syntax.specs.declared.expression.ReadError.TheVariants as error
+use Rattle.statement_syntax.specs.Types.{Spot, Token, Language, TokenKind as kind, Statement, Misfit, Expected, TooDeep, Line as line, Progress, Fault}
+use Rattle.statement_syntax.specs.Types.{Fault as fault, SyntaxFault, SyntaxFault as refusal, ReadError, ReadError as error, ScanFault, ScanFault as scan}
 use Rattle.statement_syntax.specs.Steps.{◌>>=◌, run, Fails}
 use Rattle.statement_tokens.specs.Language.{language_of}
 use Rattle.statement_tokens.specs.Tokens.{AreTokens, IsFirstScanFault}
-use Rattle.statement_tokens.specs.declared.scan.ScanFault.{ScanFault}
-use Rattle.statement_tokens.specs.declared.scan.ScanFault.TheVariants as scan
 use Rattle.statement_syntax.specs.Grammar.{sign_token, StatedLine, AreLinesOf, IsFileOf, file_tokens, FileFits}
 use Rattle.statement_syntax.specs.Tree.{stated_tree, file_tree}
 use Rattle.statement_syntax.specs.Lines.{line_end, ended, file_step}

@@ -1,30 +1,10 @@
 -- The steps of the reader of expressions, one token after another.
 use Rattle.std.specs.Prelude.{◌≡◌, ℤ, zero, suc, Bool, true, false, List, [], ◌∷◌, ◌++◌, length, Option, Some, None, Result, Ok, Err, pos}
 use Rattle.std.specs.Prelude.{negsuc, nat_lt, if◌then◌else◌}
-use Rattle.statement_tokens.specs.declared.place.Spot.{Spot}
-use Rattle.statement_tokens.specs.declared.token.Token.{Token}
-use Rattle.statement_tokens.specs.declared.token.TokenKind.{TokenKind}
-use Rattle.statement_tokens.specs.declared.token.TokenKind.TheVariants as kind
+use Rattle.statement_syntax.specs.Types.{Spot, Token, TokenKind, TokenKind as kind, Name, Number, Mark, Adjoint, Power, Primary, Letter, Identity, Bracket}
+use Rattle.statement_syntax.specs.Types.{Factor, Term, out-Term, Head, Level, Reading, Focus, Focus as focus, Misfit, Expected, TooDeep, ReadError}
+use Rattle.statement_syntax.specs.Types.{ReadError as error, Sum, Part, Nothing, Scaled, Product}
 use Rattle.statement_syntax.specs.Limits.{bracket_limit}
-use Rattle.statement_syntax.specs.declared.tree.Name.{Name}
-use Rattle.statement_syntax.specs.declared.tree.Number.{Number}
-use Rattle.statement_syntax.specs.declared.tree.Mark.{Mark}
-use Rattle.statement_syntax.specs.declared.tree.Mark.TheVariants.{Adjoint, Power}
-use Rattle.statement_syntax.specs.declared.tree.Primary.{Primary, Letter, Identity, Bracket}
-use Rattle.statement_syntax.specs.declared.tree.Factor.{Factor}
-use Rattle.statement_syntax.specs.declared.tree.Term.{Term, out-Term}
-use Rattle.statement_syntax.specs.declared.expression.Head.{Head}
-use Rattle.statement_syntax.specs.declared.expression.Level.{Level}
-use Rattle.statement_syntax.specs.declared.expression.Reading.{Reading}
-use Rattle.statement_syntax.specs.declared.expression.Focus.{Focus}
-use Rattle.statement_syntax.specs.declared.expression.Focus.TheVariants as focus
-use Rattle.statement_syntax.specs.declared.expression.Misfit.{Misfit}
-use Rattle.statement_syntax.specs.declared.expression.Misfit.TheVariants.{Expected, TooDeep}
-use Rattle.statement_syntax.specs.declared.expression.ReadError.{ReadError}
-use Rattle.statement_syntax.specs.declared.expression.ReadError.TheVariants as error
-use Rattle.statement_syntax.specs.declared.tree.Sum.{Sum}
-use Rattle.statement_syntax.specs.declared.expression.Part.{Part}
-use Rattle.statement_syntax.specs.declared.expression.Part.TheVariants.{Nothing, Scaled, Product}
 pub use Rattle.statement_syntax.specs.Nodes.{name_with, factor_of, term_of, sum_of, marked_factor}
 
 abbrev pub part_with : Part → Primary → Spot → Part

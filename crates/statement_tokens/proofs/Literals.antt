@@ -5,9 +5,7 @@ use Rattle.std.proofs.lemmas.Fmt.{decimal_by_steps_wide}
 use Rattle.std.proofs.lemmas.Bool.{le-leb, leb-true, lt-leb, lt-ltb, ne_eqb}
 use Rattle.std.proofs.lemmas.List.{take_at}
 use Rattle.unicode_ident.proofs.IdentLemmas.{is_xid_start-ascii}
-use Rattle.statement_tokens.specs.declared.token.Token.{Token}
-use Rattle.statement_tokens.specs.declared.token.TokenKind.TheVariants as kind
-use Rattle.statement_tokens.specs.declared.scan.Item.TheVariants as item
+use Rattle.statement_tokens.specs.Types.{Token, TokenKind as kind, Item as item}
 use Rattle.statement_tokens.specs.Pieces.{is_digit, starts_name}
 use Rattle.statement_tokens.specs.Tokens.{value_from}
 use Rattle.statement_tokens.specs.Items.{item_at, item_in}

@@ -9,8 +9,7 @@ use Rattle.std.proofs.lemmas.List.Folds.{length-prefix_len}
 use Rattle.std.proofs.lemmas.Bool.{eqb-true, eq-eqb}
 use Rattle.unicode_ident.specs.Ident.{is_xid_continue}
 use Rattle.unicode_ident.proofs.IdentLemmas.{is_xid_start-ascii}
-use Rattle.statement_tokens.specs.declared.token.TokenKind.{TokenKind}
-use Rattle.statement_tokens.specs.declared.token.TokenKind.TheVariants as kind
+use Rattle.statement_tokens.specs.Types.{TokenKind, TokenKind as kind}
 use Rattle.statement_tokens.specs.Pieces.{Piece, line_feed, return_and_line_feed, blank, tab, comment, name}
 use Rattle.statement_tokens.specs.Pieces.{literal, sign, piece_text, is_piece, IsLongest, BeginsNone}
 use Rattle.statement_tokens.specs.Pieces.{starts_name, is_digit, is_inside_line}

@@ -6,12 +6,7 @@ use Rattle.std.proofs.lemmas.List.{drop_at, take_at}
 use Rattle.std.proofs.lemmas.Bool.{eqb-true}
 use Rattle.unicode_ident.specs.Ident.{is_xid_continue}
 use Rattle.unicode_ident.proofs.IdentLemmas.{is_xid_start-ascii, is_xid_continue-ascii}
-use Rattle.statement_tokens.specs.declared.token.Token.{Token}
-use Rattle.statement_tokens.specs.declared.token.TokenKind.{TokenKind}
-use Rattle.statement_tokens.specs.declared.token.TokenKind.TheVariants as kind
-use Rattle.statement_tokens.specs.declared.scan.Item.TheVariants as item
-use Rattle.statement_tokens.specs.declared.scan.Placed.{Placed}
-use Rattle.statement_tokens.specs.declared.language.Language.TheVariants.{Second}
+use Rattle.statement_tokens.specs.Types.{Token, TokenKind, TokenKind as kind, Item as item, Placed, Second}
 use Rattle.statement_tokens.specs.Language.{language_of}
 use Rattle.statement_tokens.specs.Pieces.{starts_name, is_digit}
 use Rattle.statement_tokens.specs.Items.{item_at, item_in, begins_with, name_of}

@@ -2,14 +2,8 @@
 use Rattle.std.proofs.Common.{◌≡◌, ℕ, ◌≤◌, ◌&&◌, Bool, true, false, zero, suc, List, [], ◌∷◌, ◌++◌, length, Option}
 use Rattle.std.proofs.Common.{Some, None, Result, Ok, Err, refl, sym, ap, subst, ◌∙◌, append_assoc, append-nil, length-append, arith, ◌⊎◌, inl, inr}
 use Rattle.std.specs.Prelude.{if◌then◌else◌}
-use Rattle.statement_tokens.specs.declared.place.Spot.{Spot}
-use Rattle.statement_tokens.specs.declared.token.Token.{Token}
-use Rattle.statement_tokens.specs.declared.token.TokenKind.TheVariants as kind
-use Rattle.statement_tokens.specs.declared.language.Language.{Language}
-use Rattle.statement_tokens.specs.declared.language.Language.TheVariants.{First, Second}
-use Rattle.statement_tokens.specs.declared.scan.ScanFault.{ScanFault}
-use Rattle.statement_tokens.specs.declared.scan.ScanFault.TheVariants.{BadToken}
-use Rattle.statement_tokens.specs.declared.scan.Placed.{Placed}
+use Rattle.statement_tokens.specs.Types.{Spot, Token, TokenKind as kind, Language, First, Second, ScanFault, BadToken, Placed, Scanner, ScanError}
+use Rattle.statement_tokens.specs.Types.{ScanError as error}
 use Rattle.statement_tokens.specs.Language.{is_language_word, is_two, is_end, language_of}
 use Rattle.statement_tokens.specs.Pieces.{Piece, line_feed, return_and_line_feed, blank, tab, comment, name, literal}
 use Rattle.statement_tokens.specs.Pieces.{sign, piece_text, pieces_text, is_some, is_piece, IsLongest, BeginsNone}
@@ -19,9 +13,6 @@ use Rattle.statement_tokens.specs.Laws.{HasTokensOrFault, EachTextHasTokensOrFau
 use Rattle.statement_tokens.specs.Laws.{TokensHaveNoFault}
 use Rattle.statement_tokens.specs.Tokens.{end_of}
 use Rattle.statement_tokens.specs.Scanned.{TellsBehind, Tells, Leaves, Hands, with_front}
-use Rattle.statement_tokens.specs.declared.scanner.Scanner.{Scanner}
-use Rattle.statement_tokens.specs.declared.scan.ScanError.{ScanError}
-use Rattle.statement_tokens.specs.declared.scan.ScanError.TheVariants as error
 use Rattle.statement_tokens.proofs.Reading.{tokens_from, tokens_of, unread, HandsRead}
 use Rattle.statement_tokens.proofs.Longest.{Longest, begins_with_longest}
 use Rattle.statement_tokens.proofs.Pieces.{Read, front_none, reads_piece, stops_piece, stops_none}
