@@ -10,8 +10,8 @@ use Rattle.statement_syntax.specs.Lines.{Lined, map_step, sides_step, pairs_by, 
 use Rattle.statement_syntax.proofs.Run.{Upto, then_on, before_it, after_it, run_upto, inside_upto, one_step, failing, run_front, bind_ok, ok_is, ok_differs}
 use Rattle.statement_syntax.proofs.Viable.{somewhere}
 use Rattle.statement_syntax.proofs.Choices.{by_end, not_end}
-use Rattle.statement_syntax.proofs.LineReads.{LineReads, line_step_reads}
-use Rattle.statement_syntax.proofs.LineEnds.{line_end_reads, line_on}
+use Rattle.statement_syntax.proofs.LineReads.{LineReads, line_step_reads, line_step_deep}
+use Rattle.statement_syntax.proofs.LineEnds.{line_end_reads, line_end-fault, line_on}
 use Rattle.statement_syntax.proofs.LineRuns.{by_token, end_line, stated_run, stated_end}
 
 -- the end of a line is a step of no line
@@ -119,14 +119,17 @@ one_line lines s end =
 module _ (language : Language) (before : List Statement) where
   abbrev Goes : List Token → Spot → TokenKind → Result Progress Misfit → Type 0
   Goes ts at k (Ok p) = FileReads language before p (ts ++ sign_token k at ∷ [])
-  Goes ts at k (Err e) = Unit {0}
+  Goes ts at k (Err Expected) = Unit {0}
+  -- a bracket that is too deep can go on to lines, if not to some within the limit
+  Goes ts at k (Err TooDeep) = (more : List Token) × (lines : List StatedLine) × AreLinesOf language lines × ((ts ++ sign_token k at ∷ []) ++ more ≡ file_tokens lines)
 
   next_is : (ts front now : List Token) (t : Token) → ts ≡ front ++ now → ts ++ t ∷ [] ≡ front ++ (now ++ t ∷ [])
   next_is ts front now t read = ap (λ (x : List Token). x ++ t ∷ []) read ∙ append_assoc front now (t ∷ [])
 
   end_goes : (p : Progress) (ts : List Token) (t : Spot) (r : Result Statement Misfit) → line_end p.line ≡ r → FileReads language before p ts
       → Goes ts t kind.End (r >>= λ s. Ok (record { statements = p.statements ++ s ∷ []; line = line.Start }))
-  end_goes p ts t (Err e) is read = tt
+  end_goes p ts t (Err Expected) is read = tt
+  end_goes p ts t (Err TooDeep) is read = let same = line_end-fault language p.line read.now TooDeep read.reads is in absurd cc
   end_goes p ts t (Ok s) is read =
       let w = line_end_reads language p.line read.now s read.reads is in
       record {
@@ -142,7 +145,20 @@ module _ (language : Language) (before : List Statement) where
 
   within_goes : (p : Progress) (ts : List Token) (t : Spot) (k : TokenKind) (r : Lined) → line_step language p.line k t ≡ r → FileReads language before p ts
       → Goes ts t k (r >>= λ l. Ok (record { statements = p.statements; line = l }))
-  within_goes p ts t k (Err e) is read = tt
+  within_goes p ts t k (Err Expected) is read = tt
+  within_goes p ts t k (Err TooDeep) is read =
+      let on = line_step_deep language p.line (sign_token k t) read.now is read.reads in
+      let end : List Token = sign_token kind.End somewhere ∷ [] in
+      let last : StatedLine = record { stated = on.1; end = somewhere } in (
+        on.0 ++ end,
+        read.lines ++ last ∷ [],
+        AreLinesOf-append language read.lines (last ∷ []) read.speak (on.2, tt),
+        ap (λ (x : List Token). (x ++ sign_token k t ∷ []) ++ (on.0 ++ end)) read.are
+            ∙ ap (λ (x : List Token). x ++ (on.0 ++ end)) (append_assoc (file_tokens read.lines) read.now (sign_token k t ∷ []))
+            ∙ append_assoc (file_tokens read.lines) (read.now ++ sign_token k t ∷ []) (on.0 ++ end)
+            ∙ ap (λ x. file_tokens read.lines ++ x) (sym (append_assoc (read.now ++ sign_token k t ∷ []) on.0 end) ∙ ap (λ x. x ++ end) on.3)
+            ∙ sym (one_line read.lines on.1 somewhere),
+      )
   within_goes p ts t k (Ok l) is read = record {
     lines = read.lines;
     speak = read.speak;
@@ -160,6 +176,11 @@ module _ (language : Language) (before : List Statement) where
 
   file_step_reads : (p next : Progress) (ts : List Token) (t : Token) → file_step language p t ≡ Ok next → FileReads language before p ts → FileReads language before next (ts ++ t ∷ [])
   file_step_reads p next ts t goes read = subst (Goes ts t.at t.kind) goes (file_goes p ts t read)
+
+  -- with a bracket that is too deep it can go on to a file that is not within the limit
+  pub file_deeper : (p : Progress) (ts : List Token) (t : Token) → FileReads language before p ts → file_step language p t ≡ Err TooDeep
+      → (more : List Token) × (lines : List StatedLine) × AreLinesOf language lines × ((ts ++ t ∷ []) ++ more ≡ file_tokens lines)
+  file_deeper p ts t read fails = subst (Goes ts t.at t.kind) fails (file_goes p ts t read)
 
   run_reads_from : (p next : Progress) (ts us : List Token) → run (file_step language) p us ≡ Ok next → FileReads language before p ts → FileReads language before next (ts ++ us)
   unfolding run

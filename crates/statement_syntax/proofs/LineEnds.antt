@@ -8,12 +8,9 @@ use Rattle.statement_syntax.specs.Steps.{◌>>=◌, whole_sum}
 use Rattle.statement_syntax.specs.Grammar.{Expr, first, no_sign, factors, one, plain, name, expr_tokens, sign_token, name_token, number_token, word_token, names_tokens, pairs_tokens, sides_text, no_word, Stated, listed, mapped, sides, paired, projected, by_degree, by_weight, modelled, stated_tokens, StatedFits, IsOf}
 use Rattle.statement_syntax.specs.Tree.{sides_kind}
 use Rattle.statement_syntax.specs.Lines.{list_end, map_end, sides_end, pairs_end, whole_pairs, weights_by, weights_end, shape_end, statement_by, line_end}
-use Rattle.statement_syntax.proofs.Run.{bind_ok}
-use Rattle.statement_syntax.proofs.Seen.{tree_or}
-use Rattle.statement_syntax.proofs.Same.{whole-seen}
-use Rattle.statement_syntax.proofs.Viable.{viable, somewhere, some_name}
-use Rattle.statement_syntax.proofs.Machine as machine
-use Rattle.statement_syntax.proofs.LineReads.{MapReads, RestReads, FirstSide, SecondSide, SidesReads, half_tokens, WholeReads, list_speaks, LineReads, reading_ends, pairs_more}
+use Rattle.statement_syntax.proofs.Run.{bind_ok, bind_err}
+use Rattle.statement_syntax.proofs.Viable.{reading_ends, reading_lacks, viable, somewhere, some_name, some_expr}
+use Rattle.statement_syntax.proofs.LineReads.{MapReads, RestReads, FirstSide, SecondSide, SidesReads, half_tokens, WholeReads, list_speaks, LineReads, pairs_more}
 
 -- a kind of statement with its place
 abbrev Ended : Language → Spot → List Token → StatementKind → Type 0
@@ -109,14 +106,10 @@ map_end-fault names (rest.Source s) f fails = cc
 map_end-fault names (rest.Arrow s) f fails = cc
 map_end-fault names (rest.Target s t) f fails = absurd cc
 
-tree_or-fault : (o : Option Expr) (w : SidesWord) (left : Sum) (f : Misfit) → (tree_or o Expected >>= λ right. Ok (sides_kind w left right)) ≡ Err f → f ≡ Expected
-tree_or-fault None w left f fails = cc
-tree_or-fault (Some e) w left f fails = absurd cc
-
 sides_end-fault : (w : SidesWord) (at : Spot) (left : Option Sum) (r : Reading) (ts : List Token) (f : Misfit) → SidesReads w at left r ts → sides_end w left r ≡ Err f → f ≡ Expected
 sides_end-fault w at None r ts f read fails = cc
 sides_end-fault w at (Some left) r ts f read fails =
-    tree_or-fault (machine.whole read.reads.state) w left f (ap (λ x. x >>= λ right. Ok (sides_kind w left right)) (sym (whole-seen read.reads.state) ∙ ap whole_sum (sym read.reads.seen)) ∙ fails)
+    reading_lacks r read.side f read.reads (bind_err (whole_sum r) (λ right. sides_kind w left right) f fails)
 
 weights_end-fault : (ps : List (Name × Number)) (half : Option Name) (f : Misfit) → (pairs_end ps half >>= weights_by) ≡ Err f → f ≡ Expected
 weights_end-fault [] None f fails = cc
@@ -183,18 +176,15 @@ map_on language at names (rest.Arrow s) ts read =
     (more, mapped at read.2.has_first.first read.2.has_first.more read.0 s read.1 some_name no_word, tt, tt, map_front at names ts _ more read.2)
 map_on language at names (rest.Target s e) ts read = ([], mapped at read.2.has_first.first read.2.has_first.more read.0 s read.1 e no_word, tt, tt, map_front at names ts _ [] read.2)
 
-abbrev pub some_expr : Expr
-some_expr = first no_sign (factors None (one (plain (name some_name))))
-
 first_on : (language : Language) (w : SidesWord) (at : Spot) (r : Reading) (ts : List Token) → FirstSide w at r ts → LineGoesOn language ts
 first_on language w at r ts read =
-    let v = viable read.side read.reads.state read.reads.ran in
+    let v = viable read.side r read.reads in
     on_to language ts _ (v.0 ++ sign_token kind.Equals somewhere ∷ name_token some_name ∷ []) (sides w at v.1 somewhere some_expr) (v.2, tt) tt read.are
     (ap (λ x. word_token (sides_text w) at ∷ x) (sym (append_assoc read.side v.0 (sign_token kind.Equals somewhere ∷ name_token some_name ∷ [])) ∙ ap (λ x. x ++ sign_token kind.Equals somewhere ∷ name_token some_name ∷ []) v.3))
 
 second_on : (language : Language) (w : SidesWord) (at : Spot) (left : Sum) (r : Reading) (ts : List Token) → SecondSide w at left r ts → LineGoesOn language ts
 second_on language w at left r ts read =
-    let v = viable read.side read.reads.state read.reads.ran in
+    let v = viable read.side r read.reads in
     on_to language ts _ v.0 (sides w at read.expr read.equals v.1) (read.fits, v.2) tt read.are
     (ap (λ x. word_token (sides_text w) at ∷ x) (append_assoc (expr_tokens read.expr) (sign_token kind.Equals read.equals ∷ read.side) v.0 ∙ ap (λ x. expr_tokens read.expr ++ sign_token kind.Equals read.equals ∷ x) v.3))
 

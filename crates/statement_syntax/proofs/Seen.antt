@@ -29,10 +29,6 @@ levels_of (level ∷ levels) = record { head = head_of level.head; part = part_o
 abbrev pub reading_of : machine.State → Reading
 reading_of st = record { levels = levels_of st.levels; head = head_of st.head; part = part_of st.part; focus = focus_of st.focus }
 
-abbrev pub seen : Result machine.State Misfit → Result Reading Misfit
-seen (Ok st) = Ok (reading_of st)
-seen (Err e) = Err e
-
 abbrev pub tree_or : Option Expr → Misfit → Result Sum Misfit
 tree_or None e = Err e
 tree_or (Some x) e = Ok (expr_tree x)

@@ -19,7 +19,7 @@ use Rattle.statement_syntax.proofs.LastToken.{EndsWell, ends_from, rest_ends}
 use Rattle.statement_syntax.proofs.LineReads.{LineReads}
 use Rattle.statement_syntax.proofs.FirstLine.{file_language, Divided, Behind, divided}
 use Rattle.statement_syntax.proofs.FileReads.{FileReads, run_reads, file_on, file_misfit, lines_run, in_file, file_tokens-append, FileFits-append}
-use Rattle.statement_syntax.proofs.FileDeep.{file_deep}
+use Rattle.statement_syntax.proofs.FileReads.{file_deeper}
 
 -- the loop's run over tokens
 abbrev pub Runs : List Token → List Token → Progress → Type 0
@@ -177,7 +177,7 @@ module _ (ts : List Token) (refused : SyntaxFault) (loop : StoppedAt ts refused)
 
   deeper : loop.misfit ≡ TooDeep → GoesOn (language_of ts) (front ++ loop.token ∷ [])
   deeper is =
-      let on = file_deep (language_of ts) before loop.progress loop.front loop.token read_so (loop.stops ∙ ap (λ x. Err x) is) in
+      let on = file_deeper (language_of ts) before loop.progress loop.front loop.token read_so (loop.stops ∙ ap (λ x. Err x) is) in
       let shown = append_assoc (file_tokens (own ts).lines) loop.front (loop.token ∷ []) in
       (on.0, (own ts).lines ++ on.1, (own ts).joins on.1 on.2, ap (λ (x : List Token). x ++ on.0) shown ∙ with_first ts (loop.front ++ loop.token ∷ []) on.0 on.1 on.3)
 
