@@ -11,7 +11,7 @@ use Rattle.statement_syntax.proofs.Run.{Upto, then_on, before_it, after_it, run_
 use Rattle.statement_syntax.proofs.Viable.{somewhere}
 use Rattle.statement_syntax.proofs.Choices.{by_end, not_end}
 use Rattle.statement_syntax.proofs.LineReads.{LineReads, line_step_reads, line_step_deep}
-use Rattle.statement_syntax.proofs.LineEnds.{line_end_reads, line_end-fault, line_on}
+use Rattle.statement_syntax.proofs.LineEnds.{EndsAs, line_ends, line_on}
 use Rattle.statement_syntax.proofs.LineRuns.{by_token, end_line, stated_run, stated_end}
 
 -- the end of a line is a step of no line
@@ -129,9 +129,9 @@ module _ (language : Language) (before : List Statement) where
   end_goes : (p : Progress) (ts : List Token) (t : Spot) (r : Result Statement Misfit) → line_end p.line ≡ r → FileReads language before p ts
       → Goes ts t kind.End (r >>= λ s. Ok (record { statements = p.statements ++ s ∷ []; line = line.Start }))
   end_goes p ts t (Err Expected) is read = tt
-  end_goes p ts t (Err TooDeep) is read = let same = line_end-fault language p.line read.now TooDeep read.reads is in absurd cc
+  end_goes p ts t (Err TooDeep) is read = absurd (subst (EndsAs language read.now) is (line_ends language p.line read.now read.reads))
   end_goes p ts t (Ok s) is read =
-      let w = line_end_reads language p.line read.now s read.reads is in
+      let w = subst (EndsAs language read.now) is (line_ends language p.line read.now read.reads) in
       record {
         lines = read.lines ++ record { stated = w.stated; end = t } ∷ [];
         speak = AreLinesOf-append language read.lines _ read.speak (w.speaks, tt);

@@ -7,10 +7,6 @@ pub bind_ok : {A B : Type 0} (r : Result A Misfit) (f : A → Result B Misfit) (
 bind_ok (Ok x) f y e = (x, refl, e)
 bind_ok (Err d) f y e = absurd cc
 
-pub bind_err : {A B : Type 0} (r : Result A Misfit) (f : A → B) (e : Misfit) → (r >>= λ x. Ok (f x)) ≡ Err e → r ≡ Err e
-bind_err (Ok x) f e given = absurd cc
-bind_err (Err d) f e given = let same : d ≡ e = cc in ap (λ x. Err x) same
-
 pub ok_is : {A : Type 0} (x y : A) → (let r : Result A Misfit = Ok x in r) ≡ Ok y → x ≡ y
 ok_is x y p = cc
 

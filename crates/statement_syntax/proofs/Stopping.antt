@@ -211,10 +211,6 @@ is_first bytes ts (refusal.Memory e) utf8 read loop = tt
 is_first bytes ts (refusal.Fault code l c) utf8 read loop =
     subst (TellsFirstFault bytes) (sym loop.tells) (tells_by ts (refusal.Fault code l c) loop bytes loop.misfit utf8 read refl)
 
--- bytes that are no text
-pub told_not_utf8 : (bytes : List ℕ) (told : SyntaxFault) (column : ℕ) → told ≡ fault_at fault.NotUtf8 (record { line = 0; column = column }) → (IsUtf8 bytes → ⊥) → column ≡ utf8_valid_len bytes → TellsFirstFault bytes told
-told_not_utf8 bytes told column is invalid at = subst (TellsFirstFault bytes) (sym is) (fault.NotUtf8, refl, (invalid, ap (λ n. record { line = 0; column = n }) at))
-
 -- the first fault of the characters is that of the bytes
 pub told_scanned : (bytes : List ℕ) (told : SyntaxFault) (f : ScanFault) (at : Spot) → told ≡ fault_at (scan_fault f) at → IsUtf8 bytes → IsFirstScanFault (chars bytes) f at → TellsFirstFault bytes told
 told_scanned bytes told scan.BadToken at is utf8 first = subst (TellsFirstFault bytes) (sym is) (fault.BadToken, refl, (utf8, first))
