@@ -1,11 +1,11 @@
 -- Where a line may end it is a statement's, and each line can go on to one.
-use Rattle.std.proofs.Common.{◌≡◌, false, List, [], ◌∷◌, ◌++◌, Option, Some, None, Result, Ok, Err, refl, sym, ap, ap₂, subst, ◌∙◌, append_assoc}
+use Rattle.std.proofs.Common.{◌≡◌, false, List, [], ◌∷◌, ◌++◌, Option, Some, None, Result, Ok, Err, refl, sym, ap, ap₂, ◌∙◌, append_assoc}
 use Rattle.std.specs.Prelude.{codes, pos}
 use Rattle.std.proofs.lemmas.List.{append-nil}
-use Rattle.statement_syntax.specs.Types.{Spot, Token, Language, TokenKind as kind, Name, Number, Sum, Statement, StatementKind, StatementKind as statement}
+use Rattle.statement_syntax.specs.Types.{Spot, Token, Language, TokenKind as kind, Name, Number, Sum, Statement, StatementKind as statement}
 use Rattle.statement_syntax.specs.Types.{Misfit, Expected, TooDeep, Reading, ListWord, SidesWord, PairWord, MapRest, MapRest as rest, Pairs, Line, Line as line}
 use Rattle.statement_syntax.specs.Steps.{◌>>=◌, whole_sum}
-use Rattle.statement_syntax.specs.Grammar.{Expr, first, no_sign, factors, one, plain, name, expr_tokens, sign_token, name_token, number_token, word_token, names_tokens, pairs_tokens, sides_text, no_word, Stated, listed, mapped, sides, paired, projected, by_degree, by_weight, modelled, stated_tokens, StatedFits, IsOf}
+use Rattle.statement_syntax.specs.Grammar.{expr_tokens, sign_token, name_token, number_token, word_token, names_tokens, pairs_tokens, sides_text, no_word, Stated, listed, mapped, sides, paired, projected, by_degree, by_weight, modelled, stated_tokens, StatedFits, IsOf}
 use Rattle.statement_syntax.specs.Tree.{sides_kind}
 use Rattle.statement_syntax.specs.Lines.{list_end, map_end, sides_end, pairs_end, weights_by, statement_by, line_end}
 use Rattle.statement_syntax.proofs.Viable.{reading_ends, reading_lacks, viable, somewhere, some_name, some_expr}

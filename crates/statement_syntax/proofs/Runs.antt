@@ -12,7 +12,7 @@ use Rattle.statement_syntax.specs.Grammar.{one, beside, Marked, plain, marked, r
 use Rattle.statement_syntax.specs.Grammar.{lead_tokens, signed_token, literal_tokens, zero_at, expr_tokens, product_tokens, factors_tokens, marked_tokens}
 use Rattle.statement_syntax.specs.Grammar.{prime_tokens, ExprFits, ProductFits, FactorsFit, MarkedFits, PrimeFits}
 use Rattle.statement_syntax.proofs.Machine.{Head, led, after, Part, nothing, scaled, product, Level, State, at_outside, fresh, add, whole_term, with_term, whole}
-use Rattle.statement_syntax.proofs.Seen.{head_of, part_of, levels_of, reading_of}
+use Rattle.statement_syntax.proofs.Seen.{head_of, levels_of, reading_of}
 use Rattle.statement_syntax.proofs.Same.{add-seen, signed-seen, closed-seen}
 use Rattle.statement_syntax.proofs.StateReads.{reading_step}
 

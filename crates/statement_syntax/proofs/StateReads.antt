@@ -1,5 +1,5 @@
 -- What a state has read is what it was given, token by token.
-use Rattle.std.proofs.Common.{◌≡◌, ℕ, zero, suc, Bool, true, false, cond, List, [], ◌∷◌, ◌++◌, length, Option, Some, None, Result, Ok, Err, refl, sym, ap, subst}
+use Rattle.std.proofs.Common.{◌≡◌, zero, suc, Bool, true, false, cond, List, [], ◌∷◌, ◌++◌, length, Option, Some, None, Result, Ok, Err, refl, sym, ap, subst}
 use Rattle.std.proofs.Common.{◌∙◌, append_assoc}
 use Rattle.std.specs.Prelude.{ℤ, pos, negsuc, nat_lt}
 use Rattle.std.proofs.lemmas.List.{append-nil}
@@ -8,7 +8,7 @@ use Rattle.statement_syntax.specs.Limits.{bracket_limit}
 use Rattle.statement_syntax.specs.Steps as steps
 use Rattle.statement_syntax.specs.Steps.{◌>>=◌, run}
 use Rattle.statement_syntax.specs.Grammar.{no_sign, lead_plus, lead_minus, Sign, plus, minus, Product, zero_alone, factors, Factors, one, beside, Prime, name}
-use Rattle.statement_syntax.specs.Grammar.{identity, bracket, sign_token, name_token, number_token, lead_tokens, signed_token, literal_tokens, expr_tokens}
+use Rattle.statement_syntax.specs.Grammar.{identity, bracket, sign_token, name_token, number_token, signed_token, literal_tokens, expr_tokens}
 use Rattle.statement_syntax.specs.Grammar.{product_tokens, factors_tokens, marked_tokens, prime_tokens}
 use Rattle.statement_syntax.specs.Tree.{is_minus}
 use Rattle.statement_syntax.proofs.Run.{bind_ok}

@@ -2,7 +2,6 @@
 use Rattle.std.proofs.Common.{◌≡◌, ℕ, List, [], ◌∷◌, ◌++◌, inl, inr, Ok, Err, refl, sym, ap, subst, ◌∙◌, append_assoc}
 use Rattle.std.proofs.lemmas.List.{append-nil, map-append}
 use Rattle.std.specs.Str.{IsUtf8, chars}
-use Rattle.std.specs.Str.Lossy.{utf8_valid_len}
 use Rattle.statement_syntax.specs.Types.{Spot, Token, Language, TokenKind as kind, Statement, Misfit, Expected, TooDeep, Line as line, Progress, Fault}
 use Rattle.statement_syntax.specs.Types.{Fault as fault, SyntaxFault, SyntaxFault as refusal, ReadError, ReadError as error, ScanFault, ScanFault as scan}
 use Rattle.statement_syntax.specs.Steps.{◌>>=◌, run, Fails}

@@ -1,12 +1,12 @@
 -- What a state has read can go on to an expression; what a fault stands at can't.
-use Rattle.std.proofs.Common.{◌≡◌, List, [], ◌∷◌, ◌++◌, Option, Some, None, Result, Ok, Err, refl, sym, ap, ◌∙◌, append_assoc, arith}
+use Rattle.std.proofs.Common.{◌≡◌, List, [], ◌∷◌, ◌++◌, Option, Some, None, Ok, Err, refl, sym, ap, ◌∙◌, append_assoc, arith}
 use Rattle.std.specs.Prelude.{pos}
 use Rattle.std.proofs.lemmas.List.{append-nil}
 use Rattle.statement_syntax.specs.Types.{Spot, Token, TokenKind as kind, Number, Name, Sum, Reading, Misfit, Expected, TooDeep}
 use Rattle.statement_syntax.specs.Limits.{bracket_limit}
 use Rattle.statement_syntax.specs.Steps as steps
 use Rattle.statement_syntax.specs.Steps.{run, whole_sum}
-use Rattle.statement_syntax.specs.Grammar.{no_sign, Expr, first, Product, factors, Factors, one, beside, plain, Prime, name, identity, bracket, sign_token, name_token}
+use Rattle.statement_syntax.specs.Grammar.{no_sign, Expr, first, Product, factors, one, beside, plain, Prime, name, identity, bracket, sign_token, name_token}
 use Rattle.statement_syntax.specs.Grammar.{number_token, expr_tokens, ExprFits}
 use Rattle.statement_syntax.specs.Tree.{expr_tree, prime_tree, prime_at}
 use Rattle.statement_syntax.proofs.Machine.{Head, Part, nothing, scaled, product, Focus, outside, square, named, behind_caret, Level, State, at_outside, fresh, add}
