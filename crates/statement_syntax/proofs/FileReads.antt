@@ -17,9 +17,7 @@ use Rattle.statement_syntax.proofs.LineRuns.{by_token, end_line, stated_run, sta
 -- the end of a line is a step of no line
 focus_no_end : (r : Reading) (f : Focus) (at : Spot) → focus_step r.levels r.head r.part f kind.End at ≡ Err Expected
 focus_no_end r focus.Outside at = refl
-focus_no_end r (focus.Square left) at = refl
-focus_no_end r (focus.Named left n) at = refl
-focus_no_end r (focus.Raised first l fs last caret) at = refl
+focus_no_end r f at = refl
 
 sides_no_end : (w : SidesWord) (at : Spot) (left : Option Sum) (r : Reading) (t : Spot) → sides_step w at left r kind.End t ≡ Err Expected
 sides_no_end w at None r t = ap (λ x. x >>= λ next. Ok (line.Sides w at None next)) (focus_no_end r r.focus t)
@@ -27,48 +25,27 @@ sides_no_end w at (Some left) r t = ap (λ x. x >>= λ next. Ok (line.Sides w at
 
 map_no_end : (at : Spot) (names : List Name) (r : MapRest) (t : Spot) → map_step at names r kind.End t ≡ Err Expected
 map_no_end at names rest.Names t = refl
-map_no_end at names rest.Colon t = refl
-map_no_end at names (rest.Source s) t = refl
-map_no_end at names (rest.Arrow s) t = refl
-map_no_end at names (rest.Target s e) t = refl
+map_no_end at names r t = refl
 
 pairs_no_end : (ps : List (Name × Number)) (half : Option Name) (t : Spot) → pairs_by ps half kind.End t ≡ Err Expected
 pairs_no_end ps None t = refl
 pairs_no_end ps (Some n) t = refl
 
 line_no_end : (language : Language) (l : Line) (t : Spot) → line_step language l kind.End t ≡ Err Expected
-line_no_end language line.Start t = refl
-line_no_end language (line.List w at names) t = refl
 line_no_end language (line.Map at names r) t = map_no_end at names r t
 line_no_end language (line.Sides w at left r) t = sides_no_end w at left r t
-line_no_end language (line.Pair w at before) t = refl
-line_no_end language (line.Projection at) t = refl
-line_no_end language (line.Order at) t = refl
 line_no_end language (line.Weights at p) t = ap (λ x. x >>= λ q. Ok (line.Weights at q)) (pairs_no_end p.whole p.half t)
-line_no_end language (line.Model at) t = refl
 line_no_end language (line.Shape at m p) t = ap (λ x. x >>= λ q. Ok (line.Shape at m q)) (pairs_no_end p.whole p.half t)
-line_no_end language (line.Whole s) t = refl
+line_no_end language l t = refl
 
 -- a line inside a file
 abbrev pub in_file : List Statement → Line → Progress
 in_file statements l = record { statements = statements; line = l }
 
-not_end_by : (language : Language) (l : Line) (t : Token) (r : Lined) → by_token language l t ≡ r → (r ≡ Err Expected → ⊥) → t.kind ≡ kind.End → ⊥
-not_end_by language l t r is other k = other (sym is ∙ ap (λ x. line_step language l x t.at) k ∙ line_no_end language l t.at)
-
-err_differs : (let r : Lined = Err TooDeep in r) ≡ Err Expected → ⊥
-err_differs read = absurd cc
-
-ok_not_err : (l : Line) → (let r : Lined = Ok l in r) ≡ Err Expected → ⊥
-ok_not_err l read = absurd cc
-
-file_each : (language : Language) (statements : List Statement) (l next : Line) (t : Token) → by_token language l t ≡ Ok next → file_step language (in_file statements l) t ≡ Ok (in_file statements next)
-file_each language statements l next t goes =
-    not_end _ _ t.kind (not_end_by language l t (Ok next) goes (ok_not_err next)) ∙ ap (λ r. r >>= λ x. Ok (in_file statements x)) goes
-
-file_deep : (language : Language) (statements : List Statement) (l : Line) (t : Token) → by_token language l t ≡ Err TooDeep → file_step language (in_file statements l) t ≡ Err TooDeep
-file_deep language statements l t fails =
-    not_end _ _ t.kind (not_end_by language l t (Err TooDeep) fails err_differs) ∙ ap (λ r. r >>= λ x. Ok (in_file statements x)) fails
+file_by : (language : Language) (statements : List Statement) (l : Line) (t : Token) (read : Lined) → by_token language l t ≡ read → (read ≡ Err Expected → ⊥)
+    → file_step language (in_file statements l) t ≡ (read >>= λ x. Ok (in_file statements x))
+file_by language statements l t read is other =
+    not_end _ _ t.kind (λ k. other (sym is ∙ ap (λ x. line_step language l x t.at) k ∙ line_no_end language l t.at)) ∙ ap (λ r. r >>= λ x. Ok (in_file statements x)) is
 
 line_ended : (language : Language) (statements : List Statement) (s : Stated) (at : Spot)
     → file_step language (in_file statements (end_line s)) (sign_token kind.End at) ≡ Ok (in_file (statements ++ stated_tree s ∷ []) line.Start)
@@ -85,7 +62,7 @@ lines_run language statements (l ∷ lines) speak =
     before_it (ap (run (file_step language) (in_file statements line.Start)) (append_assoc (stated_tokens l.stated) (sign_token kind.End l.end ∷ []) (file_tokens lines)))
     (then_on
     (run_upto (file_step language) (in_file statements line.Start) (stated_tokens l.stated) (in_file statements (end_line l.stated)) behind
-    (inside_upto (by_token language) (file_step language) (in_file statements) (file_each language statements) (file_deep language statements) (stated_tokens l.stated) line.Start (end_line l.stated) (stated_run language l.stated speak.0)))
+    (inside_upto (by_token language) (file_step language) (in_file statements) (file_by language statements) (stated_tokens l.stated) line.Start (end_line l.stated) (stated_run language l.stated speak.0)))
     (before_it (one_step (file_step language) (in_file statements (end_line l.stated)) (in_file more line.Start) (sign_token kind.End l.end) (file_tokens lines) (line_ended language statements l.stated l.end))
     (after_it (lines_run language more lines speak.1) (ap (λ x. Ok (in_file x line.Start)) (append_assoc statements (stated_tree l.stated ∷ []) (file_tree lines))))))
 

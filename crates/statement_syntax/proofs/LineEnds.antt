@@ -25,10 +25,6 @@ list_ends language w at (n ∷ ns) ts read =
 
 map_ends : (language : Language) (at : Spot) (names : List Name) (r : MapRest) (ts : List Token) → RestReads at names r ts
     → EndsAs language ts (statement_by at (map_end names r))
-map_ends language at names rest.Names ts read = tt
-map_ends language at names rest.Colon ts read = tt
-map_ends language at names (rest.Source s) ts read = tt
-map_ends language at names (rest.Arrow s) ts read = tt
 map_ends language at names (rest.Target s e) ts read =
     let first = read.2.has_first in
     record {
@@ -39,6 +35,7 @@ map_ends language at names (rest.Target s e) ts read =
       are = read.2.are ∙ ap (λ ns. word_token (codes "map") at ∷ (names_tokens ns ++ sign_token kind.Colon read.0 ∷ name_token s
           ∷ sign_token kind.Arrow read.1 ∷ name_token e ∷ [])) first.is;
     }
+map_ends language at names r ts read = tt
 
 second_ends : (language : Language) (w : SidesWord) (at : Spot) (left : Sum) (r : Reading) (ts : List Token) (res : Result Sum Misfit) → whole_sum r ≡ res
     → SecondSide w at left r ts → EndsAs language ts (statement_by at (res >>= λ right. Ok (sides_kind w left right)))
@@ -85,17 +82,13 @@ shape_ends language at m ps None ts read = record {
 shape_ends language at m ps (Some n) ts read = tt
 
 pub line_ends : (language : Language) (l : Line) (ts : List Token) → LineReads language l ts → EndsAs language ts (line_end l)
-line_ends language line.Start ts read = tt
 line_ends language (line.List w at names) ts read = list_ends language w at names ts read
 line_ends language (line.Map at names r) ts read = map_ends language at names r ts read
 line_ends language (line.Sides w at left r) ts read = sides_ends language w at left r ts read
-line_ends language (line.Pair w at before) ts read = tt
-line_ends language (line.Projection at) ts read = tt
-line_ends language (line.Order at) ts read = tt
 line_ends language (line.Weights at p) ts read = weights_ends language at read.0 p.whole p.half ts read.1
-line_ends language (line.Model at) ts read = tt
 line_ends language (line.Shape at m p) ts read = shape_ends language at m p.whole p.half ts read
 line_ends language (line.Whole s) ts read = read
+line_ends language l ts read = tt
 
 -- with these tokens it is a statement within the limit
 abbrev pub LineGoesOn : Language → List Token → Type 0

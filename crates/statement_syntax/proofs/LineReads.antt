@@ -68,18 +68,12 @@ pub record WholeReads (language : Language) (s : Statement) (ts : List Token) : 
 
 -- the word begins a list in the language
 abbrev pub IsListOf : ListWord → Language → Type 0
-IsListOf Object language = Unit {0}
-IsListOf Solve language = Unit {0}
 IsListOf Eliminate First = ⊥
-IsListOf Eliminate Second = Unit {0}
+IsListOf w language = Unit {0}
 
 pub list_speaks : (language : Language) (w : ListWord) (at : Spot) (n : Name) (ns : List Name) → IsListOf w language → IsOf language (listed w at n ns)
-list_speaks First Object at n ns is = tt
-list_speaks First Solve at n ns is = tt
 list_speaks First Eliminate at n ns is = is
-list_speaks Second Object at n ns is = tt
-list_speaks Second Solve at n ns is = tt
-list_speaks Second Eliminate at n ns is = tt
+list_speaks language w at n ns is = tt
 
 -- the tokens of a line of which this has been read
 abbrev pub LineReads : Language → Line → List Token → Type 0
@@ -121,12 +115,7 @@ opening_text opening.Model = codes "model"
 -- the word begins a statement of the language
 abbrev IsOpeningOf : Language → Opening → Type 0
 IsOpeningOf language (opening.List w) = IsListOf w language
-IsOpeningOf language opening.Map = Unit {0}
-IsOpeningOf language (opening.Sides w) = Unit {0}
-IsOpeningOf language (opening.Pair w) = Unit {0}
-IsOpeningOf language opening.Projection = Unit {0}
-IsOpeningOf language opening.Order = Unit {0}
-IsOpeningOf language opening.Model = Unit {0}
+IsOpeningOf language o = Unit {0}
 
 -- whatever begins with the word is this
 abbrev Opens : Language → List ℕ → Option Opening → Type 0
@@ -166,12 +155,8 @@ start_reads = refl
 
 opened_reads : (language : Language) (o : Opening) (at : Spot) → IsOpeningOf language o → LineReads language (opened o at) (word_token (opening_text o) at ∷ [])
 opened_reads language (opening.List w) at speaks = (speaks, refl)
-opened_reads language opening.Map at speaks = refl
 opened_reads language (opening.Sides w) at speaks = record { side = []; reads = start_reads; are = refl }
-opened_reads language (opening.Pair w) at speaks = refl
-opened_reads language opening.Projection at speaks = refl
-opened_reads language opening.Order at speaks = refl
-opened_reads language opening.Model at speaks = refl
+opened_reads language o at speaks = refl
 
 begun_reads : (language : Language) (word : List ℕ) (o : Option Opening) (at : Spot) → Opens language word o → After language (begun o at) (word_token word at ∷ [])
 begun_reads language word None at is = tt

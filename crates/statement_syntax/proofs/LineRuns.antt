@@ -3,7 +3,7 @@ use Rattle.std.proofs.Common.{◌≡◌, true, List, [], ◌∷◌, ◌++◌, in
 use Rattle.std.specs.Prelude.{ℕ, false, cond, bytes_eq, codes}
 use Rattle.std.proofs.lemmas.List.{append-nil}
 use Rattle.statement_syntax.specs.Types.{Spot, Token, Language, First, Second, TokenKind as kind, Name, Number, Sum, StatementKind as statement, Misfit}
-use Rattle.statement_syntax.specs.Types.{Expected, TooDeep, ListWord, Object, Solve, Eliminate, SidesWord, Assume, Claim, PairWord, Pinv, Inverse, Inner}
+use Rattle.statement_syntax.specs.Types.{Expected, ListWord, Object, Solve, Eliminate, SidesWord, Assume, Claim, PairWord, Pinv, Inverse, Inner}
 use Rattle.statement_syntax.specs.Types.{Reading, Focus, Focus as focus, Opening, Opening as opening, MapRest as rest, Pairs, Line, Line as line}
 use Rattle.statement_syntax.specs.Limits.{bracket_limit}
 use Rattle.statement_syntax.specs.Steps.{◌>>=◌, run, focus_step, token_step, whole_sum}
@@ -12,7 +12,7 @@ use Rattle.statement_syntax.specs.Tree.{expr_tree, stated_tree, sides_kind, is_s
 use Rattle.statement_syntax.specs.Lines.{Lined, common_opening, opened, begun, start_reading, whole, line_step, line_end, statement_by}
 use Rattle.statement_syntax.proofs.Seen.{reading_of, tree_or}
 use Rattle.statement_syntax.proofs.StateReads.{reading_step}
-use Rattle.statement_syntax.proofs.Run.{Upto, then_on, before_it, run_upto, inside_upto, one_step, ok_differs}
+use Rattle.statement_syntax.proofs.Run.{Upto, then_on, before_it, run_upto, inside_upto, one_step}
 use Rattle.statement_syntax.proofs.Runs.{end_state, end-whole}
 use Rattle.statement_syntax.proofs.Same.{whole-seen}
 use Rattle.statement_syntax.proofs.Viable.{only}
@@ -34,9 +34,7 @@ word_starts Second word o at rest is differs =
 -- an expression inside a line: it goes on with no equals sign
 no_equals : (r : Reading) (f : Focus) (at : Spot) → focus_step r.levels r.head r.part f kind.Equals at ≡ Err Expected
 no_equals r focus.Outside at = refl
-no_equals r (focus.Square left) at = refl
-no_equals r (focus.Named left n) at = refl
-no_equals r (focus.Raised first l fs last caret) at = refl
+no_equals r f at = refl
 
 first_step : (language : Language) (w : SidesWord) (at : Spot) (r : Reading) (t : Token) (read : Result Reading Misfit) → reading_step r t ≡ read → (read ≡ Err Expected → ⊥)
     → by_token language (line.Sides w at None r) t ≡ (read >>= λ x. Ok (line.Sides w at None x))
@@ -45,12 +43,9 @@ first_step language w at r t read goes other =
     not_equals _ _ t.kind (λ k. other (sym goes ∙ ap (λ x. token_step r x t.at) k ∙ no_equals r r.focus t.at)) ∙ ap (λ x. x >>= λ r. Ok (line.Sides w at None r)) goes
 
 second_step : (language : Language) (w : SidesWord) (at : Spot) (left : Sum) (r : Reading) (t : Token) (read : Result Reading Misfit) → reading_step r t ≡ read
-    → by_token language (line.Sides w at (Some left) r) t ≡ (read >>= λ x. Ok (line.Sides w at (Some left) x))
+    → (read ≡ Err Expected → ⊥) → by_token language (line.Sides w at (Some left) r) t ≡ (read >>= λ x. Ok (line.Sides w at (Some left) x))
 unfolding reading_step
-second_step language w at left r t read goes = ap (λ x. x >>= λ r. Ok (line.Sides w at (Some left) r)) goes
-
-too_deep : (let r : Result Reading Misfit = Err TooDeep in r) ≡ Err Expected → ⊥
-too_deep same = absurd cc
+second_step language w at left r t read goes other = ap (λ x. x >>= λ r. Ok (line.Sides w at (Some left) r)) goes
 
 sum_seen : (e : Expr) → whole_sum (reading_of (end_state [] e)) ≡ Ok (expr_tree e)
 sum_seen e = whole-seen (end_state [] e) ∙ ap (λ o. tree_or o Expected) (end-whole e)
@@ -69,11 +64,9 @@ sides_run language w at d equals e =
     before_it (sides_start language w at (expr_tokens d ++ sign_token kind.Equals equals ∷ expr_tokens e))
     (then_on
     (run_upto (by_token language) (line.Sides w at None start_reading) (expr_tokens d) (line.Sides w at None (reading_of (end_state [] d))) (sign_token kind.Equals equals ∷ expr_tokens e)
-    (inside_upto reading_step (by_token language) (line.Sides w at None) (λ r next t goes. first_step language w at r t (Ok next) goes (ok_differs next Expected))
-    (λ r t fails. first_step language w at r t (Err TooDeep) fails too_deep) (expr_tokens d) start_reading _ (only d)))
+    (inside_upto reading_step (by_token language) (line.Sides w at None) (first_step language w at) (expr_tokens d) start_reading _ (only d)))
     (before_it (one_step (by_token language) _ _ (sign_token kind.Equals equals) (expr_tokens e) (equals_step language w at d equals))
-    (inside_upto reading_step (by_token language) (line.Sides w at (Some (expr_tree d))) (λ r next t goes. second_step language w at (expr_tree d) r t (Ok next) goes)
-    (λ r t fails. second_step language w at (expr_tree d) r t (Err TooDeep) fails) (expr_tokens e) start_reading _ (only e))))
+    (inside_upto reading_step (by_token language) (line.Sides w at (Some (expr_tree d))) (second_step language w at (expr_tree d)) (expr_tokens e) start_reading _ (only e))))
 
 -- names and pairs
 list_start : (language : Language) (w : ListWord) (at : Spot) (n : Name) (ns : List Name) (rest : List Token) → IsOf language (listed w at n ns)
@@ -191,12 +184,6 @@ map_line-end at names s t (self_word self) = refl
 
 -- and it ends as the statement
 pub stated_end : (s : Stated) → line_end (end_line s) ≡ Ok (stated_tree s)
-stated_end (listed w at n ns) = refl
 stated_end (mapped at n ns colon s arrow t end) = map_line-end at (n ∷ ns) s t end
 stated_end (sides w at d equals e) = ap (λ x. statement_by at (x >>= λ right. Ok (sides_kind w (expr_tree d) right))) (sum_seen e)
-stated_end (paired w at m n) = refl
-stated_end (projected at n) = refl
-stated_end (by_degree at word) = refl
-stated_end (by_weight at word p ps) = refl
-stated_end (modelled at m ps) = refl
-stated_end (second_language at number) = refl
+stated_end s = refl

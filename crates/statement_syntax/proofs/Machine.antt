@@ -72,11 +72,7 @@ with_term (after e s) t = joined e s t
 -- the expression, where it may end here
 abbrev pub end_by : List Level → Head → Focus → Option Product → Option Expr
 end_by [] head outside (Some t) = Some (with_term head t)
-end_by [] head outside None = None
-end_by [] head (square left) t = None
-end_by [] head (named left n) t = None
-end_by [] head (behind_caret l fs caret) t = None
-end_by (level ∷ levels) head focus t = None
+end_by levels head focus t = None
 
 abbrev pub whole : State → Option Expr
 whole st = end_by st.levels st.head st.focus (whole_term st.part)

@@ -74,8 +74,7 @@ name_reads levels head part n = (
 literal_reads : (levels : List Level) (head : Head) (part : Part) (n : Number)
     → Reads levels head part outside (number_token n) (steps.literal_step (levels_of levels) (head_of head) (part_of part) n)
 literal_reads levels head nothing n = (at_outside levels head (scaled n), refl, grow (level_tokens levels ++ head_tokens head) _ [] _ refl)
-literal_reads levels head (scaled m) n = tt
-literal_reads levels head (product l fs) n = tt
+literal_reads levels head part n = tt
 
 quote_reads : (levels : List Level) (head : Head) (part : Part) (at : Spot)
     → Reads levels head part outside (sign_token kind.Quote at)
@@ -128,14 +127,12 @@ sign_reads levels (led no_sign) nothing (plus at) =
     (at_outside levels (led (lead_plus at)) nothing, refl, lead_group (level_tokens levels) (sign_token kind.Plus at ∷ []))
 sign_reads levels (led no_sign) nothing (minus at) =
     (at_outside levels (led (lead_minus at)) nothing, refl, lead_group (level_tokens levels) (sign_token kind.Minus at ∷ []))
-sign_reads levels (led (lead_plus at)) nothing s = tt
-sign_reads levels (led (lead_minus at)) nothing s = tt
-sign_reads levels (after e t) nothing s = tt
 sign_reads levels head (scaled n) s =
     subst (λ r. Reads levels head (scaled n) outside (signed_token s)
     (steps.sign_by (head_of head) r (is_minus s) >>= λ h. Ok (steps.outside (levels_of levels) h (part_of nothing))))
     (sym (ended-seen (scaled n) (head_of head).negative)) (sign_after levels head (scaled n) s _ refl)
 sign_reads levels head (product l fs) s = sign_after levels head (product l fs) s _ refl
+sign_reads levels head nothing s = tt
 
 close_group : (a b c o given p e r x : List Token) → e ≡ given ++ p → x ≡ c ++ (o ++ (e ++ r))
     → ((a ++ b) ++ x) ++ [] ≡ ((((((a ++ b) ++ c) ++ o) ++ given) ++ p) ++ []) ++ r
@@ -177,19 +174,15 @@ outside_reads : (levels : List Level) (head : Head) (part : Part) (k : TokenKind
     → Reads levels head part outside (sign_token k at) (steps.outside_step (levels_of levels) (head_of head) (part_of part) k at)
 outside_reads levels head part (kind.Name x) at = name_reads levels head part (record { text = x; at = at })
 outside_reads levels head part (kind.Literal n) at = literal_reads levels head part (record { value = n; at = at })
-outside_reads levels head part kind.Colon at = tt
-outside_reads levels head part kind.Arrow at = tt
-outside_reads levels head part kind.Equals at = tt
 outside_reads levels head part kind.Plus at = sign_reads levels head part (plus at)
 outside_reads levels head part kind.Minus at = sign_reads levels head part (minus at)
 outside_reads levels head part kind.Open at = open_reads levels head part at (nat_lt (length (levels_of levels)) bracket_limit)
 outside_reads levels head part kind.Close at = close_reads levels head part at
 outside_reads levels head part kind.OpenSquare at =
     (record { levels = levels; head = head; part = part; focus = square at }, refl, simp append-nil refl)
-outside_reads levels head part kind.CloseSquare at = tt
 outside_reads levels head part kind.Quote at = quote_reads levels head part at
 outside_reads levels head part kind.Caret at = caret_reads levels head part at
-outside_reads levels head part kind.End at = tt
+outside_reads levels head part k at = tt
 
 square_reads : (levels : List Level) (head : Head) (part : Part) (left : Spot) (k : TokenKind) (at : Spot)
     → Reads levels head part (square left) (sign_token k at) (steps.square_step (levels_of levels) (head_of head) (part_of part) left k at)

@@ -86,14 +86,10 @@ ends levels head part (behind_caret l fs caret) =
 -- at the end
 end_tokens : (levels : List Level) (head : Head) (part : Part) (f : Focus) (t : Option Product) (e : Expr) → whole_term part ≡ t → end_by levels head f t ≡ Some e
     → state_tokens (with_focus levels head part f) ≡ expr_tokens e
-end_tokens (level ∷ levels) head part f t e w given = absurd cc
-end_tokens [] head part (square left) t e w given = absurd cc
-end_tokens [] head part (named left n) t e w given = absurd cc
-end_tokens [] head part (behind_caret l fs caret) t e w given = absurd cc
-end_tokens [] head part outside None e w given = absurd cc
 end_tokens [] head part outside (Some t) e w given =
     let e-is : with_term head t ≡ e = cc in
     append-nil (head_tokens head ++ part_tokens part) ∙ ap (λ (x : List Token). head_tokens head ++ x) (sym (whole_term-tokens part t w)) ∙ sym (with_term-tokens head t) ∙ ap expr_tokens e-is
+end_tokens levels head part f t e w given = absurd cc
 
 -- what is read whole is the expression's tokens
 whole-tokens : (st : State) (e : Expr) → whole st ≡ Some e → state_tokens st ≡ expr_tokens e

@@ -190,15 +190,8 @@ stated_tokens (modelled at m ps) = word_token (codes "model") at ∷ number_toke
 
 -- no more round brackets than the limit stand in one another
 abbrev pub StatedFits : Stated → Type 0
-StatedFits (listed w at n ns) = Unit {0}
-StatedFits (mapped at n ns colon s arrow t end) = Unit {0}
 StatedFits (sides w at d equals e) = ExprFits d bracket_limit × ExprFits e bracket_limit
-StatedFits (paired w at m n) = Unit {0}
-StatedFits (projected at n) = Unit {0}
-StatedFits (by_degree at word) = Unit {0}
-StatedFits (by_weight at word p ps) = Unit {0}
-StatedFits (modelled at m ps) = Unit {0}
-StatedFits (second_language at number) = Unit {0}
+StatedFits s = Unit {0}
 
 -- a file: a statement a line, in one of the two languages
 pub record StatedLine : Type 0 where

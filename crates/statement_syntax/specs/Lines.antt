@@ -165,11 +165,8 @@ list_end w [] = Err Expected
 list_end w (n ∷ ns) = Ok (list_kind w (n ∷ ns))
 
 abbrev pub map_end : List Name → MapRest → Result StatementKind Misfit
-map_end names rest.Names = Err Expected
-map_end names rest.Colon = Err Expected
-map_end names (rest.Source s) = Err Expected
-map_end names (rest.Arrow s) = Err Expected
 map_end names (rest.Target s t) = Ok (statement.Maps names s t false)
+map_end names r = Err Expected
 
 abbrev pub sides_end : SidesWord → Option Sum → Reading → Result StatementKind Misfit
 sides_end w None r = Err Expected
@@ -196,17 +193,13 @@ abbrev pub statement_by : Spot → Result StatementKind Misfit → Result Statem
 statement_by at r = r >>= λ kind. Ok (record { at = at; kind = kind })
 
 abbrev pub line_end : Line → Result Statement Misfit
-line_end line.Start = Err Expected
 line_end (line.List w at names) = statement_by at (list_end w names)
 line_end (line.Map at names r) = statement_by at (map_end names r)
 line_end (line.Sides w at left r) = statement_by at (sides_end w left r)
-line_end (line.Pair w at first) = Err Expected
-line_end (line.Projection at) = Err Expected
-line_end (line.Order at) = Err Expected
 line_end (line.Weights at ps) = statement_by at (weights_end ps)
-line_end (line.Model at) = Err Expected
 line_end (line.Shape at m ps) = statement_by at (shape_end m ps)
 line_end (line.Whole s) = Ok s
+line_end l = Err Expected
 
 -- a whole file: the statements of its lines, and the line that is read
 abbrev pub ended : Progress → Result Progress Misfit
