@@ -143,6 +143,9 @@ pub arrow_back : (before : List Token) (rest : List ℕ) → item_at before 45 (
 unfolding item_in
 arrow_back before rest = rw (is_xid_start-ascii 45 (omega arith)) refl
 
-pub minus_back : (before : List Token) (rest : List ℕ) → EndsBefore rest → item_at before 45 rest ≡ Ok (item.Token kind.Minus 0)
+pub minus_read : (before : List Token) (rest : List ℕ) → begins_with 62 rest ≡ false → item_at before 45 rest ≡ Ok (item.Token kind.Minus 0)
 unfolding item_in
-minus_back before rest given = rw (is_xid_start-ascii 45 (omega arith), no_arrow rest given) refl
+minus_read before rest given = rw (is_xid_start-ascii 45 (omega arith), given) refl
+
+pub minus_back : (before : List Token) (rest : List ℕ) → EndsBefore rest → item_at before 45 rest ≡ Ok (item.Token kind.Minus 0)
+minus_back before rest given = minus_read before rest (no_arrow rest given)

@@ -12,9 +12,6 @@ use Rattle.statement_tokens.proofs.Reading.{◌>>=◌, tokens_from, placed, unre
 abbrev pub spot : ℕ → ℕ → Spot
 spot line column = record { line = line; column = column }
 
-same_column : (line a b : ℕ) → a ≡ b → spot line a ≡ spot line b
-same_column line a b given = ap (spot line) given
-
 pub skipped : (before : List Token) (n : ℕ) (cs : List ℕ) (line column past : ℕ) → n ≤ length cs
     → tokens_from before cs n (spot line column) past ≡ tokens_from before (drop n cs) 0 (spot line (column + n)) past
 unfolding tokens_from

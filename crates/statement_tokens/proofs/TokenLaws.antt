@@ -33,14 +33,7 @@ caret_free Second m goes good = rw (goes refl) refl
 -- a piece that is good in front of others stays good
 stays_good : (before more : List Token) (piece : Piece) → fault_of (language_of before) piece ≡ None → fault_of (language_of (before ++ more)) piece ≡ None
 stays_good before more (sign kind.Caret) good = caret_free (language_of before) (language_of (before ++ more)) (stays_second before more) good
-stays_good before more (sign k) good = good
-stays_good before more line_feed good = good
-stays_good before more return_and_line_feed good = good
-stays_good before more blank good = good
-stays_good before more tab good = good
-stays_good before more (comment cs) good = good
-stays_good before more (name cs) good = good
-stays_good before more (literal cs) good = good
+stays_good before more other good = good
 
 no_second : (a b c : Bool) → a ≡ false ⊎ (b ≡ false) ⊎ (c ≡ false) → (let l : Language = (if a && b && c then Second else First) in l) ≡ Second → ⊥
 no_second false b c some is = absurd cc
@@ -65,14 +58,7 @@ was_good : (before more : List Token) (piece : Piece) (at : Spot) (past : ℕ)
     → fault_of (language_of (before ++ (tokens_with piece at past ++ more))) piece ≡ None → fault_of (language_of before) piece ≡ None
 was_good before more (sign kind.Caret) at past good =
     caret_free (language_of (before ++ record { at = at; kind = kind.Caret } ∷ more)) (language_of before) (was_second before more at) good
-was_good before more (sign k) at past good = good
-was_good before more line_feed at past good = good
-was_good before more return_and_line_feed at past good = good
-was_good before more blank at past good = good
-was_good before more tab at past good = good
-was_good before more (comment cs) at past good = good
-was_good before more (name cs) at past good = good
-was_good before more (literal cs) at past good = good
+was_good before more other at past good = good
 
 abbrev past_after : List Piece → Spot → ℕ → ℕ
 past_after [] at past = past
