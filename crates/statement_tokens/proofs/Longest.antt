@@ -10,9 +10,8 @@ use Rattle.std.proofs.lemmas.Bool.{eqb-true, eq-eqb}
 use Rattle.unicode_ident.specs.Ident.{is_xid_continue}
 use Rattle.unicode_ident.proofs.IdentLemmas.{is_xid_start-ascii}
 use Rattle.statement_tokens.specs.Types.{TokenKind, TokenKind as kind}
-use Rattle.statement_tokens.specs.Pieces.{Piece, line_feed, return_and_line_feed, blank, tab, comment, name}
-use Rattle.statement_tokens.specs.Pieces.{literal, sign, piece_text, is_piece, IsLongest, BeginsNone}
-use Rattle.statement_tokens.specs.Pieces.{starts_name, is_digit, is_inside_line}
+use Rattle.statement_tokens.specs.Pieces.{Piece, line_feed, return_and_line_feed, blank, tab, comment, name, literal, sign, piece_text, is_piece, IsLongest}
+use Rattle.statement_tokens.specs.Pieces.{BeginsNone, starts_name, is_digit, is_inside_line}
 use Rattle.statement_tokens.specs.Items.{begins_with}
 use Rattle.statement_tokens.proofs.EachCharacter.{EachIs, EachIs-take_while, and_both}
 use Rattle.statement_tokens.proofs.Rescan.{plain_start}

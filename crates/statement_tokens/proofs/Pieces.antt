@@ -4,7 +4,7 @@ use Rattle.std.proofs.Common.{length, Option, Some, None, Result, Ok, Err, refl,
 use Rattle.std.specs.Prelude.{if◌then◌else◌, pos, nat_le, nat_lt, ◌^◌}
 use Rattle.std.specs.List.{list_all}
 use Rattle.std.specs.Str.{encode_utf8_all}
-use Rattle.std.proofs.lemmas.List.{drop_at, take_at}
+use Rattle.std.proofs.lemmas.List.{drop_at}
 use Rattle.std.proofs.lemmas.Bool.{eqb-true}
 use Rattle.unicode_ident.specs.Ident.{is_xid_continue}
 use Rattle.unicode_ident.proofs.IdentLemmas.{is_xid_start-ascii}
@@ -12,12 +12,10 @@ use Rattle.statement_tokens.specs.Types.{Spot, Token, TokenKind, TokenKind as ki
 use Rattle.statement_tokens.specs.Types.{LiteralTooLarge, Placed}
 use Rattle.statement_tokens.specs.Limits.{name_limit}
 use Rattle.statement_tokens.specs.Language.{language_of}
-use Rattle.statement_tokens.specs.Pieces.{Piece, line_feed, return_and_line_feed, blank, tab, comment, name}
-use Rattle.statement_tokens.specs.Pieces.{literal, sign, piece_text, is_piece, IsLongest, BeginsNone}
-use Rattle.statement_tokens.specs.Tokens.{behind, tokens_with, past_behind, sign_fault, fault_of}
-use Rattle.statement_tokens.specs.Pieces.{starts_name, is_digit, is_inside_line}
-use Rattle.statement_tokens.specs.Tokens.{value_from, right_of}
-use Rattle.statement_tokens.specs.Items.{item_at, item_in, begins_with, literal_of}
+use Rattle.statement_tokens.specs.Pieces.{Piece, line_feed, return_and_line_feed, blank, tab, comment, name, literal, sign, piece_text, is_piece, IsLongest}
+use Rattle.statement_tokens.specs.Pieces.{BeginsNone, starts_name, is_digit, is_inside_line}
+use Rattle.statement_tokens.specs.Tokens.{behind, tokens_with, past_behind, sign_fault, fault_of, value_from, right_of}
+use Rattle.statement_tokens.specs.Items.{item_at, item_in, begins_with}
 use Rattle.statement_tokens.proofs.Reading.{tokens_from, placed, with_front}
 use Rattle.statement_tokens.proofs.Scanning.{skipped}
 use Rattle.statement_tokens.proofs.EachCharacter.{and_both}

@@ -7,7 +7,7 @@ use Rattle.statement_tokens.specs.Tokens.{end_of}
 use Rattle.statement_tokens.specs.Items.{item_in}
 use Rattle.statement_tokens.specs.Language.{language_of}
 use Rattle.statement_tokens.specs.Scanned.{Lessens, one_if_some, most_tokens, with_front}
-use Rattle.statement_tokens.proofs.Reading.{◌>>=◌, tokens_from, placed, unread, HandsRead}
+use Rattle.statement_tokens.proofs.Reading.{tokens_from, placed, unread, HandsRead}
 
 abbrev pub spot : ℕ → ℕ → Spot
 spot line column = record { line = line; column = column }

@@ -5,13 +5,11 @@ use Rattle.std.specs.Prelude.{if◌then◌else◌}
 use Rattle.statement_tokens.specs.Types.{Spot, Token, TokenKind as kind, Language, First, Second, ScanFault, BadToken, Placed, Scanner, ScanError}
 use Rattle.statement_tokens.specs.Types.{ScanError as error}
 use Rattle.statement_tokens.specs.Language.{is_language_word, is_two, is_end, language_of}
-use Rattle.statement_tokens.specs.Pieces.{Piece, line_feed, return_and_line_feed, blank, tab, comment, name, literal}
+use Rattle.statement_tokens.specs.Pieces.{Piece, line_feed, name, literal}
 use Rattle.statement_tokens.specs.Pieces.{sign, piece_text, pieces_text, is_some, is_piece, IsLongest, BeginsNone}
-use Rattle.statement_tokens.specs.Tokens.{behind, place_behind, tokens_with, past_behind, tokens_at, tokens_in}
-use Rattle.statement_tokens.specs.Tokens.{sign_fault, fault_of, AreGood, AreTokens, AreTokensBehind, Begins, IsFirstScanFault, IsFaultBehind}
-use Rattle.statement_tokens.specs.Laws.{HasTokensOrFault, EachTextHasTokensOrFault, TokensAreUnique, FirstScanFaultsAreUnique}
-use Rattle.statement_tokens.specs.Laws.{TokensHaveNoFault}
-use Rattle.statement_tokens.specs.Tokens.{end_of}
+use Rattle.statement_tokens.specs.Tokens.{behind, place_behind, tokens_with, past_behind, tokens_at, sign_fault, fault_of, AreGood, AreTokens}
+use Rattle.statement_tokens.specs.Tokens.{AreTokensBehind, Begins, IsFirstScanFault, IsFaultBehind, end_of}
+use Rattle.statement_tokens.specs.Laws.{EachTextHasTokensOrFault, TokensAreUnique, FirstScanFaultsAreUnique, TokensHaveNoFault}
 use Rattle.statement_tokens.specs.Scanned.{TellsBehind, Tells, Leaves, Hands, with_front}
 use Rattle.statement_tokens.proofs.Reading.{tokens_from, tokens_of, unread, HandsRead}
 use Rattle.statement_tokens.proofs.Longest.{Longest, begins_with_longest}
