@@ -45,7 +45,8 @@ in_file statements l = record { statements = statements; line = l }
 file_by : (language : Language) (statements : List Statement) (l : Line) (t : Token) (read : Lined) → by_token language l t ≡ read → (read ≡ Err Expected → ⊥)
     → file_step language (in_file statements l) t ≡ (read >>= λ x. Ok (in_file statements x))
 file_by language statements l t read is other =
-    not_end _ _ t.kind (λ k. other (sym is ∙ ap (λ x. line_step language l x t.at) k ∙ line_no_end language l t.at)) ∙ ap (λ r. r >>= λ x. Ok (in_file statements x)) is
+    not_end _ _ t.kind (λ k. other (sym is ∙ ap (λ x. line_step language l x t.at) k ∙ line_no_end language l t.at))
+    ∙ ap (λ r. r >>= λ x. Ok (in_file statements x)) is
 
 line_ended : (language : Language) (statements : List Statement) (s : Stated) (at : Spot)
     → file_step language (in_file statements (end_line s)) (sign_token kind.End at) ≡ Ok (in_file (statements ++ stated_tree s ∷ []) line.Start)
@@ -62,7 +63,8 @@ lines_run language statements (l ∷ lines) speak =
     before_it (ap (run (file_step language) (in_file statements line.Start)) (append_assoc (stated_tokens l.stated) (sign_token kind.End l.end ∷ []) (file_tokens lines)))
     (then_on
     (run_upto (file_step language) (in_file statements line.Start) (stated_tokens l.stated) (in_file statements (end_line l.stated)) behind
-    (inside_upto (by_token language) (file_step language) (in_file statements) (file_by language statements) (stated_tokens l.stated) line.Start (end_line l.stated) (stated_run language l.stated speak.0)))
+    (inside_upto (by_token language) (file_step language) (in_file statements) (file_by language statements) (stated_tokens l.stated)
+    line.Start (end_line l.stated) (stated_run language l.stated speak.0)))
     (before_it (one_step (file_step language) (in_file statements (end_line l.stated)) (in_file more line.Start) (sign_token kind.End l.end) (file_tokens lines) (line_ended language statements l.stated l.end))
     (after_it (lines_run language more lines speak.1) (ap (λ x. Ok (in_file x line.Start)) (append_assoc statements (stated_tree l.stated ∷ []) (file_tree lines))))))
 
@@ -98,7 +100,8 @@ module _ (language : Language) (before : List Statement) where
   Goes ts at k (Ok p) = FileReads language before p (ts ++ sign_token k at ∷ [])
   Goes ts at k (Err Expected) = Unit {0}
   -- a bracket that is too deep can go on to lines, if not to some within the limit
-  Goes ts at k (Err TooDeep) = (more : List Token) × (lines : List StatedLine) × AreLinesOf language lines × ((ts ++ sign_token k at ∷ []) ++ more ≡ file_tokens lines)
+  Goes ts at k (Err TooDeep) =
+      (more : List Token) × (lines : List StatedLine) × AreLinesOf language lines × ((ts ++ sign_token k at ∷ []) ++ more ≡ file_tokens lines)
 
   next_is : (ts front now : List Token) (t : Token) → ts ≡ front ++ now → ts ++ t ∷ [] ≡ front ++ (now ++ t ∷ [])
   next_is ts front now t read = ap (λ (x : List Token). x ++ t ∷ []) read ∙ append_assoc front now (t ∷ [])

@@ -5,11 +5,13 @@ use Rattle.std.proofs.lemmas.List.{append-nil}
 use Rattle.statement_syntax.specs.Types.{Spot, Token, Language, TokenKind as kind, Name, Number, Sum, Statement, StatementKind as statement}
 use Rattle.statement_syntax.specs.Types.{Misfit, Expected, TooDeep, Reading, ListWord, SidesWord, PairWord, MapRest, MapRest as rest, Pairs, Line, Line as line}
 use Rattle.statement_syntax.specs.Steps.{◌>>=◌, whole_sum}
-use Rattle.statement_syntax.specs.Grammar.{expr_tokens, sign_token, name_token, number_token, word_token, names_tokens, pairs_tokens, sides_text, no_word, Stated, listed, mapped, sides, paired, projected, by_degree, by_weight, modelled, stated_tokens, StatedFits, IsOf}
+use Rattle.statement_syntax.specs.Grammar.{expr_tokens, sign_token, name_token, number_token, word_token, names_tokens, pairs_tokens, sides_text, no_word}
+use Rattle.statement_syntax.specs.Grammar.{Stated, listed, mapped, sides, paired, projected, by_degree, by_weight, modelled, stated_tokens, StatedFits, IsOf}
 use Rattle.statement_syntax.specs.Tree.{sides_kind}
 use Rattle.statement_syntax.specs.Lines.{list_end, map_end, sides_end, pairs_end, weights_by, statement_by, line_end}
 use Rattle.statement_syntax.proofs.Viable.{reading_ends, reading_lacks, viable, somewhere, some_name, some_expr}
-use Rattle.statement_syntax.proofs.LineReads.{MapReads, RestReads, FirstSide, SecondSide, SidesReads, half_tokens, WholeReads, list_speaks, LineReads, pairs_more}
+use Rattle.statement_syntax.proofs.LineReads.{MapReads, RestReads, FirstSide, SecondSide, SidesReads, half_tokens, WholeReads, list_speaks, LineReads}
+use Rattle.statement_syntax.proofs.LineReads.{pairs_more}
 
 -- where a line may end its tokens are the statement's, and where it may not more is expected
 abbrev pub EndsAs : Language → List Token → Result Statement Misfit → Type 0

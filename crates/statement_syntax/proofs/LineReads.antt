@@ -1,16 +1,22 @@
 -- The tokens that bring a line to what has been read of it; with each step there is one more, and where the line may end they are a statement's.
-use Rattle.std.proofs.Common.{◌≡◌, ℕ, Bool, true, false, cond, List, [], ◌∷◌, ◌++◌, Option, Some, None, Result, Ok, Err, refl, sym, ap, ap₂, subst, ◌∙◌, append_assoc}
+use Rattle.std.proofs.Common.{◌≡◌, ℕ, Bool, true, false, cond, List, [], ◌∷◌, ◌++◌, Option, Some, None, Result, Ok, Err, refl, sym, ap, ap₂, subst, ◌∙◌}
+use Rattle.std.proofs.Common.{append_assoc}
 use Rattle.std.specs.Prelude.{bytes_eq, codes}
 use Rattle.std.proofs.lemmas.List.{append-nil, map-append}
 use Rattle.std.proofs.lemmas.Slice.Eq.{bytes_eq-Decides}
 use Rattle.statement_syntax.specs.Types.{Spot, Token, Language, First, Second, TokenKind, TokenKind as kind, Name, Number, Sum, Statement}
-use Rattle.statement_syntax.specs.Types.{StatementKind as statement, Misfit, Expected, TooDeep, Reading, ListWord, Object, Solve, Eliminate, SidesWord, Assume, Claim}
+use Rattle.statement_syntax.specs.Types.{StatementKind as statement, Misfit, Expected, TooDeep, Reading, ListWord, Object, Solve, Eliminate, SidesWord, Assume}
+use Rattle.statement_syntax.specs.Types.{Claim}
 use Rattle.statement_syntax.specs.Types.{PairWord, Pinv, Inverse, Inner, Opening, Opening as opening, MapRest, MapRest as rest, Pairs, Line, Line as line}
 use Rattle.statement_syntax.specs.Limits.{bracket_limit}
 use Rattle.statement_syntax.specs.Steps.{◌>>=◌, run, token_step, whole_sum}
-use Rattle.statement_syntax.specs.Grammar.{Expr, expr_tokens, ExprFits, sign_token, name_token, number_token, word_token, names_tokens, pairs_tokens, list_text, sides_text, pair_text, self_word, Stated, listed, mapped, sides, paired, projected, by_degree, stated_tokens, StatedFits, IsOf}
+use Rattle.statement_syntax.specs.Grammar.{Expr, expr_tokens, ExprFits, sign_token, name_token, number_token, word_token, names_tokens, pairs_tokens, list_text}
+use Rattle.statement_syntax.specs.Grammar.{sides_text, pair_text, self_word, Stated, listed, mapped, sides, paired, projected, by_degree, stated_tokens}
+use Rattle.statement_syntax.specs.Grammar.{StatedFits, IsOf}
 use Rattle.statement_syntax.specs.Tree.{expr_tree, stated_tree}
-use Rattle.statement_syntax.specs.Lines.{Lined, named, name_in, common_opening, opening_in, start_reading, opened, begun, start_step, whole, list_step, colon_after, map_names_step, map_step, sides_step, pair_step, no_pairs, pairs_by, pairs_step, order_step, projection_step, line_step}
+use Rattle.statement_syntax.specs.Lines.{Lined, named, name_in, common_opening, opening_in, start_reading, opened, begun, start_step, whole, list_step}
+use Rattle.statement_syntax.specs.Lines.{colon_after, map_names_step, map_step, sides_step, pair_step, no_pairs, pairs_by, pairs_step, order_step}
+use Rattle.statement_syntax.specs.Lines.{projection_step, line_step}
 use Rattle.statement_syntax.proofs.Run.{run_front}
 use Rattle.statement_syntax.proofs.StateReads.{reading_step}
 use Rattle.statement_syntax.proofs.Viable.{ExprReads, reading_ends, reading_lacks, deep, somewhere, some_name, some_expr}
@@ -223,14 +229,9 @@ map_grows language at names (rest.Target s e) ts t k read = on_word k
 -- expressions
 reading_grows : (r next : Reading) (ts : List Token) (k : TokenKind) (t : Spot) → ExprReads r ts → token_step r k t ≡ Ok next
     → ExprReads next (ts ++ sign_token k t ∷ [])
-unfolding run reading_step
+unfolding run
 reading_grows r next ts k t read goes =
     run_front reading_step start_reading ts r (sign_token k t ∷ []) read ∙ ap (λ x. x >>= λ s. run reading_step s []) goes
-
-reading_deep : (r : Reading) (ts : List Token) (t : Spot) (k : TokenKind) → ExprReads r ts → token_step r k t ≡ Err TooDeep
-    → (more : List Token) × (e : Expr) × (ts ++ sign_token k t ∷ more ≡ expr_tokens e)
-unfolding reading_step
-reading_deep r ts t k read fails = deep ts r (sign_token k t) read fails
 
 side_more : (front ts side : List Token) (t : Token) → ts ≡ front ++ side → ts ++ t ∷ [] ≡ front ++ (side ++ t ∷ [])
 side_more front ts side t read = with_next ts _ t read ∙ append_assoc front side (t ∷ [])
@@ -239,7 +240,7 @@ first_grows : (language : Language) (w : SidesWord) (at : Spot) (r : Reading) (t
     → Grows language ts t k (res >>= λ x. Ok (line.Sides w at None x))
 first_grows language w at r ts t k (Err Expected) is read = tt
 first_grows language w at r ts t k (Err TooDeep) is read =
-    let on = reading_deep r read.side t k read.reads is in
+    let on = deep read.side r (sign_token k t) read.reads is in
     let last : List Token = sign_token kind.Equals somewhere ∷ name_token some_name ∷ [] in (
       on.0 ++ last,
       sides w at on.1 somewhere some_expr,
@@ -258,7 +259,7 @@ second_grows : (language : Language) (w : SidesWord) (at : Spot) (left : Sum) (r
     → Grows language ts t k (res >>= λ x. Ok (line.Sides w at (Some left) x))
 second_grows language w at left r ts t k (Err Expected) is read = tt
 second_grows language w at left r ts t k (Err TooDeep) is read =
-    let on = reading_deep r read.side t k read.reads is in (
+    let on = deep read.side r (sign_token k t) read.reads is in (
       on.0,
       sides w at read.expr read.equals on.1,
       tt,

@@ -36,25 +36,27 @@ no_equals : (r : Reading) (f : Focus) (at : Spot) → focus_step r.levels r.head
 no_equals r focus.Outside at = refl
 no_equals r f at = refl
 
-first_step : (language : Language) (w : SidesWord) (at : Spot) (r : Reading) (t : Token) (read : Result Reading Misfit) → reading_step r t ≡ read → (read ≡ Err Expected → ⊥)
-    → by_token language (line.Sides w at None r) t ≡ (read >>= λ x. Ok (line.Sides w at None x))
-unfolding reading_step
+first_step : (language : Language) (w : SidesWord) (at : Spot) (r : Reading) (t : Token) (read : Result Reading Misfit) → reading_step r t ≡ read
+    → (read ≡ Err Expected → ⊥) → by_token language (line.Sides w at None r) t ≡ (read >>= λ x. Ok (line.Sides w at None x))
 first_step language w at r t read goes other =
-    not_equals _ _ t.kind (λ k. other (sym goes ∙ ap (λ x. token_step r x t.at) k ∙ no_equals r r.focus t.at)) ∙ ap (λ x. x >>= λ r. Ok (line.Sides w at None r)) goes
+    not_equals _ _ t.kind (λ k. other (sym goes ∙ ap (λ x. token_step r x t.at) k ∙ no_equals r r.focus t.at))
+    ∙ ap (λ x. x >>= λ r. Ok (line.Sides w at None r)) goes
 
 second_step : (language : Language) (w : SidesWord) (at : Spot) (left : Sum) (r : Reading) (t : Token) (read : Result Reading Misfit) → reading_step r t ≡ read
     → (read ≡ Err Expected → ⊥) → by_token language (line.Sides w at (Some left) r) t ≡ (read >>= λ x. Ok (line.Sides w at (Some left) x))
-unfolding reading_step
 second_step language w at left r t read goes other = ap (λ x. x >>= λ r. Ok (line.Sides w at (Some left) r)) goes
 
 sum_seen : (e : Expr) → whole_sum (reading_of (end_state [] e)) ≡ Ok (expr_tree e)
 sum_seen e = whole-seen (end_state [] e) ∙ ap (λ o. tree_or o Expected) (end-whole e)
 
 equals_step : (language : Language) (w : SidesWord) (at : Spot) (d : Expr) (equals : Spot)
-    → by_token language (line.Sides w at None (reading_of (end_state [] d))) (sign_token kind.Equals equals) ≡ Ok (line.Sides w at (Some (expr_tree d)) start_reading)
+    → by_token language (line.Sides w at None (reading_of (end_state [] d))) (sign_token kind.Equals equals)
+    ≡ Ok (line.Sides w at (Some (expr_tree d)) start_reading)
 equals_step language w at d equals = ap (λ x. x >>= λ left. Ok (line.Sides w at (Some left) start_reading)) (sum_seen d)
 
-sides_start : (language : Language) (w : SidesWord) (at : Spot) (rest : List Token) → run (by_token language) line.Start (word_token (sides_text w) at ∷ rest) ≡ run (by_token language) (line.Sides w at None start_reading) rest
+sides_start : (language : Language) (w : SidesWord) (at : Spot) (rest : List Token)
+    → run (by_token language) line.Start (word_token (sides_text w) at ∷ rest)
+    ≡ run (by_token language) (line.Sides w at None start_reading) rest
 sides_start language Assume at rest = word_starts language (sides_text Assume) (opening.Sides Assume) at rest refl refl
 sides_start language Claim at rest = word_starts language (sides_text Claim) (opening.Sides Claim) at rest refl refl
 
@@ -63,10 +65,12 @@ sides_run : (language : Language) (w : SidesWord) (at : Spot) (d : Expr) (equals
 sides_run language w at d equals e =
     before_it (sides_start language w at (expr_tokens d ++ sign_token kind.Equals equals ∷ expr_tokens e))
     (then_on
-    (run_upto (by_token language) (line.Sides w at None start_reading) (expr_tokens d) (line.Sides w at None (reading_of (end_state [] d))) (sign_token kind.Equals equals ∷ expr_tokens e)
+    (run_upto (by_token language) (line.Sides w at None start_reading) (expr_tokens d) (line.Sides w at None (reading_of (end_state [] d)))
+    (sign_token kind.Equals equals ∷ expr_tokens e)
     (inside_upto reading_step (by_token language) (line.Sides w at None) (first_step language w at) (expr_tokens d) start_reading _ (only d)))
     (before_it (one_step (by_token language) _ _ (sign_token kind.Equals equals) (expr_tokens e) (equals_step language w at d equals))
-    (inside_upto reading_step (by_token language) (line.Sides w at (Some (expr_tree d))) (second_step language w at (expr_tree d)) (expr_tokens e) start_reading _ (only e))))
+    (inside_upto reading_step (by_token language) (line.Sides w at (Some (expr_tree d))) (second_step language w at (expr_tree d))
+    (expr_tokens e) start_reading _ (only e))))
 
 -- names and pairs
 list_start : (language : Language) (w : ListWord) (at : Spot) (n : Name) (ns : List Name) (rest : List Token) → IsOf language (listed w at n ns)

@@ -11,7 +11,8 @@ use Rattle.statement_syntax.specs.Grammar.{Lead, no_sign, lead_plus, lead_minus,
 use Rattle.statement_syntax.specs.Grammar.{one, beside, Marked, plain, marked, raised, Prime, name, identity, bracket, sign_token, name_token, number_token}
 use Rattle.statement_syntax.specs.Grammar.{lead_tokens, signed_token, literal_tokens, zero_at, expr_tokens, product_tokens, factors_tokens, marked_tokens}
 use Rattle.statement_syntax.specs.Grammar.{prime_tokens, ExprFits, ProductFits, FactorsFit, MarkedFits, PrimeFits}
-use Rattle.statement_syntax.proofs.Machine.{Head, led, after, Part, nothing, scaled, product, Level, State, at_outside, fresh, add, whole_term, with_term, whole}
+use Rattle.statement_syntax.proofs.Machine.{Head, led, after, Part, nothing, scaled, product, Level, State, at_outside, fresh, add, whole_term, with_term}
+use Rattle.statement_syntax.proofs.Machine.{whole}
 use Rattle.statement_syntax.proofs.Seen.{head_of, levels_of, reading_of}
 use Rattle.statement_syntax.proofs.Same.{add-seen, signed-seen, closed-seen}
 use Rattle.statement_syntax.proofs.StateReads.{reading_step}
@@ -48,7 +49,6 @@ whole_is (factors l fs) = refl
 
 sign_behind : (levels : List Level) (head : Head) (t : Product) (s : Sign)
     → goes (at_outside levels head (whole_part t)) (signed_token s) ≡ Ok (reading_of (at_outside levels (after (with_term head t) s) nothing))
-unfolding reading_step
 sign_behind levels head (zero_alone at) (plus x) = ap (λ r. Ok r) (signed-seen levels head (zero_alone at) (plus x))
 sign_behind levels head (zero_alone at) (minus x) = ap (λ r. Ok r) (signed-seen levels head (zero_alone at) (minus x))
 sign_behind levels head (factors l fs) (plus x) = ap (λ r. Ok r) (signed-seen levels head (factors l fs) (plus x))
@@ -61,20 +61,17 @@ sign_step levels (joined e before t) s = sign_behind levels (after e before) t s
 close_step : (levels : List Level) (head : Head) (part : Part) (left : Spot) (e : Expr) (right : Spot)
     → goes (end_state (record { head = head; part = part; at = left } ∷ levels) e) (sign_token kind.Close right)
     ≡ Ok (reading_of (at_outside levels head (add part (bracket left e right))))
-unfolding reading_step
 close_step levels head part left (first l t) right = closed-seen _ levels (led l) (whole_part t) t right (whole_is t)
 close_step levels head part left (joined e s t) right = closed-seen _ levels (after e s) (whole_part t) t right (whole_is t)
 
 open_step : (levels : List Level) (head : Head) (part : Part) (left : Spot) → length (levels_of levels) < bracket_limit
     → goes (at_outside levels head part) (sign_token kind.Open left) ≡ Ok (reading_of (fresh (record { head = head; part = part; at = left } ∷ levels)))
-unfolding reading_step
 open_step levels head part left room =
     ap (λ b. cond b (Ok (reading_of (fresh (record { head = head; part = part; at = left } ∷ levels)))) (Err TooDeep))
     (lt-ltb (length (levels_of levels)) bracket_limit room)
 
 quote_step : (levels : List Level) (head : Head) (part : Part) (f : Marked) (at : Spot)
     → goes (at_outside levels head (add_marked part f)) (sign_token kind.Quote at) ≡ Ok (reading_of (at_outside levels head (add_marked part (marked f at))))
-unfolding reading_step
 quote_step levels head nothing f at = refl
 quote_step levels head (scaled n) f at = refl
 quote_step levels head (product l fs) f at = refl
@@ -82,19 +79,19 @@ quote_step levels head (product l fs) f at = refl
 power_run : (levels : List Level) (head : Head) (part : Part) (f : Marked) (at : Spot) (n : Number) (rest : List Token)
     → runs (at_outside levels head (add_marked part f)) (sign_token kind.Caret at ∷ number_token n ∷ rest)
     ≡ runs (at_outside levels head (add_marked part (raised f at n))) rest
-unfolding reading_step run
+unfolding run
 power_run levels head nothing f at n rest = refl
 power_run levels head (scaled m) f at n rest = refl
 power_run levels head (product l fs) f at n rest = refl
 
 literal_run : (levels : List Level) (head : Head) (l : Option Number) (rest : List Token)
     → runs (at_outside levels head nothing) (literal_tokens l ++ rest) ≡ runs (at_outside levels head (after_literal l)) rest
-unfolding reading_step run
+unfolding run
 literal_run levels head None rest = refl
 literal_run levels head (Some n) rest = refl
 
 lead_run : (levels : List Level) (l : Lead) (rest : List Token) → runs (fresh levels) (lead_tokens l ++ rest) ≡ runs (at_outside levels (led l) nothing) rest
-unfolding reading_step run
+unfolding run
 lead_run levels no_sign rest = refl
 lead_run levels (lead_plus at) rest = refl
 lead_run levels (lead_minus at) rest = refl
@@ -110,21 +107,21 @@ literal_is (Some n) f = refl
 
 name_run : (levels : List Level) (head : Head) (part : Part) (n : Name) (rest : List Token)
     → runs (at_outside levels head part) (name_token n ∷ rest) ≡ runs (at_outside levels head (add part (name n))) rest
-unfolding reading_step run
+unfolding run
 name_run levels head part n rest =
     ap (λ p. run reading_step (steps.outside (levels_of levels) (head_of head) p) rest) (add-seen part (name n))
 
 identity_run : (levels : List Level) (head : Head) (part : Part) (left : Spot) (n : Name) (right : Spot) (rest : List Token)
     → runs (at_outside levels head part) (sign_token kind.OpenSquare left ∷ name_token n ∷ sign_token kind.CloseSquare right ∷ rest)
     ≡ runs (at_outside levels head (add part (identity left n right))) rest
-unfolding reading_step run
+unfolding run
 identity_run levels head part left n right rest =
     ap (λ p. run reading_step (steps.outside (levels_of levels) (head_of head) p) rest) (add-seen part (identity left n right))
 
 -- whole parts
 open_fails : (levels : List Level) (head : Head) (part : Part) (left : Spot) (rest : List Token) → length (levels_of levels) + 0 ≡ bracket_limit
     → runs (at_outside levels head part) (sign_token kind.Open left ∷ rest) ≡ Err TooDeep
-unfolding reading_step run
+unfolding run
 open_fails levels head part left rest room =
     ap (λ b. cond b (Ok (reading_of (fresh (record { head = head; part = part; at = left } ∷ levels)))) (Err TooDeep) >>= λ r. run reading_step r rest)
     (le-ltb (length (levels_of levels)) bracket_limit (omega (arith, room)))
@@ -150,7 +147,8 @@ mutual
       ∙ literal_run levels head l (factors_tokens fs ++ rest))
       (factors_run levels head l fs d rest room)
 
-  factors_run : (levels : List Level) (head : Head) (l : Option Number) (fs : Factors) (d : ℕ) (rest : List Token) → length (levels_of levels) + d ≡ bracket_limit
+  factors_run : (levels : List Level) (head : Head) (l : Option Number) (fs : Factors) (d : ℕ) (rest : List Token)
+      → length (levels_of levels) + d ≡ bracket_limit
       → Upto (FactorsFit fs d) (runs (at_outside levels head (after_literal l)) (factors_tokens fs ++ rest)) (runs (at_outside levels head (product l fs)) rest)
   factors_run levels head l (one f) d rest room =
       after_it (marked_run levels head (after_literal l) f d rest room) (ap (λ p. runs (at_outside levels head p) rest) (literal_is l f))
@@ -161,7 +159,8 @@ mutual
 
   marked_run : (levels : List Level) (head : Head) (part : Part) (f : Marked) (d : ℕ) (rest : List Token) → length (levels_of levels) + d ≡ bracket_limit
       → Upto (MarkedFits f d) (runs (at_outside levels head part) (marked_tokens f ++ rest)) (runs (at_outside levels head (add_marked part f)) rest)
-  marked_run levels head part (plain p) d rest room = after_it (prime_run levels head part p d rest room) (ap (λ q. runs (at_outside levels head q) rest) (plain_is part p))
+  marked_run levels head part (plain p) d rest room =
+      after_it (prime_run levels head part p d rest room) (ap (λ q. runs (at_outside levels head q) rest) (plain_is part p))
   marked_run levels head part (marked f at) d rest room =
       before_it (ap (runs (at_outside levels head part)) (append_assoc (marked_tokens f) (sign_token kind.Quote at ∷ []) rest))
       (after_it (marked_run levels head part f d (sign_token kind.Quote at ∷ rest) room)
@@ -178,7 +177,8 @@ mutual
       inr (λ x. x, open_fails levels head part left ((expr_tokens e ++ sign_token kind.Close right ∷ []) ++ rest) room)
   prime_run levels head part (bracket left e right) (suc d) rest room =
       let inner = record { head = head; part = part; at = left } ∷ levels in
-      before_it (one_step reading_step _ _ (sign_token kind.Open left) ((expr_tokens e ++ sign_token kind.Close right ∷ []) ++ rest) (open_step levels head part left (omega (arith, room)))
+      before_it (one_step reading_step _ _ (sign_token kind.Open left) ((expr_tokens e ++ sign_token kind.Close right ∷ []) ++ rest)
+      (open_step levels head part left (omega (arith, room)))
       ∙ ap (runs (fresh inner)) (append_assoc (expr_tokens e) (sign_token kind.Close right ∷ []) rest))
       (after_it (expr_run inner e d (sign_token kind.Close right ∷ rest) (omega (arith, room)))
       (one_step reading_step _ _ (sign_token kind.Close right) rest (close_step levels head part left e right)))

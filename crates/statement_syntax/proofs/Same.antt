@@ -56,7 +56,8 @@ marked-seen l (one f) at = refl
 marked-seen l (beside fs f) at = refl
 
 pub raised-seen : (l : Option Number) (fs : Factors) (at : Spot) (n : Number)
-    → part.Product (literal_or l (factors_at fs)) l (front_trees fs) (steps.marked_factor (last_tree fs) (Power at n)) ≡ part_of (product l (with_power fs at n))
+    → part.Product (literal_or l (factors_at fs)) l (front_trees fs) (steps.marked_factor (last_tree fs) (Power at n))
+    ≡ part_of (product l (with_power fs at n))
 raised-seen l (one f) at n = refl
 raised-seen l (beside fs f) at n = refl
 

@@ -12,14 +12,15 @@ use Rattle.statement_syntax.specs.Grammar.{identity, bracket, sign_token, name_t
 use Rattle.statement_syntax.specs.Grammar.{product_tokens, factors_tokens, marked_tokens, prime_tokens}
 use Rattle.statement_syntax.specs.Tree.{is_minus}
 use Rattle.statement_syntax.proofs.Run.{bind_ok}
-use Rattle.statement_syntax.proofs.Machine.{Head, led, after, Part, nothing, scaled, product, Focus, outside, square, named, behind_caret, Level, State, at_outside}
+use Rattle.statement_syntax.proofs.Machine.{Head, led, after, Part, nothing, scaled, product, Focus, outside, square, named, behind_caret, Level, State}
+use Rattle.statement_syntax.proofs.Machine.{at_outside}
 use Rattle.statement_syntax.proofs.Machine.{fresh, add, with_mark, with_power, lone_literal, whole_term, with_term, head_tokens, part_tokens, kept_tokens}
 use Rattle.statement_syntax.proofs.Machine.{focus_tokens, level_tokens, state_tokens}
 use Rattle.statement_syntax.proofs.Seen.{head_of, part_of, focus_of, levels_of, reading_of}
 use Rattle.statement_syntax.proofs.Same.{add-seen, product_or, ended-seen, marked-seen, raised-seen, signed-seen, bracket-seen}
 
 -- a step of the program
-unfoldable pub reading_step : Reading → Token → Result Reading Misfit
+abbrev pub reading_step : Reading → Token → Result Reading Misfit
 reading_step r t = steps.token_step r t.kind t.at
 
 add-tokens : (part : Part) (p : Prime) → part_tokens (add part p) ≡ part_tokens part ++ prime_tokens p
@@ -31,7 +32,8 @@ mark-tokens : (fs : Factors) (at : Spot) → factors_tokens (with_mark fs at) �
 mark-tokens (one f) at = refl
 mark-tokens (beside fs f) at = sym (append_assoc (factors_tokens fs) (marked_tokens f) (sign_token kind.Quote at ∷ []))
 
-power-tokens : (fs : Factors) (at : Spot) (n : Number) → factors_tokens (with_power fs at n) ≡ factors_tokens fs ++ sign_token kind.Caret at ∷ number_token n ∷ []
+power-tokens : (fs : Factors) (at : Spot) (n : Number)
+    → factors_tokens (with_power fs at n) ≡ factors_tokens fs ++ sign_token kind.Caret at ∷ number_token n ∷ []
 power-tokens (one f) at n = refl
 power-tokens (beside fs f) at n = sym (append_assoc (factors_tokens fs) (marked_tokens f) (sign_token kind.Caret at ∷ number_token n ∷ []))
 
@@ -228,12 +230,10 @@ focus_reads levels head part (behind_caret l fs caret) k at = power_reads levels
 -- one step reads one token
 step_reads : (st : State) (t : Token) (next : Reading) → reading_step (reading_of st) t ≡ Ok next
     → (to : State) × (next ≡ reading_of to) × (state_tokens to ≡ state_tokens st ++ t ∷ [])
-unfolding reading_step
 step_reads st t next given = subst (Reads st.levels st.head st.part st.focus t) given (focus_reads st.levels st.head st.part st.focus t.kind t.at)
 
 -- with a bracket that is too deep there is a state too, whatever the limit says
 pub deep_reads : (st : State) (t : Token) → reading_step (reading_of st) t ≡ Err TooDeep → (to : State) × (state_tokens to ≡ state_tokens st ++ t ∷ [])
-unfolding reading_step
 deep_reads st t given = subst (Reads st.levels st.head st.part st.focus t) given (focus_reads st.levels st.head st.part st.focus t.kind t.at)
 
 -- a run reads its tokens

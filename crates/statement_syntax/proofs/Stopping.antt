@@ -17,8 +17,7 @@ use Rattle.statement_syntax.proofs.Run.{bind_ok, ok_is, run_front, one_step, upt
 use Rattle.statement_syntax.proofs.LastToken.{EndsWell, ends_from, rest_ends}
 use Rattle.statement_syntax.proofs.LineReads.{LineReads}
 use Rattle.statement_syntax.proofs.FirstLine.{file_language, Divided, Behind, divided}
-use Rattle.statement_syntax.proofs.FileReads.{FileReads, run_reads, file_on, file_misfit, lines_run, in_file, file_tokens-append, FileFits-append}
-use Rattle.statement_syntax.proofs.FileReads.{file_deeper}
+use Rattle.statement_syntax.proofs.FileReads.{FileReads, run_reads, file_on, file_misfit, lines_run, in_file, file_tokens-append, FileFits-append, file_deeper}
 
 -- the loop's run over tokens
 abbrev pub Runs : List Token → List Token → Progress → Type 0

@@ -9,7 +9,8 @@ use Rattle.statement_syntax.specs.Steps.{run, whole_sum}
 use Rattle.statement_syntax.specs.Grammar.{no_sign, Expr, first, Product, factors, one, beside, plain, Prime, name, identity, bracket, sign_token, name_token}
 use Rattle.statement_syntax.specs.Grammar.{number_token, expr_tokens, ExprFits}
 use Rattle.statement_syntax.specs.Tree.{expr_tree, prime_tree, prime_at}
-use Rattle.statement_syntax.proofs.Machine.{Head, Part, nothing, scaled, product, Focus, outside, square, named, behind_caret, Level, State, at_outside, fresh, add}
+use Rattle.statement_syntax.proofs.Machine.{Head, Part, nothing, scaled, product, Focus, outside, square, named, behind_caret, Level, State, at_outside, fresh}
+use Rattle.statement_syntax.proofs.Machine.{add}
 use Rattle.statement_syntax.proofs.Machine.{with_power, whole_term, with_term, whole, end_by, state_tokens, head_tokens, part_tokens}
 use Rattle.statement_syntax.proofs.Seen.{head_of, part_of, levels_of, reading_of, tree_or}
 use Rattle.statement_syntax.proofs.Same.{add-seen, raised-seen, closed-seen, whole-seen}
@@ -42,7 +43,7 @@ run_on : (st next : State) (t : Token) → reading_step (reading_of st) t ≡ Ok
 run_on st next t given ends = (t ∷ ends.0, ends.1, ends.2, one_step reading_step _ _ t ends.0 given ∙ ends.3, ends.4)
 
 closes : (levels : List Level) (head : Head) (part : Part) (t : Product) → whole_term part ≡ Some t → Ends (at_outside levels head part)
-unfolding run reading_step
+unfolding run
 closes [] head part t given = (
   [],
   reading_of (at_outside [] head part),
@@ -53,12 +54,14 @@ closes [] head part t given = (
 closes (level ∷ levels) head part t given =
     let inner = bracket level.at (with_term head t) somewhere in
     let wide = add_whole level.part inner in
-    run_on (at_outside (level ∷ levels) head part) (at_outside levels level.head (add level.part inner)) (sign_token kind.Close somewhere) (closed-seen level levels head part t somewhere given)
+    run_on (at_outside (level ∷ levels) head part) (at_outside levels level.head (add level.part inner)) (sign_token kind.Close somewhere)
+    (closed-seen level levels head part t somewhere given)
     (closes levels level.head (add level.part inner) wide.0 wide.1)
 
 -- a whole part stands behind a token
 made : (st : State) (t : Token) (levels : List Level) (head : Head) (part : Part) (p : Prime)
-    → reading_step (reading_of st) t ≡ Ok (steps.outside (levels_of levels) (head_of head) (steps.part_with (part_of part) (prime_tree p) (prime_at p))) → Ends st
+    → reading_step (reading_of st) t
+    ≡ Ok (steps.outside (levels_of levels) (head_of head) (steps.part_with (part_of part) (prime_tree p) (prime_at p))) → Ends st
 made st t levels head part p goes =
     let wide = add_whole part p in
     run_on st (at_outside levels head (add part p)) t (goes ∙ ap (λ q. Ok (steps.outside (levels_of levels) (head_of head) q)) (add-seen part p))
@@ -69,7 +72,6 @@ with_focus levels head part f = record { levels = levels; head = head; part = pa
 
 -- each state can go on to the end of an expression
 ends : (levels : List Level) (head : Head) (part : Part) (f : Focus) → Ends (with_focus levels head part f)
-unfolding reading_step
 ends levels head part outside = made (at_outside levels head part) (name_token some_name) levels head part (name some_name) refl
 ends levels head part (square left) =
     run_on (with_focus levels head part (square left)) (with_focus levels head part (named left some_name)) (name_token some_name) refl
@@ -134,7 +136,8 @@ reading_lacks r ts f ran fails =
     tree_or-fault (whole read.0) f (sym (whole-seen read.0) ∙ ap whole_sum (sym read.1) ∙ fails)
 
 -- it can go on to an expression within the limit
-pub viable : (front : List Token) (r : Reading) → ExprReads r front → (more : List Token) × (e : Expr) × ExprFits e bracket_limit × (front ++ more ≡ expr_tokens e)
+pub viable : (front : List Token) (r : Reading) → ExprReads r front
+    → (more : List Token) × (e : Expr) × ExprFits e bracket_limit × (front ++ more ≡ expr_tokens e)
 viable front r ran =
     let read = run_reads (fresh []) front r ran in
     let on = ends read.0.levels read.0.head read.0.part read.0.focus in

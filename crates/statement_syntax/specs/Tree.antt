@@ -3,11 +3,9 @@ use Rattle.std.specs.Prelude.{Bool, true, false, List, [], ◌∷◌, ◌++◌, 
 use Rattle.statement_syntax.specs.Types.{Spot, Number, Primary, Letter, Identity, Bracket, Factor, Term, Sum, Name, Statement, StatementKind}
 use Rattle.statement_syntax.specs.Types.{StatementKind as statement, ListWord, Object, Solve, Eliminate, SidesWord, Assume, Claim, PairWord, Pinv, Inverse}
 use Rattle.statement_syntax.specs.Types.{Inner, Adjoint, Power}
-use Rattle.statement_syntax.specs.Grammar.{Ending, no_word, self_word, Stated, listed, mapped, sides, paired, projected, by_degree}
-use Rattle.statement_syntax.specs.Grammar.{by_weight, modelled, second_language, StatedLine}
-use Rattle.statement_syntax.specs.Grammar.{Lead, no_sign, lead_plus, lead_minus, Sign, plus, minus, Expr, first, joined, Product}
-use Rattle.statement_syntax.specs.Grammar.{zero_alone, factors, Factors, one, beside, Marked, plain, marked, raised, Prime, name, identity}
-use Rattle.statement_syntax.specs.Grammar.{bracket, zero_at}
+use Rattle.statement_syntax.specs.Grammar.{Ending, no_word, self_word, Stated, listed, mapped, sides, paired, projected, by_degree, by_weight, modelled}
+use Rattle.statement_syntax.specs.Grammar.{second_language, StatedLine, Lead, no_sign, lead_plus, lead_minus, Sign, plus, minus, Expr, first, joined, Product}
+use Rattle.statement_syntax.specs.Grammar.{zero_alone, factors, Factors, one, beside, Marked, plain, marked, raised, Prime, name, identity, bracket, zero_at}
 use Rattle.statement_syntax.specs.Nodes.{factor_of, term_of, sum_of, marked_factor}
 
 -- the place of the first token
