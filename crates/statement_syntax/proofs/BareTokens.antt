@@ -1,11 +1,7 @@
 -- The tokens of statements without their places are among those of the statements.
 use Rattle.std.proofs.Common.{List, [], ◌∷◌, ◌++◌, Option, Some, None, sym, subst}
 use Rattle.std.proofs.lemmas.List.{map-append}
-use Rattle.statement_tokens.specs.declared.token.Token.{Token}
-use Rattle.statement_tokens.specs.declared.token.TokenKind.TheVariants as kind
-use Rattle.statement_tokens.specs.declared.language.Language.{Language}
-use Rattle.statement_syntax.specs.declared.tree.Name.{Name}
-use Rattle.statement_syntax.specs.declared.tree.Number.{Number}
+use Rattle.statement_syntax.specs.Types.{Token, TokenKind as kind, Language, Name, Number}
 use Rattle.statement_syntax.specs.Grammar.{no_sign, lead_plus, lead_minus, Sign, plus, minus, Expr, first, joined, Product, zero_alone, factors, Factors, one, beside, Marked, plain, marked, raised, Prime, name, identity, bracket, sign_token, name_token, number_token, signed_token, literal_tokens, expr_tokens, product_tokens, factors_tokens, marked_tokens, prime_tokens, Ending, no_word, self_word, ending_tokens, names_tokens, pairs_tokens, Stated, listed, mapped, sides, paired, projected, by_degree, by_weight, modelled, second_language, stated_tokens, StatedLine, line_tokens, file_tokens}
 use Rattle.statement_syntax.specs.Places.{somewhere, bare_name, bare_number, bare_literal, bare_sign, bare, bare_product, bare_factors, bare_marked, bare_prime, bare_ending, bare_names, bare_pairs, bare_stated}
 use Rattle.statement_syntax.proofs.Moved.{kinds}

@@ -4,27 +4,9 @@ use Rattle.std.specs.Prelude.{if◌then◌else◌, false}
 use Rattle.std.specs.Result.{IsErrAnd}
 use Rattle.std.proofs.lemmas.Bool.{lt-ltb}
 use Rattle.std.proofs.lemmas.List.{append-nil}
-use Rattle.statement_tokens.specs.declared.place.Spot.{Spot}
-use Rattle.statement_tokens.specs.declared.token.TokenKind.{TokenKind}
-use Rattle.statement_tokens.specs.declared.token.TokenKind.TheVariants as kind
+use Rattle.statement_syntax.specs.Types.{Spot, TokenKind, TokenKind as kind, Name, Statement, StatementKind, PairWord, MapRest as rest, Line, Line as line}
+use Rattle.statement_syntax.specs.Types.{Misfit, Expected, TooDeep, ReadError, ReadError as error, Head, Level, Reading, Outside, Part, Nothing}
 use Rattle.statement_syntax.specs.Limits.{bracket_limit}
-use Rattle.statement_syntax.specs.declared.tree.Name.{Name}
-use Rattle.statement_syntax.specs.declared.tree.Statement.{Statement}
-use Rattle.statement_syntax.specs.declared.tree.StatementKind.{StatementKind}
-use Rattle.statement_syntax.specs.declared.line.PairWord.{PairWord}
-use Rattle.statement_syntax.specs.declared.line.MapRest.TheVariants as rest
-use Rattle.statement_syntax.specs.declared.line.Line.{Line}
-use Rattle.statement_syntax.specs.declared.line.Line.TheVariants as line
-use Rattle.statement_syntax.specs.declared.expression.Misfit.{Misfit}
-use Rattle.statement_syntax.specs.declared.expression.ReadError.{ReadError}
-use Rattle.statement_syntax.specs.declared.expression.ReadError.TheVariants as error
-use Rattle.statement_syntax.specs.declared.expression.Head.{Head}
-use Rattle.statement_syntax.specs.declared.expression.Level.{Level}
-use Rattle.statement_syntax.specs.declared.expression.Reading.{Reading}
-use Rattle.statement_syntax.specs.declared.expression.Focus.TheVariants.{Outside}
-use Rattle.statement_syntax.specs.declared.expression.Misfit.TheVariants.{Expected, TooDeep}
-use Rattle.statement_syntax.specs.declared.expression.Part.{Part}
-use Rattle.statement_syntax.specs.declared.expression.Part.TheVariants.{Nothing}
 use Rattle.statement_syntax.specs.Steps.{◌>>=◌, outside, empty_head, open_step, Fails, Gives}
 use Rattle.statement_syntax.specs.Written.{sign_kinds}
 use Rattle.statement_syntax.specs.Lines.{name_in, on_colon, colon_after, map_names_step, line_end, statement_by}

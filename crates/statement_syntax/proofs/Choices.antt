@@ -1,12 +1,6 @@
 -- Choices by the next token, whatever it is.
 use Rattle.std.proofs.Common.{◌≡◌, ℕ, List, Result, Err, refl}
-use Rattle.statement_tokens.specs.declared.place.Spot.{Spot}
-use Rattle.statement_tokens.specs.declared.token.TokenKind.{TokenKind}
-use Rattle.statement_tokens.specs.declared.token.TokenKind.TheVariants as kind
-use Rattle.statement_syntax.specs.declared.tree.Name.{Name}
-use Rattle.statement_syntax.specs.declared.tree.Number.{Number}
-use Rattle.statement_syntax.specs.declared.expression.Misfit.{Misfit}
-use Rattle.statement_syntax.specs.declared.expression.Misfit.TheVariants.{Expected}
+use Rattle.statement_syntax.specs.Types.{Spot, TokenKind, TokenKind as kind, Name, Number, Misfit, Expected}
 use Rattle.statement_syntax.specs.Steps.{◌>>=◌}
 use Rattle.statement_syntax.specs.Lines.{on_colon, on_arrow, on_equals, on_end, name_in, number_in, named}
 

@@ -3,15 +3,7 @@ use Rattle.std.proofs.Common.{◌≡◌, ◌⊎◌, inl, inr, ℕ, Bool, true, f
 use Rattle.std.specs.Str.{IsUtf8, is_utf8, chars}
 use Rattle.std.specs.Str.Lossy.{utf8_valid_len}
 use Rattle.std.proofs.lemmas.Str.{IsUtf8-from_is_utf8, is_utf8-from_IsUtf8}
-use Rattle.statement_tokens.specs.declared.place.Spot.{Spot}
-use Rattle.statement_tokens.specs.declared.token.Token.{Token}
-use Rattle.statement_syntax.specs.declared.tree.Statement.{Statement}
-use Rattle.statement_syntax.specs.declared.expression.Misfit.{Misfit}
-use Rattle.statement_syntax.specs.declared.read.Progress.{Progress}
-use Rattle.statement_tokens.specs.declared.scan.ScanFault.{ScanFault}
-use Rattle.statement_tokens.specs.declared.scan.ScanFault.TheVariants as scan
-use Rattle.statement_syntax.specs.declared.fault.Fault.{Fault}
-use Rattle.statement_syntax.specs.declared.fault.Fault.TheVariants as fault
+use Rattle.statement_syntax.specs.Types.{Spot, Token, Statement, Misfit, Progress, ScanFault, ScanFault as scan, Fault, Fault as fault}
 use Rattle.statement_syntax.specs.Steps.{run}
 use Rattle.statement_syntax.specs.Lines.{file_step}
 use Rattle.statement_tokens.specs.Language.{language_of}

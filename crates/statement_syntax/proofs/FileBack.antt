@@ -4,15 +4,7 @@ use Rattle.std.specs.Prelude.{pos, codes}
 use Rattle.std.specs.Str.{IsUtf8, chars, encode_utf8_all}
 use Rattle.std.proofs.Math.Utf8.{scalars}
 use Rattle.std.proofs.lemmas.Str.{encode_ascii, chars_from_encodes, scalars-chars}
-use Rattle.statement_tokens.specs.declared.place.Spot.{Spot}
-use Rattle.statement_tokens.specs.declared.token.Token.{Token}
-use Rattle.statement_tokens.specs.declared.token.TokenKind.{TokenKind}
-use Rattle.statement_tokens.specs.declared.token.TokenKind.TheVariants as kind
-use Rattle.statement_tokens.specs.declared.language.Language.{Language}
-use Rattle.statement_tokens.specs.declared.language.Language.TheVariants.{First, Second}
-use Rattle.statement_syntax.specs.declared.tree.Statement.{Statement}
-use Rattle.statement_tokens.specs.declared.scan.Item.TheVariants as item
-use Rattle.statement_tokens.specs.declared.scan.Placed.{Placed}
+use Rattle.statement_syntax.specs.Types.{Spot, Token, TokenKind, TokenKind as kind, Language, First, Second, Statement, Item as item, Placed}
 use Rattle.statement_tokens.specs.Tokens.{end_of}
 use Rattle.statement_tokens.specs.Items.{item_at, item_in}
 use Rattle.statement_tokens.proofs.Reading.{◌>>=◌, tokens_from, tokens_of, placed, with_front}

@@ -1,26 +1,8 @@
 -- Lines are read one by one: what was read is written so, can go on, and where a token is a misfit nothing goes on with it.
 use Rattle.std.proofs.Common.{◌≡◌, List, [], ◌∷◌, ◌++◌, inl, inr, Option, Some, None, Result, Ok, Err, refl, sym, ap, ap₂, subst, ◌∙◌, append_assoc}
 use Rattle.std.proofs.lemmas.List.{append-nil, map-append}
-use Rattle.statement_tokens.specs.declared.place.Spot.{Spot}
-use Rattle.statement_tokens.specs.declared.token.Token.{Token}
-use Rattle.statement_tokens.specs.declared.language.Language.{Language}
-use Rattle.statement_tokens.specs.declared.token.TokenKind.{TokenKind}
-use Rattle.statement_tokens.specs.declared.token.TokenKind.TheVariants as kind
-use Rattle.statement_syntax.specs.declared.tree.Name.{Name}
-use Rattle.statement_syntax.specs.declared.tree.Number.{Number}
-use Rattle.statement_syntax.specs.declared.tree.Sum.{Sum}
-use Rattle.statement_syntax.specs.declared.tree.Statement.{Statement}
-use Rattle.statement_syntax.specs.declared.expression.Misfit.{Misfit}
-use Rattle.statement_syntax.specs.declared.expression.Misfit.TheVariants.{Expected, TooDeep}
-use Rattle.statement_syntax.specs.declared.expression.Reading.{Reading}
-use Rattle.statement_syntax.specs.declared.expression.Focus.{Focus}
-use Rattle.statement_syntax.specs.declared.expression.Focus.TheVariants as focus
-use Rattle.statement_syntax.specs.declared.line.SidesWord.{SidesWord}
-use Rattle.statement_syntax.specs.declared.line.MapRest.{MapRest}
-use Rattle.statement_syntax.specs.declared.line.MapRest.TheVariants as rest
-use Rattle.statement_syntax.specs.declared.line.Line.{Line}
-use Rattle.statement_syntax.specs.declared.line.Line.TheVariants as line
-use Rattle.statement_syntax.specs.declared.read.Progress.{Progress}
+use Rattle.statement_syntax.specs.Types.{Spot, Token, Language, TokenKind, TokenKind as kind, Name, Number, Sum, Statement, Misfit, Expected, TooDeep, Reading}
+use Rattle.statement_syntax.specs.Types.{Focus, Focus as focus, SidesWord, MapRest, MapRest as rest, Line, Line as line, Progress}
 use Rattle.statement_syntax.specs.Steps.{◌>>=◌, run, focus_step}
 use Rattle.statement_syntax.specs.Grammar.{sign_token, Stated, stated_tokens, StatedLine, AreLinesOf, line_tokens, file_tokens, FileFits}
 use Rattle.statement_syntax.specs.Tree.{stated_tree, file_tree}
@@ -28,16 +10,14 @@ use Rattle.statement_syntax.specs.Lines.{Lined, map_step, sides_step, pairs_by, 
 use Rattle.statement_syntax.proofs.Run.{Upto, then_on, before_it, after_it, run_upto, inside_upto, one_step, failing, run_front, bind_ok, ok_is, ok_differs}
 use Rattle.statement_syntax.proofs.Viable.{somewhere}
 use Rattle.statement_syntax.proofs.Choices.{by_end, not_end}
-use Rattle.statement_syntax.proofs.LineReads.{LineReads, line_step_reads}
-use Rattle.statement_syntax.proofs.LineEnds.{line_end_reads, line_on}
+use Rattle.statement_syntax.proofs.LineReads.{LineReads, line_step_reads, line_step_deep}
+use Rattle.statement_syntax.proofs.LineEnds.{EndsAs, line_ends, line_on}
 use Rattle.statement_syntax.proofs.LineRuns.{by_token, end_line, stated_run, stated_end}
 
 -- the end of a line is a step of no line
 focus_no_end : (r : Reading) (f : Focus) (at : Spot) → focus_step r.levels r.head r.part f kind.End at ≡ Err Expected
 focus_no_end r focus.Outside at = refl
-focus_no_end r (focus.Square left) at = refl
-focus_no_end r (focus.Named left n) at = refl
-focus_no_end r (focus.Raised first l fs last caret) at = refl
+focus_no_end r f at = refl
 
 sides_no_end : (w : SidesWord) (at : Spot) (left : Option Sum) (r : Reading) (t : Spot) → sides_step w at left r kind.End t ≡ Err Expected
 sides_no_end w at None r t = ap (λ x. x >>= λ next. Ok (line.Sides w at None next)) (focus_no_end r r.focus t)
@@ -45,48 +25,28 @@ sides_no_end w at (Some left) r t = ap (λ x. x >>= λ next. Ok (line.Sides w at
 
 map_no_end : (at : Spot) (names : List Name) (r : MapRest) (t : Spot) → map_step at names r kind.End t ≡ Err Expected
 map_no_end at names rest.Names t = refl
-map_no_end at names rest.Colon t = refl
-map_no_end at names (rest.Source s) t = refl
-map_no_end at names (rest.Arrow s) t = refl
-map_no_end at names (rest.Target s e) t = refl
+map_no_end at names r t = refl
 
 pairs_no_end : (ps : List (Name × Number)) (half : Option Name) (t : Spot) → pairs_by ps half kind.End t ≡ Err Expected
 pairs_no_end ps None t = refl
 pairs_no_end ps (Some n) t = refl
 
 line_no_end : (language : Language) (l : Line) (t : Spot) → line_step language l kind.End t ≡ Err Expected
-line_no_end language line.Start t = refl
-line_no_end language (line.List w at names) t = refl
 line_no_end language (line.Map at names r) t = map_no_end at names r t
 line_no_end language (line.Sides w at left r) t = sides_no_end w at left r t
-line_no_end language (line.Pair w at before) t = refl
-line_no_end language (line.Projection at) t = refl
-line_no_end language (line.Order at) t = refl
 line_no_end language (line.Weights at p) t = ap (λ x. x >>= λ q. Ok (line.Weights at q)) (pairs_no_end p.whole p.half t)
-line_no_end language (line.Model at) t = refl
 line_no_end language (line.Shape at m p) t = ap (λ x. x >>= λ q. Ok (line.Shape at m q)) (pairs_no_end p.whole p.half t)
-line_no_end language (line.Whole s) t = refl
+line_no_end language l t = refl
 
 -- a line inside a file
 abbrev pub in_file : List Statement → Line → Progress
 in_file statements l = record { statements = statements; line = l }
 
-not_end_by : (language : Language) (l : Line) (t : Token) (r : Lined) → by_token language l t ≡ r → (r ≡ Err Expected → ⊥) → t.kind ≡ kind.End → ⊥
-not_end_by language l t r is other k = other (sym is ∙ ap (λ x. line_step language l x t.at) k ∙ line_no_end language l t.at)
-
-err_differs : (let r : Lined = Err TooDeep in r) ≡ Err Expected → ⊥
-err_differs read = absurd cc
-
-ok_not_err : (l : Line) → (let r : Lined = Ok l in r) ≡ Err Expected → ⊥
-ok_not_err l read = absurd cc
-
-file_each : (language : Language) (statements : List Statement) (l next : Line) (t : Token) → by_token language l t ≡ Ok next → file_step language (in_file statements l) t ≡ Ok (in_file statements next)
-file_each language statements l next t goes =
-    not_end _ _ t.kind (not_end_by language l t (Ok next) goes (ok_not_err next)) ∙ ap (λ r. r >>= λ x. Ok (in_file statements x)) goes
-
-file_deep : (language : Language) (statements : List Statement) (l : Line) (t : Token) → by_token language l t ≡ Err TooDeep → file_step language (in_file statements l) t ≡ Err TooDeep
-file_deep language statements l t fails =
-    not_end _ _ t.kind (not_end_by language l t (Err TooDeep) fails err_differs) ∙ ap (λ r. r >>= λ x. Ok (in_file statements x)) fails
+file_by : (language : Language) (statements : List Statement) (l : Line) (t : Token) (read : Lined) → by_token language l t ≡ read → (read ≡ Err Expected → ⊥)
+    → file_step language (in_file statements l) t ≡ (read >>= λ x. Ok (in_file statements x))
+file_by language statements l t read is other =
+    not_end _ _ t.kind (λ k. other (sym is ∙ ap (λ x. line_step language l x t.at) k ∙ line_no_end language l t.at))
+    ∙ ap (λ r. r >>= λ x. Ok (in_file statements x)) is
 
 line_ended : (language : Language) (statements : List Statement) (s : Stated) (at : Spot)
     → file_step language (in_file statements (end_line s)) (sign_token kind.End at) ≡ Ok (in_file (statements ++ stated_tree s ∷ []) line.Start)
@@ -103,7 +63,8 @@ lines_run language statements (l ∷ lines) speak =
     before_it (ap (run (file_step language) (in_file statements line.Start)) (append_assoc (stated_tokens l.stated) (sign_token kind.End l.end ∷ []) (file_tokens lines)))
     (then_on
     (run_upto (file_step language) (in_file statements line.Start) (stated_tokens l.stated) (in_file statements (end_line l.stated)) behind
-    (inside_upto (by_token language) (file_step language) (in_file statements) (file_each language statements) (file_deep language statements) (stated_tokens l.stated) line.Start (end_line l.stated) (stated_run language l.stated speak.0)))
+    (inside_upto (by_token language) (file_step language) (in_file statements) (file_by language statements) (stated_tokens l.stated)
+    line.Start (end_line l.stated) (stated_run language l.stated speak.0)))
     (before_it (one_step (file_step language) (in_file statements (end_line l.stated)) (in_file more line.Start) (sign_token kind.End l.end) (file_tokens lines) (line_ended language statements l.stated l.end))
     (after_it (lines_run language more lines speak.1) (ap (λ x. Ok (in_file x line.Start)) (append_assoc statements (stated_tree l.stated ∷ []) (file_tree lines))))))
 
@@ -137,16 +98,20 @@ one_line lines s end =
 module _ (language : Language) (before : List Statement) where
   abbrev Goes : List Token → Spot → TokenKind → Result Progress Misfit → Type 0
   Goes ts at k (Ok p) = FileReads language before p (ts ++ sign_token k at ∷ [])
-  Goes ts at k (Err e) = Unit {0}
+  Goes ts at k (Err Expected) = Unit {0}
+  -- a bracket that is too deep can go on to lines, if not to some within the limit
+  Goes ts at k (Err TooDeep) =
+      (more : List Token) × (lines : List StatedLine) × AreLinesOf language lines × ((ts ++ sign_token k at ∷ []) ++ more ≡ file_tokens lines)
 
   next_is : (ts front now : List Token) (t : Token) → ts ≡ front ++ now → ts ++ t ∷ [] ≡ front ++ (now ++ t ∷ [])
   next_is ts front now t read = ap (λ (x : List Token). x ++ t ∷ []) read ∙ append_assoc front now (t ∷ [])
 
   end_goes : (p : Progress) (ts : List Token) (t : Spot) (r : Result Statement Misfit) → line_end p.line ≡ r → FileReads language before p ts
       → Goes ts t kind.End (r >>= λ s. Ok (record { statements = p.statements ++ s ∷ []; line = line.Start }))
-  end_goes p ts t (Err e) is read = tt
+  end_goes p ts t (Err Expected) is read = tt
+  end_goes p ts t (Err TooDeep) is read = absurd (subst (EndsAs language read.now) is (line_ends language p.line read.now read.reads))
   end_goes p ts t (Ok s) is read =
-      let w = line_end_reads language p.line read.now s read.reads is in
+      let w = subst (EndsAs language read.now) is (line_ends language p.line read.now read.reads) in
       record {
         lines = read.lines ++ record { stated = w.stated; end = t } ∷ [];
         speak = AreLinesOf-append language read.lines _ read.speak (w.speaks, tt);
@@ -160,7 +125,20 @@ module _ (language : Language) (before : List Statement) where
 
   within_goes : (p : Progress) (ts : List Token) (t : Spot) (k : TokenKind) (r : Lined) → line_step language p.line k t ≡ r → FileReads language before p ts
       → Goes ts t k (r >>= λ l. Ok (record { statements = p.statements; line = l }))
-  within_goes p ts t k (Err e) is read = tt
+  within_goes p ts t k (Err Expected) is read = tt
+  within_goes p ts t k (Err TooDeep) is read =
+      let on = line_step_deep language p.line (sign_token k t) read.now is read.reads in
+      let end : List Token = sign_token kind.End somewhere ∷ [] in
+      let last : StatedLine = record { stated = on.1; end = somewhere } in (
+        on.0 ++ end,
+        read.lines ++ last ∷ [],
+        AreLinesOf-append language read.lines (last ∷ []) read.speak (on.2, tt),
+        ap (λ (x : List Token). (x ++ sign_token k t ∷ []) ++ (on.0 ++ end)) read.are
+            ∙ ap (λ (x : List Token). x ++ (on.0 ++ end)) (append_assoc (file_tokens read.lines) read.now (sign_token k t ∷ []))
+            ∙ append_assoc (file_tokens read.lines) (read.now ++ sign_token k t ∷ []) (on.0 ++ end)
+            ∙ ap (λ x. file_tokens read.lines ++ x) (sym (append_assoc (read.now ++ sign_token k t ∷ []) on.0 end) ∙ ap (λ x. x ++ end) on.3)
+            ∙ sym (one_line read.lines on.1 somewhere),
+      )
   within_goes p ts t k (Ok l) is read = record {
     lines = read.lines;
     speak = read.speak;
@@ -178,6 +156,11 @@ module _ (language : Language) (before : List Statement) where
 
   file_step_reads : (p next : Progress) (ts : List Token) (t : Token) → file_step language p t ≡ Ok next → FileReads language before p ts → FileReads language before next (ts ++ t ∷ [])
   file_step_reads p next ts t goes read = subst (Goes ts t.at t.kind) goes (file_goes p ts t read)
+
+  -- with a bracket that is too deep it can go on to a file that is not within the limit
+  pub file_deeper : (p : Progress) (ts : List Token) (t : Token) → FileReads language before p ts → file_step language p t ≡ Err TooDeep
+      → (more : List Token) × (lines : List StatedLine) × AreLinesOf language lines × ((ts ++ t ∷ []) ++ more ≡ file_tokens lines)
+  file_deeper p ts t read fails = subst (Goes ts t.at t.kind) fails (file_goes p ts t read)
 
   run_reads_from : (p next : Progress) (ts us : List Token) → run (file_step language) p us ≡ Ok next → FileReads language before p ts → FileReads language before next (ts ++ us)
   unfolding run

@@ -3,18 +3,10 @@ use Rattle.std.proofs.Common.{◌≡◌, Bool, true, false, List, [], ◌∷◌,
 use Rattle.std.specs.Prelude.{◌&&◌, if◌then◌else◌, pos, codes}
 use Rattle.std.proofs.lemmas.Slice.Eq.{bytes_eq-Decides}
 use Rattle.std.proofs.lemmas.Bool.Decides.{Decides-int_eq}
-use Rattle.statement_tokens.specs.declared.place.Spot.{Spot}
-use Rattle.statement_tokens.specs.declared.token.Token.{Token}
-use Rattle.statement_tokens.specs.declared.token.TokenKind.{TokenKind}
-use Rattle.statement_tokens.specs.declared.token.TokenKind.TheVariants as kind
-use Rattle.statement_tokens.specs.declared.language.Language.{Language}
-use Rattle.statement_tokens.specs.declared.language.Language.TheVariants.{First, Second}
+use Rattle.statement_syntax.specs.Types.{Spot, Token, TokenKind, TokenKind as kind, Language, First, Second, StatementKind as statement}
+use Rattle.statement_syntax.specs.Types.{Eliminate, Assume, Pinv}
 use Rattle.statement_tokens.specs.Language.{is_language_word, is_two, is_end, language_of}
-use Rattle.statement_syntax.specs.declared.tree.StatementKind.TheVariants as statement
-use Rattle.statement_syntax.specs.declared.line.ListWord.TheVariants.{Object, Solve, Eliminate}
-use Rattle.statement_syntax.specs.declared.line.SidesWord.TheVariants.{Assume, Claim}
-use Rattle.statement_syntax.specs.declared.line.PairWord.TheVariants.{Pinv, Inverse, Inner}
-use Rattle.statement_syntax.specs.Grammar.{sign_token, number_token, word_token, two_at, Stated, listed, mapped, sides, paired, projected, by_degree, by_weight, modelled, second_language, stated_tokens, IsOf, NamesLanguage, StatedLine, AreLinesOf, IsFileOf, file_tokens, FileFits}
+use Rattle.statement_syntax.specs.Grammar.{sign_token, number_token, word_token, two_at, Stated, listed, sides, paired, second_language, stated_tokens, IsOf, NamesLanguage, StatedLine, AreLinesOf, IsFileOf, file_tokens, FileFits}
 use Rattle.statement_syntax.specs.Tree.{file_tree}
 use Rattle.statement_syntax.specs.Stages.{first_statements, behind_first}
 
@@ -33,20 +25,11 @@ led_otherwise (t ∷ u ∷ []) other = refl
 led_otherwise (t ∷ u ∷ v ∷ ts) other = ap (λ b. chosen (b && is_two u.kind && is_end v.kind)) other
 
 stated_first : (s : Stated) (ts : List Token) → IsOf First s → language_of (stated_tokens s ++ ts) ≡ First
-stated_first (listed Object at n ns) ts speaks = led_otherwise (stated_tokens (listed Object at n ns) ++ ts) refl
-stated_first (listed Solve at n ns) ts speaks = led_otherwise (stated_tokens (listed Solve at n ns) ++ ts) refl
 stated_first (listed Eliminate at n ns) ts speaks = absurd speaks
-stated_first (mapped at n ns colon s arrow t end) ts speaks = led_otherwise (stated_tokens (mapped at n ns colon s arrow t end) ++ ts) refl
 stated_first (sides Assume at d equals e) ts speaks = led_otherwise (stated_tokens (sides Assume at d equals e) ++ ts) refl
-stated_first (sides Claim at d equals e) ts speaks = led_otherwise (stated_tokens (sides Claim at d equals e) ++ ts) refl
 stated_first (paired Pinv at m n) ts speaks = led_otherwise (stated_tokens (paired Pinv at m n) ++ ts) refl
-stated_first (paired Inverse at m n) ts speaks = led_otherwise (stated_tokens (paired Inverse at m n) ++ ts) refl
-stated_first (paired Inner at m n) ts speaks = led_otherwise (stated_tokens (paired Inner at m n) ++ ts) refl
-stated_first (projected at n) ts speaks = led_otherwise (stated_tokens (projected at n) ++ ts) refl
-stated_first (by_degree at word) ts speaks = led_otherwise (stated_tokens (by_degree at word) ++ ts) refl
-stated_first (by_weight at word p ps) ts speaks = led_otherwise (stated_tokens (by_weight at word p ps) ++ ts) refl
-stated_first (modelled at m ps) ts speaks = led_otherwise (stated_tokens (modelled at m ps) ++ ts) refl
 stated_first (second_language at number) ts speaks = absurd speaks
+stated_first s ts speaks = led_otherwise (stated_tokens s ++ ts) refl
 
 named_second : (s : Stated) (end : Spot) (ts : List Token) → NamesLanguage s → language_of (stated_tokens s ++ sign_token kind.End end ∷ ts) ≡ Second
 named_second (second_language at number) end ts names = refl

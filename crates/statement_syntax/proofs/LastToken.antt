@@ -1,13 +1,7 @@
 -- The tokens of a text end with the end of a line.
 use Rattle.std.proofs.Common.{◌≡◌, ℕ, zero, suc, ◌+◌, List, [], ◌∷◌, ◌++◌, ◌⊎◌, inl, inr, Result, Ok, Err, refl, sym, ap, subst, ◌∙◌, arith, append_assoc}
 use Rattle.std.proofs.lemmas.List.{append-nil}
-use Rattle.statement_tokens.specs.declared.place.Spot.{Spot}
-use Rattle.statement_tokens.specs.declared.token.Token.{Token}
-use Rattle.statement_tokens.specs.declared.token.TokenKind.TheVariants as kind
-use Rattle.statement_tokens.specs.declared.scan.Item.{Item}
-use Rattle.statement_tokens.specs.declared.scan.Item.TheVariants as item
-use Rattle.statement_tokens.specs.declared.scan.ScanFault.{ScanFault}
-use Rattle.statement_tokens.specs.declared.scan.Placed.{Placed}
+use Rattle.statement_syntax.specs.Types.{Spot, Token, TokenKind as kind, Item, Item as item, ScanFault, Placed}
 use Rattle.statement_tokens.specs.Tokens.{end_of, right_of, below}
 use Rattle.statement_tokens.specs.Items.{item_at}
 use Rattle.statement_tokens.proofs.Reading.{◌>>=◌, tokens_from, placed}

@@ -11,7 +11,6 @@ pub mod LineReads
 pub mod LineEnds
 pub mod LineRuns
 pub mod FileReads
-pub mod FileDeep
 pub mod LastToken
 pub mod FirstLine
 pub mod TreeKinds

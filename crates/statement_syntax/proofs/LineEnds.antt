@@ -1,167 +1,96 @@
 -- Where a line may end it is a statement's, and each line can go on to one.
-use Rattle.std.proofs.Common.{◌≡◌, false, List, [], ◌∷◌, ◌++◌, Option, Some, None, Result, Ok, Err, refl, sym, ap, ap₂, subst, ◌∙◌, append_assoc}
+use Rattle.std.proofs.Common.{◌≡◌, false, List, [], ◌∷◌, ◌++◌, Option, Some, None, Result, Ok, Err, refl, sym, ap, ap₂, ◌∙◌, append_assoc}
 use Rattle.std.specs.Prelude.{codes, pos}
 use Rattle.std.proofs.lemmas.List.{append-nil}
-use Rattle.statement_tokens.specs.declared.place.Spot.{Spot}
-use Rattle.statement_tokens.specs.declared.token.Token.{Token}
-use Rattle.statement_tokens.specs.declared.language.Language.{Language}
-use Rattle.statement_tokens.specs.declared.token.TokenKind.TheVariants as kind
-use Rattle.statement_syntax.specs.declared.tree.Name.{Name}
-use Rattle.statement_syntax.specs.declared.tree.Number.{Number}
-use Rattle.statement_syntax.specs.declared.tree.Sum.{Sum}
-use Rattle.statement_syntax.specs.declared.tree.Statement.{Statement}
-use Rattle.statement_syntax.specs.declared.tree.StatementKind.{StatementKind}
-use Rattle.statement_syntax.specs.declared.tree.StatementKind.TheVariants as statement
-use Rattle.statement_syntax.specs.declared.expression.Misfit.{Misfit}
-use Rattle.statement_syntax.specs.declared.expression.Misfit.TheVariants.{Expected}
-use Rattle.statement_syntax.specs.declared.expression.Reading.{Reading}
-use Rattle.statement_syntax.specs.declared.line.ListWord.{ListWord}
-use Rattle.statement_syntax.specs.declared.line.SidesWord.{SidesWord}
-use Rattle.statement_syntax.specs.declared.line.PairWord.{PairWord}
-use Rattle.statement_syntax.specs.declared.line.MapRest.{MapRest}
-use Rattle.statement_syntax.specs.declared.line.MapRest.TheVariants as rest
-use Rattle.statement_syntax.specs.declared.line.Pairs.{Pairs}
-use Rattle.statement_syntax.specs.declared.line.Line.{Line}
-use Rattle.statement_syntax.specs.declared.line.Line.TheVariants as line
+use Rattle.statement_syntax.specs.Types.{Spot, Token, Language, TokenKind as kind, Name, Number, Sum, Statement, StatementKind as statement}
+use Rattle.statement_syntax.specs.Types.{Misfit, Expected, TooDeep, Reading, ListWord, SidesWord, PairWord, MapRest, MapRest as rest, Pairs, Line, Line as line}
 use Rattle.statement_syntax.specs.Steps.{◌>>=◌, whole_sum}
-use Rattle.statement_syntax.specs.Grammar.{Expr, first, no_sign, factors, one, plain, name, expr_tokens, sign_token, name_token, number_token, word_token, names_tokens, pairs_tokens, sides_text, no_word, Stated, listed, mapped, sides, paired, projected, by_degree, by_weight, modelled, stated_tokens, StatedFits, IsOf}
+use Rattle.statement_syntax.specs.Grammar.{expr_tokens, sign_token, name_token, number_token, word_token, names_tokens, pairs_tokens, sides_text, no_word}
+use Rattle.statement_syntax.specs.Grammar.{Stated, listed, mapped, sides, paired, projected, by_degree, by_weight, modelled, stated_tokens, StatedFits, IsOf}
 use Rattle.statement_syntax.specs.Tree.{sides_kind}
-use Rattle.statement_syntax.specs.Lines.{list_end, map_end, sides_end, pairs_end, whole_pairs, weights_by, weights_end, shape_end, statement_by, line_end}
-use Rattle.statement_syntax.proofs.Run.{bind_ok}
-use Rattle.statement_syntax.proofs.Seen.{tree_or}
-use Rattle.statement_syntax.proofs.Same.{whole-seen}
-use Rattle.statement_syntax.proofs.Viable.{viable, somewhere, some_name}
-use Rattle.statement_syntax.proofs.Machine as machine
-use Rattle.statement_syntax.proofs.LineReads.{MapReads, RestReads, FirstSide, SecondSide, SidesReads, half_tokens, WholeReads, list_speaks, LineReads, reading_ends, pairs_more}
+use Rattle.statement_syntax.specs.Lines.{list_end, map_end, sides_end, pairs_end, weights_by, statement_by, line_end}
+use Rattle.statement_syntax.proofs.Viable.{reading_ends, reading_lacks, viable, somewhere, some_name, some_expr}
+use Rattle.statement_syntax.proofs.LineReads.{MapReads, RestReads, FirstSide, SecondSide, SidesReads, half_tokens, WholeReads, list_speaks, LineReads}
+use Rattle.statement_syntax.proofs.LineReads.{pairs_more}
 
--- a kind of statement with its place
-abbrev Ended : Language → Spot → List Token → StatementKind → Type 0
-Ended language at ts kind = WholeReads language (record { at = at; kind = kind }) ts
+-- where a line may end its tokens are the statement's, and where it may not more is expected
+abbrev pub EndsAs : Language → List Token → Result Statement Misfit → Type 0
+EndsAs language ts (Ok s) = WholeReads language s ts
+EndsAs language ts (Err Expected) = Unit {0}
+EndsAs language ts (Err TooDeep) = ⊥
 
-ok_kind : (k l : StatementKind) → (let r : Result StatementKind Misfit = Ok k in r) ≡ Ok l → k ≡ l
-ok_kind k l read = cc
+list_ends : (language : Language) (w : ListWord) (at : Spot) (names : List Name) (ts : List Token) → LineReads language (line.List w at names) ts
+    → EndsAs language ts (statement_by at (list_end w names))
+list_ends language w at [] ts read = tt
+list_ends language w at (n ∷ ns) ts read =
+    record { stated = listed w at n ns; speaks = list_speaks language w at n ns read.0; fits = tt; tree = refl; are = read.1 }
 
-list_ended : (language : Language) (w : ListWord) (at : Spot) (names : List Name) (ts : List Token) (k : StatementKind) → LineReads language (line.List w at names) ts → list_end w names ≡ Ok k → Ended language at ts k
-list_ended language w at [] ts k read goes = absurd cc
-list_ended language w at (n ∷ ns) ts k read goes = record { stated = listed w at n ns; speaks = list_speaks language w at n ns read.0; fits = tt; tree = ap (λ k. record { at = at; kind = k }) (sym (ok_kind _ k goes)); are = read.1 }
-
-map_ended : (language : Language) (at : Spot) (names : List Name) (r : MapRest) (ts : List Token) (k : StatementKind) → RestReads at names r ts → map_end names r ≡ Ok k → Ended language at ts k
-map_ended language at names rest.Names ts k read goes = absurd cc
-map_ended language at names rest.Colon ts k read goes = absurd cc
-map_ended language at names (rest.Source s) ts k read goes = absurd cc
-map_ended language at names (rest.Arrow s) ts k read goes = absurd cc
-map_ended language at names (rest.Target s e) ts k read goes =
+map_ends : (language : Language) (at : Spot) (names : List Name) (r : MapRest) (ts : List Token) → RestReads at names r ts
+    → EndsAs language ts (statement_by at (map_end names r))
+map_ends language at names (rest.Target s e) ts read =
     let first = read.2.has_first in
     record {
       stated = mapped at first.first first.more read.0 s read.1 e no_word;
       speaks = tt;
       fits = tt;
-      tree = ap (λ k. record { at = at; kind = k }) (sym (ok_kind _ k goes) ∙ ap (λ ns. statement.Maps ns s e false) first.is);
-      are = read.2.are ∙ ap (λ ns. word_token (codes "map") at ∷ (names_tokens ns ++ sign_token kind.Colon read.0 ∷ name_token s ∷ sign_token kind.Arrow read.1 ∷ name_token e ∷ [])) first.is;
+      tree = ap (λ ns. record { at = at; kind = statement.Maps ns s e false }) first.is;
+      are = read.2.are ∙ ap (λ ns. word_token (codes "map") at ∷ (names_tokens ns ++ sign_token kind.Colon read.0 ∷ name_token s
+          ∷ sign_token kind.Arrow read.1 ∷ name_token e ∷ [])) first.is;
     }
+map_ends language at names r ts read = tt
 
-sides_ended : (language : Language) (w : SidesWord) (at : Spot) (left : Option Sum) (r : Reading) (ts : List Token) (k : StatementKind) → SidesReads w at left r ts → sides_end w left r ≡ Ok k → Ended language at ts k
-sides_ended language w at None r ts k read goes = absurd cc
-sides_ended language w at (Some left) r ts k read goes =
-    let right = bind_ok (whole_sum r) (λ s. Ok (sides_kind w left s)) k goes in
-    let e = reading_ends r right.0 read.side read.reads right.1 in
+second_ends : (language : Language) (w : SidesWord) (at : Spot) (left : Sum) (r : Reading) (ts : List Token) (res : Result Sum Misfit) → whole_sum r ≡ res
+    → SecondSide w at left r ts → EndsAs language ts (statement_by at (res >>= λ right. Ok (sides_kind w left right)))
+second_ends language w at left r ts (Err Expected) is read = tt
+second_ends language w at left r ts (Err TooDeep) is read = let same = reading_lacks r read.side TooDeep read.reads is in absurd cc
+second_ends language w at left r ts (Ok right) is read =
+    let e = reading_ends r right read.side read.reads is in
     record {
       stated = sides w at read.expr read.equals e.0;
       speaks = tt;
       fits = (read.fits, e.1);
-      tree = ap (λ k. record { at = at; kind = k }) (sym (ok_kind _ k right.2) ∙ ap₂ (sides_kind w) read.left_is e.2);
+      tree = ap₂ (λ x y. record { at = at; kind = sides_kind w x y }) read.left_is e.2;
       are = read.are ∙ ap (λ x. word_token (sides_text w) at ∷ (expr_tokens read.expr ++ sign_token kind.Equals read.equals ∷ x)) e.3;
     }
 
-pairs_ended : (ps qs : List (Name × Number)) (half : Option Name) → pairs_end ps half ≡ Ok qs → pairs_tokens ps ++ half_tokens half ≡ pairs_tokens qs
-pairs_ended ps qs None goes = let same : ps ≡ qs = cc in append-nil (pairs_tokens ps) ∙ ap pairs_tokens same
-pairs_ended ps qs (Some n) goes = absurd cc
+sides_ends : (language : Language) (w : SidesWord) (at : Spot) (left : Option Sum) (r : Reading) (ts : List Token) → SidesReads w at left r ts
+    → EndsAs language ts (statement_by at (sides_end w left r))
+sides_ends language w at None r ts read = tt
+sides_ends language w at (Some left) r ts read = second_ends language w at left r ts (whole_sum r) refl read
 
-weights_by_ended : (language : Language) (at word : Spot) (ts : List Token) (qs : List (Name × Number)) (k : StatementKind) → ts ≡ word_token (codes "order") at ∷ word_token (codes "weight") word ∷ pairs_tokens qs
-    → weights_by qs ≡ Ok k → Ended language at ts k
-weights_by_ended language at word ts [] k read goes = absurd cc
-weights_by_ended language at word ts (q ∷ qs) k read goes = record { stated = by_weight at word q qs; speaks = tt; fits = tt; tree = ap (λ k. record { at = at; kind = k }) (sym (ok_kind _ k goes)); are = read }
+weights_ends : (language : Language) (at word : Spot) (ps : List (Name × Number)) (half : Option Name) (ts : List Token)
+    → ts ≡ word_token (codes "order") at ∷ word_token (codes "weight") word ∷ (pairs_tokens ps ++ half_tokens half)
+    → EndsAs language ts (statement_by at (pairs_end ps half >>= weights_by))
+weights_ends language at word [] None ts read = tt
+weights_ends language at word (p ∷ ps) None ts read = record {
+  stated = by_weight at word p ps;
+  speaks = tt;
+  fits = tt;
+  tree = refl;
+  are = read ∙ ap (λ x. word_token (codes "order") at ∷ word_token (codes "weight") word ∷ x) (append-nil (pairs_tokens (p ∷ ps)));
+}
+weights_ends language at word ps (Some n) ts read = tt
 
-weights_ended : (language : Language) (at : Spot) (p : Pairs) (ts : List Token) (k : StatementKind) → LineReads language (line.Weights at p) ts → weights_end p ≡ Ok k → Ended language at ts k
-weights_ended language at p ts k read goes =
-    let all = bind_ok (whole_pairs p) weights_by k goes in
-    weights_by_ended language at read.0 ts all.0 k (read.1 ∙ ap (λ x. word_token (codes "order") at ∷ word_token (codes "weight") read.0 ∷ x) (pairs_ended p.whole all.0 p.half all.1)) all.2
+shape_ends : (language : Language) (at : Spot) (m : Number) (ps : List (Name × Number)) (half : Option Name) (ts : List Token)
+    → ts ≡ word_token (codes "model") at ∷ number_token m ∷ (pairs_tokens ps ++ half_tokens half)
+    → EndsAs language ts (statement_by at (pairs_end ps half >>= λ qs. Ok (statement.Shape m qs)))
+shape_ends language at m ps None ts read = record {
+  stated = modelled at m ps;
+  speaks = tt;
+  fits = tt;
+  tree = refl;
+  are = read ∙ ap (λ x. word_token (codes "model") at ∷ number_token m ∷ x) (append-nil (pairs_tokens ps));
+}
+shape_ends language at m ps (Some n) ts read = tt
 
-shape_ended : (language : Language) (at : Spot) (m : Number) (p : Pairs) (ts : List Token) (k : StatementKind) → LineReads language (line.Shape at m p) ts → shape_end m p ≡ Ok k → Ended language at ts k
-shape_ended language at m p ts k read goes =
-    let all = bind_ok (whole_pairs p) (λ ps. Ok (statement.Shape m ps)) k goes in
-    record {
-      stated = modelled at m all.0;
-      speaks = tt;
-      fits = tt;
-      tree = ap (λ k. record { at = at; kind = k }) (sym (ok_kind _ k all.2));
-      are = read ∙ ap (λ x. word_token (codes "model") at ∷ number_token m ∷ x) (pairs_ended p.whole all.0 p.half all.1);
-    }
-
-by_kind : (language : Language) (at : Spot) (ts : List Token) (r : Result StatementKind Misfit) (s : Statement) → ((k : StatementKind) → r ≡ Ok k → Ended language at ts k) → statement_by at r ≡ Ok s → WholeReads language s ts
-by_kind language at ts (Err e) s go goes = absurd cc
-by_kind language at ts (Ok k) s go goes = let same : record { at = at; kind = k } ≡ s = cc in subst (λ x. WholeReads language x ts) same (go k refl)
-
--- where a line ends as a statement, its tokens are the statement's
-pub line_end_reads : (language : Language) (l : Line) (ts : List Token) (s : Statement) → LineReads language l ts → line_end l ≡ Ok s → WholeReads language s ts
-line_end_reads language line.Start ts s read goes = absurd cc
-line_end_reads language (line.List w at names) ts s read goes = by_kind language at ts _ s (λ k. list_ended language w at names ts k read) goes
-line_end_reads language (line.Map at names r) ts s read goes = by_kind language at ts _ s (λ k. map_ended language at names r ts k read) goes
-line_end_reads language (line.Sides w at left r) ts s read goes = by_kind language at ts _ s (λ k. sides_ended language w at left r ts k read) goes
-line_end_reads language (line.Pair w at before) ts s read goes = absurd cc
-line_end_reads language (line.Projection at) ts s read goes = absurd cc
-line_end_reads language (line.Order at) ts s read goes = absurd cc
-line_end_reads language (line.Weights at p) ts s read goes = by_kind language at ts _ s (λ k. weights_ended language at p ts k read) goes
-line_end_reads language (line.Model at) ts s read goes = absurd cc
-line_end_reads language (line.Shape at m p) ts s read goes = by_kind language at ts _ s (λ k. shape_ended language at m p ts k read) goes
-line_end_reads language (line.Whole r) ts s read goes = let same : r ≡ s = cc in subst (λ x. WholeReads language x ts) same read
-
--- where a line may not end, that is because more is expected
-list_end-fault : (w : ListWord) (names : List Name) (f : Misfit) → list_end w names ≡ Err f → f ≡ Expected
-list_end-fault w [] f fails = cc
-list_end-fault w (n ∷ ns) f fails = absurd cc
-
-map_end-fault : (names : List Name) (r : MapRest) (f : Misfit) → map_end names r ≡ Err f → f ≡ Expected
-map_end-fault names rest.Names f fails = cc
-map_end-fault names rest.Colon f fails = cc
-map_end-fault names (rest.Source s) f fails = cc
-map_end-fault names (rest.Arrow s) f fails = cc
-map_end-fault names (rest.Target s t) f fails = absurd cc
-
-tree_or-fault : (o : Option Expr) (w : SidesWord) (left : Sum) (f : Misfit) → (tree_or o Expected >>= λ right. Ok (sides_kind w left right)) ≡ Err f → f ≡ Expected
-tree_or-fault None w left f fails = cc
-tree_or-fault (Some e) w left f fails = absurd cc
-
-sides_end-fault : (w : SidesWord) (at : Spot) (left : Option Sum) (r : Reading) (ts : List Token) (f : Misfit) → SidesReads w at left r ts → sides_end w left r ≡ Err f → f ≡ Expected
-sides_end-fault w at None r ts f read fails = cc
-sides_end-fault w at (Some left) r ts f read fails =
-    tree_or-fault (machine.whole read.reads.state) w left f (ap (λ x. x >>= λ right. Ok (sides_kind w left right)) (sym (whole-seen read.reads.state) ∙ ap whole_sum (sym read.reads.seen)) ∙ fails)
-
-weights_end-fault : (ps : List (Name × Number)) (half : Option Name) (f : Misfit) → (pairs_end ps half >>= weights_by) ≡ Err f → f ≡ Expected
-weights_end-fault [] None f fails = cc
-weights_end-fault (p ∷ ps) None f fails = absurd cc
-weights_end-fault ps (Some n) f fails = cc
-
-shape_end-fault : (m : Number) (ps : List (Name × Number)) (half : Option Name) (f : Misfit) → (pairs_end ps half >>= λ qs. Ok (statement.Shape m qs)) ≡ Err f → f ≡ Expected
-shape_end-fault m ps None f fails = absurd cc
-shape_end-fault m ps (Some n) f fails = cc
-
-kind-fault : (at : Spot) (r : Result StatementKind Misfit) (f : Misfit) → ((e : Misfit) → r ≡ Err e → e ≡ Expected) → statement_by at r ≡ Err f → f ≡ Expected
-kind-fault at (Ok k) f go fails = absurd cc
-kind-fault at (Err e) f go fails = let same : e ≡ f = cc in sym same ∙ go e refl
-
-pub line_end-fault : (language : Language) (l : Line) (ts : List Token) (f : Misfit) → LineReads language l ts → line_end l ≡ Err f → f ≡ Expected
-line_end-fault language line.Start ts f read fails = cc
-line_end-fault language (line.List w at names) ts f read fails = kind-fault at _ f (list_end-fault w names) fails
-line_end-fault language (line.Map at names r) ts f read fails = kind-fault at _ f (map_end-fault names r) fails
-line_end-fault language (line.Sides w at left r) ts f read fails = kind-fault at _ f (λ e. sides_end-fault w at left r ts e read) fails
-line_end-fault language (line.Pair w at before) ts f read fails = cc
-line_end-fault language (line.Projection at) ts f read fails = cc
-line_end-fault language (line.Order at) ts f read fails = cc
-line_end-fault language (line.Weights at p) ts f read fails = kind-fault at _ f (weights_end-fault p.whole p.half) fails
-line_end-fault language (line.Model at) ts f read fails = cc
-line_end-fault language (line.Shape at m p) ts f read fails = kind-fault at _ f (shape_end-fault m p.whole p.half) fails
-line_end-fault language (line.Whole s) ts f read fails = absurd cc
+pub line_ends : (language : Language) (l : Line) (ts : List Token) → LineReads language l ts → EndsAs language ts (line_end l)
+line_ends language (line.List w at names) ts read = list_ends language w at names ts read
+line_ends language (line.Map at names r) ts read = map_ends language at names r ts read
+line_ends language (line.Sides w at left r) ts read = sides_ends language w at left r ts read
+line_ends language (line.Weights at p) ts read = weights_ends language at read.0 p.whole p.half ts read.1
+line_ends language (line.Shape at m p) ts read = shape_ends language at m p.whole p.half ts read
+line_ends language (line.Whole s) ts read = read
+line_ends language l ts read = tt
 
 -- with these tokens it is a statement within the limit
 abbrev pub LineGoesOn : Language → List Token → Type 0
@@ -202,18 +131,15 @@ map_on language at names (rest.Arrow s) ts read =
     (more, mapped at read.2.has_first.first read.2.has_first.more read.0 s read.1 some_name no_word, tt, tt, map_front at names ts _ more read.2)
 map_on language at names (rest.Target s e) ts read = ([], mapped at read.2.has_first.first read.2.has_first.more read.0 s read.1 e no_word, tt, tt, map_front at names ts _ [] read.2)
 
-abbrev pub some_expr : Expr
-some_expr = first no_sign (factors None (one (plain (name some_name))))
-
 first_on : (language : Language) (w : SidesWord) (at : Spot) (r : Reading) (ts : List Token) → FirstSide w at r ts → LineGoesOn language ts
 first_on language w at r ts read =
-    let v = viable read.side read.reads.state read.reads.ran in
+    let v = viable read.side r read.reads in
     on_to language ts _ (v.0 ++ sign_token kind.Equals somewhere ∷ name_token some_name ∷ []) (sides w at v.1 somewhere some_expr) (v.2, tt) tt read.are
     (ap (λ x. word_token (sides_text w) at ∷ x) (sym (append_assoc read.side v.0 (sign_token kind.Equals somewhere ∷ name_token some_name ∷ [])) ∙ ap (λ x. x ++ sign_token kind.Equals somewhere ∷ name_token some_name ∷ []) v.3))
 
 second_on : (language : Language) (w : SidesWord) (at : Spot) (left : Sum) (r : Reading) (ts : List Token) → SecondSide w at left r ts → LineGoesOn language ts
 second_on language w at left r ts read =
-    let v = viable read.side read.reads.state read.reads.ran in
+    let v = viable read.side r read.reads in
     on_to language ts _ v.0 (sides w at read.expr read.equals v.1) (read.fits, v.2) tt read.are
     (ap (λ x. word_token (sides_text w) at ∷ x) (append_assoc (expr_tokens read.expr) (sign_token kind.Equals read.equals ∷ read.side) v.0 ∙ ap (λ x. expr_tokens read.expr ++ sign_token kind.Equals read.equals ∷ x) v.3))
 

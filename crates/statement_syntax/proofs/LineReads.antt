@@ -1,53 +1,26 @@
 -- The tokens that bring a line to what has been read of it; with each step there is one more, and where the line may end they are a statement's.
-use Rattle.std.proofs.Common.{◌≡◌, ℕ, Bool, true, false, cond, List, [], ◌∷◌, ◌++◌, Option, Some, None, Result, Ok, Err, refl, sym, ap, ap₂, subst, ◌∙◌, append_assoc}
+use Rattle.std.proofs.Common.{◌≡◌, ℕ, Bool, true, false, cond, List, [], ◌∷◌, ◌++◌, Option, Some, None, Result, Ok, Err, refl, sym, ap, ap₂, subst, ◌∙◌}
+use Rattle.std.proofs.Common.{append_assoc}
 use Rattle.std.specs.Prelude.{bytes_eq, codes}
 use Rattle.std.proofs.lemmas.List.{append-nil, map-append}
 use Rattle.std.proofs.lemmas.Slice.Eq.{bytes_eq-Decides}
-use Rattle.statement_tokens.specs.declared.place.Spot.{Spot}
-use Rattle.statement_tokens.specs.declared.token.Token.{Token}
-use Rattle.statement_tokens.specs.declared.language.Language.{Language}
-use Rattle.statement_tokens.specs.declared.language.Language.TheVariants.{First, Second}
-use Rattle.statement_tokens.specs.declared.token.TokenKind.{TokenKind}
-use Rattle.statement_tokens.specs.declared.token.TokenKind.TheVariants as kind
+use Rattle.statement_syntax.specs.Types.{Spot, Token, Language, First, Second, TokenKind, TokenKind as kind, Name, Number, Sum, Statement}
+use Rattle.statement_syntax.specs.Types.{StatementKind as statement, Misfit, Expected, TooDeep, Reading, ListWord, Object, Solve, Eliminate, SidesWord, Assume}
+use Rattle.statement_syntax.specs.Types.{Claim}
+use Rattle.statement_syntax.specs.Types.{PairWord, Pinv, Inverse, Inner, Opening, Opening as opening, MapRest, MapRest as rest, Pairs, Line, Line as line}
 use Rattle.statement_syntax.specs.Limits.{bracket_limit}
-use Rattle.statement_syntax.specs.declared.tree.Name.{Name}
-use Rattle.statement_syntax.specs.declared.tree.Number.{Number}
-use Rattle.statement_syntax.specs.declared.tree.Sum.{Sum}
-use Rattle.statement_syntax.specs.declared.tree.Statement.{Statement}
-use Rattle.statement_syntax.specs.declared.tree.StatementKind.TheVariants as statement
-use Rattle.statement_syntax.specs.declared.expression.Misfit.{Misfit}
-use Rattle.statement_syntax.specs.declared.expression.Misfit.TheVariants.{Expected}
-use Rattle.statement_syntax.specs.declared.expression.Reading.{Reading}
-use Rattle.statement_syntax.specs.declared.line.ListWord.{ListWord}
-use Rattle.statement_syntax.specs.declared.line.ListWord.TheVariants.{Object, Solve, Eliminate}
-use Rattle.statement_syntax.specs.declared.line.SidesWord.{SidesWord}
-use Rattle.statement_syntax.specs.declared.line.SidesWord.TheVariants.{Assume, Claim}
-use Rattle.statement_syntax.specs.declared.line.PairWord.{PairWord}
-use Rattle.statement_syntax.specs.declared.line.PairWord.TheVariants.{Pinv, Inverse, Inner}
-use Rattle.statement_syntax.specs.declared.line.Opening.{Opening}
-use Rattle.statement_syntax.specs.declared.line.Opening.TheVariants as opening
-use Rattle.statement_syntax.specs.declared.line.MapRest.{MapRest}
-use Rattle.statement_syntax.specs.declared.line.MapRest.TheVariants as rest
-use Rattle.statement_syntax.specs.declared.line.Pairs.{Pairs}
-use Rattle.statement_syntax.specs.declared.line.Line.{Line}
-use Rattle.statement_syntax.specs.declared.line.Line.TheVariants as line
 use Rattle.statement_syntax.specs.Steps.{◌>>=◌, run, token_step, whole_sum}
-use Rattle.statement_syntax.specs.Grammar.{Expr, expr_tokens, ExprFits, sign_token, name_token, number_token, word_token, names_tokens, pairs_tokens, list_text, sides_text, pair_text, self_word, Stated, listed, mapped, paired, projected, by_degree, stated_tokens, StatedFits, IsOf}
+use Rattle.statement_syntax.specs.Grammar.{Expr, expr_tokens, ExprFits, sign_token, name_token, number_token, word_token, names_tokens, pairs_tokens, list_text}
+use Rattle.statement_syntax.specs.Grammar.{sides_text, pair_text, self_word, Stated, listed, mapped, sides, paired, projected, by_degree, stated_tokens}
+use Rattle.statement_syntax.specs.Grammar.{StatedFits, IsOf}
 use Rattle.statement_syntax.specs.Tree.{expr_tree, stated_tree}
-use Rattle.statement_syntax.specs.Lines.{Lined, named, name_in, common_opening, opening_in, start_reading, opened, begun, start_step, whole, list_step, colon_after, map_names_step, map_step, sides_step, pair_step, no_pairs, pairs_by, pairs_step, order_step, projection_step, line_step}
-use Rattle.statement_syntax.proofs.Machine as machine
-use Rattle.statement_syntax.proofs.Machine.{State, fresh, step}
-use Rattle.statement_syntax.proofs.Seen.{reading_of, seen, tree_or}
+use Rattle.statement_syntax.specs.Lines.{Lined, named, name_in, common_opening, opening_in, start_reading, opened, begun, start_step, whole, list_step}
+use Rattle.statement_syntax.specs.Lines.{colon_after, map_names_step, map_step, sides_step, pair_step, no_pairs, pairs_by, pairs_step, order_step}
+use Rattle.statement_syntax.specs.Lines.{projection_step, line_step}
 use Rattle.statement_syntax.proofs.Run.{run_front}
-use Rattle.statement_syntax.proofs.Same.{step-seen, whole-seen}
-use Rattle.statement_syntax.proofs.Viable.{found, within}
+use Rattle.statement_syntax.proofs.StateReads.{reading_step}
+use Rattle.statement_syntax.proofs.Viable.{ExprReads, reading_ends, reading_lacks, deep, somewhere, some_name, some_expr}
 use Rattle.statement_syntax.proofs.Choices.{by_name, by_number, by_colon, by_arrow, by_equals}
-
--- an expression that isn't at its end
-pub record ExprReads (r : Reading) (ts : List Token) : Type 0 where
-  pub state : State
-  pub ran : run step (fresh []) ts ≡ Ok state
-  pub seen : r ≡ reading_of state
 
 pub record HasFirst {A : Type 0} (xs : List A) : Type 0 where
   pub first : A
@@ -101,18 +74,12 @@ pub record WholeReads (language : Language) (s : Statement) (ts : List Token) : 
 
 -- the word begins a list in the language
 abbrev pub IsListOf : ListWord → Language → Type 0
-IsListOf Object language = Unit {0}
-IsListOf Solve language = Unit {0}
 IsListOf Eliminate First = ⊥
-IsListOf Eliminate Second = Unit {0}
+IsListOf w language = Unit {0}
 
 pub list_speaks : (language : Language) (w : ListWord) (at : Spot) (n : Name) (ns : List Name) → IsListOf w language → IsOf language (listed w at n ns)
-list_speaks First Object at n ns is = tt
-list_speaks First Solve at n ns is = tt
 list_speaks First Eliminate at n ns is = is
-list_speaks Second Object at n ns is = tt
-list_speaks Second Solve at n ns is = tt
-list_speaks Second Eliminate at n ns is = tt
+list_speaks language w at n ns is = tt
 
 -- the tokens of a line of which this has been read
 abbrev pub LineReads : Language → Line → List Token → Type 0
@@ -128,9 +95,14 @@ LineReads language (line.Model at) ts = ts ≡ word_token (codes "model") at ∷
 LineReads language (line.Shape at m ps) ts = ts ≡ word_token (codes "model") at ∷ number_token m ∷ read_pairs ps
 LineReads language (line.Whole s) ts = WholeReads language s ts
 
+-- with a bracket that is too deep it can go on to a statement, if not to one within the limit
+abbrev pub GoesOnDeeper : Language → List Token → Type 0
+GoesOnDeeper language ts = (more : List Token) × (s : Stated) × IsOf language s × (ts ++ more ≡ stated_tokens s)
+
 abbrev pub After : Language → Lined → List Token → Type 0
 After language (Ok l) ts = LineReads language l ts
-After language (Err e) ts = Unit {0}
+After language (Err Expected) ts = Unit {0}
+After language (Err TooDeep) ts = GoesOnDeeper language ts
 
 -- a line with one token more
 abbrev pub Grows : Language → List Token → Spot → TokenKind → Lined → Type 0
@@ -149,12 +121,7 @@ opening_text opening.Model = codes "model"
 -- the word begins a statement of the language
 abbrev IsOpeningOf : Language → Opening → Type 0
 IsOpeningOf language (opening.List w) = IsListOf w language
-IsOpeningOf language opening.Map = Unit {0}
-IsOpeningOf language (opening.Sides w) = Unit {0}
-IsOpeningOf language (opening.Pair w) = Unit {0}
-IsOpeningOf language opening.Projection = Unit {0}
-IsOpeningOf language opening.Order = Unit {0}
-IsOpeningOf language opening.Model = Unit {0}
+IsOpeningOf language o = Unit {0}
 
 -- whatever begins with the word is this
 abbrev Opens : Language → List ℕ → Option Opening → Type 0
@@ -188,21 +155,14 @@ opening_is : (language : Language) (word : List ℕ) → Opens language word (op
 opening_is First word = common_is First word
 opening_is Second word = choose Second word (opening.List Eliminate) _ _ refl tt (common_is Second word)
 
-start_is : start_reading ≡ reading_of (fresh [])
-start_is = refl
-
 pub start_reads : ExprReads start_reading []
 unfolding run
-start_reads = record { state = fresh []; ran = refl; seen = start_is }
+start_reads = refl
 
 opened_reads : (language : Language) (o : Opening) (at : Spot) → IsOpeningOf language o → LineReads language (opened o at) (word_token (opening_text o) at ∷ [])
 opened_reads language (opening.List w) at speaks = (speaks, refl)
-opened_reads language opening.Map at speaks = refl
 opened_reads language (opening.Sides w) at speaks = record { side = []; reads = start_reads; are = refl }
-opened_reads language (opening.Pair w) at speaks = refl
-opened_reads language opening.Projection at speaks = refl
-opened_reads language opening.Order at speaks = refl
-opened_reads language opening.Model at speaks = refl
+opened_reads language o at speaks = refl
 
 begun_reads : (language : Language) (word : List ℕ) (o : Option Opening) (at : Spot) → Opens language word o → After language (begun o at) (word_token word at ∷ [])
 begun_reads language word None at is = tt
@@ -267,36 +227,28 @@ map_grows language at names (rest.Target s e) ts t k read = on_word k
     on_word k = tt
 
 -- expressions
-seen_ok : (r : Result State Misfit) (next : Reading) → seen r ≡ Ok next → (st : State) × (r ≡ Ok st) × (next ≡ reading_of st)
-seen_ok (Ok st) next read = (st, refl, cc)
-seen_ok (Err e) next read = absurd cc
-
-tree_ok : (o : Option Expr) (s : Sum) → tree_or o Expected ≡ Ok s → (e : Expr) × (o ≡ Some e) × (s ≡ expr_tree e)
-tree_ok None s read = absurd cc
-tree_ok (Some e) s read = (e, refl, cc)
-
-reading_grows : (r next : Reading) (ts : List Token) (k : TokenKind) (t : Spot) → ExprReads r ts → token_step r k t ≡ Ok next → ExprReads next (ts ++ sign_token k t ∷ [])
+reading_grows : (r next : Reading) (ts : List Token) (k : TokenKind) (t : Spot) → ExprReads r ts → token_step r k t ≡ Ok next
+    → ExprReads next (ts ++ sign_token k t ∷ [])
 unfolding run
 reading_grows r next ts k t read goes =
-    let one = seen_ok (step read.state (sign_token k t)) next (sym (step-seen read.state (sign_token k t)) ∙ ap (λ x. token_step x k t) (sym read.seen) ∙ goes) in
-    record {
-      state = one.0;
-      ran = run_front step (fresh []) ts read.state (sign_token k t ∷ []) read.ran ∙ ap (λ x. x >>= λ s. run step s []) one.1;
-      seen = one.2;
-    }
-
--- where it may end, it is an expression
-pub reading_ends : (r : Reading) (s : Sum) (ts : List Token) → ExprReads r ts → whole_sum r ≡ Ok s → (e : Expr) × ExprFits e bracket_limit × (s ≡ expr_tree e) × (ts ≡ expr_tokens e)
-reading_ends r s ts read goes =
-    let e = tree_ok (machine.whole read.state) s (sym (whole-seen read.state) ∙ ap whole_sum (sym read.seen) ∙ goes) in
-    (e.0, within ts read.state e.0 read.ran e.1, e.2, found ts read.state e.0 read.ran e.1)
+    run_front reading_step start_reading ts r (sign_token k t ∷ []) read ∙ ap (λ x. x >>= λ s. run reading_step s []) goes
 
 side_more : (front ts side : List Token) (t : Token) → ts ≡ front ++ side → ts ++ t ∷ [] ≡ front ++ (side ++ t ∷ [])
 side_more front ts side t read = with_next ts _ t read ∙ append_assoc front side (t ∷ [])
 
 first_grows : (language : Language) (w : SidesWord) (at : Spot) (r : Reading) (ts : List Token) (t : Spot) (k : TokenKind) (res : Result Reading Misfit) → token_step r k t ≡ res → FirstSide w at r ts
     → Grows language ts t k (res >>= λ x. Ok (line.Sides w at None x))
-first_grows language w at r ts t k (Err e) is read = tt
+first_grows language w at r ts t k (Err Expected) is read = tt
+first_grows language w at r ts t k (Err TooDeep) is read =
+    let on = deep read.side r (sign_token k t) read.reads is in
+    let last : List Token = sign_token kind.Equals somewhere ∷ name_token some_name ∷ [] in (
+      on.0 ++ last,
+      sides w at on.1 somewhere some_expr,
+      tt,
+      ap (λ (x : List Token). (x ++ sign_token k t ∷ []) ++ (on.0 ++ last)) read.are
+          ∙ ap (λ x. word_token (sides_text w) at ∷ x)
+          (append_assoc read.side (sign_token k t ∷ []) (on.0 ++ last) ∙ sym (append_assoc read.side (sign_token k t ∷ on.0) last) ∙ ap (λ x. x ++ last) on.2),
+    )
 first_grows language w at r ts t k (Ok next) is read = record {
   side = read.side ++ sign_token k t ∷ [];
   reads = reading_grows r next read.side k t read.reads is;
@@ -305,7 +257,18 @@ first_grows language w at r ts t k (Ok next) is read = record {
 
 second_grows : (language : Language) (w : SidesWord) (at : Spot) (left : Sum) (r : Reading) (ts : List Token) (t : Spot) (k : TokenKind) (res : Result Reading Misfit) → token_step r k t ≡ res → SecondSide w at left r ts
     → Grows language ts t k (res >>= λ x. Ok (line.Sides w at (Some left) x))
-second_grows language w at left r ts t k (Err e) is read = tt
+second_grows language w at left r ts t k (Err Expected) is read = tt
+second_grows language w at left r ts t k (Err TooDeep) is read =
+    let on = deep read.side r (sign_token k t) read.reads is in (
+      on.0,
+      sides w at read.expr read.equals on.1,
+      tt,
+      ap (λ (x : List Token). (x ++ sign_token k t ∷ []) ++ on.0) read.are
+          ∙ ap (λ x. word_token (sides_text w) at ∷ x)
+          (append_assoc (expr_tokens read.expr ++ sign_token kind.Equals read.equals ∷ read.side) (sign_token k t ∷ []) on.0
+          ∙ append_assoc (expr_tokens read.expr) (sign_token kind.Equals read.equals ∷ read.side) (sign_token k t ∷ on.0)
+          ∙ ap (λ x. expr_tokens read.expr ++ sign_token kind.Equals read.equals ∷ x) on.2),
+    )
 second_grows language w at left r ts t k (Ok next) is read =
     let front : List Token = word_token (sides_text w) at ∷ (expr_tokens read.expr ++ sign_token kind.Equals read.equals ∷ []) in
     record {
@@ -321,7 +284,8 @@ second_grows language w at left r ts t k (Ok next) is read =
 
 equals_grows : (language : Language) (w : SidesWord) (at : Spot) (r : Reading) (ts : List Token) (t : Spot) (res : Result Sum Misfit) → whole_sum r ≡ res → FirstSide w at r ts
     → Grows language ts t kind.Equals (res >>= λ left. Ok (line.Sides w at (Some left) start_reading))
-equals_grows language w at r ts t (Err e) is read = tt
+equals_grows language w at r ts t (Err Expected) is read = tt
+equals_grows language w at r ts t (Err TooDeep) is read = let same = reading_lacks r read.side TooDeep read.reads is in absurd cc
 equals_grows language w at r ts t (Ok left) is read =
     let e = reading_ends r left read.side read.reads is in
     record {
@@ -352,7 +316,8 @@ projection_grows language at ts t k read = by_name (Grows language ts t) _ t (λ
 -- what a step of pairs makes of their tokens
 abbrev PairsGrow : Pairs → Spot → TokenKind → Result Pairs Misfit → Type 0
 PairsGrow p t k (Ok q) = read_pairs q ≡ read_pairs p ++ sign_token k t ∷ []
-PairsGrow p t k (Err e) = Unit {0}
+PairsGrow p t k (Err Expected) = Unit {0}
+PairsGrow p t k (Err TooDeep) = ⊥
 
 pub pairs_more : (ps : List (Name × Number)) (n : Name) (m : Number) → pairs_tokens (ps ++ (n, m) ∷ []) ≡ pairs_tokens ps ++ name_token n ∷ number_token m ∷ []
 pairs_more [] n m = refl
@@ -368,12 +333,14 @@ pairs_grow ps (Some n) t k =
 
 weights_grow : (language : Language) (at : Spot) (p : Pairs) (ts : List Token) (t : Spot) (k : TokenKind) (res : Result Pairs Misfit) → PairsGrow p t k res → LineReads language (line.Weights at p) ts
     → Grows language ts t k (res >>= λ q. Ok (line.Weights at q))
-weights_grow language at p ts t k (Err e) grows read = tt
+weights_grow language at p ts t k (Err Expected) grows read = tt
+weights_grow language at p ts t k (Err TooDeep) grows read = absurd grows
 weights_grow language at p ts t k (Ok q) grows read = (read.0, with_next ts _ _ read.1 ∙ ap (λ x. word_token (codes "order") at ∷ word_token (codes "weight") read.0 ∷ x) (sym grows))
 
 shape_grows : (language : Language) (at : Spot) (m : Number) (p : Pairs) (ts : List Token) (t : Spot) (k : TokenKind) (res : Result Pairs Misfit) → PairsGrow p t k res → LineReads language (line.Shape at m p) ts
     → Grows language ts t k (res >>= λ q. Ok (line.Shape at m q))
-shape_grows language at m p ts t k (Err e) grows read = tt
+shape_grows language at m p ts t k (Err Expected) grows read = tt
+shape_grows language at m p ts t k (Err TooDeep) grows read = absurd grows
 shape_grows language at m p ts t k (Ok q) grows read = with_next ts _ _ read ∙ ap (λ x. word_token (codes "model") at ∷ number_token m ∷ x) (sym grows)
 
 model_grows : (language : Language) (at : Spot) (ts : List Token) (t : Spot) (k : TokenKind) → LineReads language (line.Model at) ts → Grows language ts t k (line_step language (line.Model at) k t)
@@ -412,3 +379,8 @@ line_grows language (line.Whole s) ts t k read = tt
 -- one step reads one token
 pub line_step_reads : (language : Language) (l next : Line) (t : Token) (ts : List Token) → line_step language l t.kind t.at ≡ Ok next → LineReads language l ts → LineReads language next (ts ++ t ∷ [])
 line_step_reads language l next t ts goes read = subst (λ r. After language r (ts ++ t ∷ [])) goes (line_grows language l ts t.at t.kind read)
+
+-- a step at a bracket that is too deep
+pub line_step_deep : (language : Language) (l : Line) (t : Token) (ts : List Token) → line_step language l t.kind t.at ≡ Err TooDeep → LineReads language l ts
+    → GoesOnDeeper language (ts ++ t ∷ [])
+line_step_deep language l t ts fails read = subst (λ r. After language r (ts ++ t ∷ [])) fails (line_grows language l ts t.at t.kind read)

@@ -2,40 +2,19 @@
 use Rattle.std.proofs.Common.{◌≡◌, true, List, [], ◌∷◌, ◌++◌, inl, Some, None, Result, Ok, Err, refl, sym, ap, ◌∙◌, append_assoc}
 use Rattle.std.specs.Prelude.{ℕ, false, cond, bytes_eq, codes}
 use Rattle.std.proofs.lemmas.List.{append-nil}
-use Rattle.statement_tokens.specs.declared.place.Spot.{Spot}
-use Rattle.statement_tokens.specs.declared.token.Token.{Token}
-use Rattle.statement_tokens.specs.declared.language.Language.{Language}
-use Rattle.statement_tokens.specs.declared.language.Language.TheVariants.{First, Second}
-use Rattle.statement_tokens.specs.declared.token.TokenKind.TheVariants as kind
+use Rattle.statement_syntax.specs.Types.{Spot, Token, Language, First, Second, TokenKind as kind, Name, Number, Sum, StatementKind as statement, Misfit}
+use Rattle.statement_syntax.specs.Types.{Expected, ListWord, Object, Solve, Eliminate, SidesWord, Assume, Claim, PairWord, Pinv, Inverse, Inner}
+use Rattle.statement_syntax.specs.Types.{Reading, Focus, Focus as focus, Opening, Opening as opening, MapRest as rest, Pairs, Line, Line as line}
 use Rattle.statement_syntax.specs.Limits.{bracket_limit}
-use Rattle.statement_syntax.specs.declared.tree.Name.{Name}
-use Rattle.statement_syntax.specs.declared.tree.Number.{Number}
-use Rattle.statement_syntax.specs.declared.tree.Sum.{Sum}
-use Rattle.statement_syntax.specs.declared.tree.StatementKind.TheVariants as statement
-use Rattle.statement_syntax.specs.declared.expression.Misfit.{Misfit}
-use Rattle.statement_syntax.specs.declared.expression.Misfit.TheVariants.{Expected, TooDeep}
-use Rattle.statement_syntax.specs.declared.line.ListWord.{ListWord}
-use Rattle.statement_syntax.specs.declared.line.ListWord.TheVariants.{Object, Solve, Eliminate}
-use Rattle.statement_syntax.specs.declared.line.SidesWord.{SidesWord}
-use Rattle.statement_syntax.specs.declared.line.SidesWord.TheVariants.{Assume, Claim}
-use Rattle.statement_syntax.specs.declared.line.PairWord.{PairWord}
-use Rattle.statement_syntax.specs.declared.line.PairWord.TheVariants.{Pinv, Inverse, Inner}
-use Rattle.statement_syntax.specs.declared.line.Opening.{Opening}
-use Rattle.statement_syntax.specs.declared.line.Opening.TheVariants as opening
-use Rattle.statement_syntax.specs.declared.line.MapRest.TheVariants as rest
-use Rattle.statement_syntax.specs.declared.line.Pairs.{Pairs}
-use Rattle.statement_syntax.specs.declared.line.Line.{Line}
-use Rattle.statement_syntax.specs.declared.line.Line.TheVariants as line
-use Rattle.statement_syntax.specs.Steps.{◌>>=◌, run, token_step, whole_sum}
+use Rattle.statement_syntax.specs.Steps.{◌>>=◌, run, focus_step, token_step, whole_sum}
 use Rattle.statement_syntax.specs.Grammar.{Expr, expr_tokens, ExprFits, sign_token, name_token, number_token, word_token, names_tokens, pairs_tokens, list_text, sides_text, pair_text, Ending, no_word, self_word, ending_tokens, Stated, listed, mapped, sides, paired, projected, by_degree, by_weight, modelled, second_language, stated_tokens, StatedFits, IsOf}
 use Rattle.statement_syntax.specs.Tree.{expr_tree, stated_tree, sides_kind, is_self}
 use Rattle.statement_syntax.specs.Lines.{Lined, common_opening, opened, begun, start_reading, whole, line_step, line_end, statement_by}
-use Rattle.statement_syntax.proofs.Machine as machine
-use Rattle.statement_syntax.proofs.Machine.{Focus, outside, square, behind_caret, State, Stepped, fresh, step}
-use Rattle.statement_syntax.proofs.Seen.{reading_of, seen, tree_or}
-use Rattle.statement_syntax.proofs.Run.{Upto, then_on, before_it, run_upto, inside_upto, one_step, ok_differs}
+use Rattle.statement_syntax.proofs.Seen.{reading_of, tree_or}
+use Rattle.statement_syntax.proofs.StateReads.{reading_step}
+use Rattle.statement_syntax.proofs.Run.{Upto, then_on, before_it, run_upto, inside_upto, one_step}
 use Rattle.statement_syntax.proofs.Runs.{end_state, end-whole}
-use Rattle.statement_syntax.proofs.Same.{step-seen, whole-seen}
+use Rattle.statement_syntax.proofs.Same.{whole-seen}
 use Rattle.statement_syntax.proofs.Viable.{only}
 use Rattle.statement_syntax.proofs.Choices.{not_equals}
 
@@ -52,60 +31,32 @@ word_starts Second word o at rest is differs =
     ap (λ b. begun (cond b (Some (opening.List Eliminate)) (common_opening word)) at >>= λ l. run (by_token Second) l rest) differs
     ∙ ap (λ x. begun x at >>= λ l. run (by_token Second) l rest) is
 
--- no expression goes on with an equals sign
-no_equals : (st : State) (f : Focus) (at : Spot) → step (record { levels = st.levels; head = st.head; part = st.part; focus = f }) (sign_token kind.Equals at) ≡ Err Expected
-unfolding step
-no_equals st outside at = refl
-no_equals st (square left) at = refl
-no_equals st (machine.named left n) at = refl
-no_equals st (behind_caret l fs caret) at = refl
+-- an expression inside a line: it goes on with no equals sign
+no_equals : (r : Reading) (f : Focus) (at : Spot) → focus_step r.levels r.head r.part f kind.Equals at ≡ Err Expected
+no_equals r focus.Outside at = refl
+no_equals r f at = refl
 
-err_is : {A : Type 0} (f g : Misfit) → (let r : Result A Misfit = Err f in r) ≡ Err g → f ≡ g
-err_is f g same = cc
+first_step : (language : Language) (w : SidesWord) (at : Spot) (r : Reading) (t : Token) (read : Result Reading Misfit) → reading_step r t ≡ read
+    → (read ≡ Err Expected → ⊥) → by_token language (line.Sides w at None r) t ≡ (read >>= λ x. Ok (line.Sides w at None x))
+first_step language w at r t read goes other =
+    not_equals _ _ t.kind (λ k. other (sym goes ∙ ap (λ x. token_step r x t.at) k ∙ no_equals r r.focus t.at))
+    ∙ ap (λ x. x >>= λ r. Ok (line.Sides w at None r)) goes
 
-not_deep : (let f : Misfit = Expected in f) ≡ TooDeep → ⊥
-not_deep same = absurd cc
-
--- an expression inside a line
-first_line : SidesWord → Spot → State → Line
-first_line w at st = line.Sides w at None (reading_of st)
-
-second_line : SidesWord → Spot → Sum → State → Line
-second_line w at left st = line.Sides w at (Some left) (reading_of st)
-
-token_seen : (st next : State) (t : Token) → step st t ≡ Ok next → token_step (reading_of st) t.kind t.at ≡ Ok (reading_of next)
-token_seen st next t goes = step-seen st t ∙ ap seen goes
-
-token_deep : (st : State) (t : Token) → step st t ≡ Err TooDeep → token_step (reading_of st) t.kind t.at ≡ Err TooDeep
-token_deep st t fails = step-seen st t ∙ ap seen fails
-
-step_equals : (st : State) (r : Stepped) (t : Token) → step st t ≡ r → t.kind ≡ kind.Equals → r ≡ Err Expected
-step_equals st r t is k = sym is ∙ ap (λ x. step st (sign_token x t.at)) k ∙ no_equals st st.focus t.at
-
-first_each : (language : Language) (w : SidesWord) (at : Spot) (st next : State) (t : Token) → step st t ≡ Ok next → by_token language (line.Sides w at None (reading_of st)) t ≡ Ok (line.Sides w at None (reading_of next))
-first_each language w at st next t goes =
-    not_equals _ _ t.kind (λ k. ok_differs next Expected (step_equals st (Ok next) t goes k))
-    ∙ ap (λ x. x >>= λ r. Ok (line.Sides w at None r)) (token_seen st next t goes)
-
-first_deep : (language : Language) (w : SidesWord) (at : Spot) (st : State) (t : Token) → step st t ≡ Err TooDeep → by_token language (line.Sides w at None (reading_of st)) t ≡ Err TooDeep
-first_deep language w at st t fails =
-    not_equals _ _ t.kind (λ k. not_deep (sym (err_is {A = State} TooDeep Expected (step_equals st (Err TooDeep) t fails k))))
-    ∙ ap (λ x. x >>= λ r. Ok (line.Sides w at None r)) (token_deep st t fails)
-
-second_each : (language : Language) (w : SidesWord) (at : Spot) (left : Sum) (st next : State) (t : Token) → step st t ≡ Ok next → by_token language (line.Sides w at (Some left) (reading_of st)) t ≡ Ok (line.Sides w at (Some left) (reading_of next))
-second_each language w at left st next t goes = ap (λ x. x >>= λ r. Ok (line.Sides w at (Some left) r)) (token_seen st next t goes)
-
-second_deep : (language : Language) (w : SidesWord) (at : Spot) (left : Sum) (st : State) (t : Token) → step st t ≡ Err TooDeep → by_token language (line.Sides w at (Some left) (reading_of st)) t ≡ Err TooDeep
-second_deep language w at left st t fails = ap (λ x. x >>= λ r. Ok (line.Sides w at (Some left) r)) (token_deep st t fails)
+second_step : (language : Language) (w : SidesWord) (at : Spot) (left : Sum) (r : Reading) (t : Token) (read : Result Reading Misfit) → reading_step r t ≡ read
+    → (read ≡ Err Expected → ⊥) → by_token language (line.Sides w at (Some left) r) t ≡ (read >>= λ x. Ok (line.Sides w at (Some left) x))
+second_step language w at left r t read goes other = ap (λ x. x >>= λ r. Ok (line.Sides w at (Some left) r)) goes
 
 sum_seen : (e : Expr) → whole_sum (reading_of (end_state [] e)) ≡ Ok (expr_tree e)
 sum_seen e = whole-seen (end_state [] e) ∙ ap (λ o. tree_or o Expected) (end-whole e)
 
 equals_step : (language : Language) (w : SidesWord) (at : Spot) (d : Expr) (equals : Spot)
-    → by_token language (line.Sides w at None (reading_of (end_state [] d))) (sign_token kind.Equals equals) ≡ Ok (line.Sides w at (Some (expr_tree d)) (reading_of (fresh [])))
+    → by_token language (line.Sides w at None (reading_of (end_state [] d))) (sign_token kind.Equals equals)
+    ≡ Ok (line.Sides w at (Some (expr_tree d)) start_reading)
 equals_step language w at d equals = ap (λ x. x >>= λ left. Ok (line.Sides w at (Some left) start_reading)) (sum_seen d)
 
-sides_start : (language : Language) (w : SidesWord) (at : Spot) (rest : List Token) → run (by_token language) line.Start (word_token (sides_text w) at ∷ rest) ≡ run (by_token language) (line.Sides w at None (reading_of (fresh []))) rest
+sides_start : (language : Language) (w : SidesWord) (at : Spot) (rest : List Token)
+    → run (by_token language) line.Start (word_token (sides_text w) at ∷ rest)
+    ≡ run (by_token language) (line.Sides w at None start_reading) rest
 sides_start language Assume at rest = word_starts language (sides_text Assume) (opening.Sides Assume) at rest refl refl
 sides_start language Claim at rest = word_starts language (sides_text Claim) (opening.Sides Claim) at rest refl refl
 
@@ -114,10 +65,12 @@ sides_run : (language : Language) (w : SidesWord) (at : Spot) (d : Expr) (equals
 sides_run language w at d equals e =
     before_it (sides_start language w at (expr_tokens d ++ sign_token kind.Equals equals ∷ expr_tokens e))
     (then_on
-    (run_upto (by_token language) (line.Sides w at None (reading_of (fresh []))) (expr_tokens d) (line.Sides w at None (reading_of (end_state [] d))) (sign_token kind.Equals equals ∷ expr_tokens e)
-    (inside_upto step (by_token language) (λ st. line.Sides w at None (reading_of st)) (first_each language w at) (first_deep language w at) (expr_tokens d) (fresh []) (end_state [] d) (only d)))
+    (run_upto (by_token language) (line.Sides w at None start_reading) (expr_tokens d) (line.Sides w at None (reading_of (end_state [] d)))
+    (sign_token kind.Equals equals ∷ expr_tokens e)
+    (inside_upto reading_step (by_token language) (line.Sides w at None) (first_step language w at) (expr_tokens d) start_reading _ (only d)))
     (before_it (one_step (by_token language) _ _ (sign_token kind.Equals equals) (expr_tokens e) (equals_step language w at d equals))
-    (inside_upto step (by_token language) (λ st. line.Sides w at (Some (expr_tree d)) (reading_of st)) (second_each language w at (expr_tree d)) (second_deep language w at (expr_tree d)) (expr_tokens e) (fresh []) (end_state [] e) (only e))))
+    (inside_upto reading_step (by_token language) (line.Sides w at (Some (expr_tree d))) (second_step language w at (expr_tree d))
+    (expr_tokens e) start_reading _ (only e))))
 
 -- names and pairs
 list_start : (language : Language) (w : ListWord) (at : Spot) (n : Name) (ns : List Name) (rest : List Token) → IsOf language (listed w at n ns)
@@ -235,12 +188,6 @@ map_line-end at names s t (self_word self) = refl
 
 -- and it ends as the statement
 pub stated_end : (s : Stated) → line_end (end_line s) ≡ Ok (stated_tree s)
-stated_end (listed w at n ns) = refl
 stated_end (mapped at n ns colon s arrow t end) = map_line-end at (n ∷ ns) s t end
 stated_end (sides w at d equals e) = ap (λ x. statement_by at (x >>= λ right. Ok (sides_kind w (expr_tree d) right))) (sum_seen e)
-stated_end (paired w at m n) = refl
-stated_end (projected at n) = refl
-stated_end (by_degree at word) = refl
-stated_end (by_weight at word p ps) = refl
-stated_end (modelled at m ps) = refl
-stated_end (second_language at number) = refl
+stated_end s = refl

@@ -1,15 +1,8 @@
 -- Reading tokens one by one: what has been read of an expression that isn't at its end.
-use Rattle.std.specs.Prelude.{zero, suc, List, [], ◌∷◌, ◌++◌, length, Option, Some, None, Result, Ok, Err, ℤ, pos, negsuc, nat_lt, if◌then◌else◌}
-use Rattle.statement_tokens.specs.declared.place.Spot.{Spot}
-use Rattle.statement_tokens.specs.declared.token.Token.{Token}
-use Rattle.statement_tokens.specs.declared.token.TokenKind.{TokenKind}
-use Rattle.statement_tokens.specs.declared.token.TokenKind.TheVariants as kind
-use Rattle.statement_syntax.specs.Limits.{bracket_limit}
-use Rattle.statement_syntax.specs.declared.tree.Name.{Name}
-use Rattle.statement_syntax.specs.declared.tree.Number.{Number}
-use Rattle.statement_syntax.specs.declared.expression.Misfit.{Misfit}
-use Rattle.statement_syntax.specs.declared.expression.Misfit.TheVariants.{Expected, TooDeep}
-use Rattle.statement_syntax.specs.Grammar.{Lead, no_sign, lead_plus, lead_minus, Sign, plus, minus, Expr, first, joined, Product, zero_alone, factors, Factors, one, beside, plain, marked, raised, Prime, name, identity, bracket, sign_token, name_token, number_token, lead_tokens, signed_token, literal_tokens, expr_tokens, factors_tokens}
+use Rattle.std.specs.Prelude.{zero, suc, List, [], ◌∷◌, ◌++◌, Option, Some, None, ℤ, pos, negsuc}
+use Rattle.statement_syntax.specs.Types.{Spot, Token, TokenKind as kind, Name, Number}
+use Rattle.statement_syntax.specs.Grammar.{Lead, no_sign, Sign, Expr, first, joined, Product, zero_alone, factors, Factors, one, beside, plain, marked, raised}
+use Rattle.statement_syntax.specs.Grammar.{Prime, sign_token, name_token, number_token, lead_tokens, signed_token, literal_tokens, expr_tokens, factors_tokens}
 
 -- what stands before the term that is read
 pub data Head : Type 0 where
@@ -41,8 +34,11 @@ pub record State : Type 0 where
   pub part : Part
   pub focus : Focus
 
+abbrev pub at_outside : List Level → Head → Part → State
+at_outside levels head part = record { levels = levels; head = head; part = part; focus = outside }
+
 abbrev pub fresh : List Level → State
-fresh levels = record { levels = levels; head = led no_sign; part = nothing; focus = outside }
+fresh levels = at_outside levels (led no_sign) nothing
 
 abbrev pub add : Part → Prime → Part
 add nothing p = product None (one (plain p))
@@ -74,96 +70,10 @@ abbrev pub with_term : Head → Product → Expr
 with_term (led l) t = first l t
 with_term (after e s) t = joined e s t
 
-abbrev pub Stepped : Type 0
-Stepped = Result State Misfit
-
-abbrev pub step_literal : List Level → Head → Part → Number → Stepped
-step_literal levels head nothing n = Ok (record { levels = levels; head = head; part = scaled n; focus = outside })
-step_literal levels head (scaled m) n = Err Expected
-step_literal levels head (product l fs) n = Err Expected
-
-abbrev pub lead_of : Sign → Lead
-lead_of (plus at) = lead_plus at
-lead_of (minus at) = lead_minus at
-
-abbrev pub sign_after : List Level → Head → Option Product → Sign → Stepped
-sign_after levels head None s = Err Expected
-sign_after levels head (Some t) s = Ok (record { levels = levels; head = after (with_term head t) s; part = nothing; focus = outside })
-
-abbrev pub step_sign : List Level → Head → Part → Sign → Stepped
-step_sign levels (led no_sign) nothing s = Ok (record { levels = levels; head = led (lead_of s); part = nothing; focus = outside })
-step_sign levels (led (lead_plus at)) nothing s = Err Expected
-step_sign levels (led (lead_minus at)) nothing s = Err Expected
-step_sign levels (after e t) nothing s = Err Expected
-step_sign levels head (scaled n) s = sign_after levels head (whole_term (scaled n)) s
-step_sign levels head (product l fs) s = sign_after levels head (whole_term (product l fs)) s
-
-abbrev pub step_quote : List Level → Head → Part → Spot → Stepped
-step_quote levels head nothing at = Err Expected
-step_quote levels head (scaled n) at = Err Expected
-step_quote levels head (product l fs) at = Ok (record { levels = levels; head = head; part = product l (with_mark fs at); focus = outside })
-
-abbrev pub step_caret : List Level → Head → Part → Spot → Stepped
-step_caret levels head nothing at = Err Expected
-step_caret levels head (scaled n) at = Err Expected
-step_caret levels head (product l fs) at = Ok (record { levels = levels; head = head; part = nothing; focus = behind_caret l fs at })
-
-abbrev pub close_after : List Level → Head → Option Product → Spot → Stepped
-close_after levels head None at = Err Expected
-close_after [] head (Some t) at = Err Expected
-close_after (level ∷ levels) head (Some t) at =
-    Ok (record { levels = levels; head = level.head; part = add level.part (bracket level.at (with_term head t) at); focus = outside })
-
-abbrev pub step_open : List Level → Head → Part → Spot → Stepped
-step_open levels head part at =
-    if nat_lt (length levels) bracket_limit then Ok (fresh (record { head = head; part = part; at = at } ∷ levels)) else Err TooDeep
-
-abbrev pub step_outside : List Level → Head → Part → TokenKind → Spot → Stepped
-step_outside levels head part (kind.Name x) at = Ok (record { levels = levels; head = head; part = add part (name (record { text = x; at = at })); focus = outside })
-step_outside levels head part (kind.Literal n) at = step_literal levels head part (record { value = n; at = at })
-step_outside levels head part kind.Colon at = Err Expected
-step_outside levels head part kind.Arrow at = Err Expected
-step_outside levels head part kind.Equals at = Err Expected
-step_outside levels head part kind.Plus at = step_sign levels head part (plus at)
-step_outside levels head part kind.Minus at = step_sign levels head part (minus at)
-step_outside levels head part kind.Open at = step_open levels head part at
-step_outside levels head part kind.Close at = close_after levels head (whole_term part) at
-step_outside levels head part kind.OpenSquare at = Ok (record { levels = levels; head = head; part = part; focus = square at })
-step_outside levels head part kind.CloseSquare at = Err Expected
-step_outside levels head part kind.Quote at = step_quote levels head part at
-step_outside levels head part kind.Caret at = step_caret levels head part at
-step_outside levels head part kind.End at = Err Expected
-
-abbrev pub step_square : List Level → Head → Part → Spot → Spot → TokenKind → Stepped
-step_square levels head part left at (kind.Name x) = Ok (record { levels = levels; head = head; part = part; focus = named left (record { text = x; at = at }) })
-step_square levels head part left at k = Err Expected
-
-abbrev pub step_named : List Level → Head → Part → Spot → Name → Spot → TokenKind → Stepped
-step_named levels head part left n at kind.CloseSquare = Ok (record { levels = levels; head = head; part = add part (identity left n at); focus = outside })
-step_named levels head part left n at k = Err Expected
-
-abbrev pub step_power : List Level → Head → Option Number → Factors → Spot → TokenKind → Spot → Stepped
-step_power levels head l fs caret (kind.Literal n) at =
-    Ok (record { levels = levels; head = head; part = product l (with_power fs caret (record { value = n; at = at })); focus = outside })
-step_power levels head l fs caret k at = Err Expected
-
-abbrev pub step_by : List Level → Head → Part → Focus → TokenKind → Spot → Stepped
-step_by levels head part outside k at = step_outside levels head part k at
-step_by levels head part (square left) k at = step_square levels head part left at k
-step_by levels head part (named left n) k at = step_named levels head part left n at k
-step_by levels head part (behind_caret l fs caret) k at = step_power levels head l fs caret k at
-
-unfoldable pub step : State → Token → Stepped
-step st t = step_by st.levels st.head st.part st.focus t.kind t.at
-
 -- the expression, where it may end here
 abbrev pub end_by : List Level → Head → Focus → Option Product → Option Expr
 end_by [] head outside (Some t) = Some (with_term head t)
-end_by [] head outside None = None
-end_by [] head (square left) t = None
-end_by [] head (named left n) t = None
-end_by [] head (behind_caret l fs caret) t = None
-end_by (level ∷ levels) head focus t = None
+end_by levels head focus t = None
 
 abbrev pub whole : State → Option Expr
 whole st = end_by st.levels st.head st.focus (whole_term st.part)

@@ -2,17 +2,8 @@
 use Rattle.std.proofs.Common.{◌≡◌, ℕ, zero, suc, List, [], ◌∷◌, ◌++◌, map, Option, Some, None, refl, ap, ap₂, ◌∙◌}
 use Rattle.std.specs.Prelude.{codes}
 use Rattle.std.proofs.lemmas.List.{map-append}
-use Rattle.statement_tokens.specs.declared.place.Spot.{Spot}
-use Rattle.statement_tokens.specs.declared.token.Token.{Token}
-use Rattle.statement_tokens.specs.declared.language.Language.{Language}
-use Rattle.statement_tokens.specs.declared.language.Language.TheVariants.{First, Second}
-use Rattle.statement_tokens.specs.declared.token.TokenKind.{TokenKind}
-use Rattle.statement_tokens.specs.declared.token.TokenKind.TheVariants as kind
+use Rattle.statement_syntax.specs.Types.{Spot, Token, Language, First, Second, TokenKind, TokenKind as kind, Name, Number, ListWord, Eliminate}
 use Rattle.statement_syntax.specs.Limits.{bracket_limit}
-use Rattle.statement_syntax.specs.declared.tree.Name.{Name}
-use Rattle.statement_syntax.specs.declared.tree.Number.{Number}
-use Rattle.statement_syntax.specs.declared.line.ListWord.{ListWord}
-use Rattle.statement_syntax.specs.declared.line.ListWord.TheVariants.{Object, Solve, Eliminate}
 use Rattle.statement_syntax.specs.Grammar.{no_sign, lead_plus, lead_minus, Sign, plus, minus, Expr, first, joined, Product, zero_alone, factors, Factors, one, beside, Marked, plain, marked, raised, Prime, name, identity, bracket, sign_token, name_token, number_token, zero_at, signed_token, literal_tokens, expr_tokens, product_tokens, factors_tokens, marked_tokens, prime_tokens, ExprFits, ProductFits, FactorsFit, MarkedFits, PrimeFits, list_text, sides_text, pair_text, Ending, no_word, self_word, ending_tokens, word_token, names_tokens, pairs_tokens, Stated, listed, mapped, sides, paired, projected, by_degree, by_weight, modelled, second_language, two_at, stated_tokens, StatedFits, IsOf, NamesLanguage, StatedLine, AreLinesOf, IsFileOf, line_tokens, file_tokens, FileFits}
 use Rattle.statement_syntax.specs.Places.{somewhere, bare_name, bare_number, bare_literal, bare_sign, bare, bare_product, bare_factors, bare_marked, bare_prime, bare_ending, bare_names, bare_pair, bare_pairs, bare_stated, bare_line, bare_file}
 
@@ -234,12 +225,8 @@ record MovedStated (s : Stated) (ts : List Token) : Type 0 where
   pub names : NamesLanguage s → NamesLanguage moved
 
 list_of : (language : Language) (w : ListWord) (at to : Spot) (n m : Name) (ns ms : List Name) → IsOf language (listed w at n ns) → IsOf language (listed w to m ms)
-list_of First Object at to n m ns ms speaks = tt
-list_of First Solve at to n m ns ms speaks = tt
 list_of First Eliminate at to n m ns ms speaks = speaks
-list_of Second Object at to n m ns ms speaks = tt
-list_of Second Solve at to n m ns ms speaks = tt
-list_of Second Eliminate at to n m ns ms speaks = tt
+list_of language w at to n m ns ms speaks = tt
 
 stated_moved : (s : Stated) (ts : List Token) → kinds ts ≡ kinds (stated_tokens (bare_stated s)) → MovedStated s ts
 stated_moved (listed w at n ns) ts alike =

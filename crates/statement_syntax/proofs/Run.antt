@@ -1,8 +1,6 @@
 -- Items read one after another, whatever a step does.
 use Rattle.std.proofs.Common.{◌≡◌, List, [], ◌∷◌, ◌++◌, ◌⊎◌, inl, inr, Result, Ok, Err, refl, sym, ap, ◌∙◌}
-use Rattle.statement_tokens.specs.declared.token.Token.{Token}
-use Rattle.statement_syntax.specs.declared.expression.Misfit.{Misfit}
-use Rattle.statement_syntax.specs.declared.expression.Misfit.TheVariants.{TooDeep}
+use Rattle.statement_syntax.specs.Types.{Token, Misfit, Expected, TooDeep}
 use Rattle.statement_syntax.specs.Steps.{◌>>=◌, run}
 
 pub bind_ok : {A B : Type 0} (r : Result A Misfit) (f : A → Result B Misfit) (y : B) → (r >>= f) ≡ Ok y → (x : A) × (r ≡ Ok x) × (f x ≡ Ok y)
@@ -14,6 +12,9 @@ ok_is x y p = cc
 
 pub ok_differs : {A : Type 0} (x : A) (f : Misfit) → (let r : Result A Misfit = Ok x in r) ≡ Err f → ⊥
 ok_differs x f p = absurd cc
+
+deep_differs : {A : Type 0} → (let r : Result A Misfit = Err TooDeep in r) ≡ Err Expected → ⊥
+deep_differs p = absurd cc
 
 -- runs
 module _ {S : Type 0} (step : S → Token → Result S Misfit) where
@@ -69,21 +70,20 @@ pub upto_ok : {S : Type 0} {F : Type 0} (r : Result S Misfit) (meant next : S) �
 upto_ok r meant next (inl (f, p)) given = (f, ok_is _ _ (sym p ∙ given))
 upto_ok r meant next (inr (f, p)) given = absurd (ok_differs next TooDeep (sym given ∙ p))
 
--- one run inside another
+-- one run inside another, whose steps do the same wherever the token is one that is expected
 module _ {S T : Type 0} (inner : S → Token → Result S Misfit) (outer : T → Token → Result T Misfit) (wrap : S → T)
-    (each : (s next : S) (t : Token) → inner s t ≡ Ok next → outer (wrap s) t ≡ Ok (wrap next))
-    (deep : (s : S) (t : Token) → inner s t ≡ Err TooDeep → outer (wrap s) t ≡ Err TooDeep) where
+    (alike : (s : S) (t : Token) (read : Result S Misfit) → inner s t ≡ read → (read ≡ Err Expected → ⊥) → outer (wrap s) t ≡ (read >>= λ x. Ok (wrap x))) where
   pub inside : (ts : List Token) (s end : S) → run inner s ts ≡ Ok end → run outer (wrap s) ts ≡ Ok (wrap end)
   unfolding run
   inside [] s end ran = ap (λ x. Ok (wrap x)) (ok_is s end ran)
   inside (t ∷ ts) s end ran =
       let one = bind_ok (inner s t) (λ x. run inner x ts) end ran in
-      one_step outer (wrap s) (wrap one.0) t ts (each s one.0 t one.1) ∙ inside ts one.0 end one.2
+      one_step outer (wrap s) (wrap one.0) t ts (alike s t (Ok one.0) one.1 (ok_differs one.0 Expected)) ∙ inside ts one.0 end one.2
 
   deep_by : (t : Token) (ts : List Token) (s : S) (r : Result S Misfit) → inner s t ≡ r → ((x : S) → run inner x ts ≡ Err TooDeep → run outer (wrap x) ts ≡ Err TooDeep)
       → (r >>= λ x. run inner x ts) ≡ Err TooDeep → run outer (wrap s) (t ∷ ts) ≡ Err TooDeep
-  deep_by t ts s (Ok x) is go given = one_step outer (wrap s) (wrap x) t ts (each s x t is) ∙ go x given
-  deep_by t ts s (Err f) is go given = failing outer (wrap s) t ts TooDeep (deep s t (is ∙ given))
+  deep_by t ts s (Ok x) is go given = one_step outer (wrap s) (wrap x) t ts (alike s t (Ok x) is (ok_differs x Expected)) ∙ go x given
+  deep_by t ts s (Err f) is go given = failing outer (wrap s) t ts TooDeep (alike s t (Err TooDeep) (is ∙ given) deep_differs)
 
   pub inside_deep : (ts : List Token) (s : S) → run inner s ts ≡ Err TooDeep → run outer (wrap s) ts ≡ Err TooDeep
   unfolding run

@@ -1,22 +1,30 @@
 -- Each expression is read: after its tokens stands the state that it ends in.
-use Rattle.std.proofs.Common.{◌≡◌, ℕ, zero, suc, ◌+◌, ◌<◌, cond, List, [], ◌∷◌, ◌++◌, length, inl, inr, Option, Some, None, Ok, Err, refl, ap, ◌∙◌, append_assoc, arith}
+use Rattle.std.proofs.Common.{◌≡◌, ℕ, zero, suc, ◌+◌, ◌<◌, cond, List, [], ◌∷◌, ◌++◌, length, inl, inr, Option, Some, None, Result, Ok, Err, refl, ap, ◌∙◌}
+use Rattle.std.proofs.Common.{append_assoc, arith}
 use Rattle.std.proofs.lemmas.Bool.{lt-ltb, le-ltb}
-use Rattle.statement_tokens.specs.declared.place.Spot.{Spot}
-use Rattle.statement_tokens.specs.declared.token.Token.{Token}
-use Rattle.statement_tokens.specs.declared.token.TokenKind.TheVariants as kind
+use Rattle.statement_syntax.specs.Types.{Spot, Token, TokenKind as kind, Name, Number, Reading, Misfit, TooDeep}
 use Rattle.statement_syntax.specs.Limits.{bracket_limit}
-use Rattle.statement_syntax.specs.declared.tree.Name.{Name}
-use Rattle.statement_syntax.specs.declared.tree.Number.{Number}
-use Rattle.statement_syntax.specs.declared.expression.Misfit.TheVariants.{TooDeep}
+use Rattle.statement_syntax.specs.Steps as steps
 use Rattle.statement_syntax.specs.Steps.{◌>>=◌, run}
 use Rattle.statement_syntax.proofs.Run.{Upto, then_on, before_it, after_it, one_step}
-use Rattle.statement_syntax.specs.Grammar.{Lead, no_sign, lead_plus, lead_minus, Sign, plus, minus, Expr, first, joined, Product, zero_alone, factors, Factors, one, beside, Marked, plain, marked, raised, Prime, name, identity, bracket, sign_token, name_token, number_token, lead_tokens, signed_token, literal_tokens, zero_at, expr_tokens, product_tokens, factors_tokens, marked_tokens, prime_tokens, ExprFits, ProductFits, FactorsFit, MarkedFits, PrimeFits}
-use Rattle.statement_syntax.proofs.Machine.{Head, led, after, Part, nothing, scaled, product, outside, Level, State, fresh, add, step, whole}
+use Rattle.statement_syntax.specs.Grammar.{Lead, no_sign, lead_plus, lead_minus, Sign, plus, minus, Expr, first, joined, Product, zero_alone, factors, Factors}
+use Rattle.statement_syntax.specs.Grammar.{one, beside, Marked, plain, marked, raised, Prime, name, identity, bracket, sign_token, name_token, number_token}
+use Rattle.statement_syntax.specs.Grammar.{lead_tokens, signed_token, literal_tokens, zero_at, expr_tokens, product_tokens, factors_tokens, marked_tokens}
+use Rattle.statement_syntax.specs.Grammar.{prime_tokens, ExprFits, ProductFits, FactorsFit, MarkedFits, PrimeFits}
+use Rattle.statement_syntax.proofs.Machine.{Head, led, after, Part, nothing, scaled, product, Level, State, at_outside, fresh, add, whole_term, with_term}
+use Rattle.statement_syntax.proofs.Machine.{whole}
+use Rattle.statement_syntax.proofs.Seen.{head_of, levels_of, reading_of}
+use Rattle.statement_syntax.proofs.Same.{add-seen, signed-seen, closed-seen}
+use Rattle.statement_syntax.proofs.StateReads.{reading_step}
+
+-- a step and a run from what is seen of a state
+abbrev goes : State → Token → Result Reading Misfit
+goes st t = reading_step (reading_of st) t
+
+abbrev pub runs : State → List Token → Result Reading Misfit
+runs st ts = run reading_step (reading_of st) ts
 
 -- the state at the end of each part
-abbrev pub at_outside : List Level → Head → Part → State
-at_outside levels head part = record { levels = levels; head = head; part = part; focus = outside }
-
 abbrev pub add_marked : Part → Marked → Part
 add_marked nothing f = product None (one f)
 add_marked (scaled n) f = product (Some n) (one f)
@@ -26,61 +34,64 @@ abbrev pub after_literal : Option Number → Part
 after_literal None = nothing
 after_literal (Some n) = scaled n
 
-abbrev pub part_of : Product → Part
-part_of (zero_alone at) = scaled (zero_at at)
-part_of (factors l fs) = product l fs
+abbrev whole_part : Product → Part
+whole_part (zero_alone at) = scaled (zero_at at)
+whole_part (factors l fs) = product l fs
 
 abbrev pub end_state : List Level → Expr → State
-end_state levels (first l t) = at_outside levels (led l) (part_of t)
-end_state levels (joined e s t) = at_outside levels (after e s) (part_of t)
+end_state levels (first l t) = at_outside levels (led l) (whole_part t)
+end_state levels (joined e s t) = at_outside levels (after e s) (whole_part t)
 
 -- single steps
-sign_step : (levels : List Level) (e : Expr) (s : Sign) → step (end_state levels e) (signed_token s) ≡ Ok (at_outside levels (after e s) nothing)
-unfolding step
-sign_step levels (first l (zero_alone at)) (plus x) = refl
-sign_step levels (first l (zero_alone at)) (minus x) = refl
-sign_step levels (first l (factors n fs)) (plus x) = refl
-sign_step levels (first l (factors n fs)) (minus x) = refl
-sign_step levels (joined e t (zero_alone at)) (plus x) = refl
-sign_step levels (joined e t (zero_alone at)) (minus x) = refl
-sign_step levels (joined e t (factors n fs)) (plus x) = refl
-sign_step levels (joined e t (factors n fs)) (minus x) = refl
+whole_is : (t : Product) → whole_term (whole_part t) ≡ Some t
+whole_is (zero_alone at) = refl
+whole_is (factors l fs) = refl
+
+sign_behind : (levels : List Level) (head : Head) (t : Product) (s : Sign)
+    → goes (at_outside levels head (whole_part t)) (signed_token s) ≡ Ok (reading_of (at_outside levels (after (with_term head t) s) nothing))
+sign_behind levels head (zero_alone at) (plus x) = ap (λ r. Ok r) (signed-seen levels head (zero_alone at) (plus x))
+sign_behind levels head (zero_alone at) (minus x) = ap (λ r. Ok r) (signed-seen levels head (zero_alone at) (minus x))
+sign_behind levels head (factors l fs) (plus x) = ap (λ r. Ok r) (signed-seen levels head (factors l fs) (plus x))
+sign_behind levels head (factors l fs) (minus x) = ap (λ r. Ok r) (signed-seen levels head (factors l fs) (minus x))
+
+sign_step : (levels : List Level) (e : Expr) (s : Sign) → goes (end_state levels e) (signed_token s) ≡ Ok (reading_of (at_outside levels (after e s) nothing))
+sign_step levels (first l t) s = sign_behind levels (led l) t s
+sign_step levels (joined e before t) s = sign_behind levels (after e before) t s
 
 close_step : (levels : List Level) (head : Head) (part : Part) (left : Spot) (e : Expr) (right : Spot)
-    → step (end_state (record { head = head; part = part; at = left } ∷ levels) e) (sign_token kind.Close right) ≡ Ok (at_outside levels head (add part (bracket left e right)))
-unfolding step
-close_step levels head part left (first l (zero_alone at)) right = refl
-close_step levels head part left (first l (factors n fs)) right = refl
-close_step levels head part left (joined e s (zero_alone at)) right = refl
-close_step levels head part left (joined e s (factors n fs)) right = refl
+    → goes (end_state (record { head = head; part = part; at = left } ∷ levels) e) (sign_token kind.Close right)
+    ≡ Ok (reading_of (at_outside levels head (add part (bracket left e right))))
+close_step levels head part left (first l t) right = closed-seen _ levels (led l) (whole_part t) t right (whole_is t)
+close_step levels head part left (joined e s t) right = closed-seen _ levels (after e s) (whole_part t) t right (whole_is t)
 
-open_step : (levels : List Level) (head : Head) (part : Part) (left : Spot) → length levels < bracket_limit
-    → step (at_outside levels head part) (sign_token kind.Open left) ≡ Ok (fresh (record { head = head; part = part; at = left } ∷ levels))
-unfolding step
-open_step levels head part left room = ap (λ b. cond b (Ok (fresh (record { head = head; part = part; at = left } ∷ levels))) (Err TooDeep)) (lt-ltb (length levels) bracket_limit room)
+open_step : (levels : List Level) (head : Head) (part : Part) (left : Spot) → length (levels_of levels) < bracket_limit
+    → goes (at_outside levels head part) (sign_token kind.Open left) ≡ Ok (reading_of (fresh (record { head = head; part = part; at = left } ∷ levels)))
+open_step levels head part left room =
+    ap (λ b. cond b (Ok (reading_of (fresh (record { head = head; part = part; at = left } ∷ levels)))) (Err TooDeep))
+    (lt-ltb (length (levels_of levels)) bracket_limit room)
 
 quote_step : (levels : List Level) (head : Head) (part : Part) (f : Marked) (at : Spot)
-    → step (at_outside levels head (add_marked part f)) (sign_token kind.Quote at) ≡ Ok (at_outside levels head (add_marked part (marked f at)))
-unfolding step
+    → goes (at_outside levels head (add_marked part f)) (sign_token kind.Quote at) ≡ Ok (reading_of (at_outside levels head (add_marked part (marked f at))))
 quote_step levels head nothing f at = refl
 quote_step levels head (scaled n) f at = refl
 quote_step levels head (product l fs) f at = refl
 
 power_run : (levels : List Level) (head : Head) (part : Part) (f : Marked) (at : Spot) (n : Number) (rest : List Token)
-    → run step (at_outside levels head (add_marked part f)) (sign_token kind.Caret at ∷ number_token n ∷ rest) ≡ run step (at_outside levels head (add_marked part (raised f at n))) rest
-unfolding step run
+    → runs (at_outside levels head (add_marked part f)) (sign_token kind.Caret at ∷ number_token n ∷ rest)
+    ≡ runs (at_outside levels head (add_marked part (raised f at n))) rest
+unfolding run
 power_run levels head nothing f at n rest = refl
 power_run levels head (scaled m) f at n rest = refl
 power_run levels head (product l fs) f at n rest = refl
 
 literal_run : (levels : List Level) (head : Head) (l : Option Number) (rest : List Token)
-    → run step (at_outside levels head nothing) (literal_tokens l ++ rest) ≡ run step (at_outside levels head (after_literal l)) rest
-unfolding step run
+    → runs (at_outside levels head nothing) (literal_tokens l ++ rest) ≡ runs (at_outside levels head (after_literal l)) rest
+unfolding run
 literal_run levels head None rest = refl
 literal_run levels head (Some n) rest = refl
 
-lead_run : (levels : List Level) (l : Lead) (rest : List Token) → run step (fresh levels) (lead_tokens l ++ rest) ≡ run step (at_outside levels (led l) nothing) rest
-unfolding step run
+lead_run : (levels : List Level) (l : Lead) (rest : List Token) → runs (fresh levels) (lead_tokens l ++ rest) ≡ runs (at_outside levels (led l) nothing) rest
+unfolding run
 lead_run levels no_sign rest = refl
 lead_run levels (lead_plus at) rest = refl
 lead_run levels (lead_minus at) rest = refl
@@ -95,76 +106,82 @@ literal_is None f = refl
 literal_is (Some n) f = refl
 
 name_run : (levels : List Level) (head : Head) (part : Part) (n : Name) (rest : List Token)
-    → run step (at_outside levels head part) (name_token n ∷ rest) ≡ run step (at_outside levels head (add part (name n))) rest
-unfolding step run
-name_run levels head part n rest = refl
+    → runs (at_outside levels head part) (name_token n ∷ rest) ≡ runs (at_outside levels head (add part (name n))) rest
+unfolding run
+name_run levels head part n rest =
+    ap (λ p. run reading_step (steps.outside (levels_of levels) (head_of head) p) rest) (add-seen part (name n))
 
 identity_run : (levels : List Level) (head : Head) (part : Part) (left : Spot) (n : Name) (right : Spot) (rest : List Token)
-    → run step (at_outside levels head part) (sign_token kind.OpenSquare left ∷ name_token n ∷ sign_token kind.CloseSquare right ∷ rest) ≡ run step (at_outside levels head (add part (identity left n right))) rest
-unfolding step run
-identity_run levels head part left n right rest = refl
+    → runs (at_outside levels head part) (sign_token kind.OpenSquare left ∷ name_token n ∷ sign_token kind.CloseSquare right ∷ rest)
+    ≡ runs (at_outside levels head (add part (identity left n right))) rest
+unfolding run
+identity_run levels head part left n right rest =
+    ap (λ p. run reading_step (steps.outside (levels_of levels) (head_of head) p) rest) (add-seen part (identity left n right))
 
 -- whole parts
-open_fails : (levels : List Level) (head : Head) (part : Part) (left : Spot) (rest : List Token) → length levels + 0 ≡ bracket_limit
-    → run step (at_outside levels head part) (sign_token kind.Open left ∷ rest) ≡ Err TooDeep
-unfolding step run
+open_fails : (levels : List Level) (head : Head) (part : Part) (left : Spot) (rest : List Token) → length (levels_of levels) + 0 ≡ bracket_limit
+    → runs (at_outside levels head part) (sign_token kind.Open left ∷ rest) ≡ Err TooDeep
+unfolding run
 open_fails levels head part left rest room =
-    ap (λ b. cond b (Ok (fresh (record { head = head; part = part; at = left } ∷ levels))) (Err TooDeep) >>= λ s. run step s rest)
-    (le-ltb (length levels) bracket_limit (omega (arith, room)))
+    ap (λ b. cond b (Ok (reading_of (fresh (record { head = head; part = part; at = left } ∷ levels)))) (Err TooDeep) >>= λ r. run reading_step r rest)
+    (le-ltb (length (levels_of levels)) bracket_limit (omega (arith, room)))
 
 mutual
-  pub expr_run : (levels : List Level) (e : Expr) (d : ℕ) (rest : List Token) → length levels + d ≡ bracket_limit
-      → Upto (ExprFits e d) (run step (fresh levels) (expr_tokens e ++ rest)) (run step (end_state levels e) rest)
+  pub expr_run : (levels : List Level) (e : Expr) (d : ℕ) (rest : List Token) → length (levels_of levels) + d ≡ bracket_limit
+      → Upto (ExprFits e d) (runs (fresh levels) (expr_tokens e ++ rest)) (runs (end_state levels e) rest)
   expr_run levels (first l t) d rest room =
-      before_it (ap (run step (fresh levels)) (append_assoc (lead_tokens l) (product_tokens t) rest)
+      before_it (ap (runs (fresh levels)) (append_assoc (lead_tokens l) (product_tokens t) rest)
       ∙ lead_run levels l (product_tokens t ++ rest))
       (product_run levels (led l) t d rest room)
   expr_run levels (joined e s t) d rest room =
-      before_it (ap (run step (fresh levels)) (append_assoc (expr_tokens e) (signed_token s ∷ product_tokens t) rest))
+      before_it (ap (runs (fresh levels)) (append_assoc (expr_tokens e) (signed_token s ∷ product_tokens t) rest))
       (then_on (expr_run levels e d (signed_token s ∷ (product_tokens t ++ rest)) room)
-      (before_it (one_step step (end_state levels e) (at_outside levels (after e s) nothing) (signed_token s) (product_tokens t ++ rest) (sign_step levels e s))
+      (before_it (one_step reading_step _ _ (signed_token s) (product_tokens t ++ rest) (sign_step levels e s))
       (product_run levels (after e s) t d rest room)))
 
-  product_run : (levels : List Level) (head : Head) (t : Product) (d : ℕ) (rest : List Token) → length levels + d ≡ bracket_limit
-      → Upto (ProductFits t d) (run step (at_outside levels head nothing) (product_tokens t ++ rest)) (run step (at_outside levels head (part_of t)) rest)
+  product_run : (levels : List Level) (head : Head) (t : Product) (d : ℕ) (rest : List Token) → length (levels_of levels) + d ≡ bracket_limit
+      → Upto (ProductFits t d) (runs (at_outside levels head nothing) (product_tokens t ++ rest)) (runs (at_outside levels head (whole_part t)) rest)
   product_run levels head (zero_alone at) d rest room = inl (tt, literal_run levels head (Some (zero_at at)) rest)
   product_run levels head (factors l fs) d rest room =
-      before_it (ap (run step (at_outside levels head nothing)) (append_assoc (literal_tokens l) (factors_tokens fs) rest)
+      before_it (ap (runs (at_outside levels head nothing)) (append_assoc (literal_tokens l) (factors_tokens fs) rest)
       ∙ literal_run levels head l (factors_tokens fs ++ rest))
       (factors_run levels head l fs d rest room)
 
-  factors_run : (levels : List Level) (head : Head) (l : Option Number) (fs : Factors) (d : ℕ) (rest : List Token) → length levels + d ≡ bracket_limit
-      → Upto (FactorsFit fs d) (run step (at_outside levels head (after_literal l)) (factors_tokens fs ++ rest)) (run step (at_outside levels head (product l fs)) rest)
+  factors_run : (levels : List Level) (head : Head) (l : Option Number) (fs : Factors) (d : ℕ) (rest : List Token)
+      → length (levels_of levels) + d ≡ bracket_limit
+      → Upto (FactorsFit fs d) (runs (at_outside levels head (after_literal l)) (factors_tokens fs ++ rest)) (runs (at_outside levels head (product l fs)) rest)
   factors_run levels head l (one f) d rest room =
-      after_it (marked_run levels head (after_literal l) f d rest room) (ap (λ p. run step (at_outside levels head p) rest) (literal_is l f))
+      after_it (marked_run levels head (after_literal l) f d rest room) (ap (λ p. runs (at_outside levels head p) rest) (literal_is l f))
   factors_run levels head l (beside fs f) d rest room =
-      before_it (ap (run step (at_outside levels head (after_literal l))) (append_assoc (factors_tokens fs) (marked_tokens f) rest))
+      before_it (ap (runs (at_outside levels head (after_literal l))) (append_assoc (factors_tokens fs) (marked_tokens f) rest))
       (then_on (factors_run levels head l fs d (marked_tokens f ++ rest) room)
       (marked_run levels head (product l fs) f d rest room))
 
-  marked_run : (levels : List Level) (head : Head) (part : Part) (f : Marked) (d : ℕ) (rest : List Token) → length levels + d ≡ bracket_limit
-      → Upto (MarkedFits f d) (run step (at_outside levels head part) (marked_tokens f ++ rest)) (run step (at_outside levels head (add_marked part f)) rest)
-  marked_run levels head part (plain p) d rest room = after_it (prime_run levels head part p d rest room) (ap (λ q. run step (at_outside levels head q) rest) (plain_is part p))
+  marked_run : (levels : List Level) (head : Head) (part : Part) (f : Marked) (d : ℕ) (rest : List Token) → length (levels_of levels) + d ≡ bracket_limit
+      → Upto (MarkedFits f d) (runs (at_outside levels head part) (marked_tokens f ++ rest)) (runs (at_outside levels head (add_marked part f)) rest)
+  marked_run levels head part (plain p) d rest room =
+      after_it (prime_run levels head part p d rest room) (ap (λ q. runs (at_outside levels head q) rest) (plain_is part p))
   marked_run levels head part (marked f at) d rest room =
-      before_it (ap (run step (at_outside levels head part)) (append_assoc (marked_tokens f) (sign_token kind.Quote at ∷ []) rest))
+      before_it (ap (runs (at_outside levels head part)) (append_assoc (marked_tokens f) (sign_token kind.Quote at ∷ []) rest))
       (after_it (marked_run levels head part f d (sign_token kind.Quote at ∷ rest) room)
-      (one_step step (at_outside levels head (add_marked part f)) (at_outside levels head (add_marked part (marked f at))) (sign_token kind.Quote at) rest (quote_step levels head part f at)))
+      (one_step reading_step _ _ (sign_token kind.Quote at) rest (quote_step levels head part f at)))
   marked_run levels head part (raised f at n) d rest room =
-      before_it (ap (run step (at_outside levels head part)) (append_assoc (marked_tokens f) (sign_token kind.Caret at ∷ number_token n ∷ []) rest))
+      before_it (ap (runs (at_outside levels head part)) (append_assoc (marked_tokens f) (sign_token kind.Caret at ∷ number_token n ∷ []) rest))
       (after_it (marked_run levels head part f d (sign_token kind.Caret at ∷ number_token n ∷ rest) room) (power_run levels head part f at n rest))
 
-  prime_run : (levels : List Level) (head : Head) (part : Part) (p : Prime) (d : ℕ) (rest : List Token) → length levels + d ≡ bracket_limit
-      → Upto (PrimeFits p d) (run step (at_outside levels head part) (prime_tokens p ++ rest)) (run step (at_outside levels head (add part p)) rest)
+  prime_run : (levels : List Level) (head : Head) (part : Part) (p : Prime) (d : ℕ) (rest : List Token) → length (levels_of levels) + d ≡ bracket_limit
+      → Upto (PrimeFits p d) (runs (at_outside levels head part) (prime_tokens p ++ rest)) (runs (at_outside levels head (add part p)) rest)
   prime_run levels head part (name n) d rest room = inl (tt, name_run levels head part n rest)
   prime_run levels head part (identity left n right) d rest room = inl (tt, identity_run levels head part left n right rest)
   prime_run levels head part (bracket left e right) zero rest room =
       inr (λ x. x, open_fails levels head part left ((expr_tokens e ++ sign_token kind.Close right ∷ []) ++ rest) room)
   prime_run levels head part (bracket left e right) (suc d) rest room =
       let inner = record { head = head; part = part; at = left } ∷ levels in
-      before_it (one_step step (at_outside levels head part) (fresh inner) (sign_token kind.Open left) ((expr_tokens e ++ sign_token kind.Close right ∷ []) ++ rest) (open_step levels head part left (omega (arith, room)))
-      ∙ ap (run step (fresh inner)) (append_assoc (expr_tokens e) (sign_token kind.Close right ∷ []) rest))
+      before_it (one_step reading_step _ _ (sign_token kind.Open left) ((expr_tokens e ++ sign_token kind.Close right ∷ []) ++ rest)
+      (open_step levels head part left (omega (arith, room)))
+      ∙ ap (runs (fresh inner)) (append_assoc (expr_tokens e) (sign_token kind.Close right ∷ []) rest))
       (after_it (expr_run inner e d (sign_token kind.Close right ∷ rest) (omega (arith, room)))
-      (one_step step (end_state inner e) (at_outside levels head (add part (bracket left e right))) (sign_token kind.Close right) rest (close_step levels head part left e right)))
+      (one_step reading_step _ _ (sign_token kind.Close right) rest (close_step levels head part left e right)))
 
 -- an expression ends where its tokens do
 pub end-whole : (e : Expr) → whole (end_state [] e) ≡ Some e

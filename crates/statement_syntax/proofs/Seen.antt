@@ -1,14 +1,6 @@
 -- What the program keeps of a state, which is all but the places of signs.
 use Rattle.std.specs.Prelude.{true, false, List, [], ◌∷◌, Option, Some, None, Result, Ok, Err}
-use Rattle.statement_syntax.specs.declared.tree.Sum.{Sum}
-use Rattle.statement_syntax.specs.declared.expression.Misfit.{Misfit}
-use Rattle.statement_syntax.specs.declared.expression.Part.{Part}
-use Rattle.statement_syntax.specs.declared.expression.Part.TheVariants as part
-use Rattle.statement_syntax.specs.declared.expression.Head.{Head}
-use Rattle.statement_syntax.specs.declared.expression.Level.{Level}
-use Rattle.statement_syntax.specs.declared.expression.Reading.{Reading}
-use Rattle.statement_syntax.specs.declared.expression.Focus.{Focus}
-use Rattle.statement_syntax.specs.declared.expression.Focus.TheVariants as focus
+use Rattle.statement_syntax.specs.Types.{Sum, Misfit, Part, Part as part, Head, Level, Reading, Focus, Focus as focus}
 use Rattle.statement_syntax.specs.Grammar.{no_sign, lead_plus, lead_minus, Expr}
 use Rattle.statement_syntax.specs.Tree.{expr_at, expr_terms, expr_tree, is_minus, literal_or, factors_at, front_trees, last_tree}
 use Rattle.statement_syntax.proofs.Machine as machine
@@ -36,10 +28,6 @@ levels_of (level ∷ levels) = record { head = head_of level.head; part = part_o
 
 abbrev pub reading_of : machine.State → Reading
 reading_of st = record { levels = levels_of st.levels; head = head_of st.head; part = part_of st.part; focus = focus_of st.focus }
-
-abbrev pub seen : Result machine.State Misfit → Result Reading Misfit
-seen (Ok st) = Ok (reading_of st)
-seen (Err e) = Err e
 
 abbrev pub tree_or : Option Expr → Misfit → Result Sum Misfit
 tree_or None e = Err e

@@ -4,22 +4,10 @@ use Rattle.std.specs.Prelude.{codes}
 use Rattle.std.specs.List.{flat_map}
 use Rattle.std.proofs.lemmas.List.{append-nil, map-append}
 use Rattle.std.proofs.lemmas.Grind.{flat_map-append}
-use Rattle.statement_tokens.specs.declared.place.Spot.{Spot}
-use Rattle.statement_tokens.specs.declared.token.Token.{Token}
-use Rattle.statement_tokens.specs.declared.token.TokenKind.{TokenKind}
-use Rattle.statement_tokens.specs.declared.token.TokenKind.TheVariants as kind
-use Rattle.statement_syntax.specs.declared.tree.Name.{Name}
-use Rattle.statement_syntax.specs.declared.tree.Number.{Number}
-use Rattle.statement_syntax.specs.declared.tree.Mark.{Mark}
-use Rattle.statement_syntax.specs.declared.tree.Mark.TheVariants.{Adjoint, Power}
-use Rattle.statement_syntax.specs.declared.tree.Factor.{Factor}
-use Rattle.statement_syntax.specs.declared.tree.Term.{Term, out-roll-Term}
-use Rattle.statement_syntax.specs.declared.tree.Sum.{out-roll-Sum}
-use Rattle.statement_syntax.specs.declared.line.ListWord.TheVariants.{Object, Solve, Eliminate}
-use Rattle.statement_syntax.specs.declared.line.SidesWord.TheVariants.{Assume, Claim}
-use Rattle.statement_syntax.specs.declared.line.PairWord.TheVariants.{Pinv, Inverse, Inner}
+use Rattle.statement_syntax.specs.Types.{Spot, Token, TokenKind, TokenKind as kind, Name, Number, Mark, Adjoint, Power, Factor, Term, out-roll-Term}
+use Rattle.statement_syntax.specs.Types.{out-roll-Sum, Object, Solve, Eliminate, Assume, Claim, Pinv}
 use Rattle.statement_syntax.specs.Nodes.{term_of, sum_of}
-use Rattle.statement_syntax.specs.Grammar.{Lead, no_sign, lead_plus, lead_minus, Sign, plus, minus, Expr, first, joined, Product, zero_alone, factors, Factors, one, beside, Marked, plain, marked, raised, Prime, name, identity, bracket, sign_token, name_token, number_token, zero_at, lead_tokens, signed_token, literal_tokens, expr_tokens, product_tokens, factors_tokens, marked_tokens, prime_tokens, Ending, no_word, self_word, ending_tokens, names_tokens, pairs_tokens, Stated, listed, mapped, sides, paired, projected, by_degree, by_weight, modelled, second_language, stated_tokens}
+use Rattle.statement_syntax.specs.Grammar.{Lead, no_sign, lead_plus, lead_minus, Sign, plus, minus, Expr, first, joined, Product, zero_alone, factors, Factors, one, beside, Marked, plain, marked, raised, Prime, name, identity, bracket, sign_token, name_token, number_token, zero_at, lead_tokens, signed_token, literal_tokens, expr_tokens, product_tokens, factors_tokens, marked_tokens, prime_tokens, Ending, no_word, self_word, ending_tokens, names_tokens, pairs_tokens, Stated, listed, mapped, sides, paired, by_weight, modelled, stated_tokens}
 use Rattle.statement_syntax.specs.Tree.{prime_tree, marked_tree, front_trees, last_tree, product_tree, expr_terms, expr_tree, expr_at, is_minus, is_negative, literal_or, factors_at, is_self, stated_kind}
 use Rattle.statement_syntax.specs.Places.{somewhere, bare_name, bare_number, bare_literal, bare_lead, bare_sign, bare, bare_product, bare_factors, bare_marked, bare_prime, bare_ending, bare_names, bare_pairs, bare_stated}
 use Rattle.statement_syntax.specs.Written.{name_kinds, number_kinds, literal_kinds, sign_kinds, mark_kinds, primary_kinds, factor_kinds, term_kinds, sum_kinds, pair_kinds, self_kinds, sides_kinds, statement_kinds}
@@ -155,10 +143,6 @@ stated-kinds (mapped at n ns colon s arrow t end) =
 stated-kinds (sides Assume at d equals e) = sides_are (codes "assume") at equals d e
 stated-kinds (sides Claim at d equals e) = sides_are (codes "claim") at equals d e
 stated-kinds (paired Pinv at m n) = refl
-stated-kinds (paired Inverse at m n) = refl
-stated-kinds (paired Inner at m n) = refl
-stated-kinds (projected at n) = refl
-stated-kinds (by_degree at word) = refl
 stated-kinds (by_weight at word p ps) = ap (λ ks. kind.Name (codes "order") ∷ kind.Name (codes "weight") ∷ ks) (pairs-kinds (p ∷ ps))
 stated-kinds (modelled at m ps) = ap (λ ks. kind.Name (codes "model") ∷ kind.Literal m.value ∷ ks) (pairs-kinds ps)
-stated-kinds (second_language at number) = refl
+stated-kinds s = refl

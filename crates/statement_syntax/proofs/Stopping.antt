@@ -2,27 +2,11 @@
 use Rattle.std.proofs.Common.{◌≡◌, ℕ, List, [], ◌∷◌, ◌++◌, inl, inr, Ok, Err, refl, sym, ap, subst, ◌∙◌, append_assoc}
 use Rattle.std.proofs.lemmas.List.{append-nil, map-append}
 use Rattle.std.specs.Str.{IsUtf8, chars}
-use Rattle.std.specs.Str.Lossy.{utf8_valid_len}
-use Rattle.statement_tokens.specs.declared.place.Spot.{Spot}
-use Rattle.statement_tokens.specs.declared.token.Token.{Token}
-use Rattle.statement_tokens.specs.declared.language.Language.{Language}
-use Rattle.statement_tokens.specs.declared.token.TokenKind.TheVariants as kind
-use Rattle.statement_syntax.specs.declared.tree.Statement.{Statement}
-use Rattle.statement_syntax.specs.declared.expression.Misfit.{Misfit}
-use Rattle.statement_syntax.specs.declared.expression.Misfit.TheVariants.{Expected, TooDeep}
-use Rattle.statement_syntax.specs.declared.line.Line.TheVariants as line
-use Rattle.statement_syntax.specs.declared.read.Progress.{Progress}
-use Rattle.statement_syntax.specs.declared.fault.Fault.{Fault}
-use Rattle.statement_syntax.specs.declared.fault.Fault.TheVariants as fault
-use Rattle.statement_syntax.specs.declared.fault.SyntaxFault.{SyntaxFault}
-use Rattle.statement_syntax.specs.declared.fault.SyntaxFault.TheVariants as refusal
-use Rattle.statement_syntax.specs.declared.expression.ReadError.{ReadError}
-use Rattle.statement_syntax.specs.declared.expression.ReadError.TheVariants as error
+use Rattle.statement_syntax.specs.Types.{Spot, Token, Language, TokenKind as kind, Statement, Misfit, Expected, TooDeep, Line as line, Progress, Fault}
+use Rattle.statement_syntax.specs.Types.{Fault as fault, SyntaxFault, SyntaxFault as refusal, ReadError, ReadError as error, ScanFault, ScanFault as scan}
 use Rattle.statement_syntax.specs.Steps.{◌>>=◌, run, Fails}
 use Rattle.statement_tokens.specs.Language.{language_of}
 use Rattle.statement_tokens.specs.Tokens.{AreTokens, IsFirstScanFault}
-use Rattle.statement_tokens.specs.declared.scan.ScanFault.{ScanFault}
-use Rattle.statement_tokens.specs.declared.scan.ScanFault.TheVariants as scan
 use Rattle.statement_syntax.specs.Grammar.{sign_token, StatedLine, AreLinesOf, IsFileOf, file_tokens, FileFits}
 use Rattle.statement_syntax.specs.Tree.{stated_tree, file_tree}
 use Rattle.statement_syntax.specs.Lines.{line_end, ended, file_step}
@@ -33,8 +17,7 @@ use Rattle.statement_syntax.proofs.Run.{bind_ok, ok_is, run_front, one_step, upt
 use Rattle.statement_syntax.proofs.LastToken.{EndsWell, ends_from, rest_ends}
 use Rattle.statement_syntax.proofs.LineReads.{LineReads}
 use Rattle.statement_syntax.proofs.FirstLine.{file_language, Divided, Behind, divided}
-use Rattle.statement_syntax.proofs.FileReads.{FileReads, run_reads, file_on, file_misfit, lines_run, in_file, file_tokens-append, FileFits-append}
-use Rattle.statement_syntax.proofs.FileDeep.{file_deep}
+use Rattle.statement_syntax.proofs.FileReads.{FileReads, run_reads, file_on, file_misfit, lines_run, in_file, file_tokens-append, FileFits-append, file_deeper}
 
 -- the loop's run over tokens
 abbrev pub Runs : List Token → List Token → Progress → Type 0
@@ -192,7 +175,7 @@ module _ (ts : List Token) (refused : SyntaxFault) (loop : StoppedAt ts refused)
 
   deeper : loop.misfit ≡ TooDeep → GoesOn (language_of ts) (front ++ loop.token ∷ [])
   deeper is =
-      let on = file_deep (language_of ts) before loop.progress loop.front loop.token read_so (loop.stops ∙ ap (λ x. Err x) is) in
+      let on = file_deeper (language_of ts) before loop.progress loop.front loop.token read_so (loop.stops ∙ ap (λ x. Err x) is) in
       let shown = append_assoc (file_tokens (own ts).lines) loop.front (loop.token ∷ []) in
       (on.0, (own ts).lines ++ on.1, (own ts).joins on.1 on.2, ap (λ (x : List Token). x ++ on.0) shown ∙ with_first ts (loop.front ++ loop.token ∷ []) on.0 on.1 on.3)
 
@@ -225,10 +208,6 @@ pub is_first : (bytes : List ℕ) (ts : List Token) (refused : SyntaxFault) → 
 is_first bytes ts (refusal.Memory e) utf8 read loop = tt
 is_first bytes ts (refusal.Fault code l c) utf8 read loop =
     subst (TellsFirstFault bytes) (sym loop.tells) (tells_by ts (refusal.Fault code l c) loop bytes loop.misfit utf8 read refl)
-
--- bytes that are no text
-pub told_not_utf8 : (bytes : List ℕ) (told : SyntaxFault) (column : ℕ) → told ≡ fault_at fault.NotUtf8 (record { line = 0; column = column }) → (IsUtf8 bytes → ⊥) → column ≡ utf8_valid_len bytes → TellsFirstFault bytes told
-told_not_utf8 bytes told column is invalid at = subst (TellsFirstFault bytes) (sym is) (fault.NotUtf8, refl, (invalid, ap (λ n. record { line = 0; column = n }) at))
 
 -- the first fault of the characters is that of the bytes
 pub told_scanned : (bytes : List ℕ) (told : SyntaxFault) (f : ScanFault) (at : Spot) → told ≡ fault_at (scan_fault f) at → IsUtf8 bytes → IsFirstScanFault (chars bytes) f at → TellsFirstFault bytes told

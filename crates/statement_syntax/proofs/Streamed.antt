@@ -1,23 +1,13 @@
 -- Tokens that come one after another, and what has been read of a file that begins with them.
 use Rattle.std.proofs.Common.{◌≡◌, ◌<◌, ℕ, List, [], ◌∷◌, ◌++◌, ◌⊎◌, inl, inr, length, Some, None, Result, Ok, Err, MatchResult, refl, sym, ap, ap₂, subst, ◌∙◌, append_assoc, append-nil, length-append, ◌+◌, arith}
-use Rattle.statement_tokens.specs.declared.token.Token.{Token}
-use Rattle.statement_tokens.specs.declared.language.Language.{Language}
-use Rattle.statement_tokens.specs.declared.language.Language.TheVariants.{First, Second}
-use Rattle.statement_tokens.specs.declared.scan.Placed.{Placed}
-use Rattle.statement_tokens.specs.declared.scan.ScanError.{ScanError}
-use Rattle.statement_tokens.specs.declared.scan.ScanError.TheVariants as scan_error
-use Rattle.statement_tokens.specs.declared.scanner.Scanner.{Scanner}
+use Rattle.statement_syntax.specs.Types.{Token, Language, First, Second, Placed, ScanError, ScanError as scan_error, Scanner, Statement, Line as line, Progress}
+use Rattle.statement_syntax.specs.Types.{SyntaxFault, SyntaxFault as refusal}
 use Rattle.statement_tokens.specs.Language.{language_of}
 use Rattle.statement_tokens.specs.Tokens.{AreTokens}
 use Rattle.statement_tokens.specs.Scanned.{Tells, Leaves, HasWhole, Hands, with_front}
 use Rattle.statement_tokens.proofs.Reading.{unread}
 use Rattle.statement_tokens.proofs.Pieces.{front_none}
 use Rattle.statement_tokens.proofs.TokenLaws.{fronts, leaves, leaves_unread, unread_is, handed}
-use Rattle.statement_syntax.specs.declared.tree.Statement.{Statement}
-use Rattle.statement_syntax.specs.declared.line.Line.TheVariants as line
-use Rattle.statement_syntax.specs.declared.read.Progress.{Progress}
-use Rattle.statement_syntax.specs.declared.fault.SyntaxFault.{SyntaxFault}
-use Rattle.statement_syntax.specs.declared.fault.SyntaxFault.TheVariants as refusal
 use Rattle.statement_syntax.specs.Steps.{run}
 use Rattle.statement_syntax.specs.Lines.{file_step}
 use Rattle.statement_syntax.specs.Fault.{IsStatements, IsTreeOf, TellsFirstFault, IsWantOfMemory, TellsScan}

@@ -2,26 +2,30 @@
 use Rattle.std.proofs.Common.{◌≡◌, List, [], ◌∷◌, ◌++◌, Option, Some, None, Ok, Err, refl, sym, ap, ◌∙◌, append_assoc, arith}
 use Rattle.std.specs.Prelude.{pos}
 use Rattle.std.proofs.lemmas.List.{append-nil}
-use Rattle.statement_tokens.specs.declared.place.Spot.{Spot}
-use Rattle.statement_tokens.specs.declared.token.Token.{Token}
-use Rattle.statement_tokens.specs.declared.token.TokenKind.{TokenKind}
-use Rattle.statement_tokens.specs.declared.token.TokenKind.TheVariants as kind
+use Rattle.statement_syntax.specs.Types.{Spot, Token, TokenKind as kind, Number, Name, Sum, Reading, Misfit, Expected, TooDeep}
 use Rattle.statement_syntax.specs.Limits.{bracket_limit}
-use Rattle.statement_syntax.specs.declared.tree.Number.{Number}
-use Rattle.statement_syntax.specs.declared.tree.Name.{Name}
-use Rattle.statement_syntax.specs.declared.expression.Misfit.TheVariants.{TooDeep}
-use Rattle.statement_syntax.specs.Steps.{◌>>=◌, run}
-use Rattle.statement_syntax.specs.Grammar.{no_sign, lead_plus, lead_minus, Sign, plus, minus, Expr, Product, factors, Factors, one, beside, plain, Prime, name, identity, bracket, sign_token, name_token, number_token, expr_tokens, ExprFits}
-use Rattle.statement_syntax.proofs.Machine.{Head, led, after, Part, nothing, scaled, product, Focus, outside, square, named, behind_caret, Level, State, fresh, add, with_power, whole_term, with_term, Stepped, step_literal, sign_after, step_sign, step_quote, step_caret, close_after, step_outside, step_square, step_named, step_power, step_by, step, whole, end_by, state_tokens, head_tokens, part_tokens}
-use Rattle.statement_syntax.proofs.StateReads.{with_term-tokens, whole_term-tokens, run_reads}
-use Rattle.statement_syntax.proofs.Run.{Upto, before_it, upto_ok, run_front}
-use Rattle.statement_syntax.proofs.Runs.{at_outside, end_state, expr_run}
+use Rattle.statement_syntax.specs.Steps as steps
+use Rattle.statement_syntax.specs.Steps.{run, whole_sum}
+use Rattle.statement_syntax.specs.Grammar.{no_sign, Expr, first, Product, factors, one, beside, plain, Prime, name, identity, bracket, sign_token, name_token}
+use Rattle.statement_syntax.specs.Grammar.{number_token, expr_tokens, ExprFits}
+use Rattle.statement_syntax.specs.Tree.{expr_tree, prime_tree, prime_at}
+use Rattle.statement_syntax.proofs.Machine.{Head, Part, nothing, scaled, product, Focus, outside, square, named, behind_caret, Level, State, at_outside, fresh}
+use Rattle.statement_syntax.proofs.Machine.{add}
+use Rattle.statement_syntax.proofs.Machine.{with_power, whole_term, with_term, whole, end_by, state_tokens, head_tokens, part_tokens}
+use Rattle.statement_syntax.proofs.Seen.{head_of, part_of, levels_of, reading_of, tree_or}
+use Rattle.statement_syntax.proofs.Same.{add-seen, raised-seen, closed-seen, whole-seen}
+use Rattle.statement_syntax.proofs.StateReads.{reading_step, with_term-tokens, whole_term-tokens, run_reads, deep_reads}
+use Rattle.statement_syntax.proofs.Run.{Upto, before_it, upto_ok, run_front, one_step}
+use Rattle.statement_syntax.proofs.Runs.{runs, end_state, expr_run}
 
 abbrev pub somewhere : Spot
 somewhere = record { line = 1; column = 1 }
 
 abbrev pub some_name : Name
 some_name = record { text = 120 ∷ []; at = somewhere }
+
+abbrev pub some_expr : Expr
+some_expr = first no_sign (factors None (one (plain (name some_name))))
 
 some_exponent : Number
 some_exponent = record { value = pos 1; at = somewhere }
@@ -32,162 +36,121 @@ add_whole (scaled n) p = (factors (Some n) (one (plain p)), refl)
 add_whole (product l fs) p = (factors l (beside fs (plain p)), refl)
 
 -- these tokens lead to the end of an expression
-abbrev pub Ends : State → Type 0
-Ends st = (more : List Token) × (next : State) × (e : Expr) × (run step st more ≡ Ok next) × (whole next ≡ Some e)
+abbrev Ends : State → Type 0
+Ends st = (more : List Token) × (r : Reading) × (s : Sum) × (runs st more ≡ Ok r) × (whole_sum r ≡ Ok s)
 
-run_on : (st next : State) (t : Token) → step st t ≡ Ok next → Ends next → Ends st
-unfolding run
-run_on st next t given ends = (t ∷ ends.0, ends.1, ends.2, ap (λ (r : Stepped). r >>= λ s. run step s ends.0) given ∙ ends.3, ends.4)
+run_on : (st next : State) (t : Token) → reading_step (reading_of st) t ≡ Ok (reading_of next) → Ends next → Ends st
+run_on st next t given ends = (t ∷ ends.0, ends.1, ends.2, one_step reading_step _ _ t ends.0 given ∙ ends.3, ends.4)
 
 closes : (levels : List Level) (head : Head) (part : Part) (t : Product) → whole_term part ≡ Some t → Ends (at_outside levels head part)
-unfolding run step
-closes [] head part t given = ([], at_outside [] head part, with_term head t, refl, ap (end_by [] head outside) given)
+unfolding run
+closes [] head part t given = (
+  [],
+  reading_of (at_outside [] head part),
+  expr_tree (with_term head t),
+  refl,
+  whole-seen (at_outside [] head part) ∙ ap (λ o. tree_or (end_by [] head outside o) Expected) given,
+)
 closes (level ∷ levels) head part t given =
     let inner = bracket level.at (with_term head t) somewhere in
     let wide = add_whole level.part inner in
     run_on (at_outside (level ∷ levels) head part) (at_outside levels level.head (add level.part inner)) (sign_token kind.Close somewhere)
-    (ap (λ x. close_after (level ∷ levels) head x somewhere) given)
+    (closed-seen level levels head part t somewhere given)
     (closes levels level.head (add level.part inner) wide.0 wide.1)
 
+-- a whole part stands behind a token
+made : (st : State) (t : Token) (levels : List Level) (head : Head) (part : Part) (p : Prime)
+    → reading_step (reading_of st) t
+    ≡ Ok (steps.outside (levels_of levels) (head_of head) (steps.part_with (part_of part) (prime_tree p) (prime_at p))) → Ends st
+made st t levels head part p goes =
+    let wide = add_whole part p in
+    run_on st (at_outside levels head (add part p)) t (goes ∙ ap (λ q. Ok (steps.outside (levels_of levels) (head_of head) q)) (add-seen part p))
+    (closes levels head (add part p) wide.0 wide.1)
+
+abbrev with_focus : List Level → Head → Part → Focus → State
+with_focus levels head part f = record { levels = levels; head = head; part = part; focus = f }
+
 -- each state can go on to the end of an expression
-pub ends : (levels : List Level) (head : Head) (part : Part) (f : Focus) → Ends (record { levels = levels; head = head; part = part; focus = f })
-unfolding step
-ends levels head part outside =
-    let wide = add_whole part (name some_name) in
-    run_on _ (at_outside levels head (add part (name some_name))) (name_token some_name) refl (closes levels head (add part (name some_name)) wide.0 wide.1)
+ends : (levels : List Level) (head : Head) (part : Part) (f : Focus) → Ends (with_focus levels head part f)
+ends levels head part outside = made (at_outside levels head part) (name_token some_name) levels head part (name some_name) refl
 ends levels head part (square left) =
-    let p = identity left some_name somewhere in
-    let wide = add_whole part p in
-    run_on _ (record { levels = levels; head = head; part = part; focus = named left some_name }) (name_token some_name) refl
-    (run_on _ (at_outside levels head (add part p)) (sign_token kind.CloseSquare somewhere) refl (closes levels head (add part p) wide.0 wide.1))
+    run_on (with_focus levels head part (square left)) (with_focus levels head part (named left some_name)) (name_token some_name) refl
+    (made (with_focus levels head part (named left some_name)) (sign_token kind.CloseSquare somewhere) levels head part
+    (identity left some_name somewhere) refl)
 ends levels head part (named left n) =
-    let p = identity left n somewhere in
-    let wide = add_whole part p in
-    run_on _ (at_outside levels head (add part p)) (sign_token kind.CloseSquare somewhere) refl (closes levels head (add part p) wide.0 wide.1)
+    made (with_focus levels head part (named left n)) (sign_token kind.CloseSquare somewhere) levels head part (identity left n somewhere) refl
 ends levels head part (behind_caret l fs caret) =
-    let raised = with_power fs caret some_exponent in
-    run_on _ (at_outside levels head (product l raised)) (number_token some_exponent) refl (closes levels head (product l raised) (factors l raised) refl)
+    let power = with_power fs caret some_exponent in
+    run_on (with_focus levels head part (behind_caret l fs caret)) (at_outside levels head (product l power)) (number_token some_exponent)
+    (ap (λ q. Ok (steps.outside (levels_of levels) (head_of head) q)) (raised-seen l fs caret some_exponent))
+    (closes levels head (product l power) (factors l power) refl)
 
 -- at the end
 end_tokens : (levels : List Level) (head : Head) (part : Part) (f : Focus) (t : Option Product) (e : Expr) → whole_term part ≡ t → end_by levels head f t ≡ Some e
-    → state_tokens (record { levels = levels; head = head; part = part; focus = f }) ≡ expr_tokens e
-end_tokens (level ∷ levels) head part f t e w given = absurd cc
-end_tokens [] head part (square left) t e w given = absurd cc
-end_tokens [] head part (named left n) t e w given = absurd cc
-end_tokens [] head part (behind_caret l fs caret) t e w given = absurd cc
-end_tokens [] head part outside None e w given = absurd cc
+    → state_tokens (with_focus levels head part f) ≡ expr_tokens e
 end_tokens [] head part outside (Some t) e w given =
     let e-is : with_term head t ≡ e = cc in
     append-nil (head_tokens head ++ part_tokens part) ∙ ap (λ (x : List Token). head_tokens head ++ x) (sym (whole_term-tokens part t w)) ∙ sym (with_term-tokens head t) ∙ ap expr_tokens e-is
+end_tokens levels head part f t e w given = absurd cc
 
 -- what is read whole is the expression's tokens
-pub whole-tokens : (st : State) (e : Expr) → whole st ≡ Some e → state_tokens st ≡ expr_tokens e
+whole-tokens : (st : State) (e : Expr) → whole st ≡ Some e → state_tokens st ≡ expr_tokens e
 whole-tokens st e given = end_tokens st.levels st.head st.part st.focus (whole_term st.part) e refl given
 
--- found: what ends as an expression is that expression's tokens
-pub found : (ts : List Token) (st : State) (e : Expr) → run step (fresh []) ts ≡ Ok st → whole st ≡ Some e → ts ≡ expr_tokens e
-found ts st e ran ends = sym (run_reads (fresh []) ts st ran) ∙ whole-tokens st e ends
+tree_ok : (o : Option Expr) (s : Sum) → tree_or o Expected ≡ Ok s → (e : Expr) × (o ≡ Some e) × (s ≡ expr_tree e)
+tree_ok None s read = absurd cc
+tree_ok (Some e) s read = (e, refl, cc)
 
--- only: the tokens of an expression end as that expression, where it is within the limit, and else at a bracket that is too deep
-pub only : (e : Expr) → Upto (ExprFits e bracket_limit) (run step (fresh []) (expr_tokens e)) (Ok (end_state [] e))
+-- what ends as an expression is that expression's tokens
+found : (st : State) (ts : List Token) (r : Reading) (s : Sum) → runs st ts ≡ Ok r → whole_sum r ≡ Ok s
+    → (e : Expr) × (s ≡ expr_tree e) × (state_tokens st ++ ts ≡ expr_tokens e)
+found st ts r s ran ends =
+    let read = run_reads st ts r ran in
+    let e = tree_ok (whole read.0) s (sym (whole-seen read.0) ∙ ap whole_sum (sym read.1) ∙ ends) in
+    (e.0, e.2, sym read.2 ∙ whole-tokens read.0 e.0 e.1)
+
+-- the tokens of an expression end as that expression, where it is within the limit, and else at a bracket that is too deep
+pub only : (e : Expr) → Upto (ExprFits e bracket_limit) (runs (fresh []) (expr_tokens e)) (Ok (reading_of (end_state [] e)))
 unfolding run
-only e = before_it (ap (run step (fresh [])) (sym (append-nil (expr_tokens e)))) (expr_run [] e bracket_limit [] (omega arith))
+only e = before_it (ap (runs (fresh [])) (sym (append-nil (expr_tokens e)))) (expr_run [] e bracket_limit [] (omega arith))
 
--- what is read is within the limit
-pub within : (ts : List Token) (st : State) (e : Expr) → run step (fresh []) ts ≡ Ok st → whole st ≡ Some e → ExprFits e bracket_limit
-within ts st e ran ends =
-    (upto_ok _ (end_state [] e) st (only e) (ap (run step (fresh [])) (sym (found ts st e ran ends)) ∙ ran)).0
+-- what has been read of an expression
+abbrev pub ExprReads : Reading → List Token → Type 0
+ExprReads r ts = runs (fresh []) ts ≡ Ok r
 
--- what was read can go on to an expression
-pub viable : (front : List Token) (st : State) → run step (fresh []) front ≡ Ok st → (more : List Token) × (e : Expr) × ExprFits e bracket_limit × (front ++ more ≡ expr_tokens e)
-viable front st ran =
-    let on = ends st.levels st.head st.part st.focus in
-    let all = run_front step (fresh []) front st on.0 ran ∙ on.3 in
-    (on.0, on.2, within (front ++ on.0) on.1 on.2 all on.4, found (front ++ on.0) on.1 on.2 all on.4)
+-- where it may end, it is an expression within the limit
+pub reading_ends : (r : Reading) (s : Sum) (ts : List Token) → ExprReads r ts → whole_sum r ≡ Ok s
+    → (e : Expr) × ExprFits e bracket_limit × (s ≡ expr_tree e) × (ts ≡ expr_tokens e)
+reading_ends r s ts ran ends =
+    let e = found (fresh []) ts r s ran ends in
+    (e.0, (upto_ok _ (reading_of (end_state [] e.0)) r (only e.0) (ap (runs (fresh [])) (sym e.2) ∙ ran)).0, e.1, e.2)
 
--- a bracket that is too deep
-sign_after-deep : (levels : List Level) (head : Head) (t : Option Product) (s : Sign) → sign_after levels head t s ≡ Err TooDeep → ⊥
-sign_after-deep levels head None s fails = absurd cc
-sign_after-deep levels head (Some t) s fails = absurd cc
+tree_or-fault : (o : Option Expr) (f : Misfit) → tree_or o Expected ≡ Err f → f ≡ Expected
+tree_or-fault None f fails = cc
+tree_or-fault (Some e) f fails = absurd cc
 
-sign-deep : (levels : List Level) (head : Head) (part : Part) (s : Sign) → step_sign levels head part s ≡ Err TooDeep → ⊥
-sign-deep levels (led no_sign) nothing s fails = absurd cc
-sign-deep levels (led (lead_plus at)) nothing s fails = absurd cc
-sign-deep levels (led (lead_minus at)) nothing s fails = absurd cc
-sign-deep levels (after e t) nothing s fails = absurd cc
-sign-deep levels (led l) (scaled n) s fails = sign_after-deep levels (led l) (whole_term (scaled n)) s fails
-sign-deep levels (after e t) (scaled n) s fails = sign_after-deep levels (after e t) (whole_term (scaled n)) s fails
-sign-deep levels (led l) (product k fs) s fails = sign_after-deep levels (led l) (whole_term (product k fs)) s fails
-sign-deep levels (after e t) (product k fs) s fails = sign_after-deep levels (after e t) (whole_term (product k fs)) s fails
+-- where it may not, that is because more is expected
+pub reading_lacks : (r : Reading) (ts : List Token) (f : Misfit) → ExprReads r ts → whole_sum r ≡ Err f → f ≡ Expected
+reading_lacks r ts f ran fails =
+    let read = run_reads (fresh []) ts r ran in
+    tree_or-fault (whole read.0) f (sym (whole-seen read.0) ∙ ap whole_sum (sym read.1) ∙ fails)
 
-literal-deep : (levels : List Level) (head : Head) (part : Part) (n : Number) → step_literal levels head part n ≡ Err TooDeep → ⊥
-literal-deep levels head nothing n fails = absurd cc
-literal-deep levels head (scaled m) n fails = absurd cc
-literal-deep levels head (product l fs) n fails = absurd cc
-
-quote-deep : (levels : List Level) (head : Head) (part : Part) (at : Spot) → step_quote levels head part at ≡ Err TooDeep → ⊥
-quote-deep levels head nothing at fails = absurd cc
-quote-deep levels head (scaled m) at fails = absurd cc
-quote-deep levels head (product l fs) at fails = absurd cc
-
-caret-deep : (levels : List Level) (head : Head) (part : Part) (at : Spot) → step_caret levels head part at ≡ Err TooDeep → ⊥
-caret-deep levels head nothing at fails = absurd cc
-caret-deep levels head (scaled n) at fails = absurd cc
-caret-deep levels head (product l fs) at fails = absurd cc
-
-close-deep : (levels : List Level) (head : Head) (t : Option Product) (at : Spot) → close_after levels head t at ≡ Err TooDeep → ⊥
-close-deep levels head None at fails = absurd cc
-close-deep [] head (Some t) at fails = absurd cc
-close-deep (level ∷ levels) head (Some t) at fails = absurd cc
-
--- a state with one token more, whatever the limit says
-abbrev pub Deeper : List Level → Head → Part → Focus → Token → Type 0
-Deeper levels head part f t = (next : State) × (state_tokens next ≡ state_tokens (record { levels = levels; head = head; part = part; focus = f }) ++ t ∷ [])
-
-outside-deep : (levels : List Level) (head : Head) (part : Part) (k : TokenKind) (at : Spot) → step_outside levels head part k at ≡ Err TooDeep → Deeper levels head part outside (sign_token k at)
-outside-deep levels head part (kind.Name x) at fails = absurd cc
-outside-deep levels head part (kind.Literal n) at fails = absurd (literal-deep levels head part _ fails)
-outside-deep levels head part kind.Colon at fails = absurd cc
-outside-deep levels head part kind.Arrow at fails = absurd cc
-outside-deep levels head part kind.Equals at fails = absurd cc
-outside-deep levels head part kind.Plus at fails = absurd (sign-deep levels head part (plus at) fails)
-outside-deep levels head part kind.Minus at fails = absurd (sign-deep levels head part (minus at) fails)
-outside-deep levels head part kind.Open at fails = (fresh (record { head = head; part = part; at = at } ∷ levels), simp (append-nil) refl)
-outside-deep levels head part kind.Close at fails = absurd (close-deep levels head (whole_term part) at fails)
-outside-deep levels head part kind.OpenSquare at fails = absurd cc
-outside-deep levels head part kind.CloseSquare at fails = absurd cc
-outside-deep levels head part kind.Quote at fails = absurd (quote-deep levels head part at fails)
-outside-deep levels head part kind.Caret at fails = absurd (caret-deep levels head part at fails)
-outside-deep levels head part kind.End at fails = absurd cc
-
-square-deep : (levels : List Level) (head : Head) (part : Part) (left : Spot) (k : TokenKind) (at : Spot) → step_square levels head part left at k ≡ Err TooDeep → ⊥
-square-deep levels head part left (kind.Name x) at fails = absurd cc
-square-deep levels head part left k at fails = absurd cc
-
-named-deep : (levels : List Level) (head : Head) (part : Part) (left : Spot) (n : Name) (k : TokenKind) (at : Spot) → step_named levels head part left n at k ≡ Err TooDeep → ⊥
-named-deep levels head part left n (kind.Name x) at fails = absurd cc
-named-deep levels head part left n k at fails = absurd cc
-
-power-deep : (levels : List Level) (head : Head) (l : Option Number) (fs : Factors) (caret : Spot) (k : TokenKind) (at : Spot) → step_power levels head l fs caret k at ≡ Err TooDeep → ⊥
-power-deep levels head l fs caret (kind.Literal n) at fails = absurd cc
-power-deep levels head l fs caret k at fails = absurd cc
-
-focus-deep : (levels : List Level) (head : Head) (part : Part) (f : Focus) (t : Token) → step_by levels head part f t.kind t.at ≡ Err TooDeep → Deeper levels head part f t
-focus-deep levels head part outside t fails = outside-deep levels head part t.kind t.at fails
-focus-deep levels head part (square left) t fails = absurd (square-deep levels head part left t.kind t.at fails)
-focus-deep levels head part (named left n) t fails = absurd (named-deep levels head part left n t.kind t.at fails)
-focus-deep levels head part (behind_caret l fs caret) t fails = absurd (power-deep levels head l fs caret t.kind t.at fails)
+-- it can go on to an expression within the limit
+pub viable : (front : List Token) (r : Reading) → ExprReads r front
+    → (more : List Token) × (e : Expr) × ExprFits e bracket_limit × (front ++ more ≡ expr_tokens e)
+viable front r ran =
+    let read = run_reads (fresh []) front r ran in
+    let on = ends read.0.levels read.0.head read.0.part read.0.focus in
+    let all = run_front reading_step (reading_of (fresh [])) front r on.0 ran ∙ ap (λ s. run reading_step s on.0) read.1 ∙ on.3 in
+    let e = reading_ends on.1 on.2 (front ++ on.0) all on.4 in
+    (on.0, e.0, e.1, e.3)
 
 -- with a bracket that is too deep it can go on to an expression, if not to one within the limit
-pub deep : (front : List Token) (st : State) (t : Token) → run step (fresh []) front ≡ Ok st → step st t ≡ Err TooDeep → (more : List Token) × (e : Expr) × (front ++ t ∷ more ≡ expr_tokens e)
-unfolding step
-deep front st t ran fails =
-    let wider = focus-deep st.levels st.head st.part st.focus t fails in
-    let on = ends wider.0.levels wider.0.head wider.0.part wider.0.focus in (
-      on.0,
-      on.2,
-      sym (append_assoc front (t ∷ []) on.0)
-          ∙ ap (λ (x : List Token). (x ++ t ∷ []) ++ on.0) (sym (run_reads (fresh []) front st ran))
-          ∙ ap (λ (x : List Token). x ++ on.0) (sym wider.1)
-          ∙ sym (run_reads wider.0 on.0 on.1 on.3) ∙ whole-tokens on.1 on.2 on.4,
-    )
+pub deep : (front : List Token) (r : Reading) (t : Token) → ExprReads r front → reading_step r t ≡ Err TooDeep
+    → (more : List Token) × (e : Expr) × (front ++ t ∷ more ≡ expr_tokens e)
+deep front r t ran fails =
+    let read = run_reads (fresh []) front r ran in
+    let wider = deep_reads read.0 t (ap (λ s. reading_step s t) (sym read.1) ∙ fails) in
+    let on = ends wider.0.levels wider.0.head wider.0.part wider.0.focus in
+    let e = found wider.0 on.0 on.1 on.2 on.3 on.4 in
+    (on.0, e.0, sym (append_assoc front (t ∷ []) on.0) ∙ ap (λ (x : List Token). x ++ on.0) (sym (wider.1 ∙ ap (λ x. x ++ t ∷ []) read.2)) ∙ e.2)

@@ -2,20 +2,8 @@
 use Rattle.std.specs.Prelude.{◌≡◌, ℕ, List, [], ◌∷◌, ◌++◌}
 use Rattle.std.specs.Str.{IsUtf8, chars}
 use Rattle.std.specs.Str.Lossy.{utf8_valid_len}
-use Rattle.statement_tokens.specs.declared.place.Spot.{Spot}
-use Rattle.statement_tokens.specs.declared.token.Token.{Token}
-use Rattle.statement_syntax.specs.declared.tree.Statement.{Statement}
-use Rattle.statement_tokens.specs.declared.scan.ScanFault.{ScanFault}
-use Rattle.statement_tokens.specs.declared.scan.ScanFault.TheVariants as scan
-use Rattle.statement_tokens.specs.declared.scan.ScanError.{ScanError}
-use Rattle.statement_tokens.specs.declared.scan.ScanError.TheVariants as scan_error
-use Rattle.statement_syntax.specs.declared.expression.Misfit.{Misfit}
-use Rattle.statement_syntax.specs.declared.expression.Misfit.TheVariants as misfit
-use Rattle.statement_syntax.specs.declared.fault.Fault.{Fault}
-use Rattle.statement_syntax.specs.declared.fault.Fault.TheVariants as fault
-use Rattle.statement_syntax.specs.declared.fault.SyntaxFault.{SyntaxFault}
-use Rattle.statement_syntax.specs.declared.fault.SyntaxFault.TheVariants as refusal
-use Rattle.statement_tokens.specs.declared.language.Language.{Language}
+use Rattle.statement_syntax.specs.Types.{Spot, Token, Statement, ScanFault, ScanFault as scan, ScanError, ScanError as scan_error, Misfit, Misfit as misfit}
+use Rattle.statement_syntax.specs.Types.{Fault, Fault as fault, SyntaxFault, SyntaxFault as refusal, Language}
 use Rattle.statement_tokens.specs.Language.{language_of}
 use Rattle.statement_tokens.specs.Tokens.{AreTokens, IsFirstScanFault}
 use Rattle.statement_syntax.specs.Grammar.{StatedLine, IsFileOf, file_tokens, FileFits}

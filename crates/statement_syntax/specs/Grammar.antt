@@ -1,21 +1,9 @@
 -- The grammar: a production is a constructor, with the places of its words and signs. The tokens that it is written as.
 use Rattle.std.specs.Prelude.{ℕ, zero, suc, List, [], ◌∷◌, ◌++◌, map, Option, Some, None, pos, codes}
 use Rattle.std.specs.List.{flat_map}
-use Rattle.statement_tokens.specs.declared.place.Spot.{Spot}
+use Rattle.statement_syntax.specs.Types.{Spot, ListWord, Object, Solve, Eliminate, SidesWord, Assume, Claim, PairWord, Pinv, Inverse, Inner, Language, First}
+use Rattle.statement_syntax.specs.Types.{Second, Token, TokenKind, TokenKind as kind, Name, Number}
 use Rattle.statement_syntax.specs.Limits.{bracket_limit}
-use Rattle.statement_syntax.specs.declared.line.ListWord.{ListWord}
-use Rattle.statement_syntax.specs.declared.line.ListWord.TheVariants.{Object, Solve, Eliminate}
-use Rattle.statement_syntax.specs.declared.line.SidesWord.{SidesWord}
-use Rattle.statement_syntax.specs.declared.line.SidesWord.TheVariants.{Assume, Claim}
-use Rattle.statement_syntax.specs.declared.line.PairWord.{PairWord}
-use Rattle.statement_syntax.specs.declared.line.PairWord.TheVariants.{Pinv, Inverse, Inner}
-use Rattle.statement_tokens.specs.declared.language.Language.{Language}
-use Rattle.statement_tokens.specs.declared.language.Language.TheVariants.{First, Second}
-use Rattle.statement_tokens.specs.declared.token.Token.{Token}
-use Rattle.statement_tokens.specs.declared.token.TokenKind.{TokenKind}
-use Rattle.statement_tokens.specs.declared.token.TokenKind.TheVariants as kind
-use Rattle.statement_syntax.specs.declared.tree.Name.{Name}
-use Rattle.statement_syntax.specs.declared.tree.Number.{Number}
 
 -- a leading sign, or none
 pub data Lead : Type 0 where
@@ -202,15 +190,8 @@ stated_tokens (modelled at m ps) = word_token (codes "model") at ∷ number_toke
 
 -- no more round brackets than the limit stand in one another
 abbrev pub StatedFits : Stated → Type 0
-StatedFits (listed w at n ns) = Unit {0}
-StatedFits (mapped at n ns colon s arrow t end) = Unit {0}
 StatedFits (sides w at d equals e) = ExprFits d bracket_limit × ExprFits e bracket_limit
-StatedFits (paired w at m n) = Unit {0}
-StatedFits (projected at n) = Unit {0}
-StatedFits (by_degree at word) = Unit {0}
-StatedFits (by_weight at word p ps) = Unit {0}
-StatedFits (modelled at m ps) = Unit {0}
-StatedFits (second_language at number) = Unit {0}
+StatedFits s = Unit {0}
 
 -- a file: a statement a line, in one of the two languages
 pub record StatedLine : Type 0 where

@@ -1,8 +1,6 @@
 -- Each text is read.
 use Rattle.std.specs.Prelude.{ℕ, ◌⊎◌, List}
-use Rattle.statement_tokens.specs.declared.place.Spot.{Spot}
-use Rattle.statement_syntax.specs.declared.tree.Statement.{Statement}
-use Rattle.statement_syntax.specs.declared.fault.Fault.{Fault}
+use Rattle.statement_syntax.specs.Types.{Spot, Statement, Fault}
 use Rattle.statement_syntax.specs.Fault.{IsTreeOf, IsFirstFault}
 
 -- Each text has a tree or a first fault.

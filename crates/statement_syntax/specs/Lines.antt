@@ -1,35 +1,9 @@
 -- The step of the reader from what has been read of a line to what has been read with one more token.
 use Rattle.std.specs.Prelude.{ℕ, Bool, true, false, List, [], ◌∷◌, ◌++◌, Option, Some, None, Result, Ok, Err, bytes_eq, if◌then◌else◌, codes}
-use Rattle.statement_tokens.specs.declared.place.Spot.{Spot}
-use Rattle.statement_tokens.specs.declared.token.Token.{Token}
-use Rattle.statement_tokens.specs.declared.token.TokenKind.{TokenKind}
-use Rattle.statement_tokens.specs.declared.token.TokenKind.TheVariants as kind
-use Rattle.statement_tokens.specs.declared.language.Language.{Language}
-use Rattle.statement_tokens.specs.declared.language.Language.TheVariants.{First, Second}
-use Rattle.statement_syntax.specs.declared.tree.Name.{Name}
-use Rattle.statement_syntax.specs.declared.tree.Number.{Number}
-use Rattle.statement_syntax.specs.declared.tree.Sum.{Sum}
-use Rattle.statement_syntax.specs.declared.tree.Statement.{Statement}
-use Rattle.statement_syntax.specs.declared.tree.StatementKind.{StatementKind}
-use Rattle.statement_syntax.specs.declared.tree.StatementKind.TheVariants as statement
-use Rattle.statement_syntax.specs.declared.expression.Misfit.{Misfit}
-use Rattle.statement_syntax.specs.declared.expression.Misfit.TheVariants.{Expected}
-use Rattle.statement_syntax.specs.declared.expression.Reading.{Reading}
-use Rattle.statement_syntax.specs.declared.expression.Part.TheVariants.{Nothing}
-use Rattle.statement_syntax.specs.declared.line.ListWord.{ListWord}
-use Rattle.statement_syntax.specs.declared.line.ListWord.TheVariants.{Object, Solve, Eliminate}
-use Rattle.statement_syntax.specs.declared.line.SidesWord.{SidesWord}
-use Rattle.statement_syntax.specs.declared.line.SidesWord.TheVariants.{Assume, Claim}
-use Rattle.statement_syntax.specs.declared.line.PairWord.{PairWord}
-use Rattle.statement_syntax.specs.declared.line.PairWord.TheVariants.{Pinv, Inverse, Inner}
-use Rattle.statement_syntax.specs.declared.line.Opening.{Opening}
-use Rattle.statement_syntax.specs.declared.line.Opening.TheVariants as opening
-use Rattle.statement_syntax.specs.declared.line.MapRest.{MapRest}
-use Rattle.statement_syntax.specs.declared.line.MapRest.TheVariants as rest
-use Rattle.statement_syntax.specs.declared.line.Pairs.{Pairs}
-use Rattle.statement_syntax.specs.declared.line.Line.{Line}
-use Rattle.statement_syntax.specs.declared.line.Line.TheVariants as line
-use Rattle.statement_syntax.specs.declared.read.Progress.{Progress}
+use Rattle.statement_syntax.specs.Types.{Spot, Token, TokenKind, TokenKind as kind, Language, First, Second, Name, Number, Sum, Statement, StatementKind}
+use Rattle.statement_syntax.specs.Types.{StatementKind as statement, Misfit, Expected, Reading, Nothing, ListWord, Object, Solve, Eliminate, SidesWord, Assume}
+use Rattle.statement_syntax.specs.Types.{Claim, PairWord, Pinv, Inverse, Inner, Opening, Opening as opening, MapRest, MapRest as rest, Pairs, Line}
+use Rattle.statement_syntax.specs.Types.{Line as line, Progress}
 use Rattle.statement_syntax.specs.Steps.{◌>>=◌, outside, empty_head, token_step, whole_sum}
 pub use Rattle.statement_syntax.specs.Steps.{name_in, number_in}
 use Rattle.statement_syntax.specs.Tree.{list_kind, sides_kind, pair_kind}
@@ -191,11 +165,8 @@ list_end w [] = Err Expected
 list_end w (n ∷ ns) = Ok (list_kind w (n ∷ ns))
 
 abbrev pub map_end : List Name → MapRest → Result StatementKind Misfit
-map_end names rest.Names = Err Expected
-map_end names rest.Colon = Err Expected
-map_end names (rest.Source s) = Err Expected
-map_end names (rest.Arrow s) = Err Expected
 map_end names (rest.Target s t) = Ok (statement.Maps names s t false)
+map_end names r = Err Expected
 
 abbrev pub sides_end : SidesWord → Option Sum → Reading → Result StatementKind Misfit
 sides_end w None r = Err Expected
@@ -222,17 +193,13 @@ abbrev pub statement_by : Spot → Result StatementKind Misfit → Result Statem
 statement_by at r = r >>= λ kind. Ok (record { at = at; kind = kind })
 
 abbrev pub line_end : Line → Result Statement Misfit
-line_end line.Start = Err Expected
 line_end (line.List w at names) = statement_by at (list_end w names)
 line_end (line.Map at names r) = statement_by at (map_end names r)
 line_end (line.Sides w at left r) = statement_by at (sides_end w left r)
-line_end (line.Pair w at first) = Err Expected
-line_end (line.Projection at) = Err Expected
-line_end (line.Order at) = Err Expected
 line_end (line.Weights at ps) = statement_by at (weights_end ps)
-line_end (line.Model at) = Err Expected
 line_end (line.Shape at m ps) = statement_by at (shape_end m ps)
 line_end (line.Whole s) = Ok s
+line_end l = Err Expected
 
 -- a whole file: the statements of its lines, and the line that is read
 abbrev pub ended : Progress → Result Progress Misfit

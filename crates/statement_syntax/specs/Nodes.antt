@@ -1,13 +1,6 @@
 -- The nodes of trees, by their parts.
 use Rattle.std.specs.Prelude.{ℕ, Bool, List, [], ◌∷◌, ◌++◌, Option}
-use Rattle.statement_tokens.specs.declared.place.Spot.{Spot}
-use Rattle.statement_syntax.specs.declared.tree.Name.{Name}
-use Rattle.statement_syntax.specs.declared.tree.Number.{Number}
-use Rattle.statement_syntax.specs.declared.tree.Mark.{Mark}
-use Rattle.statement_syntax.specs.declared.tree.Primary.{Primary}
-use Rattle.statement_syntax.specs.declared.tree.Factor.{Factor, roll-Factor, out-Factor}
-use Rattle.statement_syntax.specs.declared.tree.Term.{Term, roll-Term}
-use Rattle.statement_syntax.specs.declared.tree.Sum.{Sum, roll-Sum}
+use Rattle.statement_syntax.specs.Types.{Spot, Name, Number, Mark, Primary, Factor, roll-Factor, out-Factor, Term, roll-Term, Sum, roll-Sum}
 
 abbrev pub name_with : List ℕ → Spot → Name
 name_with text at = record { text = text; at = at }

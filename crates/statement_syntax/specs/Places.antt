@@ -1,13 +1,9 @@
 -- Statements without their places: all are set to one, and a leading plus is left out.
 use Rattle.std.specs.Prelude.{◌≡◌, ℕ, List, map, Option, Some, None}
-use Rattle.statement_tokens.specs.declared.place.Spot.{Spot}
-use Rattle.statement_syntax.specs.declared.tree.Statement.{Statement}
-use Rattle.statement_syntax.specs.declared.tree.Name.{Name}
-use Rattle.statement_syntax.specs.declared.tree.Number.{Number}
-use Rattle.statement_syntax.specs.Grammar.{Lead, no_sign, lead_plus, lead_minus, Sign, plus, minus, Expr, first, joined, Product}
-use Rattle.statement_syntax.specs.Grammar.{zero_alone, factors, Factors, one, beside, Marked, plain, marked, raised, Prime, name, identity}
-use Rattle.statement_syntax.specs.Grammar.{bracket, Ending, no_word, self_word, Stated, listed, mapped, sides, paired, projected, by_degree}
-use Rattle.statement_syntax.specs.Grammar.{by_weight, modelled, second_language, StatedLine}
+use Rattle.statement_syntax.specs.Types.{Spot, Statement, Name, Number}
+use Rattle.statement_syntax.specs.Grammar.{Lead, no_sign, lead_plus, lead_minus, Sign, plus, minus, Expr, first, joined, Product, zero_alone, factors, Factors}
+use Rattle.statement_syntax.specs.Grammar.{one, beside, Marked, plain, marked, raised, Prime, name, identity, bracket, Ending, no_word, self_word, Stated}
+use Rattle.statement_syntax.specs.Grammar.{listed, mapped, sides, paired, projected, by_degree, by_weight, modelled, second_language, StatedLine}
 use Rattle.statement_syntax.specs.Tree.{file_tree}
 use Rattle.statement_syntax.specs.Fault.{IsTreeOf}
 

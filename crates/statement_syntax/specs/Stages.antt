@@ -2,26 +2,13 @@
 use Rattle.std.specs.Prelude.{◌≡◌, ◌⊎◌, ℕ, length, List, [], ◌∷◌, ◌++◌, Result, Ok, Err, drop}
 use Rattle.std.specs.Global.{Vec}
 use Rattle.std.specs.Str.{IsUtf8, chars}
-use Rattle.statement_tokens.specs.declared.token.Token.{Token}
-use Rattle.statement_tokens.specs.declared.language.Language.{Language}
-use Rattle.statement_tokens.specs.declared.language.Language.TheVariants.{First, Second}
-use Rattle.statement_syntax.specs.declared.tree.Statement.{Statement}
-use Rattle.statement_syntax.specs.declared.tree.StatementKind.TheVariants as statement
-use Rattle.statement_tokens.specs.declared.place.Spot.{Spot}
-use Rattle.statement_syntax.specs.declared.expression.ReadError.{ReadError}
-use Rattle.statement_syntax.specs.declared.expression.ReadError.TheVariants as error
-use Rattle.statement_syntax.specs.declared.expression.Misfit.{Misfit}
-use Rattle.statement_syntax.specs.declared.read.Progress.{Progress}
-use Rattle.statement_syntax.specs.declared.line.Line.TheVariants as line
-use Rattle.statement_syntax.specs.declared.fault.SyntaxFault.{SyntaxFault}
-use Rattle.statement_syntax.specs.declared.fault.SyntaxFault.TheVariants as refusal
+use Rattle.statement_syntax.specs.Types.{Token, Language, First, Second, Statement, StatementKind as statement, Spot, ReadError, ReadError as error, Misfit}
+use Rattle.statement_syntax.specs.Types.{Progress, Line as line, SyntaxFault, SyntaxFault as refusal, Scanner, Placed}
 use Rattle.statement_syntax.specs.Steps.{run, Fails}
 use Rattle.statement_syntax.specs.Lines.{file_step}
 use Rattle.statement_tokens.specs.Language.{language_of}
 use Rattle.statement_tokens.specs.Tokens.{AreTokens}
 use Rattle.statement_tokens.specs.Scanned.{Tells, Leaves, with_front}
-use Rattle.statement_tokens.specs.declared.scanner.Scanner.{Scanner}
-use Rattle.statement_tokens.specs.declared.scan.Placed.{Placed}
 use Rattle.statement_syntax.specs.Fault.{TellsFirstFault, IsWantOfMemory, fault_at, scan_fault, misfit_fault}
 
 -- what is told of a step that fails at this place

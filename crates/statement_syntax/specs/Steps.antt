@@ -1,30 +1,9 @@
 -- The steps of the reader of expressions, one token after another.
-use Rattle.std.specs.Prelude.{◌≡◌, ℤ, zero, suc, Bool, true, false, List, [], ◌∷◌, ◌++◌, length, Option, Some, None, Result, Ok, Err, pos}
-use Rattle.std.specs.Prelude.{negsuc, nat_lt, if◌then◌else◌}
-use Rattle.statement_tokens.specs.declared.place.Spot.{Spot}
-use Rattle.statement_tokens.specs.declared.token.Token.{Token}
-use Rattle.statement_tokens.specs.declared.token.TokenKind.{TokenKind}
-use Rattle.statement_tokens.specs.declared.token.TokenKind.TheVariants as kind
+use Rattle.std.specs.Prelude.{◌≡◌, ℤ, zero, Bool, true, false, List, [], ◌∷◌, ◌++◌, length, Option, Some, None, Result, Ok, Err, pos, nat_lt, if◌then◌else◌}
+use Rattle.statement_syntax.specs.Types.{Spot, Token, TokenKind, TokenKind as kind, Name, Number, Mark, Adjoint, Power, Primary, Letter, Identity, Bracket}
+use Rattle.statement_syntax.specs.Types.{Factor, Term, out-Term, Head, Level, Reading, Focus, Focus as focus, Misfit, Expected, TooDeep, ReadError}
+use Rattle.statement_syntax.specs.Types.{ReadError as error, Sum, Part, Nothing, Scaled, Product}
 use Rattle.statement_syntax.specs.Limits.{bracket_limit}
-use Rattle.statement_syntax.specs.declared.tree.Name.{Name}
-use Rattle.statement_syntax.specs.declared.tree.Number.{Number}
-use Rattle.statement_syntax.specs.declared.tree.Mark.{Mark}
-use Rattle.statement_syntax.specs.declared.tree.Mark.TheVariants.{Adjoint, Power}
-use Rattle.statement_syntax.specs.declared.tree.Primary.{Primary, Letter, Identity, Bracket}
-use Rattle.statement_syntax.specs.declared.tree.Factor.{Factor}
-use Rattle.statement_syntax.specs.declared.tree.Term.{Term, out-Term}
-use Rattle.statement_syntax.specs.declared.expression.Head.{Head}
-use Rattle.statement_syntax.specs.declared.expression.Level.{Level}
-use Rattle.statement_syntax.specs.declared.expression.Reading.{Reading}
-use Rattle.statement_syntax.specs.declared.expression.Focus.{Focus}
-use Rattle.statement_syntax.specs.declared.expression.Focus.TheVariants as focus
-use Rattle.statement_syntax.specs.declared.expression.Misfit.{Misfit}
-use Rattle.statement_syntax.specs.declared.expression.Misfit.TheVariants.{Expected, TooDeep}
-use Rattle.statement_syntax.specs.declared.expression.ReadError.{ReadError}
-use Rattle.statement_syntax.specs.declared.expression.ReadError.TheVariants as error
-use Rattle.statement_syntax.specs.declared.tree.Sum.{Sum}
-use Rattle.statement_syntax.specs.declared.expression.Part.{Part}
-use Rattle.statement_syntax.specs.declared.expression.Part.TheVariants.{Nothing, Scaled, Product}
 pub use Rattle.statement_syntax.specs.Nodes.{name_with, factor_of, term_of, sum_of, marked_factor}
 
 abbrev pub part_with : Part → Primary → Spot → Part
@@ -58,8 +37,7 @@ Turns (Err e) state read = Fails e read
 
 abbrev pub lone_term : ℤ → Number → Bool → Result Term Misfit
 lone_term (pos zero) n negative = Ok (term_of n.at negative (Some n) [])
-lone_term (pos (suc k)) n negative = Err Expected
-lone_term (negsuc k) n negative = Err Expected
+lone_term z n negative = Err Expected
 
 abbrev pub ended_part : Part → Bool → Result Term Misfit
 ended_part Nothing negative = Err Expected
@@ -77,9 +55,8 @@ abbrev pub sum_with : Head → Term → Sum
 sum_with head t = sum_of (sum_at head t) (head.terms ++ t ∷ [])
 
 abbrev pub mark_step : Part → Mark → Result Part Misfit
-mark_step Nothing mark = Err Expected
-mark_step (Scaled n) mark = Err Expected
 mark_step (Product at l fs last) mark = Ok (Product at l fs (marked_factor last mark))
+mark_step part mark = Err Expected
 
 abbrev pub sign_by : Head → Result Term Misfit → Bool → Result Head Misfit
 sign_by head (Ok t) negative = Ok (record { at = Some (sum_at head t); terms = head.terms ++ t ∷ []; negative = negative })
@@ -118,30 +95,24 @@ open_step levels head part at =
 
 abbrev pub literal_step : List Level → Head → Part → Number → Result Reading Misfit
 literal_step levels head Nothing n = Ok (outside levels head (Scaled n))
-literal_step levels head (Scaled m) n = Err Expected
-literal_step levels head (Product p l fs last) n = Err Expected
+literal_step levels head part n = Err Expected
 
 -- the literal is next
 abbrev pub caret_step : List Level → Head → Part → Spot → Result Reading Misfit
-caret_step levels head Nothing at = Err Expected
-caret_step levels head (Scaled n) at = Err Expected
 caret_step levels head (Product first l fs last) at = Ok (record { levels = levels; head = head; part = Nothing; focus = focus.Raised first l fs last at })
+caret_step levels head part at = Err Expected
 
 abbrev pub outside_step : List Level → Head → Part → TokenKind → Spot → Result Reading Misfit
 outside_step levels head part (kind.Name x) at = Ok (outside levels head (part_with part (Letter (record { text = x; at = at })) at))
 outside_step levels head part (kind.Literal n) at = literal_step levels head part (record { value = n; at = at })
-outside_step levels head part kind.Colon at = Err Expected
-outside_step levels head part kind.Arrow at = Err Expected
-outside_step levels head part kind.Equals at = Err Expected
 outside_step levels head part kind.Plus at = signed_step levels head part at false
 outside_step levels head part kind.Minus at = signed_step levels head part at true
 outside_step levels head part kind.Open at = open_step levels head part at
 outside_step levels head part kind.Close at = close_step levels head part
 outside_step levels head part kind.OpenSquare at = Ok (record { levels = levels; head = head; part = part; focus = focus.Square at })
-outside_step levels head part kind.CloseSquare at = Err Expected
 outside_step levels head part kind.Quote at = mark_step part Adjoint >>= λ p. Ok (outside levels head p)
 outside_step levels head part kind.Caret at = caret_step levels head part at
-outside_step levels head part kind.End at = Err Expected
+outside_step levels head part k at = Err Expected
 
 abbrev pub name_in : TokenKind → Spot → Result Name Misfit
 name_in (kind.Name x) at = Ok (name_with x at)
@@ -173,10 +144,7 @@ token_step r k at = focus_step r.levels r.head r.part r.focus k at
 
 abbrev pub whole_by : List Level → Head → Part → Focus → Result Sum Misfit
 whole_by [] head part focus.Outside = ended_part part head.negative >>= λ t. Ok (sum_with head t)
-whole_by [] head part (focus.Square left) = Err Expected
-whole_by [] head part (focus.Named left n) = Err Expected
-whole_by [] head part (focus.Raised first l fs last caret) = Err Expected
-whole_by (level ∷ levels) head part f = Err Expected
+whole_by levels head part f = Err Expected
 
 abbrev pub whole_sum : Reading → Result Sum Misfit
 whole_sum r = whole_by r.levels r.head r.part r.focus

@@ -1,27 +1,11 @@
 -- The tree that a text of the grammar stands for, which keeps no places of signs.
 use Rattle.std.specs.Prelude.{Bool, true, false, List, [], ◌∷◌, ◌++◌, map, Option, Some, None}
-use Rattle.statement_tokens.specs.declared.place.Spot.{Spot}
-use Rattle.statement_syntax.specs.declared.tree.Number.{Number}
-use Rattle.statement_syntax.specs.declared.tree.Primary.{Primary, Letter, Identity, Bracket}
-use Rattle.statement_syntax.specs.declared.tree.Factor.{Factor}
-use Rattle.statement_syntax.specs.declared.tree.Term.{Term}
-use Rattle.statement_syntax.specs.declared.tree.Sum.{Sum}
-use Rattle.statement_syntax.specs.declared.tree.Name.{Name}
-use Rattle.statement_syntax.specs.declared.tree.Statement.{Statement}
-use Rattle.statement_syntax.specs.declared.tree.StatementKind.{StatementKind}
-use Rattle.statement_syntax.specs.declared.tree.StatementKind.TheVariants as statement
-use Rattle.statement_syntax.specs.declared.line.ListWord.{ListWord}
-use Rattle.statement_syntax.specs.declared.line.ListWord.TheVariants.{Object, Solve, Eliminate}
-use Rattle.statement_syntax.specs.declared.line.SidesWord.{SidesWord}
-use Rattle.statement_syntax.specs.declared.line.SidesWord.TheVariants.{Assume, Claim}
-use Rattle.statement_syntax.specs.declared.line.PairWord.{PairWord}
-use Rattle.statement_syntax.specs.declared.line.PairWord.TheVariants.{Pinv, Inverse, Inner}
-use Rattle.statement_syntax.specs.Grammar.{Ending, no_word, self_word, Stated, listed, mapped, sides, paired, projected, by_degree}
-use Rattle.statement_syntax.specs.Grammar.{by_weight, modelled, second_language, StatedLine}
-use Rattle.statement_syntax.specs.Grammar.{Lead, no_sign, lead_plus, lead_minus, Sign, plus, minus, Expr, first, joined, Product}
-use Rattle.statement_syntax.specs.Grammar.{zero_alone, factors, Factors, one, beside, Marked, plain, marked, raised, Prime, name, identity}
-use Rattle.statement_syntax.specs.Grammar.{bracket, zero_at}
-use Rattle.statement_syntax.specs.declared.tree.Mark.TheVariants.{Adjoint, Power}
+use Rattle.statement_syntax.specs.Types.{Spot, Number, Primary, Letter, Identity, Bracket, Factor, Term, Sum, Name, Statement, StatementKind}
+use Rattle.statement_syntax.specs.Types.{StatementKind as statement, ListWord, Object, Solve, Eliminate, SidesWord, Assume, Claim, PairWord, Pinv, Inverse}
+use Rattle.statement_syntax.specs.Types.{Inner, Adjoint, Power}
+use Rattle.statement_syntax.specs.Grammar.{Ending, no_word, self_word, Stated, listed, mapped, sides, paired, projected, by_degree, by_weight, modelled}
+use Rattle.statement_syntax.specs.Grammar.{second_language, StatedLine, Lead, no_sign, lead_plus, lead_minus, Sign, plus, minus, Expr, first, joined, Product}
+use Rattle.statement_syntax.specs.Grammar.{zero_alone, factors, Factors, one, beside, Marked, plain, marked, raised, Prime, name, identity, bracket, zero_at}
 use Rattle.statement_syntax.specs.Nodes.{factor_of, term_of, sum_of, marked_factor}
 
 -- the place of the first token

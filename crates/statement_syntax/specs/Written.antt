@@ -2,19 +2,10 @@
 use Rattle.std.specs.Prelude.{ℕ, Bool, true, false, ◌||◌, List, [], ◌∷◌, ◌++◌, Option, Some, None, pos, codes}
 use Rattle.std.specs.List.{flat_map}
 use Rattle.std.specs.Fmt.{signed_decimal}
-use Rattle.statement_tokens.specs.declared.token.TokenKind.{TokenKind}
-use Rattle.statement_tokens.specs.declared.token.TokenKind.TheVariants as kind
-use Rattle.statement_syntax.specs.declared.tree.Name.{Name}
-use Rattle.statement_syntax.specs.declared.tree.Number.{Number}
-use Rattle.statement_syntax.specs.declared.tree.Mark.{Mark}
-use Rattle.statement_syntax.specs.declared.tree.Mark.TheVariants.{Adjoint, Power}
-use Rattle.statement_syntax.specs.declared.tree.Statement.{Statement}
-use Rattle.statement_syntax.specs.declared.tree.StatementKind.{StatementKind}
-use Rattle.statement_syntax.specs.declared.tree.StatementKind.TheVariants as statement
-use Rattle.statement_syntax.specs.declared.tree.Primary.{Primary, Letter, Identity, Bracket}
-use Rattle.statement_syntax.specs.declared.tree.Factor.{Factor}
-use Rattle.statement_syntax.specs.declared.tree.Term.{Term, Term', Row_of-Factor, end_of-Factor, more_of-Factor}
-use Rattle.statement_syntax.specs.declared.tree.Sum.{Sum, Sum', Row_of-Term, end_of-Term, more_of-Term}
+use Rattle.statement_syntax.specs.Types.{TokenKind, TokenKind as kind, Name, Number, Mark, Adjoint, Power, Statement, StatementKind, StatementKind as statement}
+use Rattle.statement_syntax.specs.Types.{Primary, Letter, Identity, Bracket, Factor, Term, Sum}
+use Rattle.statement_syntax.specs.declared.tree.Term.{Term', Row_of-Factor, end_of-Factor, more_of-Factor}
+use Rattle.statement_syntax.specs.declared.tree.Sum.{Sum', Row_of-Term, end_of-Term, more_of-Term}
 
 -- the tokens of a tree
 abbrev pub name_kinds : Name → List TokenKind

@@ -15,6 +15,9 @@ pub and_second : (a b : Bool) → (a && b) ≡ true → b ≡ true
 and_second true b given = given
 and_second false b given = absurd cc
 
+pub and_both : (a b : Bool) → (a && b) ≡ true → (a ≡ true) × (b ≡ true)
+and_both a b given = (and_first a b given, and_second a b given)
+
 kept_by : (p : ℕ → Bool) (c : ℕ) (cs : List ℕ) (b : Bool) → p c ≡ b → EachIs p (take_while p cs) → EachIs p (take (cond b (1 + prefix_len p cs) 0) (c ∷ cs))
 kept_by p c cs true is rest =
     let all : EachIs p (take (suc (prefix_len p cs)) (c ∷ cs)) = (is, rest) in

@@ -2,10 +2,9 @@
 use Rattle.std.proofs.Common.{[], ◌∷◌, refl, arith}
 use Rattle.std.specs.Prelude.{pos, codes}
 use Rattle.unicode_ident.proofs.IdentLemmas.{is_xid_start-ascii}
-use Rattle.statement_tokens.specs.declared.token.TokenKind.TheVariants as kind
-use Rattle.statement_tokens.specs.declared.scan.ScanFault.TheVariants.{BadToken}
+use Rattle.statement_tokens.specs.Types.{TokenKind as kind, BadToken}
 use Rattle.statement_tokens.specs.Tokens.{AreTokens, IsFirstScanFault}
-use Rattle.statement_tokens.specs.Items.{item_at, item_in}
+use Rattle.statement_tokens.specs.Items.{item_in}
 use Rattle.statement_tokens.proofs.Reading.{tokens_from}
 use Rattle.statement_tokens.proofs.Scanning.{spot}
 use Rattle.statement_tokens.proofs.TokenLaws.{are_read, first_read}

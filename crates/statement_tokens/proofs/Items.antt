@@ -7,16 +7,9 @@ use Rattle.std.specs.Str.{encode_utf8_all}
 use Rattle.unicode_ident.specs.Ident.{is_xid_continue}
 use Rattle.std.proofs.lemmas.Bool.{le-leb}
 use Rattle.statement_tokens.specs.Limits.{name_limit}
-use Rattle.statement_tokens.specs.declared.token.TokenKind.{TokenKind}
-use Rattle.statement_tokens.specs.declared.token.TokenKind.TheVariants as kind
-use Rattle.statement_tokens.specs.declared.scan.Item.{Item}
-use Rattle.statement_tokens.specs.declared.scan.Item.TheVariants as item
-use Rattle.statement_tokens.specs.declared.scan.ItemError.{ItemError}
-use Rattle.statement_tokens.specs.declared.scan.ScanFault.{ScanFault}
-use Rattle.statement_tokens.specs.declared.scan.ScanFault.TheVariants.{BadToken, LiteralTooLarge}
+use Rattle.statement_tokens.specs.Types.{TokenKind, TokenKind as kind, Item, Item as item, ItemError, ScanFault, BadToken, LiteralTooLarge, Language, First}
+use Rattle.statement_tokens.specs.Types.{Second}
 use Rattle.statement_tokens.specs.Items.{name_of, literal_of, caret_in, sign_in, more_of, GivesItem}
-use Rattle.statement_tokens.specs.declared.language.Language.{Language}
-use Rattle.statement_tokens.specs.declared.language.Language.TheVariants.{First, Second}
 
 name_fits : (text : List ℕ) (more : ℕ) → length text ≤ name_limit → name_of text more ≡ Ok (item.Token (kind.Name text) more)
 name_fits text more short = ap (λ b. if b then Ok (item.Token (kind.Name text) more) else Err BadToken) (le-leb (length text) name_limit short)

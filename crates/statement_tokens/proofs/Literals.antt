@@ -1,17 +1,15 @@
 -- A written literal is read as its value.
-use Rattle.std.proofs.Common.{◌≡◌, ℕ, ◌+◌, ◌-◌, ◌*◌, ◌%◌, ◌<◌, ◌≤◌, ◌^◌, ◌==◌, ◌&&◌, Bool, true, false, List, [], ◌∷◌, ◌++◌, length, Ok, refl, ap, ◌∙◌, arith}
+use Rattle.std.proofs.Common.{◌≡◌, ℕ, ◌+◌, ◌-◌, ◌*◌, ◌%◌, ◌<◌, ◌≤◌, ◌^◌, ◌==◌, Bool, true, false, List, [], ◌∷◌, ◌++◌, length, Ok, refl, ap, ◌∙◌, arith}
 use Rattle.std.specs.Prelude.{nat_le, pos, decimal}
 use Rattle.std.proofs.lemmas.Fmt.{decimal_by_steps_wide}
 use Rattle.std.proofs.lemmas.Bool.{le-leb, leb-true, lt-leb, lt-ltb, ne_eqb}
 use Rattle.std.proofs.lemmas.List.{take_at}
 use Rattle.unicode_ident.proofs.IdentLemmas.{is_xid_start-ascii}
-use Rattle.statement_tokens.specs.declared.token.Token.{Token}
-use Rattle.statement_tokens.specs.declared.token.TokenKind.TheVariants as kind
-use Rattle.statement_tokens.specs.declared.scan.Item.TheVariants as item
+use Rattle.statement_tokens.specs.Types.{Token, TokenKind as kind, Item as item}
 use Rattle.statement_tokens.specs.Pieces.{is_digit, starts_name}
 use Rattle.statement_tokens.specs.Tokens.{value_from}
-use Rattle.statement_tokens.specs.Items.{item_at, item_in}
-use Rattle.statement_tokens.proofs.EachCharacter.{EachIs}
+use Rattle.statement_tokens.specs.Items.{item_at, item_in, literal_of}
+use Rattle.statement_tokens.proofs.EachCharacter.{EachIs, and_both}
 use Rattle.statement_tokens.proofs.Rescan.{StopsAt, prefix_is}
 
 value_from-append : (k : ℕ) (ds : List ℕ) (d : ℕ) → value_from k (ds ++ d ∷ []) ≡ value_from k ds * 10 + (d - 48)
@@ -54,13 +52,9 @@ pub record PlainDigit (c : ℕ) : Type 0 where
   pub name : starts_name c ≡ false
   pub low : c < 128
 
-both : (a b : Bool) → (a && b) ≡ true → (a ≡ true) × (b ≡ true)
-both true b known = (refl, known)
-both false b known = absurd cc
-
 pub plain_digit : (c : ℕ) → is_digit c ≡ true → PlainDigit c
 plain_digit c known =
-    let parts = both (nat_le 48 c) (nat_le c 57) known in
+    let parts = and_both (nat_le 48 c) (nat_le c 57) known in
     let low : 48 ≤ c = leb-true 48 c parts.0 in
     let high : c ≤ 57 = leb-true c 57 parts.1 in
     record {
@@ -73,9 +67,14 @@ plain_digit c known =
       low = omega (arith, high);
     }
 
-pub literal_back : (before : List Token) (n c : ℕ) (cs rest : List ℕ) → n < 2 ^ 127 → value_from 0 (c ∷ cs) ≡ n → is_digit c ≡ true → EachIs is_digit cs → StopsAt is_digit rest
-    → item_at before c (cs ++ rest) ≡ Ok (item.Token (kind.Literal (pos n)) (length cs))
+pub literal_read : (before : List Token) (c : ℕ) (cs rest : List ℕ) → is_digit c ≡ true → EachIs is_digit cs → StopsAt is_digit rest
+    → item_at before c (cs ++ rest) ≡ literal_of (value_from 0 (c ∷ cs)) (length cs)
 unfolding item_in
-literal_back before n c cs rest below value digit each stops =
+literal_read before c cs rest digit each stops =
     let plain = plain_digit c digit in
-    rw (plain.line, plain.blank, plain.tab, plain.return, plain.comment, plain.name, digit, prefix_is is_digit cs rest each stops, take_at cs rest (length cs) refl, value, lt-ltb n (2 ^ 127) below) refl
+    rw (plain.line, plain.blank, plain.tab, plain.return, plain.comment, plain.name, digit, prefix_is is_digit cs rest each stops)
+    (rw (take_at cs rest (length cs) refl) refl)
+
+pub literal_back : (before : List Token) (n c : ℕ) (cs rest : List ℕ) → n < 2 ^ 127 → value_from 0 (c ∷ cs) ≡ n → is_digit c ≡ true → EachIs is_digit cs
+    → StopsAt is_digit rest → item_at before c (cs ++ rest) ≡ Ok (item.Token (kind.Literal (pos n)) (length cs))
+literal_back before n c cs rest below value digit each stops = literal_read before c cs rest digit each stops ∙ rw (value, lt-ltb n (2 ^ 127) below) refl

@@ -9,18 +9,13 @@ use Rattle.std.proofs.lemmas.List.Folds.{length-prefix_len}
 use Rattle.std.proofs.lemmas.Bool.{eqb-true, eq-eqb}
 use Rattle.unicode_ident.specs.Ident.{is_xid_continue}
 use Rattle.unicode_ident.proofs.IdentLemmas.{is_xid_start-ascii}
-use Rattle.statement_tokens.specs.declared.token.TokenKind.{TokenKind}
-use Rattle.statement_tokens.specs.declared.token.TokenKind.TheVariants as kind
-use Rattle.statement_tokens.specs.Pieces.{Piece, line_feed, return_and_line_feed, blank, tab, comment, name}
-use Rattle.statement_tokens.specs.Pieces.{literal, sign, piece_text, is_piece, IsLongest, BeginsNone}
-use Rattle.statement_tokens.specs.Pieces.{starts_name, is_digit, is_inside_line}
+use Rattle.statement_tokens.specs.Types.{TokenKind, TokenKind as kind}
+use Rattle.statement_tokens.specs.Pieces.{Piece, line_feed, return_and_line_feed, blank, tab, comment, name, literal, sign, piece_text, is_piece, IsLongest}
+use Rattle.statement_tokens.specs.Pieces.{BeginsNone, starts_name, is_digit, is_inside_line}
 use Rattle.statement_tokens.specs.Items.{begins_with}
-use Rattle.statement_tokens.proofs.EachCharacter.{EachIs, EachIs-take_while, and_first, and_second}
+use Rattle.statement_tokens.proofs.EachCharacter.{EachIs, EachIs-take_while, and_both}
 use Rattle.statement_tokens.proofs.Rescan.{plain_start}
 use Rattle.statement_tokens.proofs.Literals.{plain_digit}
-
-pub and_both : (a b : Bool) → (a && b) ≡ true → (a ≡ true) × (b ≡ true)
-and_both a b given = (and_first a b given, and_second a b given)
 
 pub each_is : (p : ℕ → Bool) (cs : List ℕ) → list_all p cs ≡ true → EachIs p cs
 each_is p [] given = tt
@@ -47,9 +42,6 @@ goes_on c rest =
 module _ (c : ℕ) (rest more : List ℕ) where
   no_longer_sign : (k : TokenKind) → is_piece (sign k) ≡ true → piece_text (sign k) ++ more ≡ c ∷ rest → length (piece_text (sign k)) ≤ 1 + goes_on c rest
   unfolding goes_on
-  no_longer_sign (kind.Name t) is e = absurd cc
-  no_longer_sign (kind.Literal v) is e = absurd cc
-  no_longer_sign kind.End is e = absurd cc
   no_longer_sign kind.Arrow is e =
       let first : 45 ≡ c = cc in
       let behind : 62 ∷ more ≡ rest = cc in
@@ -58,16 +50,12 @@ module _ (c : ℕ) (rest more : List ℕ) where
 
   no_longer : (other : Piece) → is_piece other ≡ true → piece_text other ++ more ≡ c ∷ rest → length (piece_text other) ≤ 1 + goes_on c rest
   unfolding goes_on
-  no_longer line_feed is e = omega arith
   no_longer return_and_line_feed is e = let first : 13 ≡ c = cc in subst (λ c. 2 ≤ 1 + goes_on c rest) first (omega arith)
-  no_longer blank is e = omega arith
-  no_longer tab is e = omega arith
   no_longer (comment cs) is e =
       let first : 35 ≡ c = cc in
       let behind : cs ++ more ≡ rest = cc in
       let long = front_passes is_inside_line cs more (each_is is_inside_line cs is) in
       subst (λ c. suc (length cs) ≤ 1 + goes_on c rest) first (subst (λ r. suc (length cs) ≤ 1 + goes_on 35 r) behind (omega (arith, long)))
-  no_longer (name []) is e = absurd cc
   no_longer (name (d ∷ cs)) is e =
       let first : d ≡ c = cc in
       let behind : cs ++ more ≡ rest = cc in
@@ -76,7 +64,6 @@ module _ (c : ℕ) (rest more : List ℕ) where
       let long = front_passes is_xid_continue cs more (each_is is_xid_continue cs parts.1) in
       subst (λ c. suc (length cs) ≤ 1 + goes_on c rest) first
       (subst (λ r. suc (length cs) ≤ 1 + goes_on d r) behind (rw (plain.3, plain.4, parts.0) (omega (arith, long))))
-  no_longer (literal []) is e = absurd cc
   no_longer (literal (d ∷ cs)) is e =
       let first : d ≡ c = cc in
       let behind : cs ++ more ≡ rest = cc in
@@ -86,6 +73,7 @@ module _ (c : ℕ) (rest more : List ℕ) where
       subst (λ c. suc (length cs) ≤ 1 + goes_on c rest) first
       (subst (λ r. suc (length cs) ≤ 1 + goes_on d r) behind (rw (plain.return, plain.comment, plain.name, parts.0) (omega (arith, long))))
   no_longer (sign k) is e = no_longer_sign k is e
+  no_longer piece is e = omega arith
 
 longest_by : (piece : Piece) (later : List ℕ) (c : ℕ) (rest : List ℕ) → is_piece piece ≡ true → piece_text piece ++ later ≡ c ∷ rest
     → 1 + goes_on c rest ≤ length (piece_text piece)
@@ -138,9 +126,6 @@ module _ (c : ℕ) (rest more : List ℕ) (none : NoTest c rest) where
   not_first n is other = not_both (c == n) (subst (λ m. (c == m) ≡ true) (sym is) (eq-eqb c c refl)) other
 
   no_sign : (k : TokenKind) → is_piece (sign k) ≡ true → piece_text (sign k) ++ more ≡ c ∷ rest → ⊥
-  no_sign (kind.Name t) is e = absurd cc
-  no_sign (kind.Literal v) is e = absurd cc
-  no_sign kind.End is e = absurd cc
   no_sign kind.Colon is e = let first : 58 ≡ c = cc in not_first 58 first none.not_colon
   no_sign kind.Arrow is e = let first : 45 ≡ c = cc in not_first 45 first none.not_minus
   no_sign kind.Equals is e = let first : 61 ≡ c = cc in not_first 61 first none.not_equals
@@ -152,6 +137,7 @@ module _ (c : ℕ) (rest more : List ℕ) (none : NoTest c rest) where
   no_sign kind.CloseSquare is e = let first : 93 ≡ c = cc in not_first 93 first none.not_closes_square
   no_sign kind.Quote is e = let first : 39 ≡ c = cc in not_first 39 first none.not_quote
   no_sign kind.Caret is e = let first : 94 ≡ c = cc in not_first 94 first none.not_caret
+  no_sign k is e = absurd cc
 
   no_piece : (piece : Piece) → is_piece piece ≡ true → piece_text piece ++ more ≡ c ∷ rest → ⊥
   no_piece line_feed is e = let first : 10 ≡ c = cc in not_first 10 first none.not_line
@@ -163,15 +149,14 @@ module _ (c : ℕ) (rest more : List ℕ) (none : NoTest c rest) where
   no_piece blank is e = let first : 32 ≡ c = cc in not_first 32 first none.not_blank
   no_piece tab is e = let first : 9 ≡ c = cc in not_first 9 first none.not_tab
   no_piece (comment cs) is e = let first : 35 ≡ c = cc in not_first 35 first none.not_comment
-  no_piece (name []) is e = absurd cc
   no_piece (name (d ∷ cs)) is e =
       let first : d ≡ c = cc in
       not_both (starts_name c) (subst (λ d. starts_name d ≡ true) first (and_both (starts_name d) (list_all is_xid_continue cs) is).0) none.not_name
-  no_piece (literal []) is e = absurd cc
   no_piece (literal (d ∷ cs)) is e =
       let first : d ≡ c = cc in
       not_both (is_digit c) (subst (λ d. is_digit d ≡ true) first (and_both (is_digit d) (list_all is_digit cs) is).0) none.not_digit
   no_piece (sign k) is e = no_sign k is e
+  no_piece piece is e = absurd cc
 
 pub none_begins : (c : ℕ) (rest : List ℕ) → NoTest c rest → BeginsNone (c ∷ rest)
 none_begins c rest none piece more is e = no_piece c rest more none piece is e

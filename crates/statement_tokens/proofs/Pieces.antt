@@ -4,36 +4,25 @@ use Rattle.std.proofs.Common.{length, Option, Some, None, Result, Ok, Err, refl,
 use Rattle.std.specs.Prelude.{if◌then◌else◌, pos, nat_le, nat_lt, ◌^◌}
 use Rattle.std.specs.List.{list_all}
 use Rattle.std.specs.Str.{encode_utf8_all}
-use Rattle.std.proofs.lemmas.List.{drop_at, take_at}
+use Rattle.std.proofs.lemmas.List.{drop_at}
 use Rattle.std.proofs.lemmas.Bool.{eqb-true}
 use Rattle.unicode_ident.specs.Ident.{is_xid_continue}
 use Rattle.unicode_ident.proofs.IdentLemmas.{is_xid_start-ascii}
-use Rattle.statement_tokens.specs.declared.place.Spot.{Spot}
-use Rattle.statement_tokens.specs.declared.token.Token.{Token}
-use Rattle.statement_tokens.specs.declared.token.TokenKind.{TokenKind}
-use Rattle.statement_tokens.specs.declared.token.TokenKind.TheVariants as kind
-use Rattle.statement_tokens.specs.declared.language.Language.{Language}
-use Rattle.statement_tokens.specs.declared.language.Language.TheVariants.{First, Second}
-use Rattle.statement_tokens.specs.declared.scan.Item.{Item}
-use Rattle.statement_tokens.specs.declared.scan.Item.TheVariants as item
-use Rattle.statement_tokens.specs.declared.scan.ScanFault.{ScanFault}
-use Rattle.statement_tokens.specs.declared.scan.ScanFault.TheVariants.{BadToken, LiteralTooLarge}
-use Rattle.statement_tokens.specs.declared.scan.Placed.{Placed}
+use Rattle.statement_tokens.specs.Types.{Spot, Token, TokenKind, TokenKind as kind, Language, First, Second, Item, Item as item, ScanFault, BadToken}
+use Rattle.statement_tokens.specs.Types.{LiteralTooLarge, Placed}
 use Rattle.statement_tokens.specs.Limits.{name_limit}
 use Rattle.statement_tokens.specs.Language.{language_of}
-use Rattle.statement_tokens.specs.Pieces.{Piece, line_feed, return_and_line_feed, blank, tab, comment, name}
-use Rattle.statement_tokens.specs.Pieces.{literal, sign, piece_text, is_piece, IsLongest, BeginsNone}
-use Rattle.statement_tokens.specs.Tokens.{behind, tokens_with, past_behind, sign_fault, fault_of}
-use Rattle.statement_tokens.specs.Pieces.{starts_name, is_digit, is_inside_line}
-use Rattle.statement_tokens.specs.Tokens.{value_from, right_of}
-use Rattle.statement_tokens.specs.Items.{item_at, item_in, begins_with, literal_of}
+use Rattle.statement_tokens.specs.Pieces.{Piece, line_feed, return_and_line_feed, blank, tab, comment, name, literal, sign, piece_text, is_piece, IsLongest}
+use Rattle.statement_tokens.specs.Pieces.{BeginsNone, starts_name, is_digit, is_inside_line}
+use Rattle.statement_tokens.specs.Tokens.{behind, tokens_with, past_behind, sign_fault, fault_of, value_from, right_of}
+use Rattle.statement_tokens.specs.Items.{item_at, item_in, begins_with}
 use Rattle.statement_tokens.proofs.Reading.{tokens_from, placed, with_front}
 use Rattle.statement_tokens.proofs.Scanning.{skipped}
-use Rattle.statement_tokens.proofs.EachCharacter.{EachIs}
+use Rattle.statement_tokens.proofs.EachCharacter.{and_both}
 use Rattle.statement_tokens.proofs.Rescan.{StopsAt, prefix_is, name_back, colon_back, equals_back, plus_back, open_back}
-use Rattle.statement_tokens.proofs.Rescan.{close_back, open_square_back, close_square_back, quote_back, caret_back, arrow_back}
-use Rattle.statement_tokens.proofs.Literals.{plain_digit}
-use Rattle.statement_tokens.proofs.Longest.{and_both, each_is, no_test}
+use Rattle.statement_tokens.proofs.Rescan.{close_back, open_square_back, close_square_back, quote_back, caret_back, arrow_back, minus_read}
+use Rattle.statement_tokens.proofs.Literals.{literal_read}
+use Rattle.statement_tokens.proofs.Longest.{each_is, no_test}
 
 stops : (p : ℕ → Bool) (later : List ℕ) → ((d : ℕ) (ds : List ℕ) → later ≡ d ∷ ds → p d ≡ true → ⊥) → StopsAt p later
 stops p [] ends = tt
@@ -125,27 +114,6 @@ module _ (before : List Token) (c : ℕ) (cs later : List ℕ) (at : Spot) (past
   fault : (f : ScanFault) → item_at before c (cs ++ later) ≡ Err f → tokens_from before (c ∷ (cs ++ later)) 0 at past ≡ Err (record { fault = f; at = at })
   fault f is = turn (Err f) is
 
-literal_read : (before : List Token) (c : ℕ) (cs rest : List ℕ) → is_digit c ≡ true → EachIs is_digit cs → StopsAt is_digit rest
-    → item_at before c (cs ++ rest) ≡ literal_of (value_from 0 (c ∷ cs)) (length cs)
-unfolding item_in
-literal_read before c cs rest digit each ends =
-    let plain = plain_digit c digit in
-    rw (
-      plain.line,
-      plain.blank,
-      plain.tab,
-      plain.return,
-      plain.comment,
-      plain.name,
-      digit,
-      prefix_is is_digit cs rest each ends,
-      take_at cs rest (length cs) refl,
-    ) refl
-
-minus_read : (before : List Token) (rest : List ℕ) → begins_with 62 rest ≡ false → item_at before 45 rest ≡ Ok (item.Token kind.Minus 0)
-unfolding item_in
-minus_read before rest given = rw (is_xid_start-ascii 45 (omega arith), given) refl
-
 kept : (b : Bool) (f : ScanFault) → (let o : Option ScanFault = (if b then None else Some f) in o) ≡ None → b ≡ true
 kept true f is = refl
 kept false f is = absurd cc
@@ -161,9 +129,6 @@ ReadsPiece before piece later at past =
 
 reads_sign : (before : List Token) (k : TokenKind) (later : List ℕ) (at : Spot) (past : ℕ) → IsLongest (sign k) later
     → sign_fault k (language_of before) ≡ None → ReadsPiece before (sign k) later at past
-reads_sign before (kind.Name t) later at past is good = let none = is.is in absurd cc
-reads_sign before (kind.Literal v) later at past is good = let none = is.is in absurd cc
-reads_sign before kind.End later at past is good = let none = is.is in absurd cc
 reads_sign before kind.Colon later at past is good = token before 58 [] later at past kind.Colon (colon_back before later)
 reads_sign before kind.Arrow later at past is good = token before 45 (62 ∷ []) later at past kind.Arrow (arrow_back before later)
 reads_sign before kind.Equals later at past is good = token before 61 [] later at past kind.Equals (equals_back before later)
@@ -179,6 +144,7 @@ reads_sign before kind.Caret later at past is good = token before 94 [] later at
     second : (l : Language) → sign_fault kind.Caret l ≡ None → l ≡ Second
     second First good = absurd cc
     second Second good = refl
+reads_sign before k later at past is good = let none = is.is in absurd cc
 
 pub reads_piece : (before : List Token) (piece : Piece) (later : List ℕ) (at : Spot) (past : ℕ) → IsLongest piece later
     → fault_of (language_of before) piece ≡ None → ReadsPiece before piece later at past
@@ -221,11 +187,6 @@ stops_sign before k later at past f l same is = absurd cc
 pub stops_piece : (before : List Token) (piece : Piece) (later : List ℕ) (at : Spot) (past : ℕ) (f : ScanFault) → IsLongest piece later
     → fault_of (language_of before) piece ≡ Some f
     → Stops before (piece_text piece ++ later) at past f
-stops_piece before line_feed later at past f is faulty = absurd cc
-stops_piece before return_and_line_feed later at past f is faulty = absurd cc
-stops_piece before blank later at past f is faulty = absurd cc
-stops_piece before tab later at past f is faulty = absurd cc
-stops_piece before (comment cs) later at past f is faulty = absurd cc
 stops_piece before (name []) later at past f is faulty = let none = is.is in absurd cc
 stops_piece before (name (c ∷ cs)) later at past f is faulty =
     let parts = and_both (starts_name c) (list_all is_xid_continue cs) is.is in
@@ -243,6 +204,7 @@ stops_piece before (literal (c ∷ cs)) later at past f is faulty =
     (literal_read before c cs later parts.0 (each_is is_digit cs parts.1) (literal_stops c cs later is)
     ∙ ap (λ b. if b then Ok (item.Token (kind.Literal (pos value)) (length cs)) else Err LiteralTooLarge) lacks.0 ∙ ap (λ x. Err x) lacks.1)
 stops_piece before (sign k) later at past f is faulty = stops_sign before k later at past f (language_of before) refl faulty
+stops_piece before piece later at past f is faulty = absurd cc
 
 pub stops_none : (before : List Token) (c : ℕ) (rest : List ℕ) (at : Spot) (past : ℕ) → BeginsNone (c ∷ rest) → Stops before (c ∷ rest) at past BadToken
 unfolding item_in

@@ -3,15 +3,7 @@ use Rattle.std.specs.Prelude.{◌≡◌, ℕ, zero, suc, ◌+◌, List, [], ◌�
 use Rattle.statement_tokens.specs.Tokens.{right_of, below, end_of}
 use Rattle.statement_tokens.specs.Items.{item_at}
 pub use Rattle.statement_tokens.specs.Scanned.{◌>>=◌, with_front}
-use Rattle.statement_tokens.specs.declared.place.Spot.{Spot}
-use Rattle.statement_tokens.specs.declared.token.Token.{Token}
-use Rattle.statement_tokens.specs.declared.scan.Item.{Item}
-use Rattle.statement_tokens.specs.declared.scan.Item.TheVariants as item
-use Rattle.statement_tokens.specs.declared.scan.ScanFault.{ScanFault}
-use Rattle.statement_tokens.specs.declared.scan.Placed.{Placed}
-use Rattle.statement_tokens.specs.declared.scan.ScanError.{ScanError}
-use Rattle.statement_tokens.specs.declared.scan.ScanError.TheVariants as error
-use Rattle.statement_tokens.specs.declared.scanner.Scanner.{Scanner}
+use Rattle.statement_tokens.specs.Types.{Spot, Token, Item, Item as item, ScanFault, Placed, ScanError, ScanError as error, Scanner}
 
 abbrev pub placed : List Token → Result Item ScanFault → Spot → ℕ → (List Token → ℕ → Spot → ℕ → Result (List Token) Placed) → Result (List Token) Placed
 placed before (Err e) at past next = Err (record { fault = e; at = at })

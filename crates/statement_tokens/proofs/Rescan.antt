@@ -6,12 +6,7 @@ use Rattle.std.proofs.lemmas.List.{drop_at, take_at}
 use Rattle.std.proofs.lemmas.Bool.{eqb-true}
 use Rattle.unicode_ident.specs.Ident.{is_xid_continue}
 use Rattle.unicode_ident.proofs.IdentLemmas.{is_xid_start-ascii, is_xid_continue-ascii}
-use Rattle.statement_tokens.specs.declared.token.Token.{Token}
-use Rattle.statement_tokens.specs.declared.token.TokenKind.{TokenKind}
-use Rattle.statement_tokens.specs.declared.token.TokenKind.TheVariants as kind
-use Rattle.statement_tokens.specs.declared.scan.Item.TheVariants as item
-use Rattle.statement_tokens.specs.declared.scan.Placed.{Placed}
-use Rattle.statement_tokens.specs.declared.language.Language.TheVariants.{Second}
+use Rattle.statement_tokens.specs.Types.{Token, TokenKind, TokenKind as kind, Item as item, Placed, Second}
 use Rattle.statement_tokens.specs.Language.{language_of}
 use Rattle.statement_tokens.specs.Pieces.{starts_name, is_digit}
 use Rattle.statement_tokens.specs.Items.{item_at, item_in, begins_with, name_of}
@@ -148,6 +143,9 @@ pub arrow_back : (before : List Token) (rest : List ℕ) → item_at before 45 (
 unfolding item_in
 arrow_back before rest = rw (is_xid_start-ascii 45 (omega arith)) refl
 
-pub minus_back : (before : List Token) (rest : List ℕ) → EndsBefore rest → item_at before 45 rest ≡ Ok (item.Token kind.Minus 0)
+pub minus_read : (before : List Token) (rest : List ℕ) → begins_with 62 rest ≡ false → item_at before 45 rest ≡ Ok (item.Token kind.Minus 0)
 unfolding item_in
-minus_back before rest given = rw (is_xid_start-ascii 45 (omega arith), no_arrow rest given) refl
+minus_read before rest given = rw (is_xid_start-ascii 45 (omega arith), given) refl
+
+pub minus_back : (before : List Token) (rest : List ℕ) → EndsBefore rest → item_at before 45 rest ≡ Ok (item.Token kind.Minus 0)
+minus_back before rest given = minus_read before rest (no_arrow rest given)

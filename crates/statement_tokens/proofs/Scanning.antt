@@ -2,26 +2,15 @@
 use Rattle.std.proofs.Common.{◌≡◌, ℕ, zero, suc, ◌+◌, ◌*◌, ◌-◌, ◌<◌, ◌≤◌, List, [], ◌∷◌, ◌++◌, length, length-drop, drop, take, get_or, Option, Some, None, Result, Ok, Err, refl, sym, ap, ap₂, ◌∙◌, arith}
 use Rattle.std.specs.Prelude.{MatchOption}
 use Rattle.std.proofs.lemmas.List.{drop_more, take_rest}
-use Rattle.statement_tokens.specs.declared.place.Spot.{Spot}
-use Rattle.statement_tokens.specs.declared.token.Token.{Token}
-use Rattle.statement_tokens.specs.declared.token.TokenKind.{TokenKind}
-use Rattle.statement_tokens.specs.declared.scan.Item.{Item}
-use Rattle.statement_tokens.specs.declared.scan.Item.TheVariants as item
-use Rattle.statement_tokens.specs.declared.scan.ScanFault.{ScanFault}
-use Rattle.statement_tokens.specs.declared.scan.Placed.{Placed}
+use Rattle.statement_tokens.specs.Types.{Spot, Token, TokenKind, Item, Item as item, ScanFault, Placed, Language, Scanner}
 use Rattle.statement_tokens.specs.Tokens.{end_of}
 use Rattle.statement_tokens.specs.Items.{item_in}
 use Rattle.statement_tokens.specs.Language.{language_of}
 use Rattle.statement_tokens.specs.Scanned.{Lessens, one_if_some, most_tokens, with_front}
-use Rattle.statement_tokens.specs.declared.language.Language.{Language}
-use Rattle.statement_tokens.specs.declared.scanner.Scanner.{Scanner}
-use Rattle.statement_tokens.proofs.Reading.{◌>>=◌, tokens_from, placed, unread, HandsRead}
+use Rattle.statement_tokens.proofs.Reading.{tokens_from, placed, unread, HandsRead}
 
 abbrev pub spot : ℕ → ℕ → Spot
 spot line column = record { line = line; column = column }
-
-same_column : (line a b : ℕ) → a ≡ b → spot line a ≡ spot line b
-same_column line a b given = ap (spot line) given
 
 pub skipped : (before : List Token) (n : ℕ) (cs : List ℕ) (line column past : ℕ) → n ≤ length cs
     → tokens_from before cs n (spot line column) past ≡ tokens_from before (drop n cs) 0 (spot line (column + n)) past

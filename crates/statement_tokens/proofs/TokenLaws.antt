@@ -2,26 +2,15 @@
 use Rattle.std.proofs.Common.{◌≡◌, ℕ, ◌≤◌, ◌&&◌, Bool, true, false, zero, suc, List, [], ◌∷◌, ◌++◌, length, Option}
 use Rattle.std.proofs.Common.{Some, None, Result, Ok, Err, refl, sym, ap, subst, ◌∙◌, append_assoc, append-nil, length-append, arith, ◌⊎◌, inl, inr}
 use Rattle.std.specs.Prelude.{if◌then◌else◌}
-use Rattle.statement_tokens.specs.declared.place.Spot.{Spot}
-use Rattle.statement_tokens.specs.declared.token.Token.{Token}
-use Rattle.statement_tokens.specs.declared.token.TokenKind.TheVariants as kind
-use Rattle.statement_tokens.specs.declared.language.Language.{Language}
-use Rattle.statement_tokens.specs.declared.language.Language.TheVariants.{First, Second}
-use Rattle.statement_tokens.specs.declared.scan.ScanFault.{ScanFault}
-use Rattle.statement_tokens.specs.declared.scan.ScanFault.TheVariants.{BadToken}
-use Rattle.statement_tokens.specs.declared.scan.Placed.{Placed}
+use Rattle.statement_tokens.specs.Types.{Spot, Token, TokenKind as kind, Language, First, Second, ScanFault, BadToken, Placed, Scanner, ScanError}
+use Rattle.statement_tokens.specs.Types.{ScanError as error}
 use Rattle.statement_tokens.specs.Language.{is_language_word, is_two, is_end, language_of}
-use Rattle.statement_tokens.specs.Pieces.{Piece, line_feed, return_and_line_feed, blank, tab, comment, name, literal}
+use Rattle.statement_tokens.specs.Pieces.{Piece, line_feed, name, literal}
 use Rattle.statement_tokens.specs.Pieces.{sign, piece_text, pieces_text, is_some, is_piece, IsLongest, BeginsNone}
-use Rattle.statement_tokens.specs.Tokens.{behind, place_behind, tokens_with, past_behind, tokens_at, tokens_in}
-use Rattle.statement_tokens.specs.Tokens.{sign_fault, fault_of, AreGood, AreTokens, AreTokensBehind, Begins, IsFirstScanFault, IsFaultBehind}
-use Rattle.statement_tokens.specs.Laws.{HasTokensOrFault, EachTextHasTokensOrFault, TokensAreUnique, FirstScanFaultsAreUnique}
-use Rattle.statement_tokens.specs.Laws.{TokensHaveNoFault}
-use Rattle.statement_tokens.specs.Tokens.{end_of}
+use Rattle.statement_tokens.specs.Tokens.{behind, place_behind, tokens_with, past_behind, tokens_at, sign_fault, fault_of, AreGood, AreTokens}
+use Rattle.statement_tokens.specs.Tokens.{AreTokensBehind, Begins, IsFirstScanFault, IsFaultBehind, end_of}
+use Rattle.statement_tokens.specs.Laws.{EachTextHasTokensOrFault, TokensAreUnique, FirstScanFaultsAreUnique, TokensHaveNoFault}
 use Rattle.statement_tokens.specs.Scanned.{TellsBehind, Tells, Leaves, Hands, with_front}
-use Rattle.statement_tokens.specs.declared.scanner.Scanner.{Scanner}
-use Rattle.statement_tokens.specs.declared.scan.ScanError.{ScanError}
-use Rattle.statement_tokens.specs.declared.scan.ScanError.TheVariants as error
 use Rattle.statement_tokens.proofs.Reading.{tokens_from, tokens_of, unread, HandsRead}
 use Rattle.statement_tokens.proofs.Longest.{Longest, begins_with_longest}
 use Rattle.statement_tokens.proofs.Pieces.{Read, front_none, reads_piece, stops_piece, stops_none}
@@ -42,14 +31,7 @@ caret_free Second m goes good = rw (goes refl) refl
 -- a piece that is good in front of others stays good
 stays_good : (before more : List Token) (piece : Piece) → fault_of (language_of before) piece ≡ None → fault_of (language_of (before ++ more)) piece ≡ None
 stays_good before more (sign kind.Caret) good = caret_free (language_of before) (language_of (before ++ more)) (stays_second before more) good
-stays_good before more (sign k) good = good
-stays_good before more line_feed good = good
-stays_good before more return_and_line_feed good = good
-stays_good before more blank good = good
-stays_good before more tab good = good
-stays_good before more (comment cs) good = good
-stays_good before more (name cs) good = good
-stays_good before more (literal cs) good = good
+stays_good before more other good = good
 
 no_second : (a b c : Bool) → a ≡ false ⊎ (b ≡ false) ⊎ (c ≡ false) → (let l : Language = (if a && b && c then Second else First) in l) ≡ Second → ⊥
 no_second false b c some is = absurd cc
@@ -74,14 +56,7 @@ was_good : (before more : List Token) (piece : Piece) (at : Spot) (past : ℕ)
     → fault_of (language_of (before ++ (tokens_with piece at past ++ more))) piece ≡ None → fault_of (language_of before) piece ≡ None
 was_good before more (sign kind.Caret) at past good =
     caret_free (language_of (before ++ record { at = at; kind = kind.Caret } ∷ more)) (language_of before) (was_second before more at) good
-was_good before more (sign k) at past good = good
-was_good before more line_feed at past good = good
-was_good before more return_and_line_feed at past good = good
-was_good before more blank at past good = good
-was_good before more tab at past good = good
-was_good before more (comment cs) at past good = good
-was_good before more (name cs) at past good = good
-was_good before more (literal cs) at past good = good
+was_good before more other at past good = good
 
 abbrev past_after : List Piece → Spot → ℕ → ℕ
 past_after [] at past = past

@@ -1,6 +1,5 @@
 -- What the scanner takes a character for: an item, and how many more characters belong to it.
-use Rattle.std.specs.Prelude.{◌≡◌, ℕ, ◌^◌, ◌==◌, ◌&&◌, ◌||◌, Bool, false, List, [], ◌∷◌, length, nat_lt}
-use Rattle.std.specs.Prelude.{nat_le, Result, Ok, Err, pos, if◌then◌else◌}
+use Rattle.std.specs.Prelude.{◌≡◌, ℕ, ◌^◌, ◌==◌, ◌&&◌, ◌||◌, Bool, false, List, [], ◌∷◌, length, nat_lt, nat_le, Result, Ok, Err, pos, if◌then◌else◌}
 use Rattle.std.specs.List.{take_while, prefix_len}
 use Rattle.std.specs.Str.{encode_utf8_all}
 use Rattle.unicode_ident.specs.Ident.{is_xid_continue}
@@ -8,18 +7,8 @@ use Rattle.statement_tokens.specs.Limits.{name_limit}
 use Rattle.statement_tokens.specs.Language.{language_of}
 use Rattle.statement_tokens.specs.Pieces.{starts_name, is_digit, is_inside_line}
 use Rattle.statement_tokens.specs.Tokens.{value_from}
-use Rattle.statement_tokens.specs.declared.token.Token.{Token}
-use Rattle.statement_tokens.specs.declared.token.TokenKind.TheVariants as kind
-use Rattle.statement_tokens.specs.declared.language.Language.{Language}
-use Rattle.statement_tokens.specs.declared.language.Language.TheVariants.{First, Second}
-use Rattle.statement_tokens.specs.declared.scan.Class.{Class}
-use Rattle.statement_tokens.specs.declared.scan.Class.TheVariants as class
-use Rattle.statement_tokens.specs.declared.scan.Item.{Item}
-use Rattle.statement_tokens.specs.declared.scan.Item.TheVariants as item
-use Rattle.statement_tokens.specs.declared.scan.ScanFault.{ScanFault}
-use Rattle.statement_tokens.specs.declared.scan.ScanFault.TheVariants.{BadToken, LiteralTooLarge}
-use Rattle.statement_tokens.specs.declared.scan.ItemError.{ItemError}
-use Rattle.statement_tokens.specs.declared.scan.ItemError.TheVariants as item_error
+use Rattle.statement_tokens.specs.Types.{Token, TokenKind as kind, Language, First, Second, Class, Class as class, Item, Item as item, ScanFault, BadToken}
+use Rattle.statement_tokens.specs.Types.{LiteralTooLarge, ItemError, ItemError as item_error}
 
 -- whether a token or a comment goes on with the character
 abbrev pub is_in : Class → ℕ → Bool

@@ -1,11 +1,7 @@
 -- The two statement languages, and which of them a file is of: its first line tells it.
 use Rattle.std.specs.Prelude.{Bool, true, false, ◌&&◌, List, ◌∷◌, pos, bytes_eq, codes, if◌then◌else◌}
 use Rattle.std.specs.Ordering.{int_eq}
-use Rattle.statement_tokens.specs.declared.token.Token.{Token}
-use Rattle.statement_tokens.specs.declared.token.TokenKind.{TokenKind}
-use Rattle.statement_tokens.specs.declared.token.TokenKind.TheVariants as kind
-use Rattle.statement_tokens.specs.declared.language.Language.{Language}
-use Rattle.statement_tokens.specs.declared.language.Language.TheVariants.{First, Second}
+use Rattle.statement_tokens.specs.Types.{Token, TokenKind, TokenKind as kind, Language, First, Second}
 
 abbrev pub is_language_word : TokenKind → Bool
 is_language_word (kind.Name text) = bytes_eq text (codes "language")

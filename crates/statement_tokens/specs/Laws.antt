@@ -1,9 +1,7 @@
 -- Each text has one list of tokens or one first fault.
 use Rattle.std.specs.Prelude.{◌≡◌, ◌⊎◌, ℕ, List}
 use Rattle.statement_tokens.specs.Tokens.{AreTokens, IsFirstScanFault}
-use Rattle.statement_tokens.specs.declared.place.Spot.{Spot}
-use Rattle.statement_tokens.specs.declared.scan.ScanFault.{ScanFault}
-use Rattle.statement_tokens.specs.declared.token.Token.{Token}
+use Rattle.statement_tokens.specs.Types.{Spot, ScanFault, Token}
 
 abbrev pub HasTokensOrFault : List ℕ → Type 0
 HasTokensOrFault text = ((tokens : List Token) × AreTokens text tokens) ⊎ ((fault : ScanFault) × (at : Spot) × IsFirstScanFault text fault at)

@@ -2,8 +2,7 @@
 use Rattle.std.specs.Prelude.{◌≡◌, ◌≤◌, ℕ, ◌==◌, ◌&&◌, ◌||◌, Bool, true, false, List, [], ◌∷◌, ◌++◌, length, codes, nat_le, not, IsTrue}
 use Rattle.std.specs.List.{flat_map, list_all}
 use Rattle.unicode_ident.specs.Ident.{is_xid_start, is_xid_continue}
-use Rattle.statement_tokens.specs.declared.token.TokenKind.{TokenKind}
-use Rattle.statement_tokens.specs.declared.token.TokenKind.TheVariants as kind
+use Rattle.statement_tokens.specs.Types.{TokenKind, TokenKind as kind}
 
 abbrev pub starts_name : ℕ → Bool
 starts_name c = is_xid_start c || (c == 95)

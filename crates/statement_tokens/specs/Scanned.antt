@@ -1,12 +1,7 @@
 -- What a scanner has left of its text, and what it hands out of it.
 use Rattle.std.specs.Prelude.{◌<◌, ◌+◌, ◌*◌, ℕ, zero, suc, length, List, [], ◌∷◌, ◌++◌, Option, Some, None, Result, Ok, Err}
 use Rattle.statement_tokens.specs.Tokens.{AreTokensBehind, IsFaultBehind}
-use Rattle.statement_tokens.specs.declared.place.Spot.{Spot}
-use Rattle.statement_tokens.specs.declared.token.Token.{Token}
-use Rattle.statement_tokens.specs.declared.scan.Placed.{Placed}
-use Rattle.statement_tokens.specs.declared.scan.ScanError.{ScanError}
-use Rattle.statement_tokens.specs.declared.scan.ScanError.TheVariants as error
-use Rattle.statement_tokens.specs.declared.scanner.Scanner.{Scanner}
+use Rattle.statement_tokens.specs.Types.{Spot, Token, Placed, ScanError, ScanError as error, Scanner}
 
 -- behind these tokens, the text from this place on has these tokens, or this first fault
 abbrev pub TellsBehind : List Token → Spot → ℕ → List ℕ → Result (List Token) Placed → Type 0

@@ -1,19 +1,11 @@
 -- The tokens of a text, with their places, and the first fault of a text that has none.
-use Rattle.std.specs.Prelude.{◌≡◌, ◌⊎◌, ℕ, zero, suc, ◌+◌, ◌-◌, ◌*◌, ◌^◌, nat_lt, nat_le, pos, if◌then◌else◌}
-use Rattle.std.specs.Prelude.{List, [], ◌∷◌, ◌++◌, length, Option, Some, None}
+use Rattle.std.specs.Prelude.{◌≡◌, ◌⊎◌, ℕ, zero, suc, ◌+◌, ◌-◌, ◌*◌, ◌^◌, nat_lt, nat_le, pos, if◌then◌else◌, List, [], ◌∷◌, ◌++◌, length, Option, Some, None}
 use Rattle.std.specs.Str.{encode_utf8_all}
 use Rattle.statement_tokens.specs.Limits.{name_limit}
 use Rattle.statement_tokens.specs.Language.{language_of}
 use Rattle.statement_tokens.specs.Pieces.{Piece, line_feed, return_and_line_feed, blank, tab, comment, name}
 use Rattle.statement_tokens.specs.Pieces.{literal, sign, piece_text, pieces_text, IsLongest, BeginsNone}
-use Rattle.statement_tokens.specs.declared.place.Spot.{Spot}
-use Rattle.statement_tokens.specs.declared.token.Token.{Token}
-use Rattle.statement_tokens.specs.declared.token.TokenKind.{TokenKind}
-use Rattle.statement_tokens.specs.declared.token.TokenKind.TheVariants as kind
-use Rattle.statement_tokens.specs.declared.language.Language.{Language}
-use Rattle.statement_tokens.specs.declared.language.Language.TheVariants.{First}
-use Rattle.statement_tokens.specs.declared.scan.ScanFault.{ScanFault}
-use Rattle.statement_tokens.specs.declared.scan.ScanFault.TheVariants.{BadToken, LiteralTooLarge}
+use Rattle.statement_tokens.specs.Types.{Spot, Token, TokenKind, TokenKind as kind, Language, First, ScanFault, BadToken, LiteralTooLarge}
 
 -- lines and characters are counted from 1
 abbrev pub right_of : Spot → ℕ → Spot

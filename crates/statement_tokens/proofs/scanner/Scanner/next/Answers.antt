@@ -1,5 +1,4 @@
-use Rattle.std.proofs.Common.{◌≡◌, ◌+◌, ◌++◌, ◌∷◌, [], List, Some, Ok, Err, ap, subst, sym, ◌∙◌, append-nil, refl, arith, length, ◌≤◌}
-use Rattle.statement_tokens.specs.Tokens.{end_of}
+use Rattle.std.proofs.Common.{◌+◌, ◌++◌, Ok, Err, ap, subst, ◌∙◌, append-nil, refl, arith, length, ◌≤◌}
 use Rattle.statement_tokens.specs.Items.{FailsItem, item_in, more_of}
 use Rattle.statement_tokens.specs.Scanned.{most_tokens, with_front}
 use Rattle.statement_tokens.proofs.Reading.{tokens_from}
