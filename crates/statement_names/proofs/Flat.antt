@@ -1,8 +1,9 @@
 -- The names and exponents of a sum and of a term, by lists in place of rows.
 use Rattle.std.proofs.Common.{◌≡◌, ◌++◌, refl, sym, ap, ◌∙◌}
 use Rattle.std.specs.List.{flat_map}
-use Rattle.statement_syntax.specs.declared.tree.Term.{Term, Term', out-Term, outs-Term', Row_of-Factor, end_of-Factor, more_of-Factor, items-the_row-Factor, items_shown-the_row-Factor-1}
-use Rattle.statement_syntax.specs.declared.tree.Sum.{Sum, Sum', out-Sum, outs-Sum', Row_of-Term, end_of-Term, more_of-Term, items-the_row-Term, items_shown-the_row-Term-0}
+use Rattle.statement_names.specs.Types.{Term, Term', out-Term, outs-Term', Row_of-Factor, end_of-Factor, more_of-Factor, items-the_row-Factor}
+use Rattle.statement_names.specs.Types.{items_shown-the_row-Factor-1, Sum, Sum', out-Sum, outs-Sum', Row_of-Term, end_of-Term, more_of-Term, items-the_row-Term}
+use Rattle.statement_names.specs.Types.{items_shown-the_row-Term-0}
 use Rattle.statement_names.specs.Occurrences.{mark_occurrences, primary_occurrences, factor_occurrences, factors_occurrences, term_occurrences, terms_occurrences, sum_occurrences}
 
 flat-factors : (n : _) (k : Row_of-Factor n) → factors_occurrences k ≡ flat_map factor_occurrences (items-the_row-Factor n k)

@@ -8,12 +8,10 @@ use Rattle.std.specs.Map.{lookup}
 use Rattle.std.specs.Option.{option_or}
 use Rattle.std.specs.Str.{bytes_eq}
 use Rattle.std.proofs.lemmas.Slice.Eq.{bytes_eq-Decides}
-use Rattle.statement_names.specs.declared.kinds.Kind.{Kind}
-use Rattle.statement_names.specs.Faults.{kind_in}
+use Rattle.statement_names.specs.Types.{Kind, Name, Statement}
+use Rattle.statement_names.specs.Faults.{kind_in, is_among}
 use Rattle.statement_names.proofs.Items.{map_next, flat_next}
-use Rattle.statement_syntax.specs.declared.tree.Name.{Name}
-use Rattle.statement_syntax.specs.declared.tree.Statement.{Statement}
-use Rattle.statement_names.specs.Survey.{with_kind, with_kinds, kinded, kinds_by}
+use Rattle.statement_names.specs.Survey.{names_in, with_kind, with_kinds, kinded, kinds_by}
 
 pub same_bytes : (xs ys : List ℕ) → bytes_eq xs ys ≡ true → xs ≡ ys
 same_bytes xs ys e = (bytes_eq-Decides xs ys).0 e
@@ -23,15 +21,15 @@ option_or-nothing found = grind arith
 
 pub lookup-append : {A B : Type 0} (test : A → Bool) (xs ys : List (A × B)) → lookup test (xs ++ ys) ≡ option_or (lookup test xs) (lookup test ys)
 lookup-append test [] ys = refl
-lookup-append test (x ∷ xs) ys = go (test x.0) (lookup-append test xs ys)
-  where
-    go : (b : Bool) → lookup test (xs ++ ys) ≡ option_or (lookup test xs) (lookup test ys)
-        → cond b (Some x.1) (lookup test (xs ++ ys)) ≡ option_or (cond b (Some x.1) (lookup test xs)) (lookup test ys)
-    go true rest = refl
-    go false rest = rest
+lookup-append test (x ∷ xs) ys = grind (arith, lookup-append test xs ys)
 
 pub kind_in-append : (xs ys : List (List ℕ × Kind)) (name : List ℕ) → kind_in (xs ++ ys) name ≡ option_or (kind_in xs name) (kind_in ys name)
 kind_in-append xs ys name = lookup-append (bytes_eq name) xs ys
+
+-- a name is among those that are declared where a kind is found for it
+pub among-names_in : (declared : List (List ℕ × Kind)) (name : List ℕ) → is_among (names_in declared) name ≡ is_some (kind_in declared name)
+among-names_in [] name = refl
+among-names_in (d ∷ declared) name = grind (arith, among-names_in declared name)
 
 -- a second declaration of a name changes nothing
 pub kind_in-with_kind : (declared : List (List ℕ × Kind)) (name : List ℕ) (kind : Kind) (q : List ℕ)

@@ -5,25 +5,14 @@ use Rattle.std.specs.Option.{option_or}
 use Rattle.std.proofs.lemmas.Bool.{lt-ltb, le-leb}
 use Rattle.std.proofs.lemmas.Bool.Decides.{Decides-eqb}
 use Rattle.std.proofs.lemmas.List.{map-append}
-use Rattle.word_core.specs.declared.letter.Letter.{Letter}
+use Rattle.statement_names.specs.Types.{Letter, OrderSpec, Named, named, Spot, Name, Number, Statement, StatementKind, statement, Kind, Map}
 use Rattle.word_orders.specs.declared.fault.OrderFault.TheVariants.{BadWeight, RepeatedLetter, NoSuchLetter}
-use Rattle.word_orders.specs.declared.any.OrderSpec.{OrderSpec}
 use Rattle.word_orders.specs.Faults.{is_weight, letter_fault, block_fault, entry_fault, HasNoFault}
 use Rattle.word_orders.specs.Lists.{is_listed}
 use Rattle.word_orders.specs.Specified.{IsSound}
-use Rattle.quiver.specs.declared.named.Named.{Named}
-use Rattle.quiver.specs.declared.named.Named.TheVariants as named
 use Rattle.quiver.specs.Declarations.{Declaration, letter_count, letter_name, named_in}
 use Rattle.expression_names.specs.Names.{is_map, letter_number, letter_of}
-use Rattle.statement_tokens.specs.declared.place.Spot.{Spot}
-use Rattle.statement_syntax.specs.declared.tree.Name.{Name}
-use Rattle.statement_syntax.specs.declared.tree.Number.{Number}
-use Rattle.statement_syntax.specs.declared.tree.Statement.{Statement}
-use Rattle.statement_syntax.specs.declared.tree.StatementKind.{StatementKind}
-use Rattle.statement_syntax.specs.declared.tree.StatementKind.TheVariants as statement
 use Rattle.word_orders.specs.Limits.{weight_limit}
-use Rattle.statement_names.specs.declared.kinds.Kind.{Kind}
-use Rattle.statement_names.specs.declared.kinds.Kind.TheVariants.{Map}
 use Rattle.statement_names.specs.Faults.{kind_in, is_kind, declared_in, value_of, name_fault_of}
 use Rattle.statement_names.specs.Occurrences.{kind_occurrences, statement_occurrences, occurrences_of}
 use Rattle.statement_names.specs.Numbered.{declarations_of}

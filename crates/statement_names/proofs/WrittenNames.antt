@@ -3,24 +3,15 @@ use Rattle.std.proofs.Common.{◌≡◌, ℕ, ◌<◌, true, false, ◌&&◌, Is
 use Rattle.std.specs.List.{list_all, flat_map}
 use Rattle.quiver.specs.Declarations.{Declaration, object_count, letter_count, named_in, quiver_of, IsDeclared}
 use Rattle.expression_names.specs.Names.{is_map, is_object, are_names, are_names_of_terms, are_names_of_term, are_names_of_factors, are_names_of_primary, AreNames}
-use Rattle.statement_tokens.specs.declared.place.Spot.{Spot}
-use Rattle.statement_syntax.specs.declared.tree.Primary.{Primary, Letter, Identity, Bracket}
-use Rattle.statement_syntax.specs.declared.tree.Factor.{Factor}
-use Rattle.statement_syntax.specs.declared.tree.Mark.TheVariants.{Adjoint}
-use Rattle.statement_syntax.specs.declared.tree.Term.{Term, Term', out-Term, outs-Term', out-roll-Term, Row_of-Factor, end_of-Factor, more_of-Factor, items-the_row-Factor, items_shown-the_row-Factor-1}
-use Rattle.statement_syntax.specs.declared.tree.Sum.{Sum, Sum', out-Sum, outs-Sum', out-roll-Sum, Row_of-Term, end_of-Term, more_of-Term, items-the_row-Term, items_shown-the_row-Term-0}
-use Rattle.statement_syntax.specs.declared.tree.Statement.{Statement}
-use Rattle.statement_syntax.specs.declared.tree.StatementKind.{StatementKind}
-use Rattle.statement_syntax.specs.declared.tree.StatementKind.TheVariants as statement
+use Rattle.statement_names.specs.Types.{Spot, Primary, Identity, Bracket, Factor, Adjoint, Term, Term', out-Term, outs-Term', out-roll-Term, Row_of-Factor}
+use Rattle.statement_names.specs.Types.{end_of-Factor, more_of-Factor, items-the_row-Factor, items_shown-the_row-Factor-1, Sum, Sum', out-Sum, outs-Sum'}
+use Rattle.statement_names.specs.Types.{out-roll-Sum, Row_of-Term, end_of-Term, more_of-Term, items-the_row-Term, items_shown-the_row-Term-0, Statement}
+use Rattle.statement_names.specs.Types.{StatementKind, statement, Named, named, Kind, Object, Map}
 use Rattle.statement_syntax.specs.Nodes.{factor_of, term_of}
 use Rattle.definitions.specs.Quiver.{IsQuiver, source, target}
-use Rattle.quiver.specs.declared.named.Named.{Named}
-use Rattle.quiver.specs.declared.named.Named.TheVariants as named
 use Rattle.quiver.proofs.Counts.{letters-quiver_of}
 use Rattle.quiver.proofs.Found.{is_named}
 use Rattle.quiver.proofs.Identities.{is_quiver}
-use Rattle.statement_names.specs.declared.kinds.Kind.{Kind}
-use Rattle.statement_names.specs.declared.kinds.Kind.TheVariants.{Object, Map}
 use Rattle.statement_names.specs.Faults.{kind_in, is_kind, declared_in, name_fault_of}
 use Rattle.statement_names.specs.Numbered.{declarations_of}
 use Rattle.statement_names.specs.Occurrences.{mark_occurrences, primary_occurrences, factors_occurrences, term_occurrences, terms_occurrences, sum_occurrences, sides_occurrences, kind_occurrences, statement_occurrences, occurrences_of}
@@ -58,7 +49,7 @@ module _ (ds : List Declaration) (kind : List ℕ → Option Kind) (maps : (q : 
         (factors_named rest (Each-right (IsGood kind) factor (factors_occurrences rest) good))
 
     primary_named : (primary : Primary) → Each (IsGood kind) (primary_occurrences primary) → are_names_of_primary ds primary ≡ true
-    primary_named (Letter n) good = maps n.text good.0
+    primary_named (Primary.Letter n) good = maps n.text good.0
     primary_named (Identity n) good = objects n.text good.0
     primary_named (Bracket s) good = sum_named s good
 
