@@ -15,7 +15,7 @@ use Rattle.nc_polynomial.specs.Collected.{collected}
 use Rattle.nc_polynomial.specs.Shape.{IsCanonical}
 use Rattle.nc_polynomial.proofs.CollectedTerms.{coefficient_of-collected}
 use Rattle.nc_polynomial.proofs.Shapes.{IsDescending-from_recursion}
-use Rattle.adjoint_rules.specs.declared.parts.Parts.{Parts}
+use Rattle.signature_typing.specs.Types.{Parts}
 use Rattle.adjoint_rules.specs.Problem.{polynomials, numbers, IsPosed, IsClosed, generators_in}
 use Rattle.adjoint_rules.proofs.Generators.{posed_quiver}
 use Rattle.adjoint_rules.proofs.NewAdjoints.{AllZip-append, each_same}

@@ -9,7 +9,8 @@ use Rattle.definitions.specs.Poly.{Poly, Term as term, poly_between}
 use Rattle.definitions.specs.Quiver.{Quiver, IsQuiver}
 use Rattle.definitions.specs.Generators.{adjoint_word, adjoint_poly}
 use Rattle.definitions.proofs.Adjoints.{coefficient_of-adjoint_poly}
-use Rattle.nc_polynomial.specs.declared.fault.PolyFault.{PolyFault}
+use Rattle.signature_typing.specs.Types.{PolyFault, Mark, Adjoint, Power, Primary, Identity, Bracket, Term, Term', Row_of-Factor, end_of-Factor, more_of-Factor}
+use Rattle.signature_typing.specs.Types.{Number, Sum, Sum', Row_of-Term, end_of-Term, more_of-Term}
 use Rattle.nc_polynomial.specs.Terms.{scaled, products, negated, added, sums}
 use Rattle.nc_polynomial.specs.Faults.{unless_overflow, finished, sized, size_fault, has_long_word, IsMemory}
 use Rattle.nc_polynomial.specs.Arithmetic.{sum_result, difference_result, multiple_result, combined}
@@ -24,12 +25,6 @@ use Rattle.nc_polynomial.proofs.Distinct.{distinct-descending, ranged-descending
 use Rattle.nc_polynomial.proofs.Products.{canonical_sized}
 use Rattle.nc_polynomial.proofs.Shapes.{IsDescending-from_recursion, recursion_from_IsDescending, shaped-scaled, shaped-added}
 use Rattle.quiver.specs.Declarations.{Declaration, quiver_of, identity_in}
-use Rattle.statement_syntax.specs.declared.tree.Mark.{Mark}
-use Rattle.statement_syntax.specs.declared.tree.Mark.TheVariants.{Adjoint, Power}
-use Rattle.statement_syntax.specs.declared.tree.Number.{Number}
-use Rattle.statement_syntax.specs.declared.tree.Primary.{Primary, Letter as letter, Identity, Bracket}
-use Rattle.statement_syntax.specs.declared.tree.Term.{Term, Term', Row_of-Factor, end_of-Factor, more_of-Factor}
-use Rattle.statement_syntax.specs.declared.tree.Sum.{Sum, Sum', Row_of-Term, end_of-Term, more_of-Term}
 use Rattle.expressions.specs.Results.{◌>>=◌}
 use Rattle.expression_names.specs.Names.{letter_of, object_of}
 use Rattle.expressions.specs.Polynomials.{letter_poly, power_poly, mark_poly, marked_poly, product_from, product_poly, scaled_by, Summand, signed, sum_step, sum_from, total, sum_poly, summands, term_poly, factor_polys, primary_poly, equation_poly}
@@ -210,7 +205,7 @@ module _ (ds : List Declaration) (quiver : IsQuiver (quiver_of ds)) where
         (λ p h. gives-bind (AllByRecursion IsCanonical) (AllByRecursion IsCanonical) (factor_polys ds rest) _ (factor_polys-give rest) (λ others k. (h, k)))
 
     primary_poly-gives : (p : Primary) → Gives IsCanonical (primary_poly ds p)
-    primary_poly-gives (letter n) = letter-gives (letter_of ds n)
+    primary_poly-gives (Primary.Letter n) = letter-gives (letter_of ds n)
     primary_poly-gives (Identity n) = letter-gives (identity_in ds (object_of ds n))
     primary_poly-gives (Bracket s) = sum_poly-gives s
 
