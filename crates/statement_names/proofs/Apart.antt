@@ -15,11 +15,7 @@ Apart (d ∷ ds) = (kind_in ds d.0 ≡ None) × Apart ds
 
 -- tests of names
 pub other_bytes : (xs ys : List ℕ) → (xs ≡ ys → ⊥) → bytes_eq xs ys ≡ false
-other_bytes xs ys differ = go (bytes_eq xs ys) refl
-  where
-    go : (b : Bool) → bytes_eq xs ys ≡ b → b ≡ false
-    go false e = refl
-    go true e = absurd (differ (same_bytes xs ys e))
+other_bytes xs ys differ = grind (arith, same_bytes xs ys, differ)
 
 pub own_bytes : (xs : List ℕ) → bytes_eq xs xs ≡ true
 own_bytes xs = (bytes_eq-Decides xs xs).1 refl

@@ -1,5 +1,5 @@
 -- The declarations of a file in whose names nothing is wrong are those of a quiver.
-use Rattle.std.proofs.Common.{◌≡◌, ℕ, ◌+◌, ◌<◌, ◌≤◌, Bool, true, false, ◌&&◌, ◌||◌, not, nat_eq, is_some, cond, IsTrue, List, [], ◌∷◌, ◌++◌, length, map, take, drop, get_or, Option, Some, None, refl, ap, ap₂, sym, subst, ◌∙◌, arith, append_assoc}
+use Rattle.std.proofs.Common.{◌≡◌, ℕ, ◌+◌, ◌<◌, ◌≤◌, Bool, true, false, ◌&&◌, ◌||◌, not, nat_eq, is_some, IsTrue, List, [], ◌∷◌, ◌++◌, length, map, take, drop, get_or, Option, Some, None, refl, ap, ap₂, sym, subst, ◌∙◌, arith, append_assoc}
 use Rattle.std.specs.List.{list_all}
 use Rattle.std.specs.Map.{lookup}
 use Rattle.std.specs.Option.{option_or}
@@ -93,9 +93,6 @@ arrows_end_by n u v selfmade kind s t source target square (m ∷ names) good =
 same_ends : (first second same : Bool) → first ≡ true → second ≡ true → (first && (second && not same)) ≡ false → same ≡ true
 same_ends first second same f s e = grind arith
 
-own_number : (n : ℕ) → nat_eq n n ≡ true
-own_number n = (Decides-eqb n n).1 refl
-
 all_arrows : (objects : List Declaration) (k : StatementKind) → list_all is_arrow (maps_in objects k) ≡ true
 all_arrows objects (statement.Maps names source target selfmade) = go names
   where
@@ -176,7 +173,7 @@ module _ (statements : List Statement) (clean : name_fault_of statements ≡ Non
       go true first second e =
           let same : source.text ≡ target.text = same_bytes source.text target.text (same_ends _ _ (bytes_eq source.text target.text) first second e) in
           ap (λ text. nat_eq (object_of (declared_objects statements) source) (object_number (named_in (declared_objects statements) text))) (sym same)
-          ∙ own_number (object_of (declared_objects statements) source)
+          ∙ (Decides-eqb (object_of (declared_objects statements) source) (object_of (declared_objects statements) source)).1 refl
   maps_end at k good = refl
 
   all_maps_end : (ss : List Statement) → Each (λ s. Each (IsGood kind) (statement_occurrences s)) ss → list_all (has_ends (object_count (declared_objects statements))) (declared_maps (declared_objects statements) ss) ≡ true

@@ -47,17 +47,7 @@ module _ {K X : Type 0} (test : K → Bool) where
   first_place [] zero = refl
   first_place [] (suc count) = refl
   first_place (e ∷ entries) zero = grind (arith, nat_tests)
-  first_place (e ∷ entries) (suc count) = go (test e.0) (first_place entries count)
-    where
-      place : ℕ
-      place = position_or_len test (keys_of entries)
-
-      all : ℕ
-      all = length (keys_of entries)
-
-      go : (b : Bool) → is_some (lookup test (take count entries)) ≡ (nat_lt place all && nat_lt place count)
-          → is_some (cond b (Some e.1) (lookup test (take count entries))) ≡ (nat_lt (cond (not b) (1 + place) 0) (suc all) && nat_lt (cond (not b) (1 + place) 0) (suc count))
-      go b rest = grind (arith, nat_tests)
+  first_place (e ∷ entries) (suc count) = grind (arith, nat_tests, first_place entries count)
 
 -- a name is among the first declarations where its place is below their number
 pub first-place : (name : List ℕ) (entries : List (String Global × Kind)) (count : ℕ)

@@ -1,5 +1,5 @@
 -- What is found for a name in lists of declarations.
-use Rattle.std.proofs.Common.{◌≡◌, ℕ, ◌+◌, ◌<◌, length, get_or, take, Bool, true, false, cond, if◌then◌else◌, is_some, List, [], ◌∷◌, ◌++◌, Option, Some, None, refl, ap, sym, ◌∙◌, append_assoc, arith}
+use Rattle.std.proofs.Common.{◌≡◌, ℕ, ◌+◌, ◌<◌, length, get_or, take, Bool, true, false, is_some, List, [], ◌∷◌, ◌++◌, Option, None, refl, ap, sym, ◌∙◌, append_assoc, arith, if◌then◌else◌}
 use Rattle.std.specs.List.{flat_map}
 use Rattle.std.proofs.lemmas.List.{append-nil}
 use Rattle.std.proofs.lemmas.List.Sums.{fold-append, fold_push}
@@ -34,18 +34,7 @@ among-names_in (d ∷ declared) name = grind (arith, among-names_in declared nam
 -- a second declaration of a name changes nothing
 pub kind_in-with_kind : (declared : List (List ℕ × Kind)) (name : List ℕ) (kind : Kind) (q : List ℕ)
     → kind_in (with_kind declared name kind) q ≡ kind_in (declared ++ (name, kind) ∷ []) q
-kind_in-with_kind declared name kind q = by (is_some (kind_in declared name)) refl
-  where
-    over : (found : Option Kind) (b : Bool) → (b ≡ true → is_some found ≡ true) → found ≡ option_or found (cond b (Some kind) None)
-    over (Some k) b there = refl
-    over None true there = absurd (let no = there refl in cc)
-    over None false there = refl
-
-    by : (there : Bool) → is_some (kind_in declared name) ≡ there → kind_in (if there then declared else declared ++ (name, kind) ∷ []) q ≡ kind_in (declared ++ (name, kind) ∷ []) q
-    by false is = refl
-    by true is =
-        over (kind_in declared q) (bytes_eq q name) (λ same. ap (λ n. is_some (kind_in declared n)) (same_bytes q name same) ∙ is)
-        ∙ sym (kind_in-append declared ((name, kind) ∷ []) q)
+kind_in-with_kind declared name kind q = grind (arith, kind_in-append declared ((name, kind) ∷ []) q, same_bytes q name)
 
 -- further declarations find the same where those before them do
 same-append : (xs ys zs : List (List ℕ × Kind)) (q : List ℕ) → kind_in xs q ≡ kind_in ys q → kind_in (xs ++ zs) q ≡ kind_in (ys ++ zs) q

@@ -1,5 +1,5 @@
 -- What the names of declarations stand for, and the kinds that they are declared as.
-use Rattle.std.proofs.Common.{◌≡◌, ℕ, ◌+◌, Bool, true, false, cond, IsTrue, List, [], ◌∷◌, ◌++◌, map, Option, Some, None, refl, ap, ap₂, sym, subst, ◌∙◌, arith}
+use Rattle.std.proofs.Common.{◌≡◌, ℕ, ◌+◌, true, false, cond, IsTrue, List, [], ◌∷◌, ◌++◌, map, Option, Some, None, refl, ap, ap₂, sym, subst, ◌∙◌, arith}
 use Rattle.std.specs.List.{flat_map}
 use Rattle.std.specs.Map.{lookup}
 use Rattle.std.specs.Option.{option_map}
@@ -42,14 +42,8 @@ name_kind-of (arrow name u v selfmade) = refl
 kind-names_from : (p v a : ℕ) (ds : List Declaration) (q : List ℕ) → option_map named_kind (lookup (bytes_eq q) (names_from p v a ds)) ≡ kind_in (kinds ds) q
 kind-names_from p v a [] q = refl
 kind-names_from p v a (d ∷ ds) q =
-    go (bytes_eq q (name_of d)) (kind-names_from (p + 1) (v + objects_of d) (a + letters_of d) ds q)
-    ∙ ap (λ n. cond (bytes_eq q n) (Some (kind_of d).1) (kind_in (kinds ds) q)) (sym (name_kind-of d))
-  where
-    go : (b : Bool) → option_map named_kind (lookup (bytes_eq q) (names_from (p + 1) (v + objects_of d) (a + letters_of d) ds)) ≡ kind_in (kinds ds) q
-        → option_map named_kind (cond b (Some (named_by d (record { declared = d; place = p; object = v; letter = a }))) (lookup (bytes_eq q) (names_from (p + 1) (v + objects_of d) (a + letters_of d) ds)))
-        ≡ cond b (Some (kind_of d).1) (kind_in (kinds ds) q)
-    go true rest = ap Some (named_kind-by d _)
-    go false rest = rest
+    let later = kind-names_from (p + 1) (v + objects_of d) (a + letters_of d) ds q in
+    grind (arith, later, named_kind-by d (record { declared = d; place = p; object = v; letter = a }), name_kind-of d)
 
 -- the kind of what a name stands for
 pub kind-named_in : (ds : List Declaration) (q : List ℕ) → option_map named_kind (named_in ds q) ≡ kind_in (kinds ds) q

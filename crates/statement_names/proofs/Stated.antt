@@ -1,6 +1,5 @@
 -- What the names and literals of a statement are, in a file in whose names nothing is wrong.
 use Rattle.std.proofs.Common.{◌≡◌, ◌≢◌, ℕ, ◌<◌, ◌≤◌, true, false, ◌||◌, nat_eq, nat_le, IsTrue, List, [], ◌∷◌, ◌++◌, map, length, get_or, Option, None, All, AllPairs, refl, ap, subst, ◌∙◌, arith}
-use Rattle.std.specs.List.{list_any, list_all}
 use Rattle.std.specs.Str.{bytes_eq}
 use Rattle.std.proofs.lemmas.Bool.{and_parts, leb-true}
 use Rattle.std.proofs.lemmas.Bool.Decides.{Decides-eqb}
