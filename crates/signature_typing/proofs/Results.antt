@@ -22,8 +22,9 @@ use Rattle.nc_polynomial.proofs.Around.{shaped-between}
 use Rattle.nc_polynomial.proofs.Chains.{or_first, first-append}
 use Rattle.nc_polynomial.proofs.CollectedTerms.{coefficient_of-collected, descending-collected, nonzero-collected}
 use Rattle.nc_polynomial.proofs.Distinct.{distinct-descending, ranged-descending, coefficient-ranged}
+use Rattle.nc_polynomial.proofs.OneTerm.{canonical_none}
 use Rattle.nc_polynomial.proofs.Products.{canonical_sized}
-use Rattle.nc_polynomial.proofs.Shapes.{IsDescending-from_recursion, recursion_from_IsDescending, shaped-scaled, shaped-added}
+use Rattle.nc_polynomial.proofs.Shapes.{Descends, IsDescending-from_recursion, recursion_from_IsDescending, shaped-scaled, shaped-added}
 use Rattle.quiver.specs.Declarations.{Declaration, quiver_of, identity_in}
 use Rattle.expressions.specs.Results.{◌>>=◌}
 use Rattle.expression_names.specs.Names.{letter_of, object_of}
@@ -42,6 +43,19 @@ gives-bind P Q (Err e) f h k = h
 gives-then : (P : Poly → Type 0) (r : Result Poly PolyFault) (f : Poly → Result Poly PolyFault) → Gives P r → ((p : Poly) → P p → Gives P (f p)) → Gives P (and_then r f)
 gives-then P (Ok p) f h k = k p h
 gives-then P (Err e) f h k = h
+
+-- within the limits, by recursion on the terms
+pub canonical_by : (p : Poly) → Descends p → AllByRecursion (λ (t : term). t.0 ≢ pos 0) p → AllByRecursion (λ (t : term). IsCoefficient t.0) p
+    → AllByRecursion (λ (t : term). length t.1 ≤ 500) p → length p ≤ 20000 → IsCanonical p
+canonical_by p descends nonzero in_range short few = record {
+  shaped = record {
+    descending = IsDescending-from_recursion p descends;
+    nonzero = All-from_recursion (λ (t : term). t.0 ≢ pos 0) p nonzero;
+    in_range = All-from_recursion (λ (t : term). IsCoefficient t.0) p in_range;
+  };
+  short = All-from_recursion (λ (t : term). length t.1 ≤ 500) p short;
+  few = few;
+}
 
 -- one operation
 sized-gives : (p : Poly) → IsShaped p → Gives IsCanonical (sized p)
@@ -92,26 +106,15 @@ steps-give : (sum p q : Poly) → IsCanonical sum → IsCanonical q → Gives Is
 steps-give sum [] q h k = h
 steps-give sum (t ∷ p) q h k = gives-then IsCanonical (product_step sum t q) (λ next. product.product_from next p q) (step-gives sum t q h k) (λ next m. steps-give next p q m k)
 
-pub canonical-none : IsCanonical []
-canonical-none = record {
-  shaped = record {
-    descending = IsDescending-from_recursion [] tt;
-    nonzero = All-from_recursion (λ (t : term). t.0 ≢ pos 0) [] tt;
-    in_range = All-from_recursion (λ (t : term). IsCoefficient t.0) [] tt;
-  };
-  short = All-from_recursion (λ (t : term). length t.1 ≤ 500) [] tt;
-  few = omega arith;
-}
-
 product-gives : (p q : Poly) → IsCanonical q → Gives IsCanonical (product_result p q)
-product-gives p q k = steps-give [] p q canonical-none k
+product-gives p q k = steps-give [] p q canonical_none k
 
 product_from-gives : (p : Poly) (ps : List Poly) → IsCanonical p → AllByRecursion IsCanonical ps → Gives IsCanonical (product_from p ps)
 product_from-gives p [] h k = h
 product_from-gives p (q ∷ ps) h k = gives-bind IsCanonical IsCanonical (product_result p q) (λ next. product_from next ps) (product-gives p q k.0) (λ next m. product_from-gives next ps m k.1)
 
 product_poly-gives : (ps : List Poly) → AllByRecursion IsCanonical ps → Gives IsCanonical (product_poly ps)
-product_poly-gives [] h = canonical-none
+product_poly-gives [] h = canonical_none
 product_poly-gives (p ∷ ps) h = product_from-gives p ps h.0 h.1
 
 -- powers
@@ -149,15 +152,7 @@ module _ (ds : List Declaration) (quiver : IsQuiver (quiver_of ds)) where
       gives-bind IsCanonical IsCanonical (mark_poly (quiver_of ds) m p) (marked_poly (quiver_of ds) marks) (mark-gives m p h) (marked-gives marks)
 
   letter-gives : (a : ℕ) → IsCanonical (letter_poly a)
-  letter-gives a = record {
-    shaped = record {
-      descending = IsDescending-from_recursion (letter_poly a) (tt, tt);
-      nonzero = All-from_recursion (λ (t : term). t.0 ≢ pos 0) (letter_poly a) ((λ e. cc), tt);
-      in_range = All-from_recursion (λ (t : term). IsCoefficient t.0) (letter_poly a) (omega arith, tt);
-    };
-    short = All-from_recursion (λ (t : term). length t.1 ≤ 500) (letter_poly a) (omega arith, tt);
-    few = omega arith;
-  }
+  letter-gives a = canonical_by (letter_poly a) (tt, tt) ((λ e. cc), tt) (omega arith, tt) (omega arith, tt) (omega arith)
 
   -- the parts of an expression
   abbrev AreCanonical : List Summand → Type 0
@@ -176,7 +171,7 @@ module _ (ds : List Declaration) (quiver : IsQuiver (quiver_of ds)) where
   sum_from-gives p (s ∷ ss) h k = gives-bind IsCanonical IsCanonical (sum_step p s) (λ next. sum_from next ss) (sum_step-gives p s h k.0) (λ next m. sum_from-gives next ss m k.1)
 
   total-gives : (ss : List Summand) → AreCanonical ss → Gives IsCanonical (total ss)
-  total-gives [] h = canonical-none
+  total-gives [] h = canonical_none
   total-gives (s ∷ ss) h = sum_from-gives (signed s) ss (signed-canonical s h.0) h.1
 
   scaled_by-gives : (l : Option Number) (p : Poly) → IsCanonical p → Gives IsCanonical (scaled_by l p)
