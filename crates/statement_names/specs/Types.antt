@@ -8,10 +8,9 @@ pub use Rattle.statement_syntax.specs.declared.tree.Number.{Number}
 pub use Rattle.statement_syntax.specs.declared.tree.Primary.{Primary, Identity, Bracket}
 pub use Rattle.statement_syntax.specs.declared.tree.Statement.{Statement}
 pub use Rattle.statement_syntax.specs.declared.tree.StatementKind.{StatementKind, StatementKind as statement}
-pub use Rattle.statement_syntax.specs.declared.tree.Sum.{Sum, Sum', Row_of-Term, end_of-Term, more_of-Term, out-Sum, outs-Sum', items-the_row-Term}
-pub use Rattle.statement_syntax.specs.declared.tree.Sum.{items_shown-the_row-Term-0, out-roll-Sum}
-pub use Rattle.statement_syntax.specs.declared.tree.Term.{Term, Term', Row_of-Factor, end_of-Factor, more_of-Factor, out-Term, outs-Term', items-the_row-Factor}
-pub use Rattle.statement_syntax.specs.declared.tree.Term.{items_shown-the_row-Factor-1, out-roll-Term}
+pub use Rattle.statement_syntax.specs.declared.tree.Sum.{Sum, Sum', Row_of-Term, end_of-Term, more_of-Term, out-Sum, items-the_row-Term, out-roll-Sum}
+pub use Rattle.statement_syntax.specs.declared.tree.Term.{Term, Term', Row_of-Factor, end_of-Factor, more_of-Factor, out-Term, items-the_row-Factor}
+pub use Rattle.statement_syntax.specs.declared.tree.Term.{out-roll-Term}
 pub use Rattle.word_core.specs.declared.letter.Letter.{Letter}
 pub use Rattle.word_orders.specs.declared.any.OrderSpec.{OrderSpec}
 pub use Rattle.word_orders.specs.declared.any.OrderSpec.TheVariants.{Degree, Weight, Block}
