@@ -1,14 +1,14 @@
 -- The polynomial of an equation is within the limits, and the fault of its arithmetic is no want of memory.
-use Rattle.std.proofs.Common.{◌≡◌, ◌≢◌, ℕ, zero, suc, ◌≤◌, ℤ, pos, negsuc, Bool, true, false, cond, List, [], ◌∷◌, ◌++◌, length, replicate, nat_lt, Option, Some, None, Result, Ok, Err, refl, sym, subst, ◌∙◌, arith}
+use Rattle.std.proofs.Common.{◌≡◌, ◌≢◌, ℕ, zero, suc, ◌≤◌, ℤ, pos, negsuc, Bool, true, false, cond, List, [], ◌∷◌, ◌++◌, length, replicate, nat_lt, Option, Some, None, Result, Ok, Err, refl, sym, ◌∙◌, arith}
 use Rattle.std.specs.List.{AllByRecursion}
-use Rattle.std.proofs.lemmas.List.Elements.{All-from_recursion, recursion_from_All}
+use Rattle.std.proofs.lemmas.List.Elements.{All-from_recursion}
 use Rattle.coef_int.specs.declared.Overflow.{Overflow}
 use Rattle.coef_int.specs.Range.{IsCoefficient}
 use Rattle.coef_int.specs.Operations.{first_overflow}
 use Rattle.definitions.specs.Poly.{Poly, Term as term, poly_between}
-use Rattle.definitions.specs.Quiver.{Quiver, IsQuiver}
-use Rattle.definitions.specs.Generators.{adjoint_word, adjoint_poly}
-use Rattle.definitions.proofs.Adjoints.{coefficient_of-adjoint_poly}
+use Rattle.definitions.specs.Quiver.{IsQuiver}
+use Rattle.definitions.specs.Generators.{adjoint_poly}
+use Rattle.definitions.proofs.Adjoints.{adjoint_word-adjoint_word}
 use Rattle.signature_typing.specs.Types.{PolyFault, Mark, Adjoint, Power, Primary, Identity, Bracket, Term, Term', Row_of-Factor, end_of-Factor, more_of-Factor}
 use Rattle.signature_typing.specs.Types.{Number, Sum, Sum', Row_of-Term, end_of-Term, more_of-Term}
 use Rattle.nc_polynomial.specs.Terms.{scaled, products, negated, added, sums}
@@ -20,16 +20,15 @@ use Rattle.nc_polynomial.specs.Product as product
 use Rattle.nc_polynomial.specs.Shape.{IsShaped, IsCanonical}
 use Rattle.nc_polynomial.proofs.Around.{shaped-between}
 use Rattle.nc_polynomial.proofs.Chains.{or_first, first-append}
-use Rattle.nc_polynomial.proofs.CollectedTerms.{coefficient_of-collected, descending-collected, nonzero-collected}
-use Rattle.nc_polynomial.proofs.Distinct.{distinct-descending, ranged-descending, coefficient-ranged}
 use Rattle.nc_polynomial.proofs.OneTerm.{canonical_none}
 use Rattle.nc_polynomial.proofs.Products.{canonical_sized}
-use Rattle.nc_polynomial.proofs.Shapes.{Descends, IsDescending-from_recursion, recursion_from_IsDescending, shaped-scaled, shaped-added}
+use Rattle.nc_polynomial.proofs.Shapes.{Descends, IsDescending-from_recursion, shaped-scaled, shaped-added}
 use Rattle.quiver.specs.Declarations.{Declaration, quiver_of, identity_in}
 use Rattle.expressions.specs.Results.{◌>>=◌}
 use Rattle.expression_names.specs.Names.{letter_of, object_of}
 use Rattle.expressions.specs.Polynomials.{letter_poly, power_poly, mark_poly, marked_poly, product_from, product_poly, scaled_by, Summand, signed, sum_step, sum_from, total, sum_poly, summands, term_poly, factor_polys, primary_poly, equation_poly}
 use Rattle.expressions.proofs.Canonical.{canonical-negated}
+use Rattle.expressions.proofs.TwoAdjoints.{canonical-adjoint}
 
 -- a value with a property, or a fault that isn't want of memory
 abbrev pub Gives : {A : Type 0} → (A → Type 0) → Result A PolyFault → Type 0
@@ -127,23 +126,10 @@ power-gives (pos (suc n)) p h = product_poly-gives (replicate (suc n) p) (repeat
 power-gives (pos zero) p h = h
 power-gives (negsuc n) p h = h
 
--- adjoints
-pub shaped-adjoint : (q : Quiver) → IsQuiver q → (p : Poly) → IsShaped p → IsShaped (collected (adjoint_poly q p))
-shaped-adjoint q quiver p h =
-    let terms : Poly = adjoint_poly q p in
-    let descends = recursion_from_IsDescending p h.descending in
-    record {
-      descending = IsDescending-from_recursion (collected terms) (descending-collected terms);
-      nonzero = All-from_recursion (λ (t : term). t.0 ≢ pos 0) (collected terms) (nonzero-collected terms);
-      in_range = All-from_recursion (λ (t : term). IsCoefficient t.0) (collected terms) (ranged-descending (collected terms) (descending-collected terms) (λ w.
-          subst IsCoefficient (sym (coefficient_of-collected terms w ∙ coefficient_of-adjoint_poly q quiver p w))
-          (coefficient-ranged p (distinct-descending p descends) (recursion_from_All (λ (t : term). IsCoefficient t.0) p h.in_range) (adjoint_word q w))));
-    }
-
 module _ (ds : List Declaration) (quiver : IsQuiver (quiver_of ds)) where
   mark-gives : (m : Mark) (p : Poly) → IsCanonical p → Gives IsCanonical (mark_poly (quiver_of ds) m p)
   mark-gives Adjoint p h =
-      finished-gives (additions [] (adjoint_poly (quiver_of ds) p)) (collected (adjoint_poly (quiver_of ds) p)) (λ e. shaped-adjoint (quiver_of ds) quiver p h.shaped)
+      finished-gives (additions [] (adjoint_poly (quiver_of ds) p)) (collected (adjoint_poly (quiver_of ds) p)) (λ e. (canonical-adjoint (quiver_of ds) (adjoint_word-adjoint_word (quiver_of ds) quiver) p h).shaped)
   mark-gives (Power at exponent) p h = power-gives exponent.value p h
 
   marked-gives : (marks : List Mark) (p : Poly) → IsCanonical p → Gives IsCanonical (marked_poly (quiver_of ds) marks p)
