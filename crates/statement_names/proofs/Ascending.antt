@@ -24,7 +24,8 @@ module _ {A : Type 0} (make : ℕ → A) (n : ℕ) (test : ℕ → Bool) where
   pub numbers_hold : (P : A → Type 0) → ((k : ℕ) → k < n → test k ≡ true → P (make k)) → All P (map make (numbers_that n test))
   numbers_hold P holds =
       All-map P make (numbers_that n test) (λ i d inside.
-      holds (get_or (numbers_that n test) i d) (All-filter test (λ k. k < n) (range_with_len 0 n) (range_below n) i d inside) (filter_passes test (range_with_len 0 n) i d inside))
+      holds (get_or (numbers_that n test) i d) (All-filter test (λ k. k < n) (range_with_len 0 n) (range_below n) i d inside)
+      (filter_passes test (range_with_len 0 n) i d inside))
 
   pub numbers_ascend : (number : A → ℕ) → ((k : ℕ) → number (make k) ≡ k) → AllPairs (λ x y. number x < number y) (map make (numbers_that n test))
   numbers_ascend number same i j d less inside =

@@ -137,7 +137,8 @@ module _ (statements : List Statement) (clean : name_fault_of statements ≡ Non
   pub statements_good : Each (λ s. Each (IsGood (kind_in (declared_in (occurrences_of statements)))) (statement_occurrences s)) statements
   statements_good = Each-of_flat_map (IsGood kind) statement_occurrences statements (each_good (map_limit_of statements) kind [] (occurrences_of statements) clean)
 
-  pub statement_good : (i : ℕ) (s : Statement) → i < length statements → s ≡ get_or statements i s → Each (IsGood (kind_in (declared_in (occurrences_of statements)))) (kind_occurrences s.at s.kind)
+  pub statement_good : (i : ℕ) (s : Statement) → i < length statements → s ≡ get_or statements i s
+      → Each (IsGood (kind_in (declared_in (occurrences_of statements)))) (kind_occurrences s.at s.kind)
   statement_good i s below at = Each-item (λ t. Each (IsGood kind) (statement_occurrences t)) statements statements_good i s below at
 
   object_kind : (q : List ℕ) → is_kind (kind q) Object ≡ true → kind_in (kinds (declared_objects statements)) q ≡ Some Object

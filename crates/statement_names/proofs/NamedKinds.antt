@@ -92,8 +92,8 @@ abbrev pub statement_kinds : List Statement → List (List ℕ × Kind)
 statement_kinds statements = flat_map (λ s. kinds_by s.kind) statements
 
 -- declarations of each statement that are those of a kind
-kinds-each : (kind : Kind) (made : StatementKind → List Declaration) → ((k : StatementKind) → kinds (made k) ≡ among kind (kinds_by k)) → (statements : List Statement)
-    → kinds (flat_map (λ s. made s.kind) statements) ≡ among kind (statement_kinds statements)
+kinds-each : (kind : Kind) (made : StatementKind → List Declaration) → ((k : StatementKind) → kinds (made k) ≡ among kind (kinds_by k))
+    → (statements : List Statement) → kinds (flat_map (λ s. made s.kind) statements) ≡ among kind (statement_kinds statements)
 kinds-each kind made same [] = refl
 kinds-each kind made same (s ∷ statements) =
     map-append kind_of (made s.kind) (flat_map (λ t. made t.kind) statements)
@@ -106,7 +106,8 @@ kinds-declared_objects statements = kinds-each Object objects_in objects_of_stat
 pub kinds-declarations_of : (statements : List Statement) → kinds (declarations_of statements) ≡ sorted (statement_kinds statements)
 kinds-declarations_of statements =
     map-append kind_of (declared_objects statements) (declared_maps (declared_objects statements) statements)
-    ∙ ap₂ (λ xs ys. xs ++ ys) (kinds-declared_objects statements) (kinds-each Map (maps_in (declared_objects statements)) (maps_of_statement (declared_objects statements)) statements)
+    ∙ ap₂ (λ xs ys. xs ++ ys) (kinds-declared_objects statements)
+    (kinds-each Map (maps_in (declared_objects statements)) (maps_of_statement (declared_objects statements)) statements)
 
 -- in a file in whose names nothing is wrong
 module _ (statements : List Statement) (clean : name_fault_of statements ≡ None) where

@@ -25,7 +25,8 @@ sides_from ds pairs i sides done size given =
     ext_get_or 1 sides (sides_of ds pairs) (size ∙ sym (length-map-range_with_len side 0 (object_count ds))) (λ v inside.
     let below : v < object_count ds = omega (arith, inside, size) in
     let here : 0 + v ≡ v = omega arith in
-    given v below ∙ ap (λ ps. side_in ps (object_name ds v)) (take_all i pairs done) ∙ sym (get_or-map-range_with_len side 0 (object_count ds) v v 1 below here))
+    given v below ∙ ap (λ ps. side_in ps (object_name ds v)) (take_all i pairs done)
+    ∙ sym (get_or-map-range_with_len side 0 (object_count ds) v v 1 below here))
 
 -- one pair more
 abbrev given_side : Name × Number → List ℕ × ℕ
