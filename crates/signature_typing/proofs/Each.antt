@@ -10,7 +10,8 @@ module _ {A : Type 0} (P : A → Type 0) where
   each_with_both Q (x ∷ xs) first second = ((first.0, second.0), each_with_both Q xs first.1 second.1)
 
   -- of the parts of each element of another list
-  pub each_part : {S : Type 0} (front back : S → List A) (xs : List S) → Each P (flat_map front xs) → Each P (flat_map back xs) → Each (λ s. Each P (front s ++ back s)) xs
+  pub each_part : {S : Type 0} (front back : S → List A) (xs : List S) → Each P (flat_map front xs) → Each P (flat_map back xs)
+      → Each (λ s. Each P (front s ++ back s)) xs
   each_part front back [] fronts backs = tt
   each_part front back (x ∷ xs) fronts backs = (
     Each-append P (front x) (back x) (Each-left P (front x) (flat_map front xs) fronts) (Each-left P (back x) (flat_map back xs) backs),

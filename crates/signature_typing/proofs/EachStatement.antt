@@ -117,8 +117,10 @@ module _ (statements : List Statement) (clean : name_fault_of statements ≡ Non
     none_wrong : (first_among (wrong_signature (declarations_of statements)) statements ≡ None) × (first_among (wrong_polynomial (declarations_of statements)) statements ≡ None)
     none_wrong =
         let behind = both_none (option_map told_name (name_fault_of statements)) (equation_fault ds statements) fine in
-        let later = both_none (first_among (wrong_signature ds) statements) (option_or (first_among (wrong_polynomial ds) statements) (wrong_claims (claims_of statements))) behind.1 in
-        (later.0, (both_none (first_among (wrong_polynomial ds) statements) (wrong_claims (claims_of statements)) later.1).0)
+        let polys = first_among (wrong_polynomial ds) statements in
+        let claims = wrong_claims (claims_of statements) in
+        let later = both_none (first_among (wrong_signature ds) statements) (option_or polys claims) behind.1 in
+        (later.0, (both_none polys claims later.1).0)
 
     assumed : Made (polynomials_of (declarations_of statements) (assumptions_of (declarations_of statements) statements))
     assumed = make _ (values-canonical (declarations_of statements) quiver (assumptions_of (declarations_of statements) statements))

@@ -36,7 +36,8 @@ canonical_polynomials (p ∷ ps) = (p.canonical, canonical_polynomials ps)
 -- the relations of identities
 canonical-unit : (u : List ℕ) (a : ℕ) → length u ≡ 2 → word_cmp u (a ∷ []) ≡ Greater → IsCanonical ((pos 1, u) ∷ (negsuc 0, a ∷ []) ∷ [])
 canonical-unit u a two above =
-    canonical_by ((pos 1, u) ∷ (negsuc 0, a ∷ []) ∷ []) ((above, tt), (tt, tt)) ((λ e. cc), ((λ e. cc), tt)) (omega arith, (omega arith, tt)) (omega (arith, two), (omega arith, tt)) (omega arith)
+    canonical_by ((pos 1, u) ∷ (negsuc 0, a ∷ []) ∷ []) ((above, tt), (tt, tt)) ((λ e. cc), ((λ e. cc), tt))
+    (omega arith, (omega arith, tt)) (omega (arith, two), (omega arith, tt)) (omega arith)
 
 canonical-left : (v a : ℕ) → IsCanonical (left_unit v a)
 canonical-left v a = canonical-unit (v ∷ a ∷ []) a refl refl

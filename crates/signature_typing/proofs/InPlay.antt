@@ -106,7 +106,8 @@ module _ (ds : List Declaration) (statements : List Statement) where
       (λ s. Each-weaker (Writes (claims_in s.kind)) (Writes (stated_by ds s)) (claims_in s.kind)
       (λ e found v is. list_any-append (writes_identity ds v) (equations_of ds s) (claims_in s.kind) ∙ or_right _ _ (found v is)) (each_found (writes_identity ds) (claims_in s.kind))) statements
 
-  counted : (es : List Equation) → AllByRecursion (λ e. is_starred_equation e ≡ true → is_starred statements ≡ true) es → AllByRecursion (Writes (all_equations ds statements)) es → AllByRecursion (IsCounted ds statements) es
+  counted : (es : List Equation) → AllByRecursion (λ e. is_starred_equation e ≡ true → is_starred statements ≡ true) es
+      → AllByRecursion (Writes (all_equations ds statements)) es → AllByRecursion (IsCounted ds statements) es
   counted [] starred identified = tt
   counted (e ∷ es) starred identified = (record { starred = starred.0; marked = identified.0 }, counted es starred.1 identified.1)
 

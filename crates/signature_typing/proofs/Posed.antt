@@ -34,8 +34,8 @@ named ds statements ready =
     (recursion_from_All (HasNames ds) (assumptions_of ds statements) ready.assumptions) (recursion_from_All (HasNames ds) (claims_of statements) ready.claims)))
 
 -- those in the equation of a statement that writes one alone
-pub named_equation : (ds : List Declaration) (s : Statement) (kind : StatementKind) (e : Equation) → s.kind ≡ kind → equations_in ds (record { at = s.at; kind = kind }) ≡ e ∷ []
-    → All (HasNames ds) (equations_in ds s) → HasNames ds e
+pub named_equation : (ds : List Declaration) (s : Statement) (kind : StatementKind) (e : Equation) → s.kind ≡ kind
+    → equations_in ds (record { at = s.at; kind = kind }) ≡ e ∷ [] → All (HasNames ds) (equations_in ds s) → HasNames ds e
 named_equation ds s kind e is alone named =
     All-head (HasNames ds) e [] (subst (All (HasNames ds)) (ap (λ k. equations_in ds (record { at = s.at; kind = k })) is ∙ alone) named)
 

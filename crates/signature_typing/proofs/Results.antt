@@ -129,7 +129,8 @@ power-gives (negsuc n) p h = h
 module _ (ds : List Declaration) (quiver : IsQuiver (quiver_of ds)) where
   mark-gives : (m : Mark) (p : Poly) → IsCanonical p → Gives IsCanonical (mark_poly (quiver_of ds) m p)
   mark-gives Adjoint p h =
-      finished-gives (additions [] (adjoint_poly (quiver_of ds) p)) (collected (adjoint_poly (quiver_of ds) p)) (λ e. (canonical-adjoint (quiver_of ds) (adjoint_word-adjoint_word (quiver_of ds) quiver) p h).shaped)
+      finished-gives (additions [] (adjoint_poly (quiver_of ds) p)) (collected (adjoint_poly (quiver_of ds) p))
+      (λ e. (canonical-adjoint (quiver_of ds) (adjoint_word-adjoint_word (quiver_of ds) quiver) p h).shaped)
   mark-gives (Power at exponent) p h = power-gives exponent.value p h
 
   marked-gives : (marks : List Mark) (p : Poly) → IsCanonical p → Gives IsCanonical (marked_poly (quiver_of ds) marks p)
