@@ -1,5 +1,5 @@
 -- The names of a map are the bytes of its keys.
-use Rattle.std.proofs.Common.{◌≡◌, Option, ap₂, sym, Bool, false, is_some, if◌then◌else◌, List, [], ◌∷◌, ◌++◌, map, None, Some, cond, refl, ap, ◌∙◌, ℕ, zero, suc, ◌+◌, ◌&&◌, nat_lt, length, take, position, string_bytes, Global, String, arith}
+use Rattle.std.proofs.Common.{◌≡◌, Option, ap₂, sym, Bool, false, is_some, if◌then◌else◌, List, [], ◌∷◌, ◌++◌, map, None, Some, cond, refl, ap, ◌∙◌, ℕ, zero, suc, ◌&&◌, nat_lt, length, take, position, string_bytes, Global, String, arith}
 use Rattle.std.specs.List.{position_or_len}
 use Rattle.std.specs.Map.{keys_of, lookup}
 use Rattle.std.proofs.lemmas.Bool.Decides.{nat_tests}
