@@ -6,17 +6,12 @@ use Rattle.std.specs.Option.{option_or, option_map}
 use Rattle.definitions.specs.Poly.{Poly}
 use Rattle.definitions.specs.Quiver.{IsQuiver}
 use Rattle.definitions.proofs.UnitSound.{all-append}
-use Rattle.nc_polynomial.specs.declared.fault.PolyFault.{PolyFault}
-use Rattle.nc_polynomial.specs.declared.fault.PolyFault.TheVariants as polynomial
+use Rattle.signature_typing.specs.Types.{PolyFault, polynomial, Spot, Statement, Equation, NameFault, name, SignatureFault, signature, Parts, Problem}
+use Rattle.signature_typing.specs.Types.{TypeFault}
 use Rattle.nc_polynomial.specs.Faults as poly
 use Rattle.nc_polynomial.specs.Shape.{IsCanonical}
 use Rattle.quiver.specs.Declarations.{Declaration, quiver_of}
 use Rattle.quiver.proofs.Identities.{is_quiver}
-use Rattle.statement_tokens.specs.declared.place.Spot.{Spot}
-use Rattle.statement_syntax.specs.declared.tree.Statement.{Statement}
-use Rattle.abbreviations.specs.declared.written.Equation.{Equation}
-use Rattle.statement_names.specs.declared.fault.NameFault.{NameFault}
-use Rattle.statement_names.specs.declared.fault.NameFault.TheVariants as name
 use Rattle.statement_names.specs.Faults.{name_fault_of}
 use Rattle.statement_names.specs.Ready.{IsReady}
 use Rattle.statement_names.specs.Numbered.{declarations_of}
@@ -26,22 +21,18 @@ use Rattle.statement_names.specs.Marked.{is_starred, marked_of}
 use Rattle.statement_names.specs.Shapes.{shapes_of}
 use Rattle.statement_names.specs.Solved.{solved_of}
 use Rattle.statement_names.proofs.FileReady.{file_ready}
-use Rattle.expressions.specs.declared.fault.SignatureFault.{SignatureFault}
-use Rattle.expressions.specs.declared.fault.SignatureFault.TheVariants as signature
 use Rattle.expressions.proofs.Typed.{equations_are_typed}
 use Rattle.expressions.proofs.Written.{letters_are_written}
-use Rattle.adjoint_rules.specs.declared.parts.Parts.{Parts}
-use Rattle.adjoint_rules.specs.declared.problem.Problem.{Problem}
 use Rattle.adjoint_rules.specs.Parts.{units_in}
 use Rattle.adjoint_rules.proofs.Counted.{few_closed}
-use Rattle.signature_typing.specs.declared.fault.TypeFault.{TypeFault}
 use Rattle.signature_typing.specs.First.{first_among}
 use Rattle.signature_typing.specs.Fault.{told_name, told_signature, told_polynomial, IsMemory}
-use Rattle.signature_typing.specs.Typing.{signature_in, polynomial_in, fault_in, value_in, signatures_of, polynomials_of, equations_in, signature_fault, polynomial_fault, wrong_signature, wrong_polynomial, wrong_claims, fault_of, ArePartsOf, IsProblemOf}
+use Rattle.signature_typing.specs.Typing.{signature_in, polynomial_in, fault_in, value_in, signatures_of, polynomials_of, equations_in, signature_fault, polynomial_fault, wrong_signature, wrong_polynomial, wrong_claims, fault_of, ArePartsOf, IsProblemOf, equation_fault}
 use Rattle.signature_typing.specs.Laws.{EachStatementHasAProblemOrAFault}
 use Rattle.signature_typing.proofs.Posed.{posed}
 use Rattle.signature_typing.proofs.Results.{Gives, equation_poly-gives}
 use Rattle.signature_typing.proofs.Generated.{Made, make, generators_exist}
+use Rattle.signature_typing.proofs.Values.{both_none}
 
 -- no fault is want of memory
 abbrev IsTold : Option TypeFault → Type 0
@@ -123,14 +114,13 @@ module _ (statements : List Statement) (clean : name_fault_of statements ≡ Non
 
   -- where nothing else is wrong either
   module _ (fine : fault_of statements ≡ None) where
-    later : (o : Option NameFault) (a b c : Option TypeFault) → option_or (option_map told_name o) (option_or a (option_or b c)) ≡ None → (a ≡ None) × (b ≡ None)
-    later None None None c e = (refl, refl)
-    later None None (Some f) c e = absurd (cc)
-    later None (Some f) b c e = absurd (cc)
-    later (Some f) a b c e = absurd (cc)
-
     none_wrong : (first_among (wrong_signature (declarations_of statements)) statements ≡ None) × (first_among (wrong_polynomial (declarations_of statements)) statements ≡ None)
-    none_wrong = later (name_fault_of statements) (first_among (wrong_signature (declarations_of statements)) statements) (first_among (wrong_polynomial (declarations_of statements)) statements) (wrong_claims (claims_of statements)) fine
+    none_wrong =
+        let behind = both_none (option_map told_name (name_fault_of statements)) (equation_fault ds statements) fine in
+        let polys = first_among (wrong_polynomial ds) statements in
+        let claims = wrong_claims (claims_of statements) in
+        let later = both_none (first_among (wrong_signature ds) statements) (option_or polys claims) behind.1 in
+        (later.0, (both_none polys claims later.1).0)
 
     assumed : Made (polynomials_of (declarations_of statements) (assumptions_of (declarations_of statements) statements))
     assumed = make _ (values-canonical (declarations_of statements) quiver (assumptions_of (declarations_of statements) statements))

@@ -2,20 +2,11 @@
 use Rattle.std.proofs.Common.{◌≡◌, ℕ, Bool, true, false, cond, nat_eq, List, [], ◌∷◌, Option, Some, None, Result, Ok, Err, refl, subst, MatchResult}
 use Rattle.std.specs.Option.{IfSome}
 use Rattle.std.proofs.lemmas.Bool.{and_parts}
-use Rattle.quiver.specs.declared.named.Named.{Named}
-use Rattle.quiver.specs.declared.named.Named.TheVariants.{Object, Map}
-use Rattle.quiver.specs.declared.named.Sig.{Sig}
+use Rattle.signature_typing.specs.Types.{Named, named, Sig, Spot, Mark, Adjoint, Power, Primary, Identity, Bracket, Term, Term', Row_of-Factor, end_of-Factor}
+use Rattle.signature_typing.specs.Types.{more_of-Factor, Sum, Sum', Row_of-Term, end_of-Term, more_of-Term, SignatureFault, NotComposable, SumMismatch}
 use Rattle.quiver.specs.Declarations.{Declaration, IsDeclared, named_in, quiver_of}
 use Rattle.quiver.proofs.Found.{is_named}
 use Rattle.quiver.proofs.Letters.{letter_is, source-quiver_of, target-quiver_of}
-use Rattle.statement_tokens.specs.declared.place.Spot.{Spot}
-use Rattle.statement_syntax.specs.declared.tree.Mark.{Mark}
-use Rattle.statement_syntax.specs.declared.tree.Mark.TheVariants.{Adjoint, Power}
-use Rattle.statement_syntax.specs.declared.tree.Primary.{Primary, Letter, Identity, Bracket}
-use Rattle.statement_syntax.specs.declared.tree.Term.{Term, Term', Row_of-Factor, end_of-Factor, more_of-Factor}
-use Rattle.statement_syntax.specs.declared.tree.Sum.{Sum, Sum', Row_of-Term, end_of-Term, more_of-Term}
-use Rattle.expressions.specs.declared.fault.SignatureFault.{SignatureFault}
-use Rattle.expressions.specs.declared.fault.SignatureFault.TheVariants.{NotComposable, SumMismatch}
 use Rattle.expressions.specs.Results.{◌>>=◌}
 use Rattle.expression_names.specs.Names.{AreNames, is_map, is_object, letter_number, object_number, are_names_of_terms, are_names_of_term, are_names_of_factors, are_names_of_primary}
 use Rattle.expressions.specs.Signatures.{Part, from_to, letter_signature, same_ends, is_repeated, repeated, mark_signature, marked_signature, product_step, product_from, product_signature, sum_step, sum_from, term_at, sum_at, sum_signature, terms_parts, term_signature, factors_parts, primary_signature, sides_signature, equation_signature}
@@ -110,15 +101,15 @@ module _ (ds : List Declaration) (declared : IsDeclared ds) where
   -- names
   letter_between : (name : List ℕ) (found : Option Named) → named_in ds name ≡ found → is_map found ≡ true → HasObjects ds (letter_signature (quiver_of ds) (letter_number found))
   letter_between name None is kind = absurd cc
-  letter_between name (Some (Object v)) is kind = absurd cc
-  letter_between name (Some (Map a)) is kind =
-      let letter = letter_is ds declared a.0 (is_named ds name (Map a) is).0 in
+  letter_between name (Some (named.Object v)) is kind = absurd cc
+  letter_between name (Some (named.Map a)) is kind =
+      let letter = letter_is ds declared a.0 (is_named ds name (named.Map a) is).0 in
       record { source = rw (source-quiver_of ds a.0) letter.source_is_object; target = rw (target-quiver_of ds a.0) letter.target_is_object }
 
   object_between : (name : List ℕ) (found : Option Named) → named_in ds name ≡ found → is_object found ≡ true → HasObjects ds (from_to (object_number found) (object_number found))
   object_between name None is kind = absurd cc
-  object_between name (Some (Object v)) is kind = let in_range = (is_named ds name (Object v) is).0 in record { source = in_range; target = in_range }
-  object_between name (Some (Map a)) is kind = absurd cc
+  object_between name (Some (named.Object v)) is kind = let in_range = (is_named ds name (named.Object v) is).0 in record { source = in_range; target = in_range }
+  object_between name (Some (named.Map a)) is kind = absurd cc
 
   -- expressions
   mutual
@@ -147,7 +138,7 @@ module _ (ds : List Declaration) (declared : IsDeclared ds) where
         (λ p between. and_then AreBetween AreBetween (factors_parts ds rest) _ (factors_fine _ rest both.1) (λ parts others. (between, others)))
 
     primary_fine : (p : Primary) → are_names_of_primary ds p ≡ true → IsFine IsBetween (primary_signature ds p)
-    primary_fine (Letter n) names = letter_between n.text (named_in ds n.text) refl names
+    primary_fine (Primary.Letter n) names = letter_between n.text (named_in ds n.text) refl names
     primary_fine (Identity n) names = object_between n.text (named_in ds n.text) refl names
     primary_fine (Bracket s) names = sum_fine s names
 

@@ -1,27 +1,24 @@
 -- What is asked of the parts of a statement has generators.
-use Rattle.std.proofs.Common.{◌≡◌, ◌≢◌, ℕ, ◌≤◌, pos, negsuc, Bool, true, false, cond, ◌||◌, eqb, leb, List, [], ◌∷◌, ◌++◌, length, refl, sym, ap, subst, arith}
+use Rattle.std.proofs.Common.{◌≡◌, ℕ, pos, negsuc, Bool, true, false, cond, ◌||◌, eqb, leb, List, [], ◌∷◌, ◌++◌, length, refl, sym, ap, subst, arith}
 use Rattle.std.specs.List.{AllByRecursion, AllZip, flat_map, range_with_len}
 use Rattle.std.specs.declared.cmp.Ordering.TheVariants.{Greater}
-use Rattle.std.proofs.lemmas.List.{length-map}
-use Rattle.std.proofs.lemmas.List.Elements.{All-from_recursion, recursion_from_All}
-use Rattle.coef_int.specs.Range.{IsCoefficient}
 use Rattle.word_core.specs.Canonical.{word_cmp}
-use Rattle.definitions.specs.Poly.{Poly, Term, SamePolynomial, poly_eq, poly_multiple}
+use Rattle.definitions.specs.Poly.{Poly, SamePolynomial, poly_eq, poly_multiple}
 use Rattle.definitions.specs.Quiver.{Quiver, IsQuiver, source, target, star}
 use Rattle.definitions.specs.Generators.{adjoint_poly, new_adjoint, left_unit, right_unit, letter_units, units, generators_of}
+use Rattle.definitions.proofs.Adjoints.{adjoint_word-adjoint_word}
 use Rattle.definitions.proofs.UnitSound.{all-append, all-flat_map}
 use Rattle.nc_polynomial.specs.declared.poly.Poly as made
 use Rattle.nc_polynomial.specs.Collected.{collected}
 use Rattle.nc_polynomial.specs.Shape.{IsCanonical}
 use Rattle.nc_polynomial.proofs.CollectedTerms.{coefficient_of-collected}
-use Rattle.nc_polynomial.proofs.Shapes.{IsDescending-from_recursion}
-use Rattle.adjoint_rules.specs.declared.parts.Parts.{Parts}
+use Rattle.signature_typing.specs.Types.{Parts}
 use Rattle.adjoint_rules.specs.Problem.{polynomials, numbers, IsPosed, IsClosed, generators_in}
 use Rattle.adjoint_rules.proofs.Generators.{posed_quiver}
 use Rattle.adjoint_rules.proofs.NewAdjoints.{AllZip-append, each_same}
 use Rattle.quiver.specs.Declarations.{quiver_of}
-use Rattle.expressions.proofs.TwoAdjoints.{length-collected, words-collected, short-adjoint}
-use Rattle.signature_typing.proofs.Results.{shaped-adjoint}
+use Rattle.expressions.proofs.TwoAdjoints.{canonical-adjoint}
+use Rattle.signature_typing.proofs.Results.{canonical_by}
 
 -- polynomials of lists that are within the limits
 pub record Made (ps : List Poly) : Type 0 where
@@ -36,27 +33,11 @@ pub canonical_polynomials : (ps : List made.Poly) → AllByRecursion IsCanonical
 canonical_polynomials [] = tt
 canonical_polynomials (p ∷ ps) = (p.canonical, canonical_polynomials ps)
 
--- the size of an adjoint
-canonical-adjoint : (q : Quiver) → IsQuiver q → (p : Poly) → IsCanonical p → IsCanonical (collected (adjoint_poly q p))
-canonical-adjoint q quiver p h = record {
-  shaped = shaped-adjoint q quiver p h.shaped;
-  short = All-from_recursion (λ (t : Term). length t.1 ≤ 500) (collected (adjoint_poly q p)) (words-collected (λ w. length w ≤ 500) (adjoint_poly q p) (short-adjoint q p (recursion_from_All (λ (t : Term). length t.1 ≤ 500) p h.short)));
-  few = let same : length (adjoint_poly q p) ≡ length p = length-map p _ in omega (arith, h.few, same, length-collected (adjoint_poly q p));
-}
-
 -- the relations of identities
 canonical-unit : (u : List ℕ) (a : ℕ) → length u ≡ 2 → word_cmp u (a ∷ []) ≡ Greater → IsCanonical ((pos 1, u) ∷ (negsuc 0, a ∷ []) ∷ [])
 canonical-unit u a two above =
-    let p : Poly = (pos 1, u) ∷ (negsuc 0, a ∷ []) ∷ [] in
-    record {
-      shaped = record {
-        descending = IsDescending-from_recursion p ((above, tt), (tt, tt));
-        nonzero = All-from_recursion (λ (t : Term). t.0 ≢ pos 0) p ((λ e. cc), ((λ e. cc), tt));
-        in_range = All-from_recursion (λ (t : Term). IsCoefficient t.0) p (omega arith, (omega arith, tt));
-      };
-      short = All-from_recursion (λ (t : Term). length t.1 ≤ 500) p (omega (arith, two), (omega arith, tt));
-      few = omega arith;
-    }
+    canonical_by ((pos 1, u) ∷ (negsuc 0, a ∷ []) ∷ []) ((above, tt), (tt, tt)) ((λ e. cc), ((λ e. cc), tt))
+    (omega arith, (omega arith, tt)) (omega (arith, two), (omega arith, tt)) (omega arith)
 
 canonical-left : (v a : ℕ) → IsCanonical (left_unit v a)
 canonical-left v a = canonical-unit (v ∷ a ∷ []) a refl refl
@@ -102,7 +83,7 @@ module _ (q : Quiver) (quiver : IsQuiver q) where
       go true = record { list = []; canonical = tt; same = tt }
       go false = record {
         list = collected (adjoint_poly q p) ∷ [];
-        canonical = (canonical-adjoint q quiver p h, tt);
+        canonical = (canonical-adjoint q (adjoint_word-adjoint_word q quiver) p h, tt);
         same = (record { at = coefficient_of-collected (adjoint_poly q p) }, tt);
       }
 

@@ -1,58 +1,40 @@
 -- The letters of an equation of a file are in play.
 use Rattle.std.proofs.Common.{◌≡◌, ◌<◌, ℕ, Bool, true, false, cond, ◌&&◌, ◌||◌, nat_eq, nat_lt, nat_le, List, [], ◌∷◌, map, get_or, None, refl, zero-add, eq-eqb, eqb-true, ltb-true, ap, subst, ◌∙◌, rules, tests, arith}
 use Rattle.std.specs.List.{AllByRecursion, flat_map, list_any, range_with_len}
-use Rattle.std.proofs.lemmas.Bool.{or_right, lt-ltb}
+use Rattle.std.proofs.lemmas.Bool.{or_left, or_right, lt-ltb}
+use Rattle.std.proofs.Math.Bool.{or-false}
 use Rattle.std.proofs.lemmas.List.Folds.{list_any-append, list_any_at}
 use Rattle.std.proofs.lemmas.List.FromFn.{length-range_with_len, get_or-range_with_len}
 use Rattle.std.proofs.lemmas.Map.Views.{any-filter_same}
 use Rattle.definitions.specs.Quiver.{star}
 use Rattle.quiver.specs.Declarations.{Declaration, object_count, letter_count, quiver_of}
-use Rattle.statement_tokens.specs.declared.place.Spot.{Spot}
-use Rattle.statement_syntax.specs.declared.tree.Statement.{Statement}
-use Rattle.statement_syntax.specs.declared.tree.StatementKind.{StatementKind}
-use Rattle.statement_syntax.specs.declared.tree.StatementKind.TheVariants as statement
-use Rattle.statement_syntax.specs.declared.tree.Factor.{Factor}
-use Rattle.statement_syntax.specs.declared.tree.Term.{out-roll-Term}
-use Rattle.statement_syntax.specs.declared.tree.Sum.{out-roll-Sum}
+use Rattle.signature_typing.specs.Types.{Spot, Factor, Statement, StatementKind, statement, out-roll-Term, out-roll-Sum, Equation}
 use Rattle.statement_syntax.specs.Nodes.{term_of}
-use Rattle.abbreviations.specs.declared.written.Equation.{Equation}
-use Rattle.statement_names.specs.Marked.{is_starred_in, is_starred, stated_by, all_equations, is_marked, an_object, marked_of}
+use Rattle.statement_names.specs.Marked.{is_starred_in, is_starred, stated_by, all_equations, writes_identity, is_marked, an_object, marked_of}
 use Rattle.statement_names.specs.Solved.{numbers_that}
 use Rattle.abbreviations.specs.Written.{product_at, equation, equations_in, equations_of, assumptions_of, claims_in, claims_of}
-use Rattle.expression_names.specs.Occurrences.{has_mark, has_mark_in_term, has_identity}
+use Rattle.expression_names.specs.Occurrences.{has_mark, has_mark_in_term}
 use Rattle.expression_names.proofs.Trees.{has_mark_in_factor, mark-sum, mark-term}
 use Rattle.expressions.specs.Laws.{IsWritten}
 use Rattle.adjoint_rules.specs.Problem.{numbers, IsInPlay}
-use Rattle.signature_typing.proofs.Each.{each_weaker, each_of_both}
+use Rattle.statement_names.proofs.Each.{Each-append, Each-weaker}
 
--- whether a side has a mark, and whether a side has the identity of v
+-- whether a side has a mark
 abbrev pub is_starred_equation : Equation → Bool
 is_starred_equation e = has_mark e.left || has_mark e.right
-
-abbrev pub has_the_identity : List Declaration → ℕ → Equation → Bool
-has_the_identity ds v e = has_identity ds v e.left || has_identity ds v e.right
 
 -- The marks of the equation make the file starred, and the objects whose identities it writes are marked.
 pub record IsCounted (ds : List Declaration) (statements : List Statement) (e : Equation) : Type 0 where
   pub starred : is_starred_equation e ≡ true → is_starred statements ≡ true
-  pub marked : (v : ℕ) → has_the_identity ds v e ≡ true → is_marked ds statements v ≡ true
-
--- marks
-or_left : (x y : Bool) → x ≡ true → (x || y) ≡ true
-or_left true y is = refl
-or_left false y is = absurd cc
+  pub marked : (v : ℕ) → writes_identity ds v e ≡ true → is_marked ds statements v ≡ true
 
 -- a product has a mark where a factor has one
 product_mark : (at : Spot) (factors : List Factor) → has_mark (product_at at factors) ≡ list_any has_mark_in_factor factors
 product_mark at factors =
     let term = term_of at false None factors in
     mark-sum (product_at at factors) ∙ ap (λ r. list_any has_mark_in_term r.terms) (out-roll-Sum (record { at = at; terms = term ∷ [] }))
-    ∙ or_false (has_mark_in_term term) ∙ mark-term term
+    ∙ or-false (has_mark_in_term term) ∙ mark-term term
     ∙ ap (λ r. list_any has_mark_in_factor r.factors) (out-roll-Term (record { at = at; negative = false; literal = None; factors = factors }))
-  where
-    or_false : (b : Bool) → (b || false) ≡ b
-    or_false true = refl
-    or_false false = refl
 
 -- two products without marks
 unmarked : (at : Spot) (factors others : List Factor) → list_any has_mark_in_factor factors ≡ false → list_any has_mark_in_factor others ≡ false → is_starred_equation (equation (product_at at factors) (product_at at others)) ≡ false
@@ -83,50 +65,49 @@ all_starred : (part : Statement → List Equation) → ((s : Statement) → AreS
     → AllByRecursion (λ e. is_starred_equation e ≡ true → is_starred xs ≡ true) (flat_map part xs)
 all_starred part each [] = tt
 all_starred part each (x ∷ xs) =
-    each_of_both (λ e. is_starred_equation e ≡ true → is_starred (x ∷ xs) ≡ true) (part x) (flat_map part xs)
-    (each_weaker (λ e. is_starred_equation e ≡ true → is_starred_in x.kind ≡ true) (λ e. is_starred_equation e ≡ true → is_starred (x ∷ xs) ≡ true)
-    (λ e here mark. or_left (is_starred_in x.kind) (is_starred xs) (here mark)) (part x) (each x))
-    (each_weaker (λ e. is_starred_equation e ≡ true → is_starred xs ≡ true) (λ e. is_starred_equation e ≡ true → is_starred (x ∷ xs) ≡ true)
-    (λ e later mark. or_right (is_starred_in x.kind) (is_starred xs) (later mark)) (flat_map part xs) (all_starred part each xs))
+    Each-append (λ e. is_starred_equation e ≡ true → is_starred (x ∷ xs) ≡ true) (part x) (flat_map part xs)
+    (Each-weaker (λ e. is_starred_equation e ≡ true → is_starred_in x.kind ≡ true) (λ e. is_starred_equation e ≡ true → is_starred (x ∷ xs) ≡ true) (part x)
+    (λ e here mark. or_left (is_starred_in x.kind) (is_starred xs) (here mark)) (each x))
+    (Each-weaker (λ e. is_starred_equation e ≡ true → is_starred xs ≡ true) (λ e. is_starred_equation e ≡ true → is_starred (x ∷ xs) ≡ true) (flat_map part xs)
+    (λ e later mark. or_right (is_starred_in x.kind) (is_starred xs) (later mark)) (all_starred part each xs))
 
 -- a test of an element is a test of some element of the list
 each_found : {V A : Type 0} (test : V → A → Bool) (xs : List A) → AllByRecursion (λ x. (v : V) → test v x ≡ true → list_any (test v) xs ≡ true) xs
 each_found test [] = tt
 each_found test (x ∷ xs) = (
   λ v is. or_left (test v x) (list_any (test v) xs) is,
-  each_weaker (λ y. (v : _) → test v y ≡ true → list_any (test v) xs ≡ true) (λ y. (v : _) → test v y ≡ true → list_any (test v) (x ∷ xs) ≡ true)
-      (λ y later v is. or_right (test v x) (list_any (test v) xs) (later v is)) xs (each_found test xs),
+  Each-weaker (λ y. (v : _) → test v y ≡ true → list_any (test v) xs ≡ true) (λ y. (v : _) → test v y ≡ true → list_any (test v) (x ∷ xs) ≡ true) xs
+      (λ y later v is. or_right (test v x) (list_any (test v) xs) (later v is)) (each_found test xs),
 )
 
 module _ (ds : List Declaration) (statements : List Statement) where
-  abbrev IsIdentified : Equation → Type 0
-  IsIdentified e = (v : ℕ) → has_the_identity ds v e ≡ true → is_marked ds statements v ≡ true
-
-  abbrev marks : ℕ → List Equation → Bool
-  marks v es = list_any (has_the_identity ds v) es
+  -- an identity that the equation writes is written in some of these
+  abbrev Writes : List Equation → Equation → Type 0
+  Writes es e = (v : ℕ) → writes_identity ds v e ≡ true → list_any (writes_identity ds v) es ≡ true
 
   -- what part of each statement writes is written by the file
-  all_identified : (part : Statement → List Equation) → ((s : Statement) → AllByRecursion (λ e. (v : ℕ) → has_the_identity ds v e ≡ true → marks v (stated_by ds s) ≡ true) (part s))
-      → (xs : List Statement) → AllByRecursion (λ e. (v : ℕ) → has_the_identity ds v e ≡ true → marks v (all_equations ds xs) ≡ true) (flat_map part xs)
+  all_identified : (part : Statement → List Equation) → ((s : Statement) → AllByRecursion (Writes (stated_by ds s)) (part s))
+      → (xs : List Statement) → AllByRecursion (Writes (all_equations ds xs)) (flat_map part xs)
   all_identified part each [] = tt
   all_identified part each (x ∷ xs) =
-      each_of_both (λ e. (v : ℕ) → has_the_identity ds v e ≡ true → marks v (all_equations ds (x ∷ xs)) ≡ true) (part x) (flat_map part xs)
-      (each_weaker (λ e. (v : ℕ) → has_the_identity ds v e ≡ true → marks v (stated_by ds x) ≡ true) (λ e. (v : ℕ) → has_the_identity ds v e ≡ true → marks v (all_equations ds (x ∷ xs)) ≡ true)
-      (λ e here v is. list_any-append (has_the_identity ds v) (stated_by ds x) (all_equations ds xs) ∙ or_left _ _ (here v is)) (part x) (each x))
-      (each_weaker (λ e. (v : ℕ) → has_the_identity ds v e ≡ true → marks v (all_equations ds xs) ≡ true) (λ e. (v : ℕ) → has_the_identity ds v e ≡ true → marks v (all_equations ds (x ∷ xs)) ≡ true)
-      (λ e later v is. list_any-append (has_the_identity ds v) (stated_by ds x) (all_equations ds xs) ∙ or_right _ _ (later v is)) (flat_map part xs) (all_identified part each xs))
+      Each-append (Writes (all_equations ds (x ∷ xs))) (part x) (flat_map part xs)
+      (Each-weaker (Writes (stated_by ds x)) (Writes (all_equations ds (x ∷ xs))) (part x)
+      (λ e here v is. list_any-append (writes_identity ds v) (stated_by ds x) (all_equations ds xs) ∙ or_left _ _ (here v is)) (each x))
+      (Each-weaker (Writes (all_equations ds xs)) (Writes (all_equations ds (x ∷ xs))) (flat_map part xs)
+      (λ e later v is. list_any-append (writes_identity ds v) (stated_by ds x) (all_equations ds xs) ∙ or_right _ _ (later v is)) (all_identified part each xs))
 
-  assumptions_identified : AllByRecursion IsIdentified (assumptions_of ds statements)
+  assumptions_identified : AllByRecursion (Writes (all_equations ds statements)) (assumptions_of ds statements)
   assumptions_identified = all_identified (equations_of ds)
-      (λ s. each_weaker (λ e. (v : ℕ) → has_the_identity ds v e ≡ true → marks v (equations_of ds s) ≡ true) (λ e. (v : ℕ) → has_the_identity ds v e ≡ true → marks v (stated_by ds s) ≡ true)
-      (λ e found v is. list_any-append (has_the_identity ds v) (equations_of ds s) (claims_in s.kind) ∙ or_left _ _ (found v is)) (equations_of ds s) (each_found (has_the_identity ds) (equations_of ds s))) statements
+      (λ s. Each-weaker (Writes (equations_of ds s)) (Writes (stated_by ds s)) (equations_of ds s)
+      (λ e found v is. list_any-append (writes_identity ds v) (equations_of ds s) (claims_in s.kind) ∙ or_left _ _ (found v is)) (each_found (writes_identity ds) (equations_of ds s))) statements
 
-  claims_identified : AllByRecursion IsIdentified (claims_of statements)
+  claims_identified : AllByRecursion (Writes (all_equations ds statements)) (claims_of statements)
   claims_identified = all_identified (λ s. claims_in s.kind)
-      (λ s. each_weaker (λ e. (v : ℕ) → has_the_identity ds v e ≡ true → marks v (claims_in s.kind) ≡ true) (λ e. (v : ℕ) → has_the_identity ds v e ≡ true → marks v (stated_by ds s) ≡ true)
-      (λ e found v is. list_any-append (has_the_identity ds v) (equations_of ds s) (claims_in s.kind) ∙ or_right _ _ (found v is)) (claims_in s.kind) (each_found (has_the_identity ds) (claims_in s.kind))) statements
+      (λ s. Each-weaker (Writes (claims_in s.kind)) (Writes (stated_by ds s)) (claims_in s.kind)
+      (λ e found v is. list_any-append (writes_identity ds v) (equations_of ds s) (claims_in s.kind) ∙ or_right _ _ (found v is)) (each_found (writes_identity ds) (claims_in s.kind))) statements
 
-  counted : (es : List Equation) → AllByRecursion (λ e. is_starred_equation e ≡ true → is_starred statements ≡ true) es → AllByRecursion IsIdentified es → AllByRecursion (IsCounted ds statements) es
+  counted : (es : List Equation) → AllByRecursion (λ e. is_starred_equation e ≡ true → is_starred statements ≡ true) es
+      → AllByRecursion (Writes (all_equations ds statements)) es → AllByRecursion (IsCounted ds statements) es
   counted [] starred identified = tt
   counted (e ∷ es) starred identified = (record { starred = starred.0; marked = identified.0 }, counted es starred.1 identified.1)
 

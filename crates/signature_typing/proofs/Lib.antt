@@ -1,6 +1,5 @@
 pub mod FirstFound
 pub mod Progress
-pub mod Statements
 pub mod Ends
 pub mod Each
 pub mod Values

@@ -3,27 +3,24 @@ use Rattle.std.proofs.Common.{◌≡◌, ◌≢◌, List, [], ◌∷◌, length,
 use Rattle.std.specs.List.{All, AllByRecursion, AllZip}
 use Rattle.std.specs.Option.{option_or, option_map}
 use Rattle.std.proofs.lemmas.List.{length-map}
-use Rattle.std.proofs.lemmas.List.Elements.{All-from_recursion, recursion_from_All, All-weaker}
+use Rattle.std.proofs.lemmas.List.Elements.{All-from_recursion, recursion_from_All, All-weaker, All-head}
 use Rattle.definitions.specs.Poly.{Poly}
 use Rattle.nc_polynomial.specs.declared.poly.Poly as made
 use Rattle.quiver.specs.Declarations.{Declaration}
-use Rattle.statement_syntax.specs.declared.tree.Statement.{Statement}
-use Rattle.abbreviations.specs.declared.written.Equation.{Equation}
-use Rattle.statement_names.specs.declared.fault.NameFault.{NameFault}
+use Rattle.signature_typing.specs.Types.{Statement, Equation, NameFault, Parts, TypeFault, StatementKind}
 use Rattle.statement_names.specs.Faults.{name_fault_of}
 use Rattle.statement_names.specs.Marked.{is_starred, marked_of}
 use Rattle.statement_names.specs.Numbered.{declarations_of}
 use Rattle.statement_names.specs.Ready.{HasNames, IsReady}
 use Rattle.abbreviations.specs.Written.{equations_of, assumptions_of, claims_in, claims_of}
 use Rattle.expressions.specs.Laws.{EquationsAreTyped, LettersAreWritten, IsWritten}
-use Rattle.adjoint_rules.specs.declared.parts.Parts.{Parts}
 use Rattle.adjoint_rules.specs.Problem.{polynomials, numbers, IsInPlay, HasLettersInPlay, HasObjects, IsTypedOf, IsPosed}
-use Rattle.signature_typing.specs.declared.fault.TypeFault.{TypeFault}
 use Rattle.signature_typing.specs.First.{first_among}
 use Rattle.signature_typing.specs.Fault.{told_name, told_signature, told_polynomial, no_claim}
 use Rattle.signature_typing.specs.Typing.{signature_in, polynomial_in, signatures_of, polynomials_of, equations_in, wrong_signature, wrong_polynomial, wrong_claims, equation_fault, fault_of, ArePartsOf}
 use Rattle.signature_typing.specs.Named.{AreNamed}
-use Rattle.signature_typing.proofs.Each.{each_part, each_before_map, each_with_both}
+use Rattle.statement_names.proofs.Each.{Each-unmap}
+use Rattle.signature_typing.proofs.Each.{each_part, each_with_both}
 use Rattle.signature_typing.proofs.Ends.{signature_has_objects}
 use Rattle.signature_typing.proofs.InPlay.{IsCounted, assumptions_counted, claims_counted, letter_in_play}
 use Rattle.signature_typing.proofs.Values.{AreValues, all_values, length-values, each_value, zipped}
@@ -35,6 +32,12 @@ named ds statements ready =
     (All-from_recursion (λ s. AllByRecursion (HasNames ds) (equations_in ds s)) statements
     (each_part (HasNames ds) (equations_of ds) (λ s. claims_in s.kind) statements
     (recursion_from_All (HasNames ds) (assumptions_of ds statements) ready.assumptions) (recursion_from_All (HasNames ds) (claims_of statements) ready.claims)))
+
+-- those in the equation of a statement that writes one alone
+pub named_equation : (ds : List Declaration) (s : Statement) (kind : StatementKind) (e : Equation) → s.kind ≡ kind
+    → equations_in ds (record { at = s.at; kind = kind }) ≡ e ∷ [] → All (HasNames ds) (equations_in ds s) → HasNames ds e
+named_equation ds s kind e is alone named =
+    All-head (HasNames ds) e [] (subst (All (HasNames ds)) (ap (λ k. equations_in ds (record { at = s.at; kind = k })) is ∙ alone) named)
 
 -- equations that have a signature and a polynomial
 module _ (typed : EquationsAreTyped) (written : LettersAreWritten) (ds : List Declaration) (statements : List Statement) (ready : IsReady ds statements) where
@@ -60,7 +63,7 @@ module _ (typed : EquationsAreTyped) (written : LettersAreWritten) (ds : List De
 
     equation_letters : All (HasLettersInPlay ds (is_starred statements) (numbers (marked_of ds statements))) ps
     equation_letters =
-        All-from_recursion (HasLettersInPlay ds (is_starred statements) (numbers (marked_of ds statements))) ps (each_before_map IsPlayed (λ p. p.terms) ps
+        All-from_recursion (HasLettersInPlay ds (is_starred statements) (numbers (marked_of ds statements))) ps (Each-unmap IsPlayed (λ p. p.terms) ps
         (subst (AllByRecursion IsPlayed) (sym are) (each_value (polynomial_in ds) IsKnown IsPlayed
         (λ e p is poly. All-weaker (λ t. All (IsWritten ds e.left e.right) t.1) _
         (λ t letters. All-weaker (IsWritten ds e.left e.right) _ (λ a wrote. letter_in_play ds statements e a is.1 wrote) t.1 letters) p

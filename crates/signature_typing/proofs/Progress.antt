@@ -1,10 +1,11 @@
 -- How far the lists of a stage are, before an element of a list.
 use Rattle.std.proofs.Common.{◌≡◌, ℕ, ◌+◌, ◌<◌, ◌≤◌, List, [], ◌∷◌, ◌++◌, length, get_or, take, Option, None, refl, sym, ◌∙◌, ap, append_assoc}
 use Rattle.std.specs.List.{flat_map}
-use Rattle.std.proofs.lemmas.List.{take_more, take_all, append-nil, map-append}
+use Rattle.std.proofs.lemmas.List.{take_all, map-append}
 use Rattle.std.proofs.lemmas.List.Concat.{flat_map-append}
 use Rattle.nc_polynomial.specs.declared.poly.Poly.{Poly}
 use Rattle.adjoint_rules.specs.Problem.{polynomials}
+use Rattle.statement_names.proofs.Items.{flat_next}
 use Rattle.signature_typing.specs.First.{first_among}
 use Rattle.signature_typing.proofs.FirstFound.{first_among_none_more}
 
@@ -12,11 +13,6 @@ use Rattle.signature_typing.proofs.FirstFound.{first_among_none_more}
 pub record IsSoFar {A B X : Type 0} (gives : A → List X) (wrong : A → Option B) (xs : List A) (i : ℕ) (before now : List X) : Type 0 where
   pub listed : now ≡ before ++ flat_map gives (take i xs)
   pub fits : first_among wrong (take i xs) ≡ None
-
-pub flat_map_taken : {A X : Type 0} (gives : A → List X) (xs : List A) (i : ℕ) (x : A) → i < length xs → x ≡ get_or xs i x → flat_map gives (take (i + 1) xs) ≡ flat_map gives (take i xs) ++ gives x
-flat_map_taken gives xs i x lt is =
-    ap (flat_map gives) (take_more xs i x lt ∙ ap (λ y. take i xs ++ y ∷ []) (sym is)) ∙ flat_map-append gives (take i xs) (x ∷ [])
-    ∙ ap (λ ys. flat_map gives (take i xs) ++ ys) (append-nil (gives x))
 
 flat_map_twice : {A B X : Type 0} (parts : A → List B) (gives : B → List X) (xs : List A) → flat_map (λ x. flat_map gives (parts x)) xs ≡ flat_map gives (flat_map parts xs)
 flat_map_twice parts gives [] = refl
@@ -26,7 +22,7 @@ pub one_more : {A B X : Type 0} (gives : A → List X) (wrong : A → Option B) 
     → then ≡ now ++ gives x → wrong x ≡ None → IsSoFar gives wrong xs i before now → IsSoFar gives wrong xs (i + 1) before then
 one_more gives wrong xs i before now then x lt is more here so_far = record {
   listed = more ∙ ap (λ ys. ys ++ gives x) so_far.listed ∙ append_assoc before (flat_map gives (take i xs)) (gives x)
-      ∙ ap (λ ys. before ++ ys) (sym (flat_map_taken gives xs i x lt is));
+      ∙ ap (λ ys. before ++ ys) (sym (flat_next xs i x lt is gives));
   fits = first_among_none_more wrong xs i x lt is so_far.fits here;
 }
 

@@ -1,15 +1,16 @@
 -- The polynomial of an equation is within the limits, and the fault of its arithmetic is no want of memory.
-use Rattle.std.proofs.Common.{◌≡◌, ◌≢◌, ℕ, zero, suc, ◌≤◌, ℤ, pos, negsuc, Bool, true, false, cond, List, [], ◌∷◌, ◌++◌, length, replicate, nat_lt, Option, Some, None, Result, Ok, Err, refl, sym, subst, ◌∙◌, arith}
+use Rattle.std.proofs.Common.{◌≡◌, ◌≢◌, ℕ, zero, suc, ◌≤◌, ℤ, pos, negsuc, Bool, true, false, cond, List, [], ◌∷◌, ◌++◌, length, replicate, nat_lt, Option, Some, None, Result, Ok, Err, refl, sym, ◌∙◌, arith}
 use Rattle.std.specs.List.{AllByRecursion}
-use Rattle.std.proofs.lemmas.List.Elements.{All-from_recursion, recursion_from_All}
+use Rattle.std.proofs.lemmas.List.Elements.{All-from_recursion}
 use Rattle.coef_int.specs.declared.Overflow.{Overflow}
 use Rattle.coef_int.specs.Range.{IsCoefficient}
 use Rattle.coef_int.specs.Operations.{first_overflow}
 use Rattle.definitions.specs.Poly.{Poly, Term as term, poly_between}
-use Rattle.definitions.specs.Quiver.{Quiver, IsQuiver}
-use Rattle.definitions.specs.Generators.{adjoint_word, adjoint_poly}
-use Rattle.definitions.proofs.Adjoints.{coefficient_of-adjoint_poly}
-use Rattle.nc_polynomial.specs.declared.fault.PolyFault.{PolyFault}
+use Rattle.definitions.specs.Quiver.{IsQuiver}
+use Rattle.definitions.specs.Generators.{adjoint_poly}
+use Rattle.definitions.proofs.Adjoints.{adjoint_word-adjoint_word}
+use Rattle.signature_typing.specs.Types.{PolyFault, Mark, Adjoint, Power, Primary, Identity, Bracket, Term, Term', Row_of-Factor, end_of-Factor, more_of-Factor}
+use Rattle.signature_typing.specs.Types.{Number, Sum, Sum', Row_of-Term, end_of-Term, more_of-Term}
 use Rattle.nc_polynomial.specs.Terms.{scaled, products, negated, added, sums}
 use Rattle.nc_polynomial.specs.Faults.{unless_overflow, finished, sized, size_fault, has_long_word, IsMemory}
 use Rattle.nc_polynomial.specs.Arithmetic.{sum_result, difference_result, multiple_result, combined}
@@ -19,21 +20,15 @@ use Rattle.nc_polynomial.specs.Product as product
 use Rattle.nc_polynomial.specs.Shape.{IsShaped, IsCanonical}
 use Rattle.nc_polynomial.proofs.Around.{shaped-between}
 use Rattle.nc_polynomial.proofs.Chains.{or_first, first-append}
-use Rattle.nc_polynomial.proofs.CollectedTerms.{coefficient_of-collected, descending-collected, nonzero-collected}
-use Rattle.nc_polynomial.proofs.Distinct.{distinct-descending, ranged-descending, coefficient-ranged}
+use Rattle.nc_polynomial.proofs.OneTerm.{canonical_none}
 use Rattle.nc_polynomial.proofs.Products.{canonical_sized}
-use Rattle.nc_polynomial.proofs.Shapes.{IsDescending-from_recursion, recursion_from_IsDescending, shaped-scaled, shaped-added}
+use Rattle.nc_polynomial.proofs.Shapes.{Descends, IsDescending-from_recursion, shaped-scaled, shaped-added}
 use Rattle.quiver.specs.Declarations.{Declaration, quiver_of, identity_in}
-use Rattle.statement_syntax.specs.declared.tree.Mark.{Mark}
-use Rattle.statement_syntax.specs.declared.tree.Mark.TheVariants.{Adjoint, Power}
-use Rattle.statement_syntax.specs.declared.tree.Number.{Number}
-use Rattle.statement_syntax.specs.declared.tree.Primary.{Primary, Letter as letter, Identity, Bracket}
-use Rattle.statement_syntax.specs.declared.tree.Term.{Term, Term', Row_of-Factor, end_of-Factor, more_of-Factor}
-use Rattle.statement_syntax.specs.declared.tree.Sum.{Sum, Sum', Row_of-Term, end_of-Term, more_of-Term}
 use Rattle.expressions.specs.Results.{◌>>=◌}
 use Rattle.expression_names.specs.Names.{letter_of, object_of}
 use Rattle.expressions.specs.Polynomials.{letter_poly, power_poly, mark_poly, marked_poly, product_from, product_poly, scaled_by, Summand, signed, sum_step, sum_from, total, sum_poly, summands, term_poly, factor_polys, primary_poly, equation_poly}
 use Rattle.expressions.proofs.Canonical.{canonical-negated}
+use Rattle.expressions.proofs.TwoAdjoints.{canonical-adjoint}
 
 -- a value with a property, or a fault that isn't want of memory
 abbrev pub Gives : {A : Type 0} → (A → Type 0) → Result A PolyFault → Type 0
@@ -47,6 +42,19 @@ gives-bind P Q (Err e) f h k = h
 gives-then : (P : Poly → Type 0) (r : Result Poly PolyFault) (f : Poly → Result Poly PolyFault) → Gives P r → ((p : Poly) → P p → Gives P (f p)) → Gives P (and_then r f)
 gives-then P (Ok p) f h k = k p h
 gives-then P (Err e) f h k = h
+
+-- within the limits, by recursion on the terms
+pub canonical_by : (p : Poly) → Descends p → AllByRecursion (λ (t : term). t.0 ≢ pos 0) p → AllByRecursion (λ (t : term). IsCoefficient t.0) p
+    → AllByRecursion (λ (t : term). length t.1 ≤ 500) p → length p ≤ 20000 → IsCanonical p
+canonical_by p descends nonzero in_range short few = record {
+  shaped = record {
+    descending = IsDescending-from_recursion p descends;
+    nonzero = All-from_recursion (λ (t : term). t.0 ≢ pos 0) p nonzero;
+    in_range = All-from_recursion (λ (t : term). IsCoefficient t.0) p in_range;
+  };
+  short = All-from_recursion (λ (t : term). length t.1 ≤ 500) p short;
+  few = few;
+}
 
 -- one operation
 sized-gives : (p : Poly) → IsShaped p → Gives IsCanonical (sized p)
@@ -97,26 +105,15 @@ steps-give : (sum p q : Poly) → IsCanonical sum → IsCanonical q → Gives Is
 steps-give sum [] q h k = h
 steps-give sum (t ∷ p) q h k = gives-then IsCanonical (product_step sum t q) (λ next. product.product_from next p q) (step-gives sum t q h k) (λ next m. steps-give next p q m k)
 
-pub canonical-none : IsCanonical []
-canonical-none = record {
-  shaped = record {
-    descending = IsDescending-from_recursion [] tt;
-    nonzero = All-from_recursion (λ (t : term). t.0 ≢ pos 0) [] tt;
-    in_range = All-from_recursion (λ (t : term). IsCoefficient t.0) [] tt;
-  };
-  short = All-from_recursion (λ (t : term). length t.1 ≤ 500) [] tt;
-  few = omega arith;
-}
-
 product-gives : (p q : Poly) → IsCanonical q → Gives IsCanonical (product_result p q)
-product-gives p q k = steps-give [] p q canonical-none k
+product-gives p q k = steps-give [] p q canonical_none k
 
 product_from-gives : (p : Poly) (ps : List Poly) → IsCanonical p → AllByRecursion IsCanonical ps → Gives IsCanonical (product_from p ps)
 product_from-gives p [] h k = h
 product_from-gives p (q ∷ ps) h k = gives-bind IsCanonical IsCanonical (product_result p q) (λ next. product_from next ps) (product-gives p q k.0) (λ next m. product_from-gives next ps m k.1)
 
 product_poly-gives : (ps : List Poly) → AllByRecursion IsCanonical ps → Gives IsCanonical (product_poly ps)
-product_poly-gives [] h = canonical-none
+product_poly-gives [] h = canonical_none
 product_poly-gives (p ∷ ps) h = product_from-gives p ps h.0 h.1
 
 -- powers
@@ -129,23 +126,11 @@ power-gives (pos (suc n)) p h = product_poly-gives (replicate (suc n) p) (repeat
 power-gives (pos zero) p h = h
 power-gives (negsuc n) p h = h
 
--- adjoints
-pub shaped-adjoint : (q : Quiver) → IsQuiver q → (p : Poly) → IsShaped p → IsShaped (collected (adjoint_poly q p))
-shaped-adjoint q quiver p h =
-    let terms : Poly = adjoint_poly q p in
-    let descends = recursion_from_IsDescending p h.descending in
-    record {
-      descending = IsDescending-from_recursion (collected terms) (descending-collected terms);
-      nonzero = All-from_recursion (λ (t : term). t.0 ≢ pos 0) (collected terms) (nonzero-collected terms);
-      in_range = All-from_recursion (λ (t : term). IsCoefficient t.0) (collected terms) (ranged-descending (collected terms) (descending-collected terms) (λ w.
-          subst IsCoefficient (sym (coefficient_of-collected terms w ∙ coefficient_of-adjoint_poly q quiver p w))
-          (coefficient-ranged p (distinct-descending p descends) (recursion_from_All (λ (t : term). IsCoefficient t.0) p h.in_range) (adjoint_word q w))));
-    }
-
 module _ (ds : List Declaration) (quiver : IsQuiver (quiver_of ds)) where
   mark-gives : (m : Mark) (p : Poly) → IsCanonical p → Gives IsCanonical (mark_poly (quiver_of ds) m p)
   mark-gives Adjoint p h =
-      finished-gives (additions [] (adjoint_poly (quiver_of ds) p)) (collected (adjoint_poly (quiver_of ds) p)) (λ e. shaped-adjoint (quiver_of ds) quiver p h.shaped)
+      finished-gives (additions [] (adjoint_poly (quiver_of ds) p)) (collected (adjoint_poly (quiver_of ds) p))
+      (λ e. (canonical-adjoint (quiver_of ds) (adjoint_word-adjoint_word (quiver_of ds) quiver) p h).shaped)
   mark-gives (Power at exponent) p h = power-gives exponent.value p h
 
   marked-gives : (marks : List Mark) (p : Poly) → IsCanonical p → Gives IsCanonical (marked_poly (quiver_of ds) marks p)
@@ -154,15 +139,7 @@ module _ (ds : List Declaration) (quiver : IsQuiver (quiver_of ds)) where
       gives-bind IsCanonical IsCanonical (mark_poly (quiver_of ds) m p) (marked_poly (quiver_of ds) marks) (mark-gives m p h) (marked-gives marks)
 
   letter-gives : (a : ℕ) → IsCanonical (letter_poly a)
-  letter-gives a = record {
-    shaped = record {
-      descending = IsDescending-from_recursion (letter_poly a) (tt, tt);
-      nonzero = All-from_recursion (λ (t : term). t.0 ≢ pos 0) (letter_poly a) ((λ e. cc), tt);
-      in_range = All-from_recursion (λ (t : term). IsCoefficient t.0) (letter_poly a) (omega arith, tt);
-    };
-    short = All-from_recursion (λ (t : term). length t.1 ≤ 500) (letter_poly a) (omega arith, tt);
-    few = omega arith;
-  }
+  letter-gives a = canonical_by (letter_poly a) (tt, tt) ((λ e. cc), tt) (omega arith, tt) (omega arith, tt) (omega arith)
 
   -- the parts of an expression
   abbrev AreCanonical : List Summand → Type 0
@@ -181,7 +158,7 @@ module _ (ds : List Declaration) (quiver : IsQuiver (quiver_of ds)) where
   sum_from-gives p (s ∷ ss) h k = gives-bind IsCanonical IsCanonical (sum_step p s) (λ next. sum_from next ss) (sum_step-gives p s h k.0) (λ next m. sum_from-gives next ss m k.1)
 
   total-gives : (ss : List Summand) → AreCanonical ss → Gives IsCanonical (total ss)
-  total-gives [] h = canonical-none
+  total-gives [] h = canonical_none
   total-gives (s ∷ ss) h = sum_from-gives (signed s) ss (signed-canonical s h.0) h.1
 
   scaled_by-gives : (l : Option Number) (p : Poly) → IsCanonical p → Gives IsCanonical (scaled_by l p)
@@ -210,7 +187,7 @@ module _ (ds : List Declaration) (quiver : IsQuiver (quiver_of ds)) where
         (λ p h. gives-bind (AllByRecursion IsCanonical) (AllByRecursion IsCanonical) (factor_polys ds rest) _ (factor_polys-give rest) (λ others k. (h, k)))
 
     primary_poly-gives : (p : Primary) → Gives IsCanonical (primary_poly ds p)
-    primary_poly-gives (letter n) = letter-gives (letter_of ds n)
+    primary_poly-gives (Primary.Letter n) = letter-gives (letter_of ds n)
     primary_poly-gives (Identity n) = letter-gives (identity_in ds (object_of ds n))
     primary_poly-gives (Bracket s) = sum_poly-gives s
 

@@ -1,7 +1,6 @@
 -- A file stands for one problem.
 use Rattle.std.proofs.Common.{◌≡◌, List, refl, sym, ap, ◌∙◌}
-use Rattle.statement_syntax.specs.declared.tree.Statement.{Statement}
-use Rattle.adjoint_rules.specs.declared.parts.Parts.{Parts}
+use Rattle.signature_typing.specs.Types.{Statement, Parts}
 use Rattle.adjoint_rules.specs.Problem.{polynomials, generators_in, IsClosed}
 use Rattle.adjoint_rules.proofs.Generators.{generators_are_unique}
 use Rattle.statement_names.specs.Marked.{marked_of}

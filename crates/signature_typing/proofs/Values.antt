@@ -2,10 +2,10 @@
 use Rattle.std.proofs.Common.{◌≡◌, List, [], ◌∷◌, ◌++◌, length, map, suc, Option, Some, None, Result, Ok, Err, refl, sym, ap, subst, ◌∙◌}
 use Rattle.std.specs.List.{AllByRecursion, AllZip, flat_map}
 use Rattle.std.specs.Option.{option_or}
-use Rattle.signature_typing.specs.declared.fault.TypeFault.{TypeFault}
+use Rattle.signature_typing.specs.Types.{TypeFault}
 use Rattle.signature_typing.specs.First.{first_among}
 use Rattle.signature_typing.specs.Typing.{fault_in, value_in}
-use Rattle.signature_typing.proofs.Each.{each_in_front, each_behind, each_of_both}
+use Rattle.statement_names.proofs.Each.{Each-left, Each-right, Each-append}
 
 -- the result is no fault
 abbrev pub IsValue : {X E : Type 0} → Result X E → Type 0
@@ -48,8 +48,8 @@ module _ {A X E : Type 0} (f : A → Result X E) where
       let here = are_values (told x) (front x ++ back x) both.0 in
       let there = all_values told front back xs both.1 in
       let fine = λ (e : A). IsValue (f e) in (
-        each_of_both fine (front x) (flat_map front xs) (each_in_front fine (front x) (back x) here) there.0,
-        each_of_both fine (back x) (flat_map back xs) (each_behind fine (front x) (back x) here) there.1,
+        Each-append fine (front x) (flat_map front xs) (Each-left fine (front x) (back x) here) there.0,
+        Each-append fine (back x) (flat_map back xs) (Each-right fine (front x) (back x) here) there.1,
       )
 
   first_value : (e : A) (es : List A) (x : X) → f e ≡ Ok x → values (e ∷ es) ≡ x ∷ values es

@@ -1,18 +1,7 @@
 -- The faults of a file as they are told.
 use Rattle.std.specs.Prelude.{◌≡◌, ℕ, List, Option, Some, None}
-use Rattle.statement_tokens.specs.declared.place.Spot.{Spot}
-use Rattle.quiver.specs.declared.named.Sig.{Sig}
+use Rattle.signature_typing.specs.Types.{Spot, Sig, NameFault, name, NameStop, stop, SignatureFault, signature, PolyFault, polynomial, TypeFault, Fault, Memory}
 use Rattle.quiver.specs.Declarations.{Declaration, object_name}
-use Rattle.statement_names.specs.declared.fault.NameFault.{NameFault}
-use Rattle.statement_names.specs.declared.fault.NameFault.TheVariants as name
-use Rattle.statement_names.specs.declared.fault.NameStop.{NameStop}
-use Rattle.statement_names.specs.declared.fault.NameStop.TheVariants as stop
-use Rattle.expressions.specs.declared.fault.SignatureFault.{SignatureFault}
-use Rattle.expressions.specs.declared.fault.SignatureFault.TheVariants as signature
-use Rattle.nc_polynomial.specs.declared.fault.PolyFault.{PolyFault}
-use Rattle.nc_polynomial.specs.declared.fault.PolyFault.TheVariants as polynomial
-use Rattle.signature_typing.specs.declared.fault.TypeFault.{TypeFault}
-use Rattle.signature_typing.specs.declared.fault.TypeFault.TheVariants.{Fault, Memory}
 
 -- a code at a place
 abbrev pub fault_at : ℕ → Spot → TypeFault

@@ -1,8 +1,6 @@
 -- Each statement has a problem or a fault.
 use Rattle.std.specs.Prelude.{◌≡◌, ◌⊎◌, List, Some}
-use Rattle.statement_syntax.specs.declared.tree.Statement.{Statement}
-use Rattle.adjoint_rules.specs.declared.problem.Problem.{Problem}
-use Rattle.signature_typing.specs.declared.fault.TypeFault.{TypeFault}
+use Rattle.signature_typing.specs.Types.{Statement, Problem, TypeFault}
 use Rattle.signature_typing.specs.Fault.{IsMemory}
 use Rattle.signature_typing.specs.Typing.{fault_of, IsProblemOf}
 

@@ -1,3 +1,4 @@
+pub mod Types
 pub mod First
 pub mod Fault
 pub mod Typing

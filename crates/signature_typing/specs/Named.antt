@@ -2,10 +2,8 @@
 use Rattle.std.specs.Prelude.{List}
 use Rattle.std.specs.List.{All}
 use Rattle.quiver.specs.Declarations.{Declaration}
-use Rattle.statement_syntax.specs.declared.tree.Statement.{Statement}
+use Rattle.signature_typing.specs.Types.{Statement, SignatureFault, NotComposable, SumMismatch, OpenZero}
 use Rattle.statement_names.specs.Ready.{HasNames}
-use Rattle.expressions.specs.declared.fault.SignatureFault.{SignatureFault}
-use Rattle.expressions.specs.declared.fault.SignatureFault.TheVariants.{NotComposable, SumMismatch, OpenZero}
 use Rattle.adjoint_rules.specs.Problem.{HasObjects}
 use Rattle.signature_typing.specs.Typing.{equations_in}
 

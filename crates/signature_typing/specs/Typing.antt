@@ -3,12 +3,8 @@ use Rattle.std.specs.Prelude.{◌≡◌, List, [], ◌∷◌, ◌++◌, Option, 
 use Rattle.std.specs.List.{flat_map}
 use Rattle.std.specs.Option.{option_or, option_map}
 use Rattle.definitions.specs.Poly.{Poly}
-use Rattle.nc_polynomial.specs.declared.fault.PolyFault.{PolyFault}
-use Rattle.quiver.specs.declared.named.Sig.{Sig}
+use Rattle.signature_typing.specs.Types.{PolyFault, Sig, Spot, Statement, Equation, SignatureFault, Parts, Problem, TypeFault}
 use Rattle.quiver.specs.Declarations.{Declaration}
-use Rattle.statement_tokens.specs.declared.place.Spot.{Spot}
-use Rattle.statement_syntax.specs.declared.tree.Statement.{Statement}
-use Rattle.abbreviations.specs.declared.written.Equation.{Equation}
 use Rattle.statement_names.specs.Faults.{name_fault_of}
 use Rattle.statement_names.specs.Numbered.{declarations_of}
 use Rattle.abbreviations.specs.Written.{equations_of, assumptions_of, claims_in, claims_of}
@@ -16,13 +12,9 @@ use Rattle.statement_names.specs.Ordered.{order_of}
 use Rattle.statement_names.specs.Marked.{is_starred, marked_of}
 use Rattle.statement_names.specs.Shapes.{shapes_of}
 use Rattle.statement_names.specs.Solved.{solved_of}
-use Rattle.expressions.specs.declared.fault.SignatureFault.{SignatureFault}
 use Rattle.expressions.specs.Signatures.{equation_signature}
 use Rattle.expressions.specs.Polynomials.{equation_poly}
-use Rattle.adjoint_rules.specs.declared.parts.Parts.{Parts}
-use Rattle.adjoint_rules.specs.declared.problem.Problem.{Problem}
 use Rattle.adjoint_rules.specs.Problem.{polynomials}
-use Rattle.signature_typing.specs.declared.fault.TypeFault.{TypeFault}
 use Rattle.signature_typing.specs.First.{first_among}
 use Rattle.signature_typing.specs.Fault.{told_name, told_signature, told_polynomial, no_claim}
 

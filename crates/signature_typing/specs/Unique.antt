@@ -1,7 +1,6 @@
 -- A file stands for one problem.
 use Rattle.std.specs.Prelude.{◌≡◌, List}
-use Rattle.statement_syntax.specs.declared.tree.Statement.{Statement}
-use Rattle.adjoint_rules.specs.declared.problem.Problem.{Problem}
+use Rattle.signature_typing.specs.Types.{Statement, Problem}
 use Rattle.adjoint_rules.specs.Problem.{polynomials}
 use Rattle.signature_typing.specs.Typing.{IsProblemOf}
 

@@ -1,11 +1,11 @@
 -- Declarations of different names.
 use Rattle.std.proofs.Common.{◌≡◌, ℕ, Bool, true, false, cond, List, [], ◌∷◌, ◌++◌, Option, Some, None, refl, ap, ap₂, sym, ◌∙◌, arith}
+use Rattle.std.specs.List.{filter}
 use Rattle.std.specs.Option.{option_or}
 use Rattle.std.specs.Str.{bytes_eq}
 use Rattle.std.proofs.lemmas.Slice.Eq.{bytes_eq-Decides}
-use Rattle.statement_names.specs.declared.kinds.Kind.{Kind}
-use Rattle.statement_names.specs.declared.kinds.Kind.TheVariants.{Object, Map}
-use Rattle.statement_names.specs.Faults.{kind_in}
+use Rattle.statement_names.specs.Types.{Kind, Object, Map}
+use Rattle.statement_names.specs.Faults.{kind_in, is_kind}
 use Rattle.statement_names.proofs.KindsFound.{same_bytes, kind_in-append}
 
 -- no name is declared twice
@@ -15,11 +15,7 @@ Apart (d ∷ ds) = (kind_in ds d.0 ≡ None) × Apart ds
 
 -- tests of names
 pub other_bytes : (xs ys : List ℕ) → (xs ≡ ys → ⊥) → bytes_eq xs ys ≡ false
-other_bytes xs ys differ = go (bytes_eq xs ys) refl
-  where
-    go : (b : Bool) → bytes_eq xs ys ≡ b → b ≡ false
-    go false e = refl
-    go true e = absurd (differ (same_bytes xs ys e))
+other_bytes xs ys differ = grind (arith, same_bytes xs ys, differ)
 
 pub own_bytes : (xs : List ℕ) → bytes_eq xs xs ≡ true
 own_bytes xs = (bytes_eq-Decides xs xs).1 refl
@@ -81,18 +77,13 @@ pub Apart-left : (xs ys : List (List ℕ × Kind)) → Apart (xs ++ ys) → Apar
 Apart-left [] ys apart = tt
 Apart-left (x ∷ xs) ys apart = (absent_before xs ys x.0 apart.0, Apart-left xs ys apart.1)
 
-abbrev pub objects_among : List (List ℕ × Kind) → List (List ℕ × Kind)
-objects_among [] = []
-objects_among ((name, Object) ∷ ds) = (name, Object) ∷ objects_among ds
-objects_among ((name, Map) ∷ ds) = objects_among ds
+-- those that are declared as this kind
+abbrev pub among : Kind → List (List ℕ × Kind) → List (List ℕ × Kind)
+among kind ds = filter (λ d. is_kind (Some d.1) kind) ds
 
-abbrev pub maps_among : List (List ℕ × Kind) → List (List ℕ × Kind)
-maps_among [] = []
-maps_among ((name, Object) ∷ ds) = maps_among ds
-maps_among ((name, Map) ∷ ds) = (name, Map) ∷ maps_among ds
-
+-- objects before maps
 abbrev pub sorted : List (List ℕ × Kind) → List (List ℕ × Kind)
-sorted ds = objects_among ds ++ maps_among ds
+sorted ds = among Object ds ++ among Map ds
 
 -- the same is found there
 pub kind_in-sorted : (ds : List (List ℕ × Kind)) → Apart ds → (q : List ℕ) → kind_in (sorted ds) q ≡ kind_in ds q
@@ -100,19 +91,19 @@ kind_in-sorted [] apart q = refl
 kind_in-sorted ((name, Object) ∷ ds) apart q = ap (cond (bytes_eq q name) (Some Object)) (kind_in-sorted ds apart.1 q)
 kind_in-sorted ((name, Map) ∷ ds) apart q = go (bytes_eq q name) refl (kind_in-sorted ds apart.1 q)
   where
-    go : (b : Bool) → bytes_eq q name ≡ b → kind_in (sorted ds) q ≡ kind_in ds q → kind_in (objects_among ds ++ (name, Map) ∷ maps_among ds) q ≡ cond b (Some Map) (kind_in ds q)
+    go : (b : Bool) → bytes_eq q name ≡ b → kind_in (sorted ds) q ≡ kind_in ds q → kind_in (among Object ds ++ (name, Map) ∷ among Map ds) q ≡ cond b (Some Map) (kind_in ds q)
     go false is rest =
-        kind_in-append (objects_among ds) ((name, Map) ∷ maps_among ds) q
-        ∙ ap (λ found. option_or (kind_in (objects_among ds) q) found) (skipped (name, Map) (maps_among ds) q is)
-        ∙ sym (kind_in-append (objects_among ds) (maps_among ds) q) ∙ rest
+        kind_in-append (among Object ds) ((name, Map) ∷ among Map ds) q
+        ∙ ap (λ found. option_or (kind_in (among Object ds) q) found) (skipped (name, Map) (among Map ds) q is)
+        ∙ sym (kind_in-append (among Object ds) (among Map ds) q) ∙ rest
     go true is rest =
-        let absent : kind_in (objects_among ds) q ≡ None =
-        absent_before (objects_among ds) (maps_among ds) q (rest ∙ ap (kind_in ds) (same_bytes q name is) ∙ apart.0) in
-        kind_in-append (objects_among ds) ((name, Map) ∷ maps_among ds) q
-        ∙ ap₂ option_or absent (found_head (name, Map) (maps_among ds) q is)
+        let absent : kind_in (among Object ds) q ≡ None =
+        absent_before (among Object ds) (among Map ds) q (rest ∙ ap (kind_in ds) (same_bytes q name is) ∙ apart.0) in
+        kind_in-append (among Object ds) ((name, Map) ∷ among Map ds) q
+        ∙ ap₂ option_or absent (found_head (name, Map) (among Map ds) q is)
 
 pub Apart-sorted : (ds : List (List ℕ × Kind)) → Apart ds → Apart (sorted ds)
 Apart-sorted [] apart = tt
 Apart-sorted ((name, Object) ∷ ds) apart = (kind_in-sorted ds apart.1 name ∙ apart.0, Apart-sorted ds apart.1)
 Apart-sorted ((name, Map) ∷ ds) apart =
-    Apart-with (objects_among ds) (maps_among ds) (name, Map) (Apart-sorted ds apart.1) (kind_in-sorted ds apart.1 name ∙ apart.0)
+    Apart-with (among Object ds) (among Map ds) (name, Map) (Apart-sorted ds apart.1) (kind_in-sorted ds apart.1 name ∙ apart.0)

@@ -1,5 +1,5 @@
 -- The search by what room is left finds what is defined by what stands before.
-use Rattle.std.proofs.Common.{◌≡◌, ℕ, ◌+◌, ◌-◌, ◌≤◌, Bool, false, ◌&&◌, not, nat_lt, if◌then◌else◌, is_some, List, [], ◌∷◌, ◌++◌, length, take, Option, Some, None, refl, ap, ap₂, sym, ◌∙◌, arith}
+use Rattle.std.proofs.Common.{◌≡◌, ℕ, ◌+◌, ◌-◌, ◌≤◌, Bool, false, ◌&&◌, not, nat_lt, if◌then◌else◌, is_some, List, [], ◌∷◌, ◌++◌, length, take, Option, Some, None, refl, ap, ap₂, sym, subst, ◌∙◌, arith, append_assoc}
 use Rattle.std.specs.List.{sum_by}
 use Rattle.std.specs.Option.{option_or}
 use Rattle.std.specs.Str.{bytes_eq}
@@ -9,18 +9,14 @@ use Rattle.std.proofs.lemmas.Grind.{flat_map-append}
 use Rattle.std.proofs.lemmas.List.{append-nil, length-append}
 use Rattle.std.proofs.lemmas.List.Sums.{fold-append, sum_by-cons, sum_by_push}
 use Rattle.quiver.specs.Limits.{object_limit}
-use Rattle.statement_syntax.specs.declared.tree.Name.{Name}
+use Rattle.statement_names.specs.Types.{Name, Statement, NameFault, Unknown, Double, TooMany, NotSquare, Kind, Object, Map, Survey}
 use Rattle.adjoint_rules.specs.Limits.{assumption_limit, claim_limit, shape_limit}
-use Rattle.statement_names.specs.declared.fault.NameFault.{NameFault}
-use Rattle.statement_names.specs.declared.fault.NameFault.TheVariants.{Unknown, Double, TooMany, NotSquare}
-use Rattle.statement_names.specs.declared.kinds.Kind.{Kind}
-use Rattle.statement_names.specs.declared.kinds.Kind.TheVariants.{Object, Map}
-use Rattle.statement_names.specs.declared.survey.Survey.{Survey}
-use Rattle.statement_names.specs.Occurrences.{Occurrence, declares_object, declares_map, uses, lists, counts, modulus, begins_order, begins_assumptions, begins_claim, begins_shape}
-use Rattle.statement_names.specs.Faults.{declared_by, objects_by, maps_by, orders_by, assumptions_by, claims_by, shapes_by, declared_in, kind_in, is_kind, are_two_objects, is_among, fault_behind, first_fault}
+use Rattle.statement_names.specs.Limits.{map_limit_of}
+use Rattle.statement_names.specs.Occurrences.{occurrences_of, Occurrence, declares_object, declares_map, uses, lists, counts, modulus, begins_order, begins_assumptions, begins_claim, begins_shape}
+use Rattle.statement_names.specs.Faults.{declared_by, objects_by, maps_by, orders_by, assumptions_by, claims_by, shapes_by, declared_in, kind_in, is_kind, are_two_objects, is_among, fault_behind, first_fault, name_fault_of}
 use Rattle.statement_names.specs.Survey.{with_kind, with_kinds, declared_count, declared_before, short_of, declared_fault, or_else, fault_at, behind, goes_on, run, fault_in}
-use Rattle.statement_names.proofs.KindsFound.{take-with_kinds}
-use Rattle.statement_names.proofs.Clean.{test_false, test_rest}
+use Rattle.statement_names.proofs.KindsFound.{kind_in-with_kinds, take-with_kinds}
+use Rattle.statement_names.proofs.Clean.{head_clean, tail_clean, test_false, test_rest}
 
 -- room that is left, and what has used it
 below_room : (room used more limit : ℕ) → room + used ≡ limit → nat_lt room more ≡ nat_lt limit (used + more)
@@ -207,3 +203,62 @@ first_same most_maps kind before s (o ∷ os) agrees =
         → option_or found (first_fault most_maps kind (before ++ o ∷ []) os) ≡ fault_in (goes_on found (run (behind s o) os))
     go (Some fault) is rest = refl
     go None is rest = rest is
+
+-- the survey in front of the first statement
+abbrev pub begun : ℕ → List (List ℕ × Kind) → Survey
+begun most_maps kinds = record {
+  kinds = kinds;
+  map_limit = most_maps;
+  objects = object_limit;
+  maps = most_maps;
+  orders = 1;
+  assumptions = assumption_limit;
+  claims = claim_limit;
+  shapes = shape_limit;
+}
+
+pub begun_agrees : (limit most_maps : ℕ) (os : List Occurrence) (kinds : List (List ℕ × Kind)) → limit ≡ most_maps → kinds ≡ with_kinds [] (declared_in os)
+    → Agrees most_maps (kind_in (declared_in os)) [] os (begun limit kinds)
+begun_agrees limit most_maps os kinds limit_is kinds_are = record {
+  kinds = λ name. ap (λ ks. kind_in ks name) kinds_are ∙ kind_in-with_kinds [] (declared_in os) name;
+  declared = kinds_are;
+  objects = refl;
+  map_limit = limit_is;
+  maps = let whole : limit + 0 ≡ most_maps = omega (arith, limit_is) in whole;
+  orders = refl;
+  assumptions = refl;
+  claims = refl;
+  shapes = refl;
+}
+
+-- the survey behind occurrences none of which has a fault
+agrees_behind : (most_maps : ℕ) (kind : List ℕ → Option Kind) (before : List Occurrence) (s : Survey) (os : List Occurrence) → Agrees most_maps kind before os s
+    → first_fault most_maps kind before os ≡ None → (e : Survey) × Agrees most_maps kind (before ++ os) [] e
+agrees_behind most_maps kind before s [] agrees clean = (s, subst (λ os. Agrees most_maps kind os [] s) (sym (append-nil before)) agrees)
+agrees_behind most_maps kind before s (o ∷ os) agrees clean =
+    let good = fault_same most_maps kind before (o ∷ os) s agrees o ∙ head_clean most_maps kind before o os clean in
+    let next = behind_agrees most_maps kind before (o ∷ os) s agrees o os refl good in
+    subst (λ all. (e : Survey) × Agrees most_maps kind all [] e) (append_assoc before (o ∷ []) os)
+    (agrees_behind most_maps kind (before ++ o ∷ []) (behind s o) os next (tail_clean most_maps kind before o os clean))
+
+-- a file in whose names nothing is wrong keeps to the limits
+pub record IsWithinLimits (statements : List Statement) : Type 0 where
+  pub objects : sum_by objects_by (occurrences_of statements) ≤ object_limit
+  pub maps : sum_by maps_by (occurrences_of statements) ≤ map_limit_of statements
+  pub assumptions : sum_by assumptions_by (occurrences_of statements) ≤ assumption_limit
+  pub claims : sum_by claims_by (occurrences_of statements) ≤ claim_limit
+  pub shapes : sum_by shapes_by (occurrences_of statements) ≤ shape_limit
+
+pub within_limits : (statements : List Statement) → name_fault_of statements ≡ None → IsWithinLimits statements
+within_limits statements clean =
+    let most_maps = map_limit_of statements in
+    let os = occurrences_of statements in
+    let kinds = with_kinds [] (declared_in os) in
+    let last = agrees_behind most_maps (kind_in (declared_in os)) [] (begun most_maps kinds) os (begun_agrees most_maps most_maps os kinds refl refl) clean in
+    record {
+      objects = omega (arith, last.1.objects);
+      maps = omega (arith, last.1.maps);
+      assumptions = omega (arith, last.1.assumptions);
+      claims = omega (arith, last.1.claims);
+      shapes = omega (arith, last.1.shapes);
+    }

@@ -1,10 +1,9 @@
 -- What holds of each item of a list, by the list's own recursion.
-use Rattle.std.proofs.Common.{◌≡◌, ℕ, zero, suc, ◌<◌, List, [], ◌∷◌, ◌++◌, length, take, get_or, map, All, arith, subst, sym}
+use Rattle.std.proofs.Common.{◌≡◌, ℕ, zero, suc, ◌<◌, List, [], ◌∷◌, ◌++◌, length, take, get_or, map, subst, sym}
 use Rattle.std.specs.List.{flat_map}
-
-abbrev pub Each : {A : Type 0} → (A → Type 0) → List A → Type 0
-Each P [] = Unit {0}
-Each P (x ∷ xs) = P x × Each P xs
+pub use Rattle.std.specs.List.{AllByRecursion as Each}
+pub use Rattle.std.proofs.lemmas.List.Elements.{All-from_recursion as Each-at}
+pub use Rattle.definitions.proofs.UnitSound.{all-append as Each-append}
 
 pub Each-left : {A : Type 0} (P : A → Type 0) (xs ys : List A) → Each P (xs ++ ys) → Each P xs
 Each-left P [] ys h = tt
@@ -13,10 +12,6 @@ Each-left P (x ∷ xs) ys h = (h.0, Each-left P xs ys h.1)
 pub Each-right : {A : Type 0} (P : A → Type 0) (xs ys : List A) → Each P (xs ++ ys) → Each P ys
 Each-right P [] ys h = h
 Each-right P (x ∷ xs) ys h = Each-right P xs ys h.1
-
-pub Each-append : {A : Type 0} (P : A → Type 0) (xs ys : List A) → Each P xs → Each P ys → Each P (xs ++ ys)
-Each-append P [] ys h k = k
-Each-append P (x ∷ xs) ys h k = (h.0, Each-append P xs ys h.1 k)
 
 pub Each-weaker : {A : Type 0} (P Q : A → Type 0) (xs : List A) → ((x : A) → P x → Q x) → Each P xs → Each Q xs
 Each-weaker P Q [] f h = tt
@@ -44,10 +39,5 @@ Each-take P (suc n) [] h = tt
 Each-take P (suc n) (x ∷ xs) h = (h.0, Each-take P n xs h.1)
 
 -- at a place
-pub Each-at : {A : Type 0} (P : A → Type 0) (xs : List A) → Each P xs → All P xs
-Each-at P [] h k d below = absurd (omega arith)
-Each-at P (x ∷ xs) h zero d below = h.0
-Each-at P (x ∷ xs) h (suc k) d below = let shorter : k < length xs = omega arith in Each-at P xs h.1 k d shorter
-
 pub Each-item : {A : Type 0} (P : A → Type 0) (xs : List A) → Each P xs → (i : ℕ) (x : A) → i < length xs → x ≡ get_or xs i x → P x
 Each-item P xs h i x below at = subst P (sym at) (Each-at P xs h i x below)

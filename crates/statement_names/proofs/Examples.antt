@@ -1,17 +1,8 @@
 -- What a file of the second language says.
 use Rattle.std.proofs.Common.{◌≡◌, ℕ, pos, true, false, List, [], ◌∷◌, Some, None, refl}
-use Rattle.statement_tokens.specs.declared.place.Spot.{Spot}
-use Rattle.statement_syntax.specs.declared.tree.Name.{Name}
-use Rattle.statement_syntax.specs.declared.tree.Mark.TheVariants.{Adjoint, Power}
-use Rattle.statement_syntax.specs.declared.tree.Number.{Number}
-use Rattle.statement_syntax.specs.declared.tree.Statement.{Statement}
-use Rattle.statement_syntax.specs.declared.tree.StatementKind.{StatementKind}
-use Rattle.statement_syntax.specs.declared.tree.StatementKind.TheVariants as statement
+use Rattle.statement_names.specs.Types.{Spot, Name, Adjoint, Power, Number, Statement, StatementKind, statement, Map, Block, Unknown, Double, BadNumber}
 use Rattle.std.specs.List.{flat_map}
-use Rattle.statement_names.specs.declared.kinds.Kind.TheVariants.{Map}
 use Rattle.statement_names.specs.Uses.{map_use}
-use Rattle.word_orders.specs.declared.any.OrderSpec.TheVariants.{Block}
-use Rattle.statement_names.specs.declared.fault.NameFault.TheVariants.{Unknown, Double, BadNumber}
 use Rattle.statement_names.specs.Faults.{kind_in, first_fault, name_fault_of}
 use Rattle.statement_names.specs.Limits.{map_limit_of}
 use Rattle.statement_names.specs.Marked.{is_starred}

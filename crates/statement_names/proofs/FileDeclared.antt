@@ -1,5 +1,5 @@
 -- The declarations of a file in whose names nothing is wrong are those of a quiver.
-use Rattle.std.proofs.Common.{◌≡◌, ℕ, ◌+◌, ◌<◌, ◌≤◌, Bool, true, false, ◌&&◌, ◌||◌, not, nat_eq, is_some, cond, IsTrue, List, [], ◌∷◌, ◌++◌, length, map, take, drop, get_or, Option, Some, None, refl, ap, ap₂, sym, subst, ◌∙◌, arith, append_assoc}
+use Rattle.std.proofs.Common.{◌≡◌, ℕ, ◌+◌, ◌<◌, ◌≤◌, Bool, true, false, ◌&&◌, ◌||◌, not, nat_eq, is_some, IsTrue, List, [], ◌∷◌, ◌++◌, length, map, take, drop, get_or, Option, Some, None, refl, ap, ap₂, sym, subst, ◌∙◌, arith, append_assoc}
 use Rattle.std.specs.List.{list_all}
 use Rattle.std.specs.Map.{lookup}
 use Rattle.std.specs.Option.{option_or}
@@ -9,35 +9,29 @@ use Rattle.std.proofs.lemmas.Bool.Decides.{Decides-eqb}
 use Rattle.std.proofs.lemmas.Grind.{flat_map-append}
 use Rattle.std.proofs.lemmas.List.{map-append, append-nil, take-append-drop}
 use Rattle.std.proofs.lemmas.List.Folds.{list_all-append}
-use Rattle.quiver.specs.declared.named.Named.{Named}
-use Rattle.quiver.specs.declared.named.Named.TheVariants as named
+use Rattle.statement_names.specs.Types.{Named, named, Spot, Name, Statement, StatementKind, statement, Kind, Object, Map}
 use Rattle.quiver.specs.Limits.{map_limit}
 use Rattle.quiver.specs.Declarations.{Declaration, object, arrow, object_count, map_count, named_in, naming_table, has_ends, IsDeclared, objects_first, ObjectsFirst, is_arrow}
 use Rattle.quiver.proofs.Counts.{object_count-append, map_count-append}
 use Rattle.quiver.proofs.Growth.{naming_table-append}
 use Rattle.quiver.proofs.Found.{is_named}
 use Rattle.expression_names.specs.Names.{is_object, object_number, object_of}
-use Rattle.statement_tokens.specs.declared.place.Spot.{Spot}
-use Rattle.statement_syntax.specs.declared.tree.Name.{Name}
-use Rattle.statement_syntax.specs.declared.tree.Statement.{Statement}
-use Rattle.statement_syntax.specs.declared.tree.StatementKind.{StatementKind}
-use Rattle.statement_syntax.specs.declared.tree.StatementKind.TheVariants as statement
-use Rattle.statement_names.specs.declared.kinds.Kind.{Kind}
-use Rattle.statement_names.specs.declared.kinds.Kind.TheVariants.{Object, Map}
 use Rattle.statement_names.specs.Faults.{kind_in, is_kind, are_two_objects, declared_in, name_fault_of}
 use Rattle.statement_names.specs.Limits.{map_limit_after, map_limit_of}
 use Rattle.statement_names.specs.Occurrences.{declares_map, uses, kind_occurrences, statement_occurrences, occurrences_of}
 use Rattle.statement_names.specs.Uses.{object_use}
 use Rattle.statement_names.specs.Numbered.{objects_in, maps_in, declared_objects, declared_maps, declarations_of, HasEnds}
-use Rattle.statement_names.proofs.Apart.{Apart, Apart-left, objects_among, maps_among}
-use Rattle.statement_names.proofs.Clean.{IsGood, each_good, few_objects, few_maps}
+use Rattle.statement_names.proofs.Apart.{Apart, Apart-left, among}
+use Rattle.statement_names.proofs.Bridge.{within_limits}
+use Rattle.statement_names.proofs.Clean.{IsGood, each_good}
 use Rattle.statement_names.proofs.Each.{Each, Each-of_flat_map, Each-left, Each-right, Each-item, Each-take}
 use Rattle.statement_names.proofs.Items.{flat_next}
+use Rattle.statement_names.proofs.Quiet.{declared-statements}
 use Rattle.statement_names.proofs.Tally.{object_count-statements, map_count-statements}
 use Rattle.statement_names.proofs.SolvedMaps.{no_objects}
 use Rattle.statement_names.proofs.Fresh.{different_of_apart, apart_of}
 use Rattle.statement_names.proofs.KindsFound.{kind_in-append, lookup-append, same_bytes}
-use Rattle.statement_names.proofs.NamedKinds.{kind_of, kinds, kind-named_in, apart_declarations, kind_declared, kinds-declared_objects, kinds-declarations_of, statement_kinds, object_from}
+use Rattle.statement_names.proofs.NamedKinds.{kind_of, kinds, kind-named_in, apart_declarations, kinds-declared_objects, statement_kinds, object_from}
 
 -- look-ups behind more declarations
 stays : {A : Type 0} (found other : Option A) → is_some found ≡ true → option_or found other ≡ found
@@ -62,32 +56,14 @@ object_in_range xs n is = go (named_in xs n.text) refl is
     go other found e = absurd (cc)
 
 -- an object of the file is one of its objects
-maps_only : (ks : List (List ℕ × Kind)) (q : List ℕ) → kind_in (maps_among ks) q ≡ Some Object → ⊥
-maps_only [] q e = cc
-maps_only ((n, Object) ∷ ks) q e = maps_only ks q e
-maps_only ((n, Map) ∷ ks) q e = go (bytes_eq q n) e (maps_only ks q)
-  where
-    go : (b : Bool) → cond b (Some Map) (kind_in (maps_among ks) q) ≡ Some Object → (kind_in (maps_among ks) q ≡ Some Object → ⊥) → ⊥
-    go true e rest = cc
-    go false e rest = rest e
-
-objects_only : (ks : List (List ℕ × Kind)) (q : List ℕ) → kind_in (objects_among ks) q ≡ Some Map → ⊥
-objects_only [] q e = cc
-objects_only ((n, Map) ∷ ks) q e = objects_only ks q e
-objects_only ((n, Object) ∷ ks) q e = go (bytes_eq q n) e (objects_only ks q)
-  where
-    go : (b : Bool) → cond b (Some Object) (kind_in (objects_among ks) q) ≡ Some Map → (kind_in (objects_among ks) q ≡ Some Map → ⊥) → ⊥
-    go true e rest = cc
-    go false e rest = rest e
+object_among : (ks : List (List ℕ × Kind)) (q : List ℕ) → kind_in ks q ≡ Some Object → kind_in (among Object ks) q ≡ Some Object
+object_among [] q e = e
+object_among ((n, Object) ∷ ks) q e = grind (arith, object_among ks q)
+object_among ((n, Map) ∷ ks) q e = grind (arith, object_among ks q)
 
 kind_is : (found : Option Kind) → is_kind found Object ≡ true → found ≡ Some Object
 kind_is (Some Object) e = refl
 kind_is found e = absurd (cc)
-
-first_object : (found other : Option Kind) → (found ≡ Some Map → ⊥) → (other ≡ Some Object → ⊥) → option_or found other ≡ Some Object → found ≡ Some Object
-first_object (Some Object) other no_map no_object e = refl
-first_object (Some Map) other no_map no_object e = absurd (no_map refl)
-first_object None other no_map no_object e = absurd (no_object e)
 
 -- lists of declarations with ends
 all_append : {A : Type 0} (test : A → Bool) (xs ys : List A) → list_all test xs ≡ true → list_all test ys ≡ true → list_all test (xs ++ ys) ≡ true
@@ -116,9 +92,6 @@ arrows_end_by n u v selfmade kind s t source target square (m ∷ names) good =
 
 same_ends : (first second same : Bool) → first ≡ true → second ≡ true → (first && (second && not same)) ≡ false → same ≡ true
 same_ends first second same f s e = grind arith
-
-own_number : (n : ℕ) → nat_eq n n ≡ true
-own_number n = (Decides-eqb n n).1 refl
 
 all_arrows : (objects : List Declaration) (k : StatementKind) → list_all is_arrow (maps_in objects k) ≡ true
 all_arrows objects (statement.Maps names source target selfmade) = go names
@@ -164,14 +137,14 @@ module _ (statements : List Statement) (clean : name_fault_of statements ≡ Non
   pub statements_good : Each (λ s. Each (IsGood (kind_in (declared_in (occurrences_of statements)))) (statement_occurrences s)) statements
   statements_good = Each-of_flat_map (IsGood kind) statement_occurrences statements (each_good (map_limit_of statements) kind [] (occurrences_of statements) clean)
 
+  pub statement_good : (i : ℕ) (s : Statement) → i < length statements → s ≡ get_or statements i s
+      → Each (IsGood (kind_in (declared_in (occurrences_of statements)))) (kind_occurrences s.at s.kind)
+  statement_good i s below at = Each-item (λ t. Each (IsGood kind) (statement_occurrences t)) statements statements_good i s below at
+
   object_kind : (q : List ℕ) → is_kind (kind q) Object ≡ true → kind_in (kinds (declared_objects statements)) q ≡ Some Object
   object_kind q is =
-      let whole : option_or (kind_in (objects_among (statement_kinds statements)) q) (kind_in (maps_among (statement_kinds statements)) q) ≡ Some Object =
-      sym (kind_in-append (objects_among (statement_kinds statements)) (maps_among (statement_kinds statements)) q)
-      ∙ ap (λ ks. kind_in ks q) (sym (kinds-declarations_of statements)) ∙ kind_declared statements clean q ∙ kind_is (kind q) is in
       ap (λ ks. kind_in ks q) (kinds-declared_objects statements)
-      ∙ first_object (kind_in (objects_among (statement_kinds statements)) q) (kind_in (maps_among (statement_kinds statements)) q)
-      (objects_only (statement_kinds statements) q) (maps_only (statement_kinds statements) q) whole
+      ∙ object_among (statement_kinds statements) q (ap (λ ks. kind_in ks q) (sym (declared-statements statements)) ∙ kind_is (kind q) is)
 
   -- it is found whatever maps are declared behind the objects
   pub object_there : (more : List Declaration) (q : List ℕ) → is_kind (kind_in (declared_in (occurrences_of statements)) q) Object ≡ true → IsTrue (is_object (named_in (declared_objects statements ++ more) q))
@@ -201,7 +174,7 @@ module _ (statements : List Statement) (clean : name_fault_of statements ≡ Non
       go true first second e =
           let same : source.text ≡ target.text = same_bytes source.text target.text (same_ends _ _ (bytes_eq source.text target.text) first second e) in
           ap (λ text. nat_eq (object_of (declared_objects statements) source) (object_number (named_in (declared_objects statements) text))) (sym same)
-          ∙ own_number (object_of (declared_objects statements) source)
+          ∙ (Decides-eqb (object_of (declared_objects statements) source) (object_of (declared_objects statements) source)).1 refl
   maps_end at k good = refl
 
   all_maps_end : (ss : List Statement) → Each (λ s. Each (IsGood kind) (statement_occurrences s)) ss → list_all (has_ends (object_count (declared_objects statements))) (declared_maps (declared_objects statements) ss) ≡ true
@@ -227,13 +200,13 @@ module _ (statements : List Statement) (clean : name_fault_of statements ≡ Non
   pub file_declared : IsDeclared (declarations_of statements)
   file_declared = record {
     distinct = different_of_apart (declarations_of statements) (apart_declarations statements clean);
-    few_objects = omega (arith, object_count-behind statements, object_count-statements statements, few_objects (map_limit_of statements) kind (occurrences_of statements) clean);
+    few_objects = omega (arith, object_count-behind statements, object_count-statements statements, (within_limits statements clean).objects);
     few_maps = omega (
       arith,
       map_count-append (declared_objects statements) (declared_maps (declared_objects statements) statements),
       map_count-objects statements,
       map_count-statements (declared_objects statements) statements,
-      few_maps (map_limit_of statements) kind (occurrences_of statements) clean,
+      (within_limits statements clean).maps,
       few_enough statements,
     );
     ends = ends_behind statements statements_good;
@@ -258,9 +231,6 @@ module _ (statements : List Statement) (clean : name_fault_of statements ≡ Non
   abbrev maps_so_far : List Declaration
   maps_so_far = declared_maps (declared_objects statements) (take i statements)
 
-  good_here : Each (IsGood (kind_in (declared_in (occurrences_of statements)))) (kind_occurrences s.at s.kind)
-  good_here = Each-item (λ t. Each (IsGood (kind_in (declared_in (occurrences_of statements)))) (statement_occurrences t)) statements (statements_good statements clean) i s below at
-
   pub objects_fit : IsDeclared (declared_objects (take i statements) ++ objects_in s.kind)
   objects_fit =
       let later = declared_objects (drop (i + 1) statements) in
@@ -280,7 +250,7 @@ module _ (statements : List Statement) (clean : name_fault_of statements ≡ Non
   ends_in more at k good = tt
 
   pub ends_fit : HasEnds (declared_objects statements ++ declared_maps (declared_objects statements) (take i statements)) s.kind
-  ends_fit = ends_in maps_so_far s.at s.kind good_here
+  ends_fit = ends_in maps_so_far s.at s.kind (statement_good statements clean i s below at)
 
   maps_same : (more : List Declaration) (at : Spot) (k : StatementKind) → Each (IsGood (kind_in (declared_in (occurrences_of statements)))) (kind_occurrences at k)
       → maps_in (declared_objects statements ++ more) k ≡ maps_in (declared_objects statements) k
@@ -294,7 +264,7 @@ module _ (statements : List Statement) (clean : name_fault_of statements ≡ Non
   pub maps_next : (declared_objects statements ++ declared_maps (declared_objects statements) (take i statements)) ++ maps_in (declared_objects statements ++ declared_maps (declared_objects statements) (take i statements)) s.kind
       ≡ declared_objects statements ++ declared_maps (declared_objects statements) (take (i + 1) statements)
   maps_next =
-      ap (λ ms. (file_objects ++ maps_so_far) ++ ms) (maps_same maps_so_far s.at s.kind good_here)
+      ap (λ ms. (file_objects ++ maps_so_far) ++ ms) (maps_same maps_so_far s.at s.kind (statement_good statements clean i s below at))
       ∙ append_assoc file_objects maps_so_far (maps_in file_objects s.kind)
       ∙ ap (λ ms. file_objects ++ ms) (sym (flat_next statements i s below at (λ t. maps_in file_objects t.kind)))
 

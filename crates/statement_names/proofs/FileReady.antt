@@ -1,12 +1,10 @@
 -- A file in whose names nothing is wrong is ready for the stages behind.
 use Rattle.std.proofs.Common.{◌≡◌, ◌<◌, ◌≤◌, List, None, refl, sym, subst}
 use Rattle.quiver.specs.Declarations.{object_count, letter_count}
-use Rattle.statement_syntax.specs.declared.tree.Statement.{Statement}
-use Rattle.statement_names.specs.Faults.{kind_in, declared_in, name_fault_of}
-use Rattle.statement_names.specs.Limits.{map_limit_of}
+use Rattle.statement_names.specs.Types.{Statement}
+use Rattle.statement_names.specs.Faults.{name_fault_of}
 use Rattle.statement_names.specs.Marked.{an_object, is_marked}
 use Rattle.statement_names.specs.Numbered.{declarations_of}
-use Rattle.statement_names.specs.Occurrences.{occurrences_of}
 use Rattle.statement_names.specs.Ordered.{letter}
 use Rattle.statement_names.specs.Ready.{HasNames, IsReady}
 use Rattle.statement_names.specs.Solved.{is_solved, solved_names}
@@ -14,7 +12,7 @@ use Rattle.abbreviations.specs.Written.{assumptions_of, claims_of}
 use Rattle.adjoint_rules.specs.Limits.{assumption_limit, claim_limit}
 use Rattle.adjoint_rules.specs.Problem.{IsDeclaredMap}
 use Rattle.statement_names.proofs.Ascending.{numbers_ascend, numbers_hold}
-use Rattle.statement_names.proofs.Clean.{few_assumptions, few_claims}
+use Rattle.statement_names.proofs.Bridge.{within_limits}
 use Rattle.statement_names.proofs.Each.{Each-at}
 use Rattle.statement_names.proofs.FileDeclared.{file_declared, file_objects_first}
 use Rattle.statement_names.proofs.SolvedMaps.{solved_declared}
@@ -26,22 +24,22 @@ use Rattle.statement_names.proofs.WrittenNames.{assumptions_named, all_claims_na
 pub file_ready : (statements : List Statement) → name_fault_of statements ≡ None → IsReady (declarations_of statements) statements
 file_ready statements clean =
     let ds = declarations_of statements in
-    let kind = kind_in (declared_in (occurrences_of statements)) in
+    let limits = within_limits statements clean in
     let first = file_objects_first statements in
     let shapes = shapes_sound statements clean in
     record {
       declared = file_declared statements clean;
       objects_first = first;
       order = order_sound statements clean;
-      few_assumptions = subst (λ n. n ≤ assumption_limit) (sym (length-assumptions ds statements)) (few_assumptions (map_limit_of statements) kind (occurrences_of statements) clean);
+      few_assumptions = subst (λ n. n ≤ assumption_limit) (sym (length-assumptions ds statements)) limits.assumptions;
       assumptions = Each-at (HasNames ds) (assumptions_of ds statements) (assumptions_named statements clean);
-      few_claims = subst (λ n. n ≤ claim_limit) (sym (length-claims statements)) (few_claims (map_limit_of statements) kind (occurrences_of statements) clean);
+      few_claims = subst (λ n. n ≤ claim_limit) (sym (length-claims statements)) limits.claims;
       claims = Each-at (HasNames ds) (claims_of statements) (all_claims_named statements clean);
-      marked_objects = numbers_hold an_object (λ v. v.0) (λ k. refl) (object_count ds) (is_marked ds statements) (λ v. v.0 < object_count ds) (λ k below is. below);
-      marked_ascending = numbers_ascend an_object (λ v. v.0) (λ k. refl) (object_count ds) (is_marked ds statements);
+      marked_objects = numbers_hold an_object (object_count ds) (is_marked ds statements) (λ v. v.0 < object_count ds) (λ k below is. below);
+      marked_ascending = numbers_ascend an_object (object_count ds) (is_marked ds statements) (λ v. v.0) (λ k. refl);
       some_shape = shapes.some;
       few_shapes = shapes.few;
       shapes = shapes.each_shape;
-      solved_maps = numbers_hold letter (λ a. a.0) (λ k. refl) (letter_count ds) (is_solved ds statements) (IsDeclaredMap ds) (λ a below is. solved_declared ds first a (solved_names statements) is);
-      solved_ascending = numbers_ascend letter (λ a. a.0) (λ k. refl) (letter_count ds) (is_solved ds statements);
+      solved_maps = numbers_hold letter (letter_count ds) (is_solved ds statements) (IsDeclaredMap ds) (λ a below is. solved_declared ds first a (solved_names statements) is);
+      solved_ascending = numbers_ascend letter (letter_count ds) (is_solved ds statements) (λ a. a.0) (λ k. refl);
     }

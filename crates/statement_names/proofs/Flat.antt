@@ -1,8 +1,9 @@
 -- The names and exponents of a sum and of a term, by lists in place of rows.
-use Rattle.std.proofs.Common.{◌≡◌, ◌++◌, refl, sym, ap, ◌∙◌}
+use Rattle.std.proofs.Common.{◌≡◌, ◌++◌, refl, ap, ◌∙◌}
 use Rattle.std.specs.List.{flat_map}
-use Rattle.statement_syntax.specs.declared.tree.Term.{Term, Term', out-Term, outs-Term', Row_of-Factor, end_of-Factor, more_of-Factor, items-the_row-Factor, items_shown-the_row-Factor-1}
-use Rattle.statement_syntax.specs.declared.tree.Sum.{Sum, Sum', out-Sum, outs-Sum', Row_of-Term, end_of-Term, more_of-Term, items-the_row-Term, items_shown-the_row-Term-0}
+use Rattle.statement_names.specs.Types.{Term, Term', out-Term, Row_of-Factor, end_of-Factor, more_of-Factor, items-the_row-Factor, Sum, Sum', out-Sum}
+use Rattle.statement_names.specs.Types.{Row_of-Term, end_of-Term, more_of-Term, items-the_row-Term}
+use Rattle.expression_names.proofs.Trees.{of_sum, of_term}
 use Rattle.statement_names.specs.Occurrences.{mark_occurrences, primary_occurrences, factor_occurrences, factors_occurrences, term_occurrences, terms_occurrences, sum_occurrences}
 
 flat-factors : (n : _) (k : Row_of-Factor n) → factors_occurrences k ≡ flat_map factor_occurrences (items-the_row-Factor n k)
@@ -14,11 +15,7 @@ flat-terms n end_of-Term = refl
 flat-terms n (more_of-Term t rest) = ap (λ os. term_occurrences t ++ os) (flat-terms _ rest)
 
 pub term-flat : (t : Term) → term_occurrences t ≡ flat_map factor_occurrences (out-Term t).factors
-term-flat (Term' at negative literal shape factors) =
-    flat-factors _ factors ∙ ap (flat_map factor_occurrences) (sym (items_shown-the_row-Factor-1 shape factors))
-    ∙ ap (λ r. flat_map factor_occurrences r.factors) (sym (outs-Term' at negative literal shape factors))
+term-flat (Term' at negative literal shape factors) = flat-factors _ factors ∙ of_term (flat_map factor_occurrences) at negative literal shape factors
 
 pub sum-flat : (s : Sum) → sum_occurrences s ≡ flat_map term_occurrences (out-Sum s).terms
-sum-flat (Sum' at shape terms) =
-    flat-terms _ terms ∙ ap (flat_map term_occurrences) (sym (items_shown-the_row-Term-0 shape terms))
-    ∙ ap (λ r. flat_map term_occurrences r.terms) (sym (outs-Sum' at shape terms))
+sum-flat (Sum' at shape terms) = flat-terms _ terms ∙ of_sum (flat_map term_occurrences) at shape terms

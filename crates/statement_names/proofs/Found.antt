@@ -4,10 +4,8 @@ use Rattle.std.specs.Map.{lookup}
 use Rattle.std.specs.Option.{option_or}
 use Rattle.std.specs.Str.{bytes_eq}
 use Rattle.std.proofs.lemmas.Bool.Decides.{nat_tests, Decides-eqb}
-use Rattle.word_core.specs.declared.letter.Letter.{Letter}
+use Rattle.statement_names.specs.Types.{Letter, Named, named}
 use Rattle.definitions.specs.Quiver.{star}
-use Rattle.quiver.specs.declared.named.Named.{Named}
-use Rattle.quiver.specs.declared.named.Named.TheVariants as named
 use Rattle.quiver.specs.Declarations.{Declaration, object, arrow, letters_of, object_count, letter_count, named_in, naming_table, letter_at, object_name, letter_name, quiver_of}
 use Rattle.quiver.proofs.Counts.{letter_count-append}
 use Rattle.quiver.proofs.Found.{plus_zero, letter_at-split, object_name-split, letter_name-split}
@@ -61,27 +59,17 @@ named_object ds apart v below =
     (ap (named_in split) (ap (object_name split) (plus_zero (object_count at.before)) ∙ object_name-split at.before at.name at.after)
     ∙ named_in-split at.before at.name at.after (subst (λ es. Apart (kinds es)) at.whole apart)))
 
--- a map by its name
-pub record MapAt (ds : List Declaration) (q : List ℕ) (a : ℕ) : Type 0 where
+-- a map by its name, where letters are numbered from this on
+pub record MapAt (l : ℕ) (ds : List Declaration) (q : List ℕ) (a : ℕ) : Type 0 where
   pub before : List Declaration
   pub source : ℕ
   pub target : ℕ
   pub selfmade : Bool
   pub after : List Declaration
   pub whole : ds ≡ before ++ arrow q source target selfmade ∷ after
-  pub number : a ≡ letter_count before
+  pub number : a ≡ l + letter_count before
 
--- the same where letters are numbered from the first free one on
-record MapFrom (l : ℕ) (ds : List Declaration) (q : List ℕ) (a : ℕ) : Type 0 where
-  before : List Declaration
-  source : ℕ
-  target : ℕ
-  selfmade : Bool
-  after : List Declaration
-  whole : ds ≡ before ++ arrow q source target selfmade ∷ after
-  number : a ≡ l + letter_count before
-
-map_behind : (d : Declaration) (l : ℕ) (ds : List Declaration) (q : List ℕ) (a : ℕ) → MapFrom (l + letters_of d) ds q a → MapFrom l (d ∷ ds) q a
+map_behind : (d : Declaration) (l : ℕ) (ds : List Declaration) (q : List ℕ) (a : ℕ) → MapAt (l + letters_of d) ds q a → MapAt l (d ∷ ds) q a
 map_behind d l ds q a m =
     let next : a ≡ l + (letters_of d + letter_count m.before) = omega (arith, m.number) in
     record { before = d ∷ m.before; source = m.source; target = m.target; selfmade = m.selfmade; after = m.after; whole = ap (λ es. d ∷ es) m.whole; number = next }
@@ -89,29 +77,26 @@ map_behind d l ds q a m =
 same_letter : (l a : ℕ) → ◌≡◌ {A = Option Named} (Some (named.Map (record { 0 = l }))) (Some (named.Map (record { 0 = a }))) → a ≡ l
 same_letter l a e = sym (ap letter_number e)
 
-map_found : (p v l : ℕ) (ds : List Declaration) (q : List ℕ) (a : ℕ) → lookup (bytes_eq q) (names_from p v l ds) ≡ Some (named.Map (record { 0 = a })) → MapFrom l ds q a
+map_found : (p v l : ℕ) (ds : List Declaration) (q : List ℕ) (a : ℕ) → lookup (bytes_eq q) (names_from p v l ds) ≡ Some (named.Map (record { 0 = a })) → MapAt l ds q a
 map_found p v l [] q a h = absurd (cc)
 map_found p v l (object name ∷ ds) q a h = go (bytes_eq q name) h (map_found (p + 1) (v + 1) (l + 1) ds q a)
   where
     go : (b : Bool) → cond b (Some (named.Object (record { 0 = v }))) (lookup (bytes_eq q) (names_from (p + 1) (v + 1) (l + 1) ds)) ≡ Some (named.Map (record { 0 = a }))
-        → (lookup (bytes_eq q) (names_from (p + 1) (v + 1) (l + 1) ds) ≡ Some (named.Map (record { 0 = a })) → MapFrom (l + 1) ds q a) → MapFrom l (object name ∷ ds) q a
+        → (lookup (bytes_eq q) (names_from (p + 1) (v + 1) (l + 1) ds) ≡ Some (named.Map (record { 0 = a })) → MapAt (l + 1) ds q a) → MapAt l (object name ∷ ds) q a
     go true e rest = absurd (cc)
     go false e rest = map_behind (object name) l ds q a (rest e)
 map_found p v l (arrow name x y own ∷ ds) q a h = go (bytes_eq q name) refl h (map_found (p + 1) (v + 0) (l + letters_of (arrow name x y own)) ds q a)
   where
     go : (b : Bool) → bytes_eq q name ≡ b → cond b (Some (named.Map (record { 0 = l }))) (lookup (bytes_eq q) (names_from (p + 1) (v + 0) (l + letters_of (arrow name x y own)) ds)) ≡ Some (named.Map (record { 0 = a }))
-        → (lookup (bytes_eq q) (names_from (p + 1) (v + 0) (l + letters_of (arrow name x y own)) ds) ≡ Some (named.Map (record { 0 = a })) → MapFrom (l + letters_of (arrow name x y own)) ds q a)
-        → MapFrom l (arrow name x y own ∷ ds) q a
+        → (lookup (bytes_eq q) (names_from (p + 1) (v + 0) (l + letters_of (arrow name x y own)) ds) ≡ Some (named.Map (record { 0 = a })) → MapAt (l + letters_of (arrow name x y own)) ds q a)
+        → MapAt l (arrow name x y own ∷ ds) q a
     go true is e rest =
         let first : a ≡ l + 0 = same_letter l a e ∙ plus_zero l in
         record { before = []; source = x; target = y; selfmade = own; after = ds; whole = ap (λ n. arrow n x y own ∷ ds) (sym (same_bytes q name is)); number = first }
     go false is e rest = map_behind (arrow name x y own) l ds q a (rest e)
 
-pub map_split : (ds : List Declaration) (q : List ℕ) (a : ℕ) → named_in ds q ≡ Some (named.Map (record { 0 = a })) → MapAt ds q a
-map_split ds q a h =
-    let m = map_found 0 0 0 ds q a h in
-    let number : a ≡ letter_count m.before = omega (arith, m.number) in
-    record { before = m.before; source = m.source; target = m.target; selfmade = m.selfmade; after = m.after; whole = m.whole; number = number }
+pub map_split : (ds : List Declaration) (q : List ℕ) (a : ℕ) → named_in ds q ≡ Some (named.Map (record { 0 = a })) → MapAt 0 ds q a
+map_split ds q a h = map_found 0 0 0 ds q a h
 
 -- a map that is its own adjoint has one letter, and else two
 abbrev pub letters_from_number : Bool → ℕ → List Letter
@@ -174,7 +159,8 @@ pub record HasLetters (ds : List Declaration) (q : List ℕ) (a : ℕ) : Type 0 
 pub map_letters : (ds : List Declaration) (q : List ℕ) (a : ℕ) → named_in ds q ≡ Some (named.Map (record { 0 = a })) → HasLetters ds q a
 map_letters ds q a h =
     let m = map_split ds q a h in
-    subst (HasLetters ds q) (sym m.number)
+    let number : a ≡ letter_count m.before = omega (arith, m.number) in
+    subst (HasLetters ds q) (sym number)
     (subst (λ es. HasLetters es q (letter_count m.before)) (sym m.whole)
     (record {
       selfmade = m.selfmade;

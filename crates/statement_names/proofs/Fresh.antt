@@ -13,7 +13,7 @@ use Rattle.quiver.specs.Limits.{object_limit, map_limit}
 use Rattle.quiver.specs.Refusals.{object_fault, map_fault}
 use Rattle.quiver.proofs.Letters.{ends_of}
 use Rattle.quiver.proofs.Counts.{object_count-append, map_count-append}
-use Rattle.statement_names.specs.declared.kinds.Kind.{Kind}
+use Rattle.statement_names.specs.Types.{Kind}
 use Rattle.statement_names.specs.Faults.{kind_in}
 use Rattle.statement_names.proofs.Apart.{Apart, fresh_before, skipped, other_bytes, own_bytes, absent_head, absent_tail}
 use Rattle.statement_names.proofs.NamedKinds.{kind_of, kinds, nothing_named}

@@ -1,15 +1,14 @@
 -- The names of a map are the bytes of its keys.
-use Rattle.std.proofs.Common.{◌≡◌, Option, ap₂, sym, Bool, false, not, is_some, if◌then◌else◌, List, [], ◌∷◌, ◌++◌, map, None, Some, cond, refl, ap, ◌∙◌, ℕ, zero, suc, ◌+◌, ◌&&◌, nat_lt, length, take, position, string_bytes, Global, String, arith}
+use Rattle.std.proofs.Common.{◌≡◌, Option, ap₂, sym, Bool, false, is_some, if◌then◌else◌, List, [], ◌∷◌, ◌++◌, map, None, Some, cond, refl, ap, ◌∙◌, ℕ, zero, suc, ◌&&◌, nat_lt, length, take, position, string_bytes, Global, String, arith}
 use Rattle.std.specs.List.{position_or_len}
-use Rattle.std.specs.Map.{keys_of}
+use Rattle.std.specs.Map.{keys_of, lookup}
 use Rattle.std.proofs.lemmas.Bool.Decides.{nat_tests}
-use Rattle.std.specs.Map.{lookup}
 use Rattle.std.specs.Str.{bytes_eq}
 use Rattle.std.specs.String.{string_eq}
 use Rattle.std.proofs.lemmas.List.{map-append, take-map}
 use Rattle.indexmap.specs.IndexMap.{insert_entry}
 use Rattle.indexmap.proofs.CallerLemmas.{insert_entry-new}
-use Rattle.statement_names.specs.declared.kinds.Kind.{Kind}
+use Rattle.statement_names.specs.Types.{Kind}
 use Rattle.statement_names.specs.declared.kinds.Kinds.TheInside.{Inside}
 use Rattle.statement_names.specs.Faults.{kind_in}
 use Rattle.statement_names.specs.Survey.{with_kind}
@@ -48,17 +47,7 @@ module _ {K X : Type 0} (test : K → Bool) where
   first_place [] zero = refl
   first_place [] (suc count) = refl
   first_place (e ∷ entries) zero = grind (arith, nat_tests)
-  first_place (e ∷ entries) (suc count) = go (test e.0) (first_place entries count)
-    where
-      place : ℕ
-      place = position_or_len test (keys_of entries)
-
-      all : ℕ
-      all = length (keys_of entries)
-
-      go : (b : Bool) → is_some (lookup test (take count entries)) ≡ (nat_lt place all && nat_lt place count)
-          → is_some (cond b (Some e.1) (lookup test (take count entries))) ≡ (nat_lt (cond (not b) (1 + place) 0) (suc all) && nat_lt (cond (not b) (1 + place) 0) (suc count))
-      go b rest = grind (arith, nat_tests)
+  first_place (e ∷ entries) (suc count) = grind (arith, nat_tests, first_place entries count)
 
 -- a name is among the first declarations where its place is below their number
 pub first-place : (name : List ℕ) (entries : List (String Global × Kind)) (count : ℕ)

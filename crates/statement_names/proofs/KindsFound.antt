@@ -1,5 +1,5 @@
 -- What is found for a name in lists of declarations.
-use Rattle.std.proofs.Common.{◌≡◌, ℕ, ◌+◌, ◌<◌, length, get_or, take, Bool, true, false, cond, if◌then◌else◌, is_some, List, [], ◌∷◌, ◌++◌, Option, Some, None, refl, ap, sym, ◌∙◌, append_assoc, arith}
+use Rattle.std.proofs.Common.{◌≡◌, ℕ, ◌+◌, ◌<◌, length, get_or, take, Bool, true, false, is_some, List, [], ◌∷◌, ◌++◌, Option, None, refl, ap, sym, ◌∙◌, append_assoc, arith, if◌then◌else◌}
 use Rattle.std.specs.List.{flat_map}
 use Rattle.std.proofs.lemmas.List.{append-nil}
 use Rattle.std.proofs.lemmas.List.Sums.{fold-append, fold_push}
@@ -8,12 +8,10 @@ use Rattle.std.specs.Map.{lookup}
 use Rattle.std.specs.Option.{option_or}
 use Rattle.std.specs.Str.{bytes_eq}
 use Rattle.std.proofs.lemmas.Slice.Eq.{bytes_eq-Decides}
-use Rattle.statement_names.specs.declared.kinds.Kind.{Kind}
-use Rattle.statement_names.specs.Faults.{kind_in}
+use Rattle.statement_names.specs.Types.{Kind, Name, Statement}
+use Rattle.statement_names.specs.Faults.{kind_in, is_among}
 use Rattle.statement_names.proofs.Items.{map_next, flat_next}
-use Rattle.statement_syntax.specs.declared.tree.Name.{Name}
-use Rattle.statement_syntax.specs.declared.tree.Statement.{Statement}
-use Rattle.statement_names.specs.Survey.{with_kind, with_kinds, kinded, kinds_by}
+use Rattle.statement_names.specs.Survey.{names_in, with_kind, with_kinds, kinded, kinds_by}
 
 pub same_bytes : (xs ys : List ℕ) → bytes_eq xs ys ≡ true → xs ≡ ys
 same_bytes xs ys e = (bytes_eq-Decides xs ys).0 e
@@ -23,31 +21,20 @@ option_or-nothing found = grind arith
 
 pub lookup-append : {A B : Type 0} (test : A → Bool) (xs ys : List (A × B)) → lookup test (xs ++ ys) ≡ option_or (lookup test xs) (lookup test ys)
 lookup-append test [] ys = refl
-lookup-append test (x ∷ xs) ys = go (test x.0) (lookup-append test xs ys)
-  where
-    go : (b : Bool) → lookup test (xs ++ ys) ≡ option_or (lookup test xs) (lookup test ys)
-        → cond b (Some x.1) (lookup test (xs ++ ys)) ≡ option_or (cond b (Some x.1) (lookup test xs)) (lookup test ys)
-    go true rest = refl
-    go false rest = rest
+lookup-append test (x ∷ xs) ys = grind (arith, lookup-append test xs ys)
 
 pub kind_in-append : (xs ys : List (List ℕ × Kind)) (name : List ℕ) → kind_in (xs ++ ys) name ≡ option_or (kind_in xs name) (kind_in ys name)
 kind_in-append xs ys name = lookup-append (bytes_eq name) xs ys
 
+-- a name is among those that are declared where a kind is found for it
+pub among-names_in : (declared : List (List ℕ × Kind)) (name : List ℕ) → is_among (names_in declared) name ≡ is_some (kind_in declared name)
+among-names_in [] name = refl
+among-names_in (d ∷ declared) name = grind (arith, among-names_in declared name)
+
 -- a second declaration of a name changes nothing
 pub kind_in-with_kind : (declared : List (List ℕ × Kind)) (name : List ℕ) (kind : Kind) (q : List ℕ)
     → kind_in (with_kind declared name kind) q ≡ kind_in (declared ++ (name, kind) ∷ []) q
-kind_in-with_kind declared name kind q = by (is_some (kind_in declared name)) refl
-  where
-    over : (found : Option Kind) (b : Bool) → (b ≡ true → is_some found ≡ true) → found ≡ option_or found (cond b (Some kind) None)
-    over (Some k) b there = refl
-    over None true there = absurd (let no = there refl in cc)
-    over None false there = refl
-
-    by : (there : Bool) → is_some (kind_in declared name) ≡ there → kind_in (if there then declared else declared ++ (name, kind) ∷ []) q ≡ kind_in (declared ++ (name, kind) ∷ []) q
-    by false is = refl
-    by true is =
-        over (kind_in declared q) (bytes_eq q name) (λ same. ap (λ n. is_some (kind_in declared n)) (same_bytes q name same) ∙ is)
-        ∙ sym (kind_in-append declared ((name, kind) ∷ []) q)
+kind_in-with_kind declared name kind q = grind (arith, kind_in-append declared ((name, kind) ∷ []) q, same_bytes q name)
 
 -- further declarations find the same where those before them do
 same-append : (xs ys zs : List (List ℕ × Kind)) (q : List ℕ) → kind_in xs q ≡ kind_in ys q → kind_in (xs ++ zs) q ≡ kind_in (ys ++ zs) q

@@ -1,10 +1,7 @@
 -- How a search for the first fault goes on, and how it stops.
 use Rattle.std.proofs.Common.{◌≡◌, ℕ, ◌+◌, ◌<◌, List, [], ◌∷◌, ◌++◌, length, drop, get_or, Option, Some, None, Result, Ok, Err, refl, sym, ap, ◌∙◌}
 use Rattle.std.specs.List.{flat_map}
-use Rattle.statement_names.specs.declared.fault.NameFault.{NameFault}
-use Rattle.statement_names.specs.declared.fault.NameStop.{NameStop}
-use Rattle.statement_names.specs.declared.fault.NameStop.TheVariants.{Fault, Memory}
-use Rattle.statement_names.specs.declared.survey.Survey.{Survey}
+use Rattle.statement_names.specs.Types.{NameFault, NameStop, stop, Survey}
 use Rattle.statement_names.specs.Occurrences.{Occurrence}
 use Rattle.statement_names.specs.Faults.{Explains}
 use Rattle.statement_names.proofs.Items.{rest_is}
@@ -12,8 +9,8 @@ use Rattle.statement_names.specs.Survey.{fault_at, behind, goes_on, run, fault_i
 
 -- one fault for another
 pub explained : (found other : Option NameFault) → ((fault : NameFault) → found ≡ Some fault → other ≡ Some fault) → (why : NameStop) → Explains found why → Explains other why
-explained found other same (Fault fault) h = same fault h
-explained found other same (Memory e) h = tt
+explained found other same (stop.Fault fault) h = same fault h
+explained found other same (stop.Memory e) h = tt
 
 -- some occurrences and then others
 abbrev then_run : Result Survey NameFault → List Occurrence → Result Survey NameFault

@@ -1,17 +1,14 @@
 -- The sides that pairs of names and literals give to objects.
 use Rattle.std.proofs.Common.{◌≡◌, ◌≢◌, ℕ, zero, suc, ◌+◌, ◌<◌, ◌≤◌, Bool, true, false, cond, IsTrue, List, [], ◌∷◌, length, map, take, get_or, set, AllPairs, Option, Some, None, unwrap_or, refl, ap, ap₂, sym, subst, ◌∙◌, arith, get_or-set_same, get_or-set_other}
-use Rattle.std.specs.List.{range_with_len}
 use Rattle.std.specs.Map.{lookup}
 use Rattle.std.specs.Option.{option_or}
 use Rattle.std.specs.Str.{bytes_eq}
-use Rattle.std.proofs.lemmas.List.{map-append, take_all}
-use Rattle.quiver.specs.declared.named.Named.{Named}
-use Rattle.quiver.specs.declared.named.Named.TheVariants as named
+use Rattle.std.proofs.lemmas.List.{ext_get_or, map-append, take_all}
+use Rattle.statement_names.specs.Types.{Named, named, Name, Number}
+use Rattle.std.proofs.lemmas.List.FromFn.{length-map-range_with_len, get_or-map-range_with_len}
 use Rattle.quiver.specs.Declarations.{Declaration, object_count, object_name, named_in, IsDeclared}
 use Rattle.quiver.proofs.Found.{is_named}
 use Rattle.expression_names.specs.Names.{is_object, object_number, object_of}
-use Rattle.statement_syntax.specs.declared.tree.Name.{Name}
-use Rattle.statement_syntax.specs.declared.tree.Number.{Number}
 use Rattle.statement_names.specs.Faults.{value_of}
 use Rattle.statement_names.specs.Shapes.{side_in, sides_of}
 use Rattle.statement_names.proofs.Apart.{other_bytes, own_bytes}
@@ -21,23 +18,15 @@ use Rattle.statement_names.proofs.Each.{Each}
 use Rattle.statement_names.proofs.Items.{take_next}
 use Rattle.statement_names.proofs.KindsFound.{same_bytes, lookup-append, option_or-nothing}
 
--- a list by what stands at its places
-from_places : {A : Type 0} (d : A) (f : ℕ → A) (a n : ℕ) (xs : List A) → length xs ≡ n → ((v : ℕ) → v < n → get_or xs v d ≡ f (a + v)) → xs ≡ map f (range_with_len a n)
-from_places d f a zero [] size at = refl
-from_places d f a zero (x ∷ xs) size at = absurd (omega arith)
-from_places d f a (suc n) [] size at = absurd (omega arith)
-from_places d f a (suc n) (x ∷ xs) size at =
-    let shorter : length xs ≡ n = omega arith in
-    let here : a + 0 ≡ a = omega arith in
-    ap₂ (λ y ys. y ∷ ys) (at 0 (omega arith) ∙ ap f here)
-    (from_places d f (a + 1) n xs shorter
-    (λ v below. let in_range : suc v < suc n = omega arith in let there : a + suc v ≡ a + 1 + v = omega arith in at (suc v) in_range ∙ ap f there))
-
 pub sides_from : (ds : List Declaration) (pairs : List (Name × Number)) (i : ℕ) (sides : List ℕ) → length pairs ≤ i → length sides ≡ object_count ds
     → ((v : ℕ) → v < object_count ds → get_or sides v 1 ≡ side_in (take i pairs) (object_name ds v)) → sides ≡ sides_of ds pairs
 sides_from ds pairs i sides done size given =
-    from_places 1 (λ v. side_in pairs (object_name ds v)) 0 (object_count ds) sides size
-    (λ v below. let here : v ≡ 0 + v = omega arith in given v below ∙ ap (λ ps. side_in ps (object_name ds v)) (take_all i pairs done) ∙ ap (λ w. side_in pairs (object_name ds w)) here)
+    let side = λ (v : ℕ). side_in pairs (object_name ds v) in
+    ext_get_or 1 sides (sides_of ds pairs) (size ∙ sym (length-map-range_with_len side 0 (object_count ds))) (λ v inside.
+    let below : v < object_count ds = omega (arith, inside, size) in
+    let here : 0 + v ≡ v = omega arith in
+    given v below ∙ ap (λ ps. side_in ps (object_name ds v)) (take_all i pairs done)
+    ∙ sym (get_or-map-range_with_len side 0 (object_count ds) v v 1 below here))
 
 -- one pair more
 abbrev given_side : Name × Number → List ℕ × ℕ

@@ -1,14 +1,13 @@
 -- The letters that a file solves for are declared maps.
-use Rattle.std.proofs.Common.{◌≡◌, ℕ, ◌+◌, ◌≤◌, Bool, true, false, ◌||◌, if◌then◌else◌, List, [], ◌∷◌, ◌++◌, Option, Some, refl, ap, sym, subst, arith}
+use Rattle.std.proofs.Common.{◌≡◌, ℕ, ◌+◌, ◌≤◌, Bool, true, false, List, [], ◌∷◌, ◌++◌, Option, Some, refl, ap, sym, subst, arith, if◌then◌else◌}
 use Rattle.std.specs.List.{list_any, list_all}
 use Rattle.std.proofs.lemmas.Bool.Decides.{Decides-eqb}
-use Rattle.quiver.specs.declared.named.Named.{Named}
-use Rattle.quiver.specs.declared.named.Named.TheVariants as named
+use Rattle.std.proofs.lemmas.List.Folds.{Any-from_list_any}
+use Rattle.statement_names.specs.Types.{Named, named, Name}
 use Rattle.quiver.specs.Declarations.{Declaration, object, arrow, object_count, letter_count, named_in, objects_first, ObjectsFirst, is_arrow}
 use Rattle.quiver.proofs.Counts.{object_count-append}
 use Rattle.quiver.proofs.Found.{is_named}
 use Rattle.adjoint_rules.specs.Problem.{IsDeclaredMap}
-use Rattle.statement_syntax.specs.declared.tree.Name.{Name}
 use Rattle.statement_names.specs.Ordered.{letter}
 use Rattle.statement_names.specs.Solved.{is_the_letter, names_letter}
 use Rattle.statement_names.proofs.Found.{map_split, map_letters}
@@ -51,9 +50,6 @@ named_letter a (Some (named.Map b)) e = ap (λ n. Some (named.Map (record { 0 = 
 named_letter a found e = absurd (cc)
 
 pub solved_declared : (ds : List Declaration) → ObjectsFirst ds → (a : ℕ) (names : List Name) → list_any (names_letter ds a) names ≡ true → IsDeclaredMap ds (letter a)
-solved_declared ds first a [] e = absurd (cc)
-solved_declared ds first a (n ∷ names) e = go (names_letter ds a n) refl e (solved_declared ds first a names)
-  where
-    go : (b : Bool) → names_letter ds a n ≡ b → (b || list_any (names_letter ds a) names) ≡ true → (list_any (names_letter ds a) names ≡ true → IsDeclaredMap ds (letter a)) → IsDeclaredMap ds (letter a)
-    go true is e rest = map_declared ds first n.text a (named_letter a (named_in ds n.text) is)
-    go false is e rest = rest e
+solved_declared ds first a names e =
+    let found = Any-from_list_any (names_letter ds a) names e in
+    map_declared ds first found.1.text a (named_letter a (named_in ds found.1.text) found.4)

@@ -1,34 +1,23 @@
 -- Nothing is wrong with the order of a file in whose names nothing is wrong.
-use Rattle.std.proofs.Common.{◌≡◌, ◌≢◌, ℕ, ◌<◌, ◌≤◌, Bool, true, false, ◌&&◌, ◌||◌, nat_eq, if◌then◌else◌, IsTrue, List, [], ◌∷◌, ◌++◌, map, Option, Some, None, refl, ap, ap₂, sym, subst, ◌∙◌, arith}
+use Rattle.std.proofs.Common.{◌≡◌, ◌≢◌, ℕ, ◌<◌, ◌≤◌, Bool, true, false, ◌&&◌, if◌then◌else◌, IsTrue, List, [], ◌∷◌, ◌++◌, map, Option, Some, None, refl, ap, ap₂, sym, subst, ◌∙◌, arith}
 use Rattle.std.specs.List.{flat_map}
 use Rattle.std.specs.Option.{option_or}
 use Rattle.std.proofs.lemmas.Bool.{lt-ltb, le-leb}
-use Rattle.std.proofs.lemmas.Bool.Decides.{Decides-eqb}
+use Rattle.std.proofs.lemmas.Bool.Decides.{nat_tests}
 use Rattle.std.proofs.lemmas.List.{map-append}
-use Rattle.word_core.specs.declared.letter.Letter.{Letter}
+use Rattle.statement_names.specs.Types.{Letter, OrderSpec, Named, named, Spot, Name, Number, Statement, StatementKind, statement, Kind, Map}
 use Rattle.word_orders.specs.declared.fault.OrderFault.TheVariants.{BadWeight, RepeatedLetter, NoSuchLetter}
-use Rattle.word_orders.specs.declared.any.OrderSpec.{OrderSpec}
 use Rattle.word_orders.specs.Faults.{is_weight, letter_fault, block_fault, entry_fault, HasNoFault}
 use Rattle.word_orders.specs.Lists.{is_listed}
 use Rattle.word_orders.specs.Specified.{IsSound}
-use Rattle.quiver.specs.declared.named.Named.{Named}
-use Rattle.quiver.specs.declared.named.Named.TheVariants as named
 use Rattle.quiver.specs.Declarations.{Declaration, letter_count, letter_name, named_in}
 use Rattle.expression_names.specs.Names.{is_map, letter_number, letter_of}
-use Rattle.statement_tokens.specs.declared.place.Spot.{Spot}
-use Rattle.statement_syntax.specs.declared.tree.Name.{Name}
-use Rattle.statement_syntax.specs.declared.tree.Number.{Number}
-use Rattle.statement_syntax.specs.declared.tree.Statement.{Statement}
-use Rattle.statement_syntax.specs.declared.tree.StatementKind.{StatementKind}
-use Rattle.statement_syntax.specs.declared.tree.StatementKind.TheVariants as statement
 use Rattle.word_orders.specs.Limits.{weight_limit}
-use Rattle.statement_names.specs.declared.kinds.Kind.{Kind}
-use Rattle.statement_names.specs.declared.kinds.Kind.TheVariants.{Map}
 use Rattle.statement_names.specs.Faults.{kind_in, is_kind, declared_in, value_of, name_fault_of}
 use Rattle.statement_names.specs.Occurrences.{kind_occurrences, statement_occurrences, occurrences_of}
 use Rattle.statement_names.specs.Numbered.{declarations_of}
 use Rattle.statement_names.specs.Ordered.{letters_for, weights_of, order_or, order_of}
-use Rattle.statement_names.proofs.Each.{Each, Each-append, Each-map, Each-weaker}
+use Rattle.statement_names.proofs.Each.{Each, Each-right, Each-append, Each-map, Each-weaker}
 use Rattle.statement_names.proofs.Found.{letters_from_number, IsLetterOf, HasLetters, map_letters}
 use Rattle.statement_names.proofs.Stated.{Once, named_by, names_are, names_apart, IsPair, pairs_are, pairs_apart}
 use Rattle.statement_names.proofs.Clean.{IsGood}
@@ -44,18 +33,12 @@ Spread-append : (xs ys : List Letter) → Spread xs → Spread ys → Each (λ l
 Spread-append [] ys spread later apart = later
 Spread-append (x ∷ xs) ys spread later apart = (Each-append (λ m. x.0 ≢ m.0) xs ys spread.0 apart.0, Spread-append xs ys spread.1 later apart.1)
 
-at_seam : {A : Type 0} (P : A → Type 0) (xs : List A) (x : A) (ys : List A) → Each P (xs ++ x ∷ ys) → P x
-at_seam P [] x ys h = h.0
-at_seam P (z ∷ xs) x ys h = at_seam P xs x ys h.1
-
 -- a letter is none of those before it
 not_before : (xs : List Letter) (l : Letter) (ys : List Letter) → Spread (xs ++ l ∷ ys) → is_listed xs l.0 ≡ false
 not_before [] l ys spread = refl
-not_before (x ∷ xs) l ys spread = ap₂ (λ b c. b || c) (go (nat_eq x.0 l.0) refl) (not_before xs l ys spread.1)
-  where
-    go : (b : Bool) → nat_eq x.0 l.0 ≡ b → nat_eq x.0 l.0 ≡ false
-    go false e = e
-    go true e = absurd (at_seam (λ m. x.0 ≢ m.0) xs l ys spread.0 ((Decides-eqb x.0 l.0).0 e))
+not_before (x ∷ xs) l ys spread =
+    let differ : x.0 ≢ l.0 = (Each-right (λ m. x.0 ≢ m.0) xs (l ∷ ys) spread.0).0 in
+    grind (arith, nat_tests, not_before xs l ys spread.1, differ)
 
 letter_good : (letters : ℕ) (l : Letter) (repeated : Bool) → l.0 < letters → repeated ≡ false → letter_fault letters repeated l ≡ None
 letter_good letters l repeated below new =
@@ -64,7 +47,7 @@ letter_good letters l repeated below new =
 -- nothing is wrong with such a block
 block_good : (letters : ℕ) (block : List Letter) → Each (λ l. l.0 < letters) block → Spread block → HasNoFault (block_fault letters) block
 block_good letters block in_range spread before l after split =
-    letter_good letters l (is_listed before l.0) (at_seam (λ m. m.0 < letters) before l after (subst (Each (λ m. m.0 < letters)) split in_range))
+    letter_good letters l (is_listed before l.0) (Each-right (λ m. m.0 < letters) before (l ∷ after) (subst (Each (λ m. m.0 < letters)) split in_range)).0
     (not_before before l after (subst Spread split spread))
 
 -- nor with weights of such letters
@@ -80,11 +63,11 @@ letters_in es = map (λ e. e.0) es
 entries_good : (letters : ℕ) (es : List (Letter × ℕ)) → Each (λ l. l.0 < letters) (letters_in es) → Each IsWeighed es → Spread (letters_in es) → HasNoFault (entry_fault letters) es
 entries_good letters es in_range weights spread before e after split =
     let letters_split : letters_in es ≡ letters_in before ++ e.0 ∷ letters_in after = ap letters_in split ∙ map-append (λ f. f.0) before (e ∷ after) in
-    let weight = at_seam IsWeighed before e after (subst (Each IsWeighed) split weights) in
+    let weight = (Each-right IsWeighed before (e ∷ after) (subst (Each IsWeighed) split weights)).0 in
     let is : is_weight e.1 ≡ true = ap₂ (λ b c. b && c) (le-leb 1 e.1 weight.0) (le-leb e.1 weight_limit weight.1) in
     ap₂ option_or
     (letter_good letters e.0 (is_listed (letters_in before) e.0.0)
-    (at_seam (λ m. m.0 < letters) (letters_in before) e.0 (letters_in after) (subst (Each (λ m. m.0 < letters)) letters_split in_range))
+    (Each-right (λ m. m.0 < letters) (letters_in before) (e.0 ∷ letters_in after) (subst (Each (λ m. m.0 < letters)) letters_split in_range)).0
     (not_before (letters_in before) e.0 (letters_in after) (subst Spread letters_split spread)))
     (ap (λ b. if b then None else Some (BadWeight e.0)) is)
 

@@ -1,30 +1,22 @@
 -- The shapes of a file in whose names nothing is wrong.
-use Rattle.std.proofs.Common.{◌≡◌, ℕ, zero, suc, ◌+◌, ◌≤◌, Bool, true, false, cond, List, [], ◌∷◌, length, map, replicate, All, Option, Some, None, unwrap_or, refl, sym, subst, arith}
+use Rattle.std.proofs.Common.{◌≡◌, ℕ, ◌≤◌, Bool, true, false, cond, List, [], ◌∷◌, length, map, replicate, All, Option, Some, None, unwrap_or, refl, sym, subst, arith}
 use Rattle.std.specs.List.{flat_map, range_with_len}
 use Rattle.std.specs.Map.{lookup}
 use Rattle.std.specs.Str.{bytes_eq}
 use Rattle.std.proofs.lemmas.List.{length-replicate}
 use Rattle.std.proofs.lemmas.List.FromFn.{length-map-range_with_len}
+use Rattle.std.proofs.lemmas.List.Elements.{All-map, All-replicate}
 use Rattle.quiver.specs.Declarations.{Declaration, object_count, object_name}
-use Rattle.adjoint_rules.specs.Limits.{shape_limit}
+use Rattle.adjoint_rules.specs.Limits.{shape_limit, shape_side_limit}
 use Rattle.adjoint_rules.specs.Problem.{IsShape, IsSide}
-use Rattle.adjoint_rules.specs.declared.parts.Shape.{Shape}
-use Rattle.statement_tokens.specs.declared.place.Spot.{Spot}
-use Rattle.statement_syntax.specs.declared.tree.Name.{Name}
-use Rattle.statement_syntax.specs.declared.tree.Number.{Number}
-use Rattle.statement_syntax.specs.declared.tree.Statement.{Statement}
-use Rattle.statement_syntax.specs.declared.tree.StatementKind.{StatementKind}
-use Rattle.statement_syntax.specs.declared.tree.StatementKind.TheVariants as statement
-use Rattle.adjoint_rules.specs.Limits.{shape_side_limit}
-use Rattle.statement_names.specs.declared.kinds.Kind.{Kind}
-use Rattle.statement_names.specs.declared.kinds.Kind.TheVariants.{Object}
+use Rattle.statement_names.specs.Types.{Shape, Spot, Name, Number, Statement, StatementKind, statement, Kind, Object}
 use Rattle.statement_names.specs.Faults.{kind_in, declared_in, value_of, name_fault_of}
-use Rattle.statement_names.specs.Limits.{map_limit_of}
 use Rattle.statement_names.specs.Numbered.{declarations_of}
 use Rattle.statement_names.specs.Occurrences.{kind_occurrences, statement_occurrences, occurrences_of}
-use Rattle.statement_names.specs.Shapes.{shape, side_in, sides_of, shapes_in, default_shapes, or_shapes, shapes_of}
-use Rattle.statement_names.proofs.Clean.{IsGood, few_shapes}
-use Rattle.statement_names.proofs.Each.{Each, Each-at, Each-map, Each-weaker, Each-flat_map}
+use Rattle.statement_names.specs.Shapes.{shape, side_in, shapes_in, default_shapes, or_shapes, shapes_of}
+use Rattle.statement_names.proofs.Bridge.{within_limits}
+use Rattle.statement_names.proofs.Clean.{IsGood}
+use Rattle.statement_names.proofs.Each.{Each, Each-at, Each-weaker, Each-flat_map}
 use Rattle.statement_names.proofs.FileDeclared.{statements_good}
 use Rattle.statement_names.proofs.Stated.{IsPair, pairs_are}
 use Rattle.statement_names.proofs.Tally.{length-shapes}
@@ -44,16 +36,8 @@ side_is kind (p ∷ pairs) good q = go (bytes_eq q p.0.text) (side_is kind pairs
     go true rest = record { least = good.0.least; most = good.0.most_ }
     go false rest = rest
 
-Each-range : (P : ℕ → Type 0) (a n : ℕ) → ((k : ℕ) → P k) → Each P (range_with_len a n)
-Each-range P a zero h = tt
-Each-range P a (suc n) h = (h a, Each-range P (a + 1) n h)
-
-Each-replicate : (P : ℕ → Type 0) (n x : ℕ) → P x → Each P (replicate n x)
-Each-replicate P zero x h = tt
-Each-replicate P (suc n) x h = (h, Each-replicate P n x h)
-
 even_shape : (n side : ℕ) → IsSide side → IsShape n (shape 2 (replicate n side))
-even_shape n side is = record { modulus = refl; side_of_each = length-replicate n side; sides = Each-at IsSide (replicate n side) (Each-replicate IsSide n side is) }
+even_shape n side is = record { modulus = refl; side_of_each = length-replicate n side; sides = All-replicate IsSide n side is }
 
 -- in a file in whose names nothing is wrong
 module _ (statements : List Statement) (clean : name_fault_of statements ≡ None) where
@@ -69,9 +53,8 @@ module _ (statements : List Statement) (clean : name_fault_of statements ≡ Non
       modulus = good.1.0;
       side_of_each = length-map-range_with_len (λ v. side_in sides (object_name all v)) 0 (object_count all);
       sides =
-          Each-at IsSide (sides_of all sides)
-          (Each-map IsSide (λ v. side_in sides (object_name all v)) (range_with_len 0 (object_count all))
-          (Each-range (λ v. IsSide (side_in sides (object_name all v))) 0 (object_count all) (λ v. side_is kind sides (pairs_are kind Object shape_side_limit [] sides good.1.1) (object_name all v))));
+          All-map IsSide (λ v. side_in sides (object_name all v)) (range_with_len 0 (object_count all))
+          (λ i d below. side_is kind sides (pairs_are kind Object shape_side_limit [] sides good.1.1) _);
     },
     tt,
   )
@@ -100,4 +83,4 @@ module _ (statements : List Statement) (clean : name_fault_of statements ≡ Non
   pub shapes_sound : AreShapes (shapes_of (declarations_of statements) statements)
   shapes_sound =
       or_default (flat_map (λ s. shapes_in all s.kind) statements) file_shapes
-      (subst (λ n. n ≤ shape_limit) (sym (length-shapes all statements)) (few_shapes (map_limit_of statements) kind (occurrences_of statements) clean))
+      (subst (λ n. n ≤ shape_limit) (sym (length-shapes all statements)) (within_limits statements clean).shapes)

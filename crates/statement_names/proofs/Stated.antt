@@ -1,48 +1,36 @@
 -- What the names and literals of a statement are, in a file in whose names nothing is wrong.
-use Rattle.std.proofs.Common.{◌≡◌, ◌≢◌, ℕ, ◌<◌, ◌≤◌, Bool, true, false, ◌||◌, nat_eq, nat_le, IsTrue, List, [], ◌∷◌, ◌++◌, map, length, get_or, Option, None, All, AllPairs, refl, ap, subst, ◌∙◌, arith}
-use Rattle.std.specs.List.{list_any, list_all}
+use Rattle.std.proofs.Common.{◌≡◌, ◌≢◌, ℕ, ◌<◌, ◌≤◌, true, false, ◌||◌, nat_eq, nat_le, IsTrue, List, [], ◌∷◌, ◌++◌, map, length, get_or, Option, None, All, AllPairs, refl, ap, subst, ◌∙◌, arith}
 use Rattle.std.specs.Str.{bytes_eq}
 use Rattle.std.proofs.lemmas.Bool.{and_parts, leb-true}
 use Rattle.std.proofs.lemmas.Bool.Decides.{Decides-eqb}
-use Rattle.std.proofs.lemmas.List.Folds.{list_any-append}
+use Rattle.std.proofs.lemmas.List.Folds.{Any-from_list_any, list_any-append}
 use Rattle.std.proofs.lemmas.List.Kept.{AllPairs-cons}
+use Rattle.std.proofs.lemmas.List.Sums.{AllPass-from_list_all}
 use Rattle.definitions.specs.Moduli.{field_moduli, is_field_modulus}
 use Rattle.quiver.specs.Declarations.{named_in}
 use Rattle.expression_names.specs.Names.{is_map, is_object}
-use Rattle.statement_syntax.specs.declared.tree.Name.{Name}
-use Rattle.statement_syntax.specs.declared.tree.Number.{Number}
-use Rattle.statement_syntax.specs.declared.tree.Statement.{Statement}
-use Rattle.statement_syntax.specs.declared.tree.StatementKind.{StatementKind}
-use Rattle.statement_syntax.specs.declared.tree.StatementKind.TheVariants as statement
+use Rattle.statement_names.specs.Types.{Name, Number, Statement, StatementKind, statement, Kind, Object, Map}
 use Rattle.adjoint_rules.specs.Limits.{shape_side_limit}
 use Rattle.word_orders.specs.Limits.{weight_limit}
-use Rattle.statement_names.specs.declared.kinds.Kind.{Kind}
-use Rattle.statement_names.specs.declared.kinds.Kind.TheVariants.{Object, Map}
 use Rattle.statement_names.specs.Faults.{kind_in, is_kind, is_among, is_between, value_of, declared_in, name_fault_of}
-use Rattle.statement_names.specs.Occurrences.{names_behind, pairs_behind, kind_occurrences, statement_occurrences, occurrences_of}
+use Rattle.statement_names.specs.Occurrences.{names_behind, pairs_behind, kind_occurrences, occurrences_of}
 use Rattle.statement_names.specs.Numbered.{declarations_of}
 use Rattle.statement_names.proofs.Apart.{own_bytes}
 use Rattle.statement_names.proofs.Clean.{IsGood}
-use Rattle.statement_names.proofs.Each.{Each, Each-at, Each-item, Each-unmap, Each-weaker}
-use Rattle.statement_names.proofs.FileDeclared.{statements_good}
+use Rattle.statement_names.proofs.Each.{Each, Each-at, Each-unmap, Each-weaker}
+use Rattle.statement_names.proofs.FileDeclared.{statement_good}
 use Rattle.statement_names.proofs.NamedKinds.{map_named, object_named}
 
 -- numbers
 pub between : (least most n : ℕ) → is_between least most n ≡ true → (least ≤ n) × (n ≤ most)
 between least most n e = let parts = and_parts (nat_le least n) (nat_le n most) e in (leb-true least n parts.0, leb-true n most parts.1)
 
-any_small : (n limit : ℕ) (ms : List ℕ) → list_any (nat_eq n) ms ≡ true → list_all (λ m. nat_le m limit) ms ≡ true → n ≤ limit
-any_small n limit [] e k = absurd (cc)
-any_small n limit (m ∷ ms) e k =
-    let parts = and_parts (nat_le m limit) (list_all (λ l. nat_le l limit) ms) k in
-    go (nat_eq n m) refl e (leb-true m limit parts.0) (λ later. any_small n limit ms later parts.1)
-  where
-    go : (b : Bool) → nat_eq n m ≡ b → (b || list_any (nat_eq n) ms) ≡ true → m ≤ limit → (list_any (nat_eq n) ms ≡ true → n ≤ limit) → n ≤ limit
-    go true is e small rest = let same : n ≡ m = (Decides-eqb n m).0 is in omega arith
-    go false is e small rest = rest e
-
 pub modulus_small : (n : ℕ) → is_field_modulus n ≡ true → n ≤ 65537
-modulus_small n is = any_small n 65537 field_moduli is refl
+modulus_small n is =
+    let found = Any-from_list_any (nat_eq n) field_moduli is in
+    let same : n ≡ found.1 = (Decides-eqb n found.1).0 found.4 in
+    let small = AllPass-from_list_all (λ m. nat_le m 65537) field_moduli refl found.0 found.1 found.2 in
+    omega (arith, same, leb-true (get_or field_moduli found.0 found.1) 65537 small, found.3)
 
 -- each name once
 abbrev pub Once : List Name → Type 0
@@ -114,11 +102,8 @@ module _ (statements : List Statement) (clean : name_fault_of statements ≡ Non
   abbrev kind : List ℕ → Option Kind
   kind = kind_in (declared_in (occurrences_of statements))
 
-  pub statement_good : (i : ℕ) (s : Statement) → i < length statements → s ≡ get_or statements i s → Each (IsGood (kind_in (declared_in (occurrences_of statements)))) (kind_occurrences s.at s.kind)
-  statement_good i s below at = Each-item (λ t. Each (IsGood kind) (statement_occurrences t)) statements (statements_good statements clean) i s below at
-
   kind_good : (i : ℕ) (s : Statement) (k : StatementKind) → i < length statements → s ≡ get_or statements i s → s.kind ≡ k → Each (IsGood kind) (kind_occurrences s.at k)
-  kind_good i s k below at is = subst (λ j. Each (IsGood kind) (kind_occurrences s.at j)) is (statement_good i s below at)
+  kind_good i s k below at is = subst (λ j. Each (IsGood kind) (kind_occurrences s.at j)) is (statement_good statements clean i s below at)
 
   module _ (i : ℕ) (s : Statement) (below : i < length statements) (at : s ≡ get_or statements i s) where
     -- the weights of an order

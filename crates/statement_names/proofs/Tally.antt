@@ -1,18 +1,14 @@
 -- How much the statements of a file declare and begin.
-use Rattle.std.proofs.Common.{◌≡◌, ℕ, ◌+◌, Bool, List, [], ◌∷◌, length, map, refl, ap, ap₂, sym, ◌∙◌, arith}
+use Rattle.std.proofs.Common.{◌≡◌, ℕ, ◌+◌, Bool, List, [], ◌∷◌, length, map, refl, ap, ap₂, sym, ◌∙◌}
 use Rattle.std.specs.List.{flat_map, sum_by}
 use Rattle.std.proofs.lemmas.List.{length-append}
 use Rattle.std.proofs.lemmas.List.Sums.{sum_by-cons, sum_by-append}
 use Rattle.quiver.specs.Declarations.{Declaration, object, arrow, object_count, map_count}
 use Rattle.quiver.proofs.Counts.{object_count-append, map_count-append}
-use Rattle.statement_tokens.specs.declared.place.Spot.{Spot}
-use Rattle.statement_syntax.specs.declared.tree.Name.{Name}
-use Rattle.statement_syntax.specs.declared.tree.Statement.{Statement}
-use Rattle.statement_syntax.specs.declared.tree.StatementKind.{StatementKind}
-use Rattle.statement_syntax.specs.declared.tree.StatementKind.TheVariants as statement
+use Rattle.quiver.proofs.Found.{plus_zero}
+use Rattle.statement_names.specs.Types.{Spot, Name, Statement, StatementKind, statement, Object, Map}
 use Rattle.adjoint_rules.specs.Limits.{shape_side_limit}
 use Rattle.word_orders.specs.Limits.{weight_limit}
-use Rattle.statement_names.specs.declared.kinds.Kind.TheVariants.{Object, Map}
 use Rattle.statement_names.specs.Uses.{object_use, map_use}
 use Rattle.statement_names.specs.Occurrences.{Occurrence, declares_object, declares_map, modulus, begins_order, begins_assumptions, begins_claim, begins_shape, names_behind, pairs_behind, used_names, sides_occurrences, kind_occurrences, statement_occurrences, occurrences_of}
 use Rattle.statement_names.specs.Faults.{objects_by, maps_by, assumptions_by, claims_by, shapes_by}
@@ -43,22 +39,19 @@ tally by at (statement.Eliminate names) = by (begins_order at)
 tally by at (statement.Shape m sides) = by (begins_shape at)
 tally by at k = 0
 
-plus_nothing : (n : ℕ) → n + 0 ≡ n
-plus_nothing n = omega arith
-
 module _ (by : Occurrence → ℕ) (out : (o : Occurrence) → IsUse o → by o ≡ 0) where
   quiet : (os : List Occurrence) → IsQuiet os → sum_by by os ≡ 0
   quiet os h = sum_by-quiet by out os h
 
   begins : (o : Occurrence) (os : List Occurrence) → IsQuiet os → sum_by by (o ∷ os) ≡ by o
-  begins o os h = sum_by-cons by o os ∙ ap (λ n. by o + n) (quiet os h) ∙ plus_nothing (by o)
+  begins o os h = sum_by-cons by o os ∙ ap (λ n. by o + n) (quiet os h) ∙ sym (plus_zero (by o))
 
   pub tally-statement : (at : Spot) (k : StatementKind) → sum_by by (kind_occurrences at k) ≡ tally by at k
   tally-statement at (statement.Maps names source target selfmade) =
       let ends = used_names (object_use source ∷ object_use target ∷ []) in
       sum_by-append by (made_maps source.text target.text selfmade names) ends
       ∙ ap (λ n. sum_by by (made_maps source.text target.text selfmade names) + n) (quiet ends (used_names-quiet (object_use source ∷ object_use target ∷ [])))
-      ∙ plus_nothing (sum_by by (made_maps source.text target.text selfmade names))
+      ∙ sym (plus_zero (sum_by by (made_maps source.text target.text selfmade names)))
   tally-statement at (statement.Assume left right) = begins (begins_assumptions 1 at) (sides_occurrences left right) (sides-quiet left right)
   tally-statement at (statement.Claim left right) = begins (begins_claim at) (sides_occurrences left right) (sides-quiet left right)
   tally-statement at (statement.Pinv a x) = begins (begins_assumptions 4 at) (used_names (map_use a ∷ map_use x ∷ [])) (tt, (tt, tt))

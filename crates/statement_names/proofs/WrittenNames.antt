@@ -3,24 +3,15 @@ use Rattle.std.proofs.Common.{◌≡◌, ℕ, ◌<◌, true, false, ◌&&◌, Is
 use Rattle.std.specs.List.{list_all, flat_map}
 use Rattle.quiver.specs.Declarations.{Declaration, object_count, letter_count, named_in, quiver_of, IsDeclared}
 use Rattle.expression_names.specs.Names.{is_map, is_object, are_names, are_names_of_terms, are_names_of_term, are_names_of_factors, are_names_of_primary, AreNames}
-use Rattle.statement_tokens.specs.declared.place.Spot.{Spot}
-use Rattle.statement_syntax.specs.declared.tree.Primary.{Primary, Letter, Identity, Bracket}
-use Rattle.statement_syntax.specs.declared.tree.Factor.{Factor}
-use Rattle.statement_syntax.specs.declared.tree.Mark.TheVariants.{Adjoint}
-use Rattle.statement_syntax.specs.declared.tree.Term.{Term, Term', out-Term, outs-Term', out-roll-Term, Row_of-Factor, end_of-Factor, more_of-Factor, items-the_row-Factor, items_shown-the_row-Factor-1}
-use Rattle.statement_syntax.specs.declared.tree.Sum.{Sum, Sum', out-Sum, outs-Sum', out-roll-Sum, Row_of-Term, end_of-Term, more_of-Term, items-the_row-Term, items_shown-the_row-Term-0}
-use Rattle.statement_syntax.specs.declared.tree.Statement.{Statement}
-use Rattle.statement_syntax.specs.declared.tree.StatementKind.{StatementKind}
-use Rattle.statement_syntax.specs.declared.tree.StatementKind.TheVariants as statement
+use Rattle.expression_names.proofs.Trees.{are_names_of_factor, names-term, names-sum}
+use Rattle.statement_names.specs.Types.{Spot, Primary, Identity, Bracket, Factor, Adjoint, Term, Term', out-roll-Term, Row_of-Factor, end_of-Factor}
+use Rattle.statement_names.specs.Types.{more_of-Factor, Sum, Sum', out-roll-Sum, Row_of-Term, end_of-Term, more_of-Term, Statement, StatementKind, statement}
+use Rattle.statement_names.specs.Types.{Named, named, Kind, Object, Map}
 use Rattle.statement_syntax.specs.Nodes.{factor_of, term_of}
 use Rattle.definitions.specs.Quiver.{IsQuiver, source, target}
-use Rattle.quiver.specs.declared.named.Named.{Named}
-use Rattle.quiver.specs.declared.named.Named.TheVariants as named
 use Rattle.quiver.proofs.Counts.{letters-quiver_of}
 use Rattle.quiver.proofs.Found.{is_named}
 use Rattle.quiver.proofs.Identities.{is_quiver}
-use Rattle.statement_names.specs.declared.kinds.Kind.{Kind}
-use Rattle.statement_names.specs.declared.kinds.Kind.TheVariants.{Object, Map}
 use Rattle.statement_names.specs.Faults.{kind_in, is_kind, declared_in, name_fault_of}
 use Rattle.statement_names.specs.Numbered.{declarations_of}
 use Rattle.statement_names.specs.Occurrences.{mark_occurrences, primary_occurrences, factors_occurrences, term_occurrences, terms_occurrences, sum_occurrences, sides_occurrences, kind_occurrences, statement_occurrences, occurrences_of}
@@ -58,7 +49,7 @@ module _ (ds : List Declaration) (kind : List ℕ → Option Kind) (maps : (q : 
         (factors_named rest (Each-right (IsGood kind) factor (factors_occurrences rest) good))
 
     primary_named : (primary : Primary) → Each (IsGood kind) (primary_occurrences primary) → are_names_of_primary ds primary ≡ true
-    primary_named (Letter n) good = maps n.text good.0
+    primary_named (Primary.Letter n) good = maps n.text good.0
     primary_named (Identity n) good = objects n.text good.0
     primary_named (Bracket s) good = sum_named s good
 
@@ -67,32 +58,15 @@ module _ (ds : List Declaration) (kind : List ℕ → Option Kind) (maps : (q : 
 
 -- expressions that are written out
 module _ (ds : List Declaration) where
-  factors-row : (n : _) (row : Row_of-Factor n) → are_names_of_factors ds row ≡ list_all (λ f. are_names_of_primary ds f.primary) (items-the_row-Factor n row)
-  factors-row n end_of-Factor = refl
-  factors-row n (more_of-Factor at primary marks rest) = ap (λ b. are_names_of_primary ds primary && b) (factors-row _ rest)
-
-  terms-row : (n : _) (row : Row_of-Term n) → are_names_of_terms ds row ≡ list_all (are_names_of_term ds) (items-the_row-Term n row)
-  terms-row n end_of-Term = refl
-  terms-row n (more_of-Term t rest) = ap (λ b. are_names_of_term ds t && b) (terms-row _ rest)
-
-  term-factors : (t : Term) → are_names_of_term ds t ≡ list_all (λ f. are_names_of_primary ds f.primary) (out-Term t).factors
-  term-factors (Term' at negative literal shape factors) =
-      factors-row _ factors ∙ ap (list_all (λ f. are_names_of_primary ds f.primary)) (sym (items_shown-the_row-Factor-1 shape factors))
-      ∙ ap (λ r. list_all (λ f. are_names_of_primary ds f.primary) r.factors) (sym (outs-Term' at negative literal shape factors))
-
-  sum-terms : (s : Sum) → are_names ds s ≡ list_all (are_names_of_term ds) (out-Sum s).terms
-  sum-terms (Sum' at shape terms) =
-      terms-row _ terms ∙ ap (list_all (are_names_of_term ds)) (sym (items_shown-the_row-Term-0 shape terms)) ∙ ap (λ r. list_all (are_names_of_term ds) r.terms) (sym (outs-Sum' at shape terms))
-
   module _ (at : Spot) where
-    product_named : (factors : List Factor) → list_all (λ f. are_names_of_primary ds f.primary) factors ≡ true → AreNames ds (product_at at factors)
+    product_named : (factors : List Factor) → list_all (are_names_of_factor ds) factors ≡ true → AreNames ds (product_at at factors)
     product_named factors named =
         let t = term_of at false None factors in
         let term : are_names_of_term ds t ≡ true =
-        term-factors t ∙ ap (λ r. list_all (λ f. are_names_of_primary ds f.primary) r.factors) (out-roll-Term (record { at = at; negative = false; literal = None; factors = factors })) ∙ named in
-        sum-terms (product_at at factors) ∙ ap (λ r. list_all (are_names_of_term ds) r.terms) (out-roll-Sum (record { at = at; terms = t ∷ [] })) ∙ ap (λ b. b && true) term
+        names-term ds t ∙ ap (λ r. list_all (are_names_of_factor ds) r.factors) (out-roll-Term (record { at = at; negative = false; literal = None; factors = factors })) ∙ named in
+        names-sum ds (product_at at factors) ∙ ap (λ r. list_all (are_names_of_term ds) r.terms) (out-roll-Sum (record { at = at; terms = t ∷ [] })) ∙ ap (λ b. b && true) term
 
-    letters_named : (names : List (List ℕ)) → Each (λ q. IsTrue (is_map (named_in ds q))) names → list_all (λ f. are_names_of_primary ds f.primary) (map (letter_at at) names) ≡ true
+    letters_named : (names : List (List ℕ)) → Each (λ q. IsTrue (is_map (named_in ds q))) names → list_all (are_names_of_factor ds) (map (letter_at at) names) ≡ true
     letters_named [] maps = refl
     letters_named (q ∷ names) maps = ap₂ (λ b c. b && c) maps.0 (letters_named names maps.1)
 

@@ -6,13 +6,7 @@ use Rattle.std.specs.Map.{lookup}
 use Rattle.std.specs.Option.{option_or}
 use Rattle.std.specs.Str.{bytes_eq}
 use Rattle.definitions.specs.Moduli.{is_field_modulus}
-use Rattle.statement_syntax.specs.declared.tree.Statement.{Statement}
-use Rattle.statement_names.specs.declared.fault.NameFault.{NameFault}
-use Rattle.statement_names.specs.declared.fault.NameFault.TheVariants.{Unknown, Double, TooMany, NotSquare, BadNumber}
-use Rattle.statement_names.specs.declared.fault.NameStop.{NameStop}
-use Rattle.statement_names.specs.declared.fault.NameStop.TheVariants as stop
-use Rattle.statement_names.specs.declared.kinds.Kind.{Kind}
-use Rattle.statement_names.specs.declared.kinds.Kind.TheVariants.{Object, Map}
+use Rattle.statement_names.specs.Types.{Statement, NameFault, Unknown, Double, TooMany, NotSquare, BadNumber, NameStop, stop, Kind, Object, Map}
 use Rattle.statement_names.specs.Occurrences.{Occurrence, declares_object, declares_map, uses, lists, counts, modulus, begins_order}
 use Rattle.statement_names.specs.Occurrences.{begins_assumptions, begins_claim, begins_shape, occurrences_of}
 use Rattle.quiver.specs.Limits.{object_limit}

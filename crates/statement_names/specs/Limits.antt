@@ -1,9 +1,7 @@
 -- The limits of a file: the maps that it declares, by its language, and the exponents of its powers.
 use Rattle.std.specs.Prelude.{ℕ, List, [], ◌∷◌}
 use Rattle.quiver.specs.Limits.{map_limit}
-use Rattle.statement_syntax.specs.declared.tree.Statement.{Statement}
-use Rattle.statement_syntax.specs.declared.tree.StatementKind.{StatementKind}
-use Rattle.statement_syntax.specs.declared.tree.StatementKind.TheVariants as statement
+use Rattle.statement_names.specs.Types.{Statement, StatementKind, statement}
 
 -- the maps of a file of the first language
 abbrev pub first_map_limit : ℕ

@@ -3,11 +3,8 @@ use Rattle.std.specs.Prelude.{ℕ, Bool, true, false, ◌||◌, List, ◌++◌, 
 use Rattle.std.specs.List.{flat_map, list_any}
 use Rattle.quiver.specs.Declarations.{Declaration, object_count}
 use Rattle.expression_names.specs.Occurrences.{has_mark, has_identity}
-use Rattle.statement_syntax.specs.declared.tree.Statement.{Statement}
-use Rattle.statement_syntax.specs.declared.tree.StatementKind.{StatementKind}
-use Rattle.statement_syntax.specs.declared.tree.StatementKind.TheVariants as statement
+use Rattle.statement_names.specs.Types.{Statement, StatementKind, statement, Equation}
 use Rattle.word_core.specs.declared.letter.Object.{Object}
-use Rattle.abbreviations.specs.declared.written.Equation.{Equation}
 use Rattle.statement_names.specs.Solved.{numbers_that}
 use Rattle.abbreviations.specs.Written.{equations_of, claims_in}
 

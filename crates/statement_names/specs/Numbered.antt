@@ -1,9 +1,7 @@
 -- What a file declares.
 use Rattle.std.specs.Prelude.{IsTrue, List, [], ◌++◌, map}
 use Rattle.std.specs.List.{flat_map}
-use Rattle.statement_syntax.specs.declared.tree.Statement.{Statement}
-use Rattle.statement_syntax.specs.declared.tree.StatementKind.{StatementKind}
-use Rattle.statement_syntax.specs.declared.tree.StatementKind.TheVariants as statement
+use Rattle.statement_names.specs.Types.{Statement, StatementKind, statement}
 use Rattle.quiver.specs.Declarations.{Declaration, object, arrow, named_in}
 use Rattle.expression_names.specs.Names.{is_object, object_of}
 

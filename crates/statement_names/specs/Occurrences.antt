@@ -1,22 +1,11 @@
 -- The names, literals and first words of a file that may be wrong, in reading order.
 use Rattle.std.specs.Prelude.{ℕ, Bool, List, [], ◌∷◌, ◌++◌, map}
 use Rattle.std.specs.List.{flat_map}
-use Rattle.statement_tokens.specs.declared.place.Spot.{Spot}
-use Rattle.statement_syntax.specs.declared.tree.Name.{Name}
-use Rattle.statement_syntax.specs.declared.tree.Number.{Number}
-use Rattle.statement_syntax.specs.declared.tree.Mark.{Mark}
-use Rattle.statement_syntax.specs.declared.tree.Mark.TheVariants.{Adjoint, Power}
-use Rattle.statement_syntax.specs.declared.tree.Primary.{Primary, Letter, Identity, Bracket}
-use Rattle.statement_syntax.specs.declared.tree.Factor.{Factor}
-use Rattle.statement_syntax.specs.declared.tree.Term.{Term, Term', Row_of-Factor, end_of-Factor, more_of-Factor}
-use Rattle.statement_syntax.specs.declared.tree.Sum.{Sum, Sum', Row_of-Term, end_of-Term, more_of-Term}
-use Rattle.statement_syntax.specs.declared.tree.Statement.{Statement}
-use Rattle.statement_syntax.specs.declared.tree.StatementKind.{StatementKind}
-use Rattle.statement_syntax.specs.declared.tree.StatementKind.TheVariants as statement
+use Rattle.statement_names.specs.Types.{Spot, Name, Number, Mark, Adjoint, Power, Primary, Identity, Bracket, Factor, Term, Term', Row_of-Factor, end_of-Factor}
+use Rattle.statement_names.specs.Types.{more_of-Factor, Sum, Sum', Row_of-Term, end_of-Term, more_of-Term, Statement, StatementKind, statement, Kind, Object}
+use Rattle.statement_names.specs.Types.{Map}
 use Rattle.adjoint_rules.specs.Limits.{shape_side_limit}
 use Rattle.word_orders.specs.Limits.{weight_limit}
-use Rattle.statement_names.specs.declared.kinds.Kind.{Kind}
-use Rattle.statement_names.specs.declared.kinds.Kind.TheVariants.{Object, Map}
 use Rattle.statement_names.specs.Limits.{exponent_limit}
 use Rattle.statement_names.specs.Uses.{Use, use_of, object_use, map_use}
 
@@ -60,7 +49,7 @@ mark_occurrences (Power at exponent) = counts exponent_limit exponent ∷ []
 -- the names and the exponents of an expression from the left, a primary before its exponents
 abbrev mutual
   pub primary_occurrences : Primary → List Occurrence
-  primary_occurrences (Letter name) = uses (map_use name) ∷ []
+  primary_occurrences (Primary.Letter name) = uses (map_use name) ∷ []
   primary_occurrences (Identity name) = uses (object_use name) ∷ []
   primary_occurrences (Bracket sum) = sum_occurrences sum
 

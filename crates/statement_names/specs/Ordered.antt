@@ -3,15 +3,8 @@ use Rattle.std.specs.Prelude.{ℕ, nat_eq, if◌then◌else◌, List, [], ◌∷
 use Rattle.std.specs.List.{flat_map}
 use Rattle.definitions.specs.Quiver.{star}
 use Rattle.quiver.specs.Declarations.{Declaration, quiver_of}
-use Rattle.statement_syntax.specs.declared.tree.Name.{Name}
-use Rattle.statement_syntax.specs.declared.tree.Number.{Number}
-use Rattle.statement_syntax.specs.declared.tree.Statement.{Statement}
-use Rattle.statement_syntax.specs.declared.tree.StatementKind.{StatementKind}
-use Rattle.statement_syntax.specs.declared.tree.StatementKind.TheVariants as statement
+use Rattle.statement_names.specs.Types.{Name, Number, Statement, StatementKind, statement, Letter, OrderSpec, Degree, Weight, Block}
 use Rattle.expression_names.specs.Names.{letter_of}
-use Rattle.word_core.specs.declared.letter.Letter.{Letter}
-use Rattle.word_orders.specs.declared.any.OrderSpec.{OrderSpec}
-use Rattle.word_orders.specs.declared.any.OrderSpec.TheVariants.{Degree, Weight, Block}
 use Rattle.statement_names.specs.Faults.{value_of}
 
 abbrev pub letter : ℕ → Letter

@@ -5,8 +5,7 @@ use Rattle.word_orders.specs.Specified.{IsSound}
 use Rattle.quiver.specs.Declarations.{Declaration, object_count, letter_count, IsDeclared, ObjectsFirst}
 use Rattle.expression_names.specs.Names.{AreNames}
 use Rattle.adjoint_rules.specs.Problem.{IsShape, IsDeclaredMap}
-use Rattle.statement_syntax.specs.declared.tree.Statement.{Statement}
-use Rattle.abbreviations.specs.declared.written.Equation.{Equation}
+use Rattle.statement_names.specs.Types.{Statement, Equation}
 use Rattle.statement_names.specs.Marked.{marked_of}
 use Rattle.statement_names.specs.Ordered.{order_of}
 use Rattle.statement_names.specs.Shapes.{shapes_of}

@@ -4,12 +4,7 @@ use Rattle.std.specs.List.{flat_map, range_with_len}
 use Rattle.std.specs.Map.{lookup}
 use Rattle.std.specs.Str.{bytes_eq}
 use Rattle.quiver.specs.Declarations.{Declaration, object_count, object_name}
-use Rattle.statement_syntax.specs.declared.tree.Name.{Name}
-use Rattle.statement_syntax.specs.declared.tree.Number.{Number}
-use Rattle.statement_syntax.specs.declared.tree.Statement.{Statement}
-use Rattle.statement_syntax.specs.declared.tree.StatementKind.{StatementKind}
-use Rattle.statement_syntax.specs.declared.tree.StatementKind.TheVariants as statement
-use Rattle.adjoint_rules.specs.declared.parts.Shape.{Shape}
+use Rattle.statement_names.specs.Types.{Name, Number, Statement, StatementKind, statement, Shape}
 use Rattle.statement_names.specs.Faults.{value_of}
 
 abbrev pub shape : ℕ → List ℕ → Shape

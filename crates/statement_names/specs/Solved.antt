@@ -1,14 +1,8 @@
 -- The letters that a file solves for.
 use Rattle.std.specs.Prelude.{ℕ, Bool, false, nat_eq, List, [], ◌∷◌, map, filter, Option, Some}
 use Rattle.std.specs.List.{flat_map, list_any, range_with_len}
-use Rattle.quiver.specs.declared.named.Named.{Named}
-use Rattle.quiver.specs.declared.named.Named.TheVariants.{Map}
+use Rattle.statement_names.specs.Types.{Named, named, Name, Statement, StatementKind, statement, Letter}
 use Rattle.quiver.specs.Declarations.{Declaration, letter_count, named_in}
-use Rattle.statement_syntax.specs.declared.tree.Name.{Name}
-use Rattle.statement_syntax.specs.declared.tree.Statement.{Statement}
-use Rattle.statement_syntax.specs.declared.tree.StatementKind.{StatementKind}
-use Rattle.statement_syntax.specs.declared.tree.StatementKind.TheVariants as statement
-use Rattle.word_core.specs.declared.letter.Letter.{Letter}
 use Rattle.statement_names.specs.Ordered.{letter}
 
 -- the numbers below the first that pass the test, ascending
@@ -28,7 +22,7 @@ solved_names statements = flat_map (λ s. solved_in s.kind) statements
 
 -- whether the name stands for the letter
 abbrev pub is_the_letter : ℕ → Option Named → Bool
-is_the_letter a (Some (Map b)) = nat_eq b.0 a
+is_the_letter a (Some (named.Map b)) = nat_eq b.0 a
 is_the_letter a found = false
 
 abbrev pub names_letter : List Declaration → ℕ → Name → Bool

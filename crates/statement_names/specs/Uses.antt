@@ -1,7 +1,5 @@
 -- Names where one of an object or of a map is to stand.
-use Rattle.statement_syntax.specs.declared.tree.Name.{Name}
-use Rattle.statement_names.specs.declared.kinds.Kind.{Kind}
-use Rattle.statement_names.specs.declared.kinds.Kind.TheVariants.{Object, Map}
+use Rattle.statement_names.specs.Types.{Name, Kind, Object, Map}
 
 pub record Use : Type 0 where
   pub kind : Kind

@@ -1,7 +1,7 @@
 use Rattle.std.proofs.Common.{◌≡◌, None, ◌∙◌}
 use Rattle.expressions.proofs.Typed.{equations_are_typed}
 use Rattle.expressions.proofs.Written.{letters_are_written}
-use Rattle.adjoint_rules.specs.declared.parts.Parts.{Parts}
+use Rattle.signature_typing.specs.Types.{Parts}
 use Rattle.signature_typing.specs.First.{first_among}
 use Rattle.signature_typing.specs.Typing.{ArePartsOf, wrong_signature, wrong_polynomial}
 use Rattle.signature_typing.proofs.Posed.{named, posed, equation_fault_of_claims, fault_of_equations}

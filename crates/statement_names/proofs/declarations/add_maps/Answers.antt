@@ -2,7 +2,7 @@ use Rattle.std.proofs.Common.{◌≡◌, List, ◌++◌, ◌∷◌, ℕ, ◌+◌
 use Rattle.quiver.specs.Declarations.{Declaration, arrow, object_count, IsDeclared}
 use Rattle.quiver.specs.Refusals.{map_fault}
 use Rattle.quiver.proofs.Counts.{object_count-append}
-use Rattle.statement_syntax.specs.declared.tree.Name.{Name}
+use Rattle.statement_names.specs.Types.{Name}
 use Rattle.statement_names.specs.Numbered.{maps_in}
 use Rattle.statement_names.proofs.Items.{map_split}
 use Rattle.statement_names.proofs.Fresh.{no_map_fault}

@@ -2,7 +2,7 @@ use Rattle.std.proofs.Common.{◌≡◌, ◌++◌, ◌∷◌, map, drop, None, a
 use Rattle.std.proofs.lemmas.List.{take_all}
 use Rattle.quiver.specs.Declarations.{Declaration, object, IsDeclared}
 use Rattle.quiver.specs.Refusals.{object_fault}
-use Rattle.statement_syntax.specs.declared.tree.Name.{Name}
+use Rattle.statement_names.specs.Types.{Name}
 use Rattle.statement_names.specs.Numbered.{objects_in}
 use Rattle.statement_names.proofs.Items.{map_split}
 use Rattle.statement_names.proofs.Fresh.{no_object_fault}

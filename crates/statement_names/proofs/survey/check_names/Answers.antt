@@ -1,47 +1,12 @@
-use Rattle.std.proofs.Common.{◌≡◌, ◌∙◌, ℕ, ◌+◌, List, [], Ok, rules, arith, ap, sym, subst, refl}
+use Rattle.std.proofs.Common.{◌≡◌, ◌∙◌, [], Ok, rules, arith, ap, sym, subst}
 use Rattle.std.proofs.lemmas.Grind.{common_steps}
-use Rattle.quiver.specs.Limits.{object_limit}
-use Rattle.adjoint_rules.specs.Limits.{assumption_limit, claim_limit, shape_limit}
-use Rattle.statement_names.specs.declared.kinds.Kind.{Kind}
-use Rattle.statement_names.specs.declared.survey.Survey.{Survey}
 use Rattle.statement_names.specs.Limits.{map_limit_of}
-use Rattle.statement_names.specs.Occurrences.{Occurrence, statement_occurrences, occurrences_of}
+use Rattle.statement_names.specs.Occurrences.{statement_occurrences, occurrences_of}
 use Rattle.statement_names.specs.Faults.{Explains, kind_in, declared_in, name_fault_of}
-use Rattle.statement_names.specs.Survey.{with_kinds, run, fault_in}
-use Rattle.statement_names.proofs.Bridge.{Agrees, first_same}
-use Rattle.statement_names.proofs.KindsFound.{kind_in-with_kinds}
+use Rattle.statement_names.specs.Survey.{run, fault_in}
+use Rattle.statement_names.proofs.Bridge.{begun, begun_agrees, first_same}
 use Rattle.statement_names.proofs.Runs.{items_on, items_end}
 use Rattle.statement_names.proofs.survey.check_names.Goals as goal
-
--- the survey in front of the first statement
-abbrev begun : ℕ → List (List ℕ × Kind) → Survey
-begun most_maps kinds = record {
-  kinds = kinds;
-  map_limit = most_maps;
-  objects = object_limit;
-  maps = most_maps;
-  orders = 1;
-  assumptions = assumption_limit;
-  claims = claim_limit;
-  shapes = shape_limit;
-}
-
-plus_nothing : (n : ℕ) → n + 0 ≡ n
-plus_nothing n = omega arith
-
-begun_agrees : (limit most_maps : ℕ) (os : List Occurrence) (kinds : List (List ℕ × Kind)) → limit ≡ most_maps → kinds ≡ with_kinds [] (declared_in os)
-    → Agrees most_maps (kind_in (declared_in os)) [] os (begun limit kinds)
-begun_agrees limit most_maps os kinds limit_is kinds_are = record {
-  kinds = λ name. ap (λ ks. kind_in ks name) kinds_are ∙ kind_in-with_kinds [] (declared_in os) name;
-  declared = kinds_are;
-  objects = refl;
-  map_limit = limit_is;
-  maps = ap (λ n. n + 0) limit_is ∙ plus_nothing most_maps;
-  orders = refl;
-  assumptions = refl;
-  claims = refl;
-  shapes = refl;
-}
 
 pub loop-statement-preserved : goal.loop-statement-preserved
 loop-statement-preserved c =

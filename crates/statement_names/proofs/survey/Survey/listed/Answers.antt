@@ -2,8 +2,8 @@ use Rattle.std.proofs.Common.{rules, ◌≡◌, true, false, None, ap₂, ◌∙
 use Rattle.statement_names.specs.Faults.{is_among}
 use Rattle.statement_names.specs.Survey.{used_fault, or_else, names_in}
 use Rattle.statement_names.specs.Uses.{use_of}
-use Rattle.statement_names.specs.declared.fault.NameFault.TheVariants.{Double}
-use Rattle.statement_names.proofs.Listed.{among-names_in}
+use Rattle.statement_names.specs.Types.{Double}
+use Rattle.statement_names.proofs.KindsFound.{among-names_in}
 use Rattle.statement_names.proofs.survey.Survey.listed.Goals as goal
 
 pub returns-then-is_some-clause-err : goal.returns-then-is_some-clause-err

@@ -1,5 +1,5 @@
 use Rattle.std.proofs.Common.{◌≡◌, ◌∷◌, [], ◌++◌, Some, Ok, map, rules}
-use Rattle.statement_names.specs.declared.kinds.Kind.TheVariants.{Object}
+use Rattle.statement_names.specs.Types.{Object}
 use Rattle.statement_names.specs.Occurrences.{declares_map, used_names}
 use Rattle.statement_names.specs.Survey.{run, fault_in}
 use Rattle.statement_names.specs.Uses.{use_of}

@@ -1,7 +1,7 @@
 use Rattle.std.proofs.Common.{◌≡◌, [], drop}
 use Rattle.statement_names.specs.Occurrences.{names_behind}
 use Rattle.statement_names.specs.Survey.{run, names_in}
-use Rattle.statement_names.specs.declared.kinds.Kind.TheVariants.{Map}
+use Rattle.statement_names.specs.Types.{Map}
 use Rattle.statement_names.proofs.survey.Survey.names.Given as goal
 
 abbrev pub invariant-loop-name : goal.invariant-loop-name
