@@ -37,3 +37,11 @@ module _ (m n : BTreeMap (List ℕ) ℤ) (w : List ℕ) (v : Option ℤ) (update
       within : (u : List ℕ) (b : Bool) → IsCoefficient (unwrap_or (cond b v (get word_cmp m u)) (pos 0))
       within u true = in_range
       within u false = running.in_range u
+
+-- nothing is added with the coefficient zero
+pub adds_zero : (m : BTreeMap (List ℕ) ℤ) (w : List ℕ) → Adds m m ((pos 0, w) ∷ [])
+adds_zero m w = record { at = λ u. go u (word_eq w u) }
+  where
+    go : (u : List ℕ) (b : Bool) → coefficient_in m u ≡ coefficient_in m u +ℤ (cond b (pos 0) (pos 0) +ℤ pos 0)
+    go u true = sym (+ℤ_idr (coefficient_in m u))
+    go u false = sym (+ℤ_idr (coefficient_in m u))

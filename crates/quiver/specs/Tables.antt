@@ -1,5 +1,8 @@
 -- How the fields of a quiver hold its declarations.
-use Rattle.std.specs.Prelude.{◌≡◌, ℕ, nat_eq, List, map, get_or, string_bytes}
+use Rattle.std.specs.Prelude.{◌≡◌, ℕ, nat_eq, List, map, get_or, string_bytes, String}
+use Rattle.std.specs.declared.alloc.Global.{Global}
+use Rattle.std.specs.String.{string_eq}
+use Rattle.indexmap.specs.IndexMap.{insert_entry}
 use Rattle.quiver.specs.declared.named.Named.{Named}
 use Rattle.quiver.specs.declared.named.Named.TheVariants.{Object, Map}
 use Rattle.quiver.specs.declared.quiver.Quiver.TheInside.{Inside}
@@ -44,3 +47,9 @@ pub record IsKept (q : Inside) : Type 0 where
   pub letters : letters_in q ≡ letter_table (declarations q)
   pub names : names_in q ≡ naming_table (declarations q)
   pub declared : IsDeclared (declarations q)
+
+-- The second names are the first ones with one more, as a key of these letters, which stands for this.
+pub record IsNameMore (old new : List (String Global × Named)) (name : List ℕ) (named : Named) : Type 0 where
+  pub key : String Global
+  pub key_is : string_bytes key ≡ name
+  pub entries : new ≡ insert_entry string_eq old key named

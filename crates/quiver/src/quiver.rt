@@ -5,7 +5,7 @@ ghost use Rattle.definitions.specs.Quiver.{IsQuiver, star, source, target};
 ghost use Rattle.quiver.specs.Declarations.{object, arrow, object_count, map_count, letter_count, named_in, name_at, object_at, letter_at};
 ghost use Rattle.quiver.specs.Declarations.{object_name, letter_name, identity_in, quiver_of, IsNamed, IsDeclared, ObjectsFirst};
 ghost use Rattle.quiver.specs.Limits.{letter_limit};
-ghost use Rattle.quiver.specs.Tables.{object_entry, letter_entry};
+ghost use Rattle.quiver.specs.Tables.{object_entry, letter_entry, IsNameMore};
 ghost use Rattle.quiver.specs.Refusals.{object_fault, map_fault, Explains};
 
 use crate::{Named, QuiverFault, QuiverStop, Sig};
@@ -95,11 +95,10 @@ impl Quiver {
         let object = self.next_object();
         let identity = self.next_letter();
         let declaration = self.names.len();
-        let key = String::from_str(*self.names.allocator(), name)?;
         // With the room taken first, nothing fails once the name is in.
         self.objects.reserve(1)?;
         self.letters.reserve(1)?;
-        self.names.insert(key, Named::Object(object))?;
+        add_name(&mut self.names, name, Named::Object(object))?;
         self.objects.push(ObjectEntry {
             identity,
             declaration,
@@ -156,10 +155,9 @@ impl Quiver {
     {
         let letter = self.next_letter();
         let declaration = self.names.len();
-        let key = String::from_str(*self.names.allocator(), name)?;
         // With the room taken first, nothing fails once the name is in.
         self.letters.reserve(2)?;
-        self.names.insert(key, Named::Map(letter))?;
+        add_name(&mut self.names, name, Named::Map(letter))?;
         let ends = Sig { source, target };
         if selfmade {
             self.letters.push(LetterEntry {
@@ -343,4 +341,14 @@ impl Quiver {
     {
         self.letter_at(letter).ends
     }
+}
+
+// Puts in a name with what it stands for. Where memory is short, the names are as they were.
+fn add_name(names: &mut IndexMap<String, Named>, name: &str, named: Named) -> Result<(), AllocError>
+    ensures added { OnOk result (IsNameMore names.old.entries names.new.entries name.now named) }
+    ensures unchanged { OnErr result (names.new.entries ≡ names.old.entries) }
+{
+    let key = String::from_str(*names.allocator(), name)?;
+    names.insert(key, named)?;
+    Ok(())
 }

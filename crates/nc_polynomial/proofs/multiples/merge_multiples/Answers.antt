@@ -1,14 +1,19 @@
-use Rattle.std.proofs.Common.{rules, ◌≡◌, ◌++◌, [], ◌∷◌, ◌+ℤ◌, ◌*ℤ◌, Ok, Err, sym, ap, ◌∙◌, subst, to_z, of_z}
-use mir.Syntax.{w128}
+use Rattle.std.proofs.Common.{rules, FitsSigned, ℤ, ◌≡◌, ◌++◌, [], ◌∷◌, ◌+ℤ◌, ◌*ℤ◌, Ok, Err, sym, ap, ◌∙◌, subst, to_z, of_z}
+use Rattle.std.specs.Int.{w128}
+use Rattle.std.proofs.lemmas.Int.{to_z-of_z}
 use Rattle.std.proofs.lemmas.List.{append-nil}
 use Rattle.coef_int.specs.Range.{IsCoefficient}
 use Rattle.coef_int.specs.Operations.{sum_of}
 use Rattle.definitions.specs.Poly.{poly_multiple}
 use Rattle.nc_polynomial.specs.declared.fault.PolyFault.TheVariants as fault
 use Rattle.nc_polynomial.specs.Terms.{aligned, keep}
-use Rattle.nc_polynomial.proofs.Checked.{join, total_from}
+use Rattle.nc_polynomial.proofs.Checked.{join, join-none, total_from}
 use Rattle.nc_polynomial.proofs.AlignedMultiples.{AreInRange, multiplied_pairs, aligned-multiples, in_range-aligned, next-in_range, next-fits, next-overflows}
 use Rattle.nc_polynomial.proofs.multiples.merge_multiples.Goals as goal
+
+-- what is known of the numbers as the code holds them is known of the arguments
+at_arguments : (P : ℤ → ℤ → Type 0) (a b : ℤ) → FitsSigned w128 a → FitsSigned w128 b → P (to_z w128 (of_z w128 a)) (to_z w128 (of_z w128 b)) → P a b
+at_arguments P a b a_in b_in h = subst (λ x. P x b) (to_z-of_z w128 a a_in) (subst (λ y. P (to_z w128 (of_z w128 a)) y) (to_z-of_z w128 b b_in) h)
 
 pub loop-next-init : goal.loop-next-init
 loop-next-init c =
@@ -16,11 +21,12 @@ loop-next-init c =
     let b = c.args.b in
     let p = c.args.p.now in
     let q = c.args.q.now in
-    let a_is : to_z w128 (of_z w128 a) ≡ a = search rules in
-    let b_is : to_z w128 (of_z w128 b) ≡ b = search rules in
+    let a_is : to_z w128 (of_z w128 a) ≡ a = to_z-of_z w128 a c.ranges.a in
+    let b_is : to_z w128 (of_z w128 b) ≡ b = to_z-of_z w128 b c.ranges.b in
     let in_range : AreInRange (multiplied_pairs a b (aligned p q)) =
     subst AreInRange (aligned-multiples a b p q) (in_range-aligned (poly_multiple a p) (poly_multiple b q) c.requires.left_in c.requires.right_in) in
-    let same : join c.new-sum.result (total_from (multiplied_pairs a b (aligned p q))) ≡ total_from (multiplied_pairs a b (aligned p q)) = search rules in
+    let same : join c.new-sum.result (total_from (multiplied_pairs a b (aligned p q))) ≡ total_from (multiplied_pairs a b (aligned p q)) =
+    ap (λ l. join l (total_from (multiplied_pairs a b (aligned p q)))) c.new-sum.ensures ∙ join-none (total_from (multiplied_pairs a b (aligned p q))) in
     rw (a_is, b_is) (record { in_range = in_range; same = same })
 
 pub overflow_mul-a : goal.overflow_mul-a
@@ -30,8 +36,9 @@ overflow_mul-a c =
     let n = c.in-Some.next in
     let pairs = aligned c.loop-next.left.now c.loop-next.right.now in
     let rest = aligned n.left_rest.now n.right_rest.now in
-    let next : pairs ≡ (n.left, n.right, n.word.now) ∷ rest = search rules in
-    let in_range : AreInRange (multiplied_pairs a b pairs) = search rules in
+    let next : pairs ≡ (n.left, n.right, n.word.now) ∷ rest = c.in-Some.ensures.next in
+    let in_range : AreInRange (multiplied_pairs a b pairs) =
+    at_arguments (λ x y. AreInRange (multiplied_pairs x y pairs)) a b c.ranges.a c.ranges.b c.loop-next.invariant.in_range in
     let fits : IsCoefficient (a *ℤ n.left) = (next-in_range a b pairs rest (n.left, n.right, n.word.now) next in_range).0.0 in
     search rules
 
@@ -42,8 +49,9 @@ overflow_mul-b c =
     let n = c.in-Some.next in
     let pairs = aligned c.loop-next.left.now c.loop-next.right.now in
     let rest = aligned n.left_rest.now n.right_rest.now in
-    let next : pairs ≡ (n.left, n.right, n.word.now) ∷ rest = search rules in
-    let in_range : AreInRange (multiplied_pairs a b pairs) = search rules in
+    let next : pairs ≡ (n.left, n.right, n.word.now) ∷ rest = c.in-Some.ensures.next in
+    let in_range : AreInRange (multiplied_pairs a b pairs) =
+    at_arguments (λ x y. AreInRange (multiplied_pairs x y pairs)) a b c.ranges.a c.ranges.b c.loop-next.invariant.in_range in
     let fits : IsCoefficient (b *ℤ n.right) = (next-in_range a b pairs rest (n.left, n.right, n.word.now) next in_range).0.1 in
     search rules
 
@@ -57,8 +65,9 @@ returns-in_err-total c =
     let n = c.in-Some.next in
     let pairs = aligned c.loop-next.left.now c.loop-next.right.now in
     let rest = aligned n.left_rest.now n.right_rest.now in
-    let next : pairs ≡ (n.left, n.right, n.word.now) ∷ rest = search rules in
-    let same : join out (total_from (multiplied_pairs a b pairs)) ≡ total_from (multiplied_pairs a b (aligned p q)) = search rules in
+    let next : pairs ≡ (n.left, n.right, n.word.now) ∷ rest = c.in-Some.ensures.next in
+    let same : join out (total_from (multiplied_pairs a b pairs)) ≡ total_from (multiplied_pairs a b (aligned p q)) =
+    at_arguments (λ x y. join out (total_from (multiplied_pairs x y pairs)) ≡ total_from (multiplied_pairs x y (aligned p q))) a b c.ranges.a c.ranges.b c.loop-next.invariant.same in
     let misses : IsCoefficient (a *ℤ n.left +ℤ b *ℤ n.right) → ⊥ = search rules in
     let overflow = c.in_err-total.field-0.0 in
     let given : c.from_residual.result ≡ Err (fault.Overflow overflow) = search rules in
@@ -71,15 +80,17 @@ loop-next-preserved c =
     let b = c.args.b in
     let p = c.args.p.now in
     let q = c.args.q.now in
-    let a_is : to_z w128 (of_z w128 a) ≡ a = search rules in
-    let b_is : to_z w128 (of_z w128 b) ≡ b = search rules in
+    let a_is : to_z w128 (of_z w128 a) ≡ a = to_z-of_z w128 a c.ranges.a in
+    let b_is : to_z w128 (of_z w128 b) ≡ b = to_z-of_z w128 b c.ranges.b in
     let out = c.loop-next.sum in
     let n = c.in-Some.next in
     let pairs = aligned c.loop-next.left.now c.loop-next.right.now in
     let rest = aligned n.left_rest.now n.right_rest.now in
-    let next : pairs ≡ (n.left, n.right, n.word.now) ∷ rest = search rules in
-    let in_range : AreInRange (multiplied_pairs a b pairs) = search rules in
-    let same : join out (total_from (multiplied_pairs a b pairs)) ≡ total_from (multiplied_pairs a b (aligned p q)) = search rules in
+    let next : pairs ≡ (n.left, n.right, n.word.now) ∷ rest = c.in-Some.ensures.next in
+    let in_range : AreInRange (multiplied_pairs a b pairs) =
+    at_arguments (λ x y. AreInRange (multiplied_pairs x y pairs)) a b c.ranges.a c.ranges.b c.loop-next.invariant.in_range in
+    let same : join out (total_from (multiplied_pairs a b pairs)) ≡ total_from (multiplied_pairs a b (aligned p q)) =
+    at_arguments (λ x y. join out (total_from (multiplied_pairs x y pairs)) ≡ total_from (multiplied_pairs x y (aligned p q))) a b c.ranges.a c.ranges.b c.loop-next.invariant.same in
     let total : c.in_ok-total.total ≡ a *ℤ n.left +ℤ b *ℤ n.right = search rules in
     let fits : IsCoefficient (a *ℤ n.left +ℤ b *ℤ n.right) = search rules in
     let pushed : c.push_copy.new.terms ≡ out ++ keep c.in_ok-total.total n.word.now [] = search rules in
@@ -100,5 +111,6 @@ returns c =
     let out = c.loop-next.sum in
     let pairs = aligned c.loop-next.left.now c.loop-next.right.now in
     let gone : pairs ≡ [] = search rules in
-    let same : join out (total_from (multiplied_pairs a b pairs)) ≡ total_from (multiplied_pairs a b (aligned p q)) = search rules in
+    let same : join out (total_from (multiplied_pairs a b pairs)) ≡ total_from (multiplied_pairs a b (aligned p q)) =
+    at_arguments (λ x y. join out (total_from (multiplied_pairs x y pairs)) ≡ total_from (multiplied_pairs x y (aligned p q))) a b c.ranges.a c.ranges.b c.loop-next.invariant.same in
     ap total_from (aligned-multiples a b p q) ∙ sym same ∙ ap (λ l. join out (total_from (multiplied_pairs a b l))) gone ∙ ap Ok (append-nil out)

@@ -1,8 +1,10 @@
-use Rattle.std.proofs.Common.{rules, ◌≡◌, ◌+◌, ◌≤◌, ◌*ℤ◌, length, Err}
+use Rattle.std.proofs.Common.{rules, ◌≡◌, ◌+◌, ◌<◌, ◌≤◌, ◌*ℤ◌, pos, length, Err, ap}
 use Rattle.coef_int.specs.Range.{IsCoefficient}
 use Rattle.coef_int.specs.Operations.{product_of}
 use Rattle.nc_polynomial.specs.declared.fault.PolyFault.TheVariants as fault
-use Rattle.nc_polynomial.proofs.OneTerm.{overflows-one}
+use Rattle.nc_polynomial.specs.Arithmetic.{combined}
+use Rattle.nc_polynomial.specs.Product.{and_then}
+use Rattle.nc_polynomial.proofs.OneTerm.{overflows-one, long_word}
 use Rattle.nc_polynomial.proofs.product.behind.Goals as goal
 
 pub returns-in_err-coefficient-clause-fault : goal.returns-in_err-coefficient-clause-fault
@@ -15,3 +17,10 @@ returns-in_err-coefficient-clause-fault c =
     let operation : overflow ≡ product_of t.0 y.0 = search rules in
     let over : ¬ IsCoefficient (t.0 *ℤ y.0) = search rules in
     rw given (λ sum shaped. overflows-one y c.requires.right_nonzero sum t overflow shaped short operation over)
+
+pub returns-then-saturating_add-gt-WORD_LIMIT-clause-fault : goal.returns-then-saturating_add-gt-WORD_LIMIT-clause-fault
+returns-then-saturating_add-gt-WORD_LIMIT-clause-fault c =
+    let t = c.args.left.now in
+    let y = c.args.right.now in
+    let long : 500 < length t.1 + length y.1 = search rules in
+    λ sum shaped. ap (λ r. and_then r (λ moved. combined (pos 1) sum t.0 moved)) (long_word y c.requires.right_nonzero t long)

@@ -1,8 +1,9 @@
-use Rattle.std.proofs.Common.{rules, ◌≡◌, ◌≢◌, ◌+ℤ◌, pos, Some, None, ◌∙◌, arith}
+use Rattle.std.proofs.Common.{rules, ◌≡◌, ◌≢◌, ◌+ℤ◌, pos, Some, None, ◌∙◌, arith, sym, subst}
 use Rattle.std.proofs.lemmas.Int.{ints}
+use Rattle.std.proofs.Math.IntN.{+ℤ_idl, +ℤ_idr}
 use Rattle.coef_int.specs.Range.{IsCoefficient}
 use Rattle.nc_polynomial.specs.Collected.{coefficient_in}
-use Rattle.nc_polynomial.proofs.Updates.{adds_from_update, running_from_update}
+use Rattle.nc_polynomial.proofs.Updates.{adds_from_update, adds_zero, running_from_update}
 use Rattle.nc_polynomial.proofs.table.add_term.Goals as goal
 
 pub returns-in-Vacant-clause-running : goal.returns-in-Vacant-clause-running
@@ -44,3 +45,19 @@ returns-then-total-eq0-clause-ordered c = search rules
 
 pub returns-else-total-eq0-clause-ordered : goal.returns-else-total-eq0-clause-ordered
 returns-else-total-eq0-clause-ordered c = search rules
+
+pub returns-then-coefficient-eq0-clause-added : goal.returns-then-coefficient-eq0-clause-added
+returns-then-coefficient-eq0-clause-added c =
+    let zero : c.args.coefficient ≡ pos 0 = search rules in
+    rw zero (adds_zero c.args.table.now c.args.word)
+
+pub returns-then-coefficient-eq0-clause-exact : goal.returns-then-coefficient-eq0-clause-exact
+returns-then-coefficient-eq0-clause-exact c =
+    let held = coefficient_in c.args.table.now c.args.word in
+    let zero : c.args.coefficient ≡ pos 0 = search rules in
+    subst (λ z. IsCoefficient (held +ℤ z)) (sym zero) (subst IsCoefficient (sym (+ℤ_idr held)) (c.requires.running.in_range c.args.word))
+
+pub returns-in-Vacant-clause-exact : goal.returns-in-Vacant-clause-exact
+returns-in-Vacant-clause-exact c =
+    let none : coefficient_in c.args.table.now c.args.word ≡ pos 0 = search rules in
+    subst (λ z. IsCoefficient (z +ℤ c.args.coefficient)) (sym none) (subst IsCoefficient (sym (+ℤ_idl c.args.coefficient)) c.requires.coefficient_in)

@@ -13,19 +13,19 @@ allowed c = search rules
 place : (c : goal.In_ok-push-2) → c.len-declaration.result ≡ length c.args.self.now
 place c = omega (arith, c.len-declaration.ensures.len, names_len c.self.inside c.args.self.now c.self.view_is)
 
-adds : (c : goal.In_ok-push-2) → Adds c.self.inside (record { names = c.insert.new.self; objects = c.push.new.self; letters = c.push-2.new.self }) c.args.self.now (object c.args.name.now)
+adds : (c : goal.In_ok-push-2) → Adds c.self.inside (record { names = c.add_name.new.names; objects = c.push.new.self; letters = c.push-2.new.self }) c.args.self.now (object c.args.name.now)
 adds c =
     let v = c.next_object-object.result in
     let a = c.next_letter-identity.result in
     record {
-      key = c.in_ok-key.key;
+      key = c.in_ok-add_name.ensures.added.key;
       named = Object v;
       objects = record { identity = a; declaration = c.len-declaration.result } ∷ [];
       letters = record { ends = record { source = v; target = v }; star = a; declaration = c.len-declaration.result } ∷ [];
       fresh = fresh_object c.args.self.now c.args.name.now (allowed c);
-      key_is = search rules;
+      key_is = c.in_ok-add_name.ensures.added.key_is;
       named_is = ap (λ n. Object (record { 0 = n })) c.next_object-object.ensures;
-      new_names = search rules;
+      new_names = c.in_ok-add_name.ensures.added.entries;
       new_objects = search rules;
       objects_are = λ j. record { identity = c.next_letter-identity.ensures.number j; declaration = place c j } ∷ [];
       new_letters = search rules;
@@ -47,5 +47,5 @@ invariant_of-self c = kept_of_same c.self.inside _ refl c.reserve.ensures.items 
 pub invariant_of-self-in_err-reserve-2 : goal.invariant_of-self-in_err-reserve-2
 invariant_of-self-in_err-reserve-2 c = kept_of_same c.self.inside _ refl c.reserve.ensures.items c.reserve-2.ensures.items c.self.invariant
 
-pub invariant_of-self-in_err-insert : goal.invariant_of-self-in_err-insert
-invariant_of-self-in_err-insert c = kept_of_same c.self.inside _ (search rules) c.reserve.ensures.items c.reserve-2.ensures.items c.self.invariant
+pub invariant_of-self-in_err-add_name : goal.invariant_of-self-in_err-add_name
+invariant_of-self-in_err-add_name c = kept_of_same c.self.inside _ (search rules) c.reserve.ensures.items c.reserve-2.ensures.items c.self.invariant
