@@ -24,7 +24,7 @@ returns-then-sums-column-ne0 c =
     subst (λ n. column < n) c.side_at-column-end.ensures.value c.loop-column-test.true in (
       λ same. absurd (true≢false (sym same)),
       λ zero. absurd (c.if-sums-column-ne0.true (ap (λ m. get_or c.row_sums-sums.result column 0 % m) c.from-modulus.ensures
-      ∙ c.row_sums-sums.ensures column inside ∙ zero column inside)),
+          ∙ c.row_sums-sums.ensures column inside ∙ zero column inside)),
     )
 
 pub returns : goal.returns
