@@ -11,7 +11,7 @@ use Rattle.clap.specs.Matches.{ReadsOne}
 use Rattle.clap.specs.Words.{Row}
 use Rattle.in_order_parallel.specs.Limits.{worker_limit}
 use Rattle.command_words.specs.Limits.{pair_limit, step_limit, seed_limit, format_limit, size_limit}
-use Rattle.command_words.specs.Present.{HasNumber, HasProve, HasRefute, HasBench, HasCommand, MatchesHave}
+use Rattle.command_words.specs.Present.{HasNumber, HasProve, HasRefute, HasBench, HasPair, HasCommand, IsPairName, MatchesHave}
 use Rattle.command_words.specs.Calls.{number_of, IsWithin, IsInRange, GivesCall, MatchesGive}
 use Rattle.command_words.specs.declared.call.Call.{Call}
 use Rattle.command_words.specs.declared.call.Call.TheVariants.{Prove, Check, Refute, Model, Bench, Confirm, Explain, Cancel}
@@ -63,6 +63,26 @@ is_bench name rows (inr (inr (inr (inr (inl h))))) e = h.1
 is_bench name rows (inr (inr (inr (inr (inr (inl h)))))) e = absurd (apart (codes "confirm") (codes "bench") refl (sym h.0 ∙ e))
 is_bench name rows (inr (inr (inr (inr (inr (inr (inl h))))))) e = absurd (apart (codes "explain") (codes "bench") refl (sym h.0 ∙ e))
 is_bench name rows (inr (inr (inr (inr (inr (inr (inr h))))))) e = absurd (apart (codes "cancel") (codes "bench") refl (sym h.0 ∙ e))
+
+-- another command is one of a statement and a file of evidence
+pub is_pair : (name : List ℕ) (rows : List Row) → HasCommand name rows → (name ≡ codes "prove" → ⊥) → (name ≡ codes "refute" → ⊥) → (name ≡ codes "bench" → ⊥)
+    → IsPairName name × HasPair rows
+is_pair name rows (inl h) prove refute bench = absurd (prove h.0)
+is_pair name rows (inr (inl h)) prove refute bench = (inl h.0, h.1)
+is_pair name rows (inr (inr (inl h))) prove refute bench = absurd (refute h.0)
+is_pair name rows (inr (inr (inr (inl h)))) prove refute bench = (inr (inl h.0), h.1)
+is_pair name rows (inr (inr (inr (inr (inl h))))) prove refute bench = absurd (bench h.0)
+is_pair name rows (inr (inr (inr (inr (inr (inl h)))))) prove refute bench = (inr (inr (inl h.0)), h.1)
+is_pair name rows (inr (inr (inr (inr (inr (inr (inl h))))))) prove refute bench = (inr (inr (inr (inl h.0))), h.1)
+is_pair name rows (inr (inr (inr (inr (inr (inr (inr h))))))) prove refute bench = (inr (inr (inr (inr h.0))), h.1)
+
+pub is_cancel : (name : List ℕ) → IsPairName name → (name ≡ codes "check" → ⊥) → (name ≡ codes "model" → ⊥) → (name ≡ codes "confirm" → ⊥) → (name ≡ codes "explain" → ⊥)
+    → name ≡ codes "cancel"
+is_cancel name (inl h) check model confirm explain = absurd (check h)
+is_cancel name (inr (inl h)) check model confirm explain = absurd (model h)
+is_cancel name (inr (inr (inl h))) check model confirm explain = absurd (confirm h)
+is_cancel name (inr (inr (inr (inl h)))) check model confirm explain = absurd (explain h)
+is_cancel name (inr (inr (inr (inr h)))) check model confirm explain = h
 
 within : (id : List ℕ) (low high n : ℕ) (rows : List Row) → HasNumber id low high rows → number_of id rows ≡ Some n → IsWithin low high n
 within id low high n rows h e =

@@ -1,4 +1,3 @@
-pub mod Chains
 pub mod Found
 pub mod Steps
 pub mod Options

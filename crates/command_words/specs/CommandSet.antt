@@ -34,11 +34,6 @@ workers_option = number_option (codes "workers") 1 worker_limit default_workers_
 abbrev pub seed_option : Rule
 seed_option = number_option (codes "seed") 0 seed_limit default_seed_word
 
--- the command with these arguments behind those that it has
-abbrev pub with_rules : App → List Rule → App
-with_rules a [] = a
-with_rules a (r ∷ rs) = with_rules (with_rule a r) rs
-
 abbrev pub prove_command : App
 prove_command = with_rule (with_rule (with_rule (with_rule (with_rule (with_rule (with_rule (new_app (codes "prove"))
     (required_word (codes "file")))

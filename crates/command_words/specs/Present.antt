@@ -37,6 +37,10 @@ pub record HasPair (rows : List Row) : Type 0 where
   pub statement : HasText (codes "statement") rows
   pub evidence : HasText (codes "evidence") rows
 
+-- the name of a command of a statement and a file of evidence
+abbrev pub IsPairName : Text → Type 0
+IsPairName name = (name ≡ codes "check") ⊎ (name ≡ codes "model") ⊎ (name ≡ codes "confirm") ⊎ (name ≡ codes "explain") ⊎ (name ≡ codes "cancel")
+
 abbrev pub HasCommand : Text → List Row → Type 0
 HasCommand name rows = ((name ≡ codes "prove") × HasProve rows) ⊎ ((name ≡ codes "check") × HasPair rows)
     ⊎ ((name ≡ codes "refute") × HasRefute rows) ⊎ ((name ≡ codes "model") × HasPair rows) ⊎ ((name ≡ codes "bench") × HasBench rows)

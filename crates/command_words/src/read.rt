@@ -1,9 +1,9 @@
 //! The words after the program's name, read by clap.
-ghost use Rattle.std.specs.Prelude.{◌≡◌, IfOk, IsErrOf, List, MatchResult, Some, map, string_bytes, ℕ};
-ghost use Rattle.clap.specs.Words.{subcommand_of, subcommand_rows_of, kind_of, rows_of, found_of, first_of};
+ghost use Rattle.std.specs.Prelude.{◌≡◌, IfOk, IsErrOf, List, MatchResult, Some, codes, map, string_bytes, ℕ};
+ghost use Rattle.clap.specs.Words.{Row, subcommand_of, subcommand_rows_of, kind_of, rows_of, found_of, first_of};
 ghost use Rattle.command_words.specs.CommandSet.{command_set, IsTaken};
-ghost use Rattle.command_words.specs.Calls.{number_of, flag_of, GivesProve, GivesRefute, GivesBench, GivesPair, GivesCall, MatchesGive, Names, IsInRange};
-ghost use Rattle.command_words.specs.Present.{HasText, HasNumber, HasFlag, HasProve, HasRefute, HasBench, HasPair, HasCommand, MatchesHave};
+ghost use Rattle.command_words.specs.Calls.{number_of, flag_of, GivesPair, GivesCall, MatchesGive, Names, IsInRange};
+ghost use Rattle.command_words.specs.Present.{HasText, HasNumber, HasFlag, HasProve, HasRefute, HasBench, HasPair, HasCommand, IsPairName, MatchesHave};
 
 use crate::call::{BenchCall, Call, PairCall, ProveCall, RefuteCall};
 use crate::set::command_set;
@@ -42,11 +42,11 @@ fn flag_of(matches: &ArgMatches, id: &str) -> bool
     matches.get_flag(id)
 }
 
-fn prove_of(alloc: Global, matches: &ArgMatches) -> Result<ProveCall, AllocError>
+fn prove_of(alloc: Global, matches: &ArgMatches) -> Result<Call, AllocError>
     requires { HasProve (rows_of (found_of matches.now)) }
-    ensures { IfOk result (λ call. GivesProve (rows_of (found_of matches.now)) call) }
+    ensures { IfOk result (λ call. GivesCall (codes "prove") (rows_of (found_of matches.now)) call) }
 {
-    Ok(ProveCall {
+    Ok(Call::Prove(ProveCall {
         file: text_of(alloc, matches, "file")?,
         pairs: small_number_of(matches, "pairs"),
         steps: small_number_of(matches, "steps"),
@@ -54,28 +54,28 @@ fn prove_of(alloc: Global, matches: &ArgMatches) -> Result<ProveCall, AllocError
         seed: number_of(matches, "seed"),
         format: small_number_of(matches, "format"),
         models: !flag_of(matches, "no-models"),
-    })
+    }))
 }
 
-fn refute_of(alloc: Global, matches: &ArgMatches) -> Result<RefuteCall, AllocError>
+fn refute_of(alloc: Global, matches: &ArgMatches) -> Result<Call, AllocError>
     requires { HasRefute (rows_of (found_of matches.now)) }
-    ensures { IfOk result (λ call. GivesRefute (rows_of (found_of matches.now)) call) }
+    ensures { IfOk result (λ call. GivesCall (codes "refute") (rows_of (found_of matches.now)) call) }
 {
-    Ok(RefuteCall {
+    Ok(Call::Refute(RefuteCall {
         file: text_of(alloc, matches, "file")?,
         workers: small_number_of(matches, "workers"),
         seed: number_of(matches, "seed"),
-    })
+    }))
 }
 
-fn bench_of(matches: &ArgMatches) -> BenchCall
+fn bench_of(matches: &ArgMatches) -> Call
     requires { HasBench (rows_of (found_of matches.now)) }
-    ensures { GivesBench (rows_of (found_of matches.now)) result }
+    ensures { GivesCall (codes "bench") (rows_of (found_of matches.now)) result }
 {
-    BenchCall {
+    Call::Bench(BenchCall {
         size: small_number_of(matches, "size"),
         workers: small_number_of(matches, "workers"),
-    }
+    })
 }
 
 fn pair_of(alloc: Global, matches: &ArgMatches) -> Result<PairCall, AllocError>
@@ -88,19 +88,29 @@ fn pair_of(alloc: Global, matches: &ArgMatches) -> Result<PairCall, AllocError>
     })
 }
 
+// The command of this name with its files.
+fn pair_call(name: &str, pair: PairCall) -> Call
+    requires { IsPairName name.now }
+    ensures { (rows : List Row) → GivesPair rows pair → GivesCall name.now rows result }
+{
+    match name {
+        "check" => Call::Check(pair),
+        "model" => Call::Model(pair),
+        "confirm" => Call::Confirm(pair),
+        "explain" => Call::Explain(pair),
+        _ => Call::Cancel(pair),
+    }
+}
+
 fn call_of(alloc: Global, name: &str, matches: &ArgMatches) -> Result<Call, AllocError>
     requires { HasCommand name.now (rows_of (found_of matches.now)) }
     ensures { IfOk result (λ call. GivesCall name.now (rows_of (found_of matches.now)) call) }
 {
     match name {
-        "prove" => Ok(Call::Prove(prove_of(alloc, matches)?)),
-        "check" => Ok(Call::Check(pair_of(alloc, matches)?)),
-        "refute" => Ok(Call::Refute(refute_of(alloc, matches)?)),
-        "model" => Ok(Call::Model(pair_of(alloc, matches)?)),
-        "bench" => Ok(Call::Bench(bench_of(matches))),
-        "confirm" => Ok(Call::Confirm(pair_of(alloc, matches)?)),
-        "explain" => Ok(Call::Explain(pair_of(alloc, matches)?)),
-        _ => Ok(Call::Cancel(pair_of(alloc, matches)?)),
+        "prove" => prove_of(alloc, matches),
+        "refute" => refute_of(alloc, matches),
+        "bench" => Ok(bench_of(matches)),
+        _ => Ok(pair_call(name, pair_of(alloc, matches)?)),
     }
 }
 

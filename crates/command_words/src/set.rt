@@ -1,10 +1,8 @@
 //! The commands as clap gets them: what `specs/CommandSet.antt` says.
-ghost use Rattle.std.specs.Prelude.{◌≡◌, IfOk, false, map};
-ghost use Rattle.std.specs.Result.{IsOkAnd};
-ghost use Rattle.std.specs.List.{All};
-ghost use Rattle.clap.specs.Words.{app_of, rule_of, with_subcommand};
+ghost use Rattle.std.specs.Prelude.{◌≡◌, IfOk, false};
+ghost use Rattle.clap.specs.Words.{App, Rule, app_of, rule_of, with_rule, with_subcommand};
 ghost use Rattle.clap.specs.declared.builder.command.Command.TheViews.{out-Command as fields_of};
-ghost use Rattle.command_words.specs.CommandSet.{command_set, with_rules, bare_command, prove_command, refute_command, bench_command};
+ghost use Rattle.command_words.specs.CommandSet.{command_set, bare_command, prove_command, refute_command, bench_command};
 ghost use Rattle.command_words.specs.CommandSet.{pair_command, required_word, required_number, number_option, workers_option, seed_option};
 ghost use Rattle.command_words.specs.CommandSet.{flag_option};
 
@@ -71,63 +69,69 @@ fn flag_option<'a>(alloc: Global, id: &'a str) -> Arg<'a>
     Arg::new(alloc, id).long(id).action(ArgAction::SetTrue)
 }
 
-// The command with these arguments, one after another.
-fn with_args<'a>(command: Command<'a>, args: Vec<Arg<'a>>) -> Result<Command<'a>, AllocError>
-    requires { All (λ a. a.global ≡ false) args.items }
-    ensures app { IfOk result (λ c. app_of c ≡ with_rules (app_of command.entry) (map rule_of args.entry.items)) }
-    ensures local { IfOk result (λ c. (fields_of c).has_globals ≡ (fields_of command.entry).has_globals) }
+// The command with the argument behind those that it has, where there was memory for the command.
+fn with_arg<'a>(
+    command: Result<Command<'a>, AllocError>,
+    arg: Arg<'a>,
+) -> Result<Command<'a>, AllocError>
+    requires local { IfOk command (λ c. (fields_of c).has_globals ≡ false) }
+    requires arg_local { arg.global ≡ false }
+    ensures app { (a : App) (rule : Rule) → IfOk command.entry (λ c. app_of c ≡ a) → rule_of arg.entry ≡ rule
+        → IfOk result (λ c. app_of c ≡ with_rule a rule) }
+    ensures local { IfOk result (λ c. (fields_of c).has_globals ≡ false) }
 {
-    command.args(args)
+    match command {
+        Ok(command) => command.arg(arg),
+        Err(failed) => {
+            drop(arg);
+            Err(failed)
+        }
+    }
 }
 
 fn prove_command<'a>(alloc: Global) -> Result<Command<'a>, AllocError>
     ensures app { IfOk result (λ c. app_of c ≡ prove_command) }
     ensures local { IfOk result (λ c. (fields_of c).has_globals ≡ false) }
 {
-    let args = vec![in alloc;
-        required_word(alloc, "file"),
-        number_option(alloc, "pairs", 1, PAIR_LIMIT, DEFAULT_PAIRS_WORD),
-        number_option(alloc, "steps", 1, STEP_LIMIT, DEFAULT_STEPS_WORD),
-        workers_option(alloc),
-        seed_option(alloc),
-        number_option(alloc, "format", 1, FORMAT_LIMIT, DEFAULT_FORMAT_WORD),
-        flag_option(alloc, "no-models"),
-    ]?;
-    with_args(Command::new(alloc, "prove"), args)
+    let command = Ok(Command::new(alloc, "prove"));
+    let command = with_arg(command, required_word(alloc, "file"));
+    let pairs = number_option(alloc, "pairs", 1, PAIR_LIMIT, DEFAULT_PAIRS_WORD);
+    let command = with_arg(command, pairs);
+    let steps = number_option(alloc, "steps", 1, STEP_LIMIT, DEFAULT_STEPS_WORD);
+    let command = with_arg(command, steps);
+    let command = with_arg(command, workers_option(alloc));
+    let command = with_arg(command, seed_option(alloc));
+    let format = number_option(alloc, "format", 1, FORMAT_LIMIT, DEFAULT_FORMAT_WORD);
+    let command = with_arg(command, format);
+    with_arg(command, flag_option(alloc, "no-models"))
 }
 
 fn refute_command<'a>(alloc: Global) -> Result<Command<'a>, AllocError>
     ensures app { IfOk result (λ c. app_of c ≡ refute_command) }
     ensures local { IfOk result (λ c. (fields_of c).has_globals ≡ false) }
 {
-    let args = vec![in alloc;
-        required_word(alloc, "file"),
-        workers_option(alloc),
-        seed_option(alloc),
-    ]?;
-    with_args(Command::new(alloc, "refute"), args)
+    let command = Ok(Command::new(alloc, "refute"));
+    let command = with_arg(command, required_word(alloc, "file"));
+    let command = with_arg(command, workers_option(alloc));
+    with_arg(command, seed_option(alloc))
 }
 
 fn bench_command<'a>(alloc: Global) -> Result<Command<'a>, AllocError>
     ensures app { IfOk result (λ c. app_of c ≡ bench_command) }
     ensures local { IfOk result (λ c. (fields_of c).has_globals ≡ false) }
 {
-    let args = vec![in alloc;
-        required_number(alloc, "size", 1, SIZE_LIMIT),
-        workers_option(alloc),
-    ]?;
-    with_args(Command::new(alloc, "bench"), args)
+    let command = Ok(Command::new(alloc, "bench"));
+    let command = with_arg(command, required_number(alloc, "size", 1, SIZE_LIMIT));
+    with_arg(command, workers_option(alloc))
 }
 
 fn pair_command<'a>(alloc: Global, name: &'a str) -> Result<Command<'a>, AllocError>
     ensures app { IfOk result (λ c. app_of c ≡ pair_command name.entry.now) }
     ensures local { IfOk result (λ c. (fields_of c).has_globals ≡ false) }
 {
-    let args = vec![in alloc;
-        required_word(alloc, "statement"),
-        required_word(alloc, "evidence"),
-    ]?;
-    with_args(Command::new(alloc, name), args)
+    let command = Ok(Command::new(alloc, name));
+    let command = with_arg(command, required_word(alloc, "statement"));
+    with_arg(command, required_word(alloc, "evidence"))
 }
 
 fn bare_command<'a>(alloc: Global) -> Command<'a>
@@ -141,29 +145,54 @@ fn bare_command<'a>(alloc: Global) -> Command<'a>
         .subcommand_required(true)
 }
 
-// The command with the other one below it, where there was memory for that one.
+// The command with the other one below it, where there was memory for both.
 fn with_command<'a>(
+    command: Result<Command<'a>, AllocError>,
+    below: Result<Command<'a>, AllocError>,
+) -> Result<Command<'a>, AllocError>
+    requires local { IfOk command (λ c. (fields_of c).has_globals ≡ false) }
+    requires below_local { IfOk below (λ b. (fields_of b).has_globals ≡ false) }
+    ensures app { (a : App) (b : App) → IfOk command.entry (λ c. app_of c ≡ a) → IfOk below.entry (λ c. app_of c ≡ b)
+        → IfOk result (λ c. app_of c ≡ with_subcommand a b.top) }
+    ensures local { IfOk result (λ c. (fields_of c).has_globals ≡ false) }
+{
+    match command {
+        Ok(command) => with_other(command, below),
+        Err(failed) => {
+            drop(below);
+            Err(failed)
+        }
+    }
+}
+
+fn with_other<'a>(
     command: Command<'a>,
     below: Result<Command<'a>, AllocError>,
 ) -> Result<Command<'a>, AllocError>
     requires local { (fields_of command).has_globals ≡ false }
     requires below_local { IfOk below (λ b. (fields_of b).has_globals ≡ false) }
-    ensures app { IfOk result (λ c. IsOkAnd below.entry (λ b. app_of c ≡ with_subcommand (app_of command.entry) (app_of b).top)) }
+    ensures app { (b : App) → IfOk below.entry (λ c. app_of c ≡ b) → IfOk result (λ c. app_of c ≡ with_subcommand (app_of command.entry) b.top) }
     ensures local { IfOk result (λ c. (fields_of c).has_globals ≡ false) }
 {
-    command.subcommand(below?)
+    match below {
+        Ok(below) => command.subcommand(below),
+        Err(failed) => {
+            drop(command);
+            Err(failed)
+        }
+    }
 }
 
 /// The commands with all that `specs/CommandSet.antt` says of them.
 pub fn command_set<'a>(alloc: Global) -> Result<Command<'a>, AllocError>
     ensures { IfOk result (λ c. app_of c ≡ command_set) }
 {
-    let set = with_command(bare_command(alloc), prove_command(alloc))?;
-    let set = with_command(set, pair_command(alloc, "check"))?;
-    let set = with_command(set, refute_command(alloc))?;
-    let set = with_command(set, pair_command(alloc, "model"))?;
-    let set = with_command(set, bench_command(alloc))?;
-    let set = with_command(set, pair_command(alloc, "confirm"))?;
-    let set = with_command(set, pair_command(alloc, "explain"))?;
+    let set = with_command(Ok(bare_command(alloc)), prove_command(alloc));
+    let set = with_command(set, pair_command(alloc, "check"));
+    let set = with_command(set, refute_command(alloc));
+    let set = with_command(set, pair_command(alloc, "model"));
+    let set = with_command(set, bench_command(alloc));
+    let set = with_command(set, pair_command(alloc, "confirm"));
+    let set = with_command(set, pair_command(alloc, "explain"));
     with_command(set, pair_command(alloc, "cancel"))
 }

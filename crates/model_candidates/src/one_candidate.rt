@@ -1,11 +1,14 @@
 //! The candidates of a shape.
-ghost use Rattle.std.specs.Prelude.{◌≤◌, ℕ, List, length, IfOk, IfSome, IfNone};
+ghost use Rattle.std.specs.Prelude.{◌≡◌, ◌<◌, ◌≤◌, ℕ, List, length, IfOk, IfSome, IfNone};
+ghost use Rattle.std.specs.List.{All};
 ghost use Rattle.std.specs.Option.{option_map};
 ghost use Rattle.quiver.specs.Declarations.{object_count, quiver_of};
 ghost use Rattle.adjoint_rules.specs.Problem.{IsShape};
 ghost use Rattle.adjoint_rules.specs.declared.parts.Shape.{Shape as ShapeValue};
+ghost use Rattle.matrix_models.specs.Pivots.{AreGreedyFor};
 ghost use Rattle.model_candidates.specs.Candidates.{IsCandidate, IsGreedy, IsShapeOf, IsSolution, model_by};
 ghost use Rattle.model_candidates.specs.Plans.{AreEntryValues, FitsShape, IsPlan};
+ghost use Rattle.model_candidates.specs.Unknowns.{picked};
 
 use crate::drawn_values::{digits_of, draws_of};
 use crate::equations::pivots_of;
@@ -14,7 +17,7 @@ use crate::plan::{Plan, plan_of};
 use crate::unknowns::{filled, picked};
 use adjoint_rules::{Problem, Shape};
 use lists::Listing;
-use matrix_models::Model;
+use matrix_models::{Model, Pivots};
 use std::alloc::{AllocError, Global};
 
 /// Candidate k, counted from 0, of the shape with this number, counted from 1, for a seed; `None` exactly where the entries that
@@ -98,7 +101,25 @@ fn greedy_values(
         return Ok(None);
     };
     let solved = plan.solved.as_slice();
-    let prefer = picked(alloc, solved, drawn)?;
-    let values = pivots.values(alloc, prefer.as_slice())?;
+    let values = solution_by(alloc, pivots, solved, drawn)?;
     Ok(Some(filled(alloc, solved, drawn, values.as_slice())?))
+}
+
+// The greedy solution of the equations that the pivots stand for, where the drawn values are preferred. The pivots are let go at
+// its one end.
+fn solution_by(
+    alloc: Global,
+    pivots: Pivots,
+    solved: &[bool],
+    drawn: &[u32],
+) -> Result<Listing<u32>, AllocError>
+    requires one_each { length drawn.now ≡ length solved.now }
+    requires size { length (picked solved.now drawn.now) ≡ length pivots.rows }
+    requires below { All (λ value. value < pivots.modulus) (picked solved.now drawn.now) }
+    ensures { IfOk result (AreGreedyFor pivots (picked solved.now drawn.now)) }
+{
+    match picked(alloc, solved, drawn) {
+        Ok(prefer) => pivots.values(alloc, prefer.as_slice()),
+        Err(failed) => Err(failed),
+    }
 }

@@ -1,4 +1,4 @@
-use Rattle.std.proofs.Common.{◌≡◌, ◌<◌, All, IfNone, IfSome, length, sym, ap, ap₂, subst, ◌∙◌}
+use Rattle.std.proofs.Common.{◌<◌, All, IfNone, IfSome, length, sym, ap, ap₂, subst, ◌∙◌}
 use Rattle.matrix_models.specs.Systems.{HasNoSolution}
 use Rattle.matrix_models.specs.Greedy as of_system
 use Rattle.matrix_models.specs.Pivots.{StandFor}
@@ -11,46 +11,42 @@ use Rattle.model_candidates.proofs.DrawnEntries.{flag_of_each}
 use Rattle.model_candidates.proofs.PlanSystems.{plan_conditions, plan_prefer, plan_greedy, plan_none, unknown_of_each_flag}
 use Rattle.model_candidates.proofs.one_candidate.greedy_values.Goals as goal
 
-pub picked-requires : goal.picked-requires
-picked-requires c =
+pub solution_by-requires-clause-one_each : goal.solution_by-requires-clause-one_each
+solution_by-requires-clause-one_each c =
     let problem = c.args.problem.now in
     let flags = flag_of_each (quiver_of problem.parts.quiver) c.args.shape.now problem.parts.solved in
-    record { one_each = c.requires.drawn.one_each ∙ sym flags ∙ ap length (sym (c.as_slice-solved.ensures ∙ c.requires.plan.solved)) }
+    c.requires.drawn.one_each ∙ sym flags ∙ ap length (sym (c.as_slice-solved.ensures ∙ c.requires.plan.solved))
+
+pub solution_by-requires-clause-size : goal.solution_by-requires-clause-size
+solution_by-requires-clause-size c =
+    let problem = c.args.problem.now in
+    let s = c.args.shape.now in
+    let plan = c.args.plan.now in
+    let drawn = c.args.drawn.now in
+    let system = system_for problem s plan.solved plan.assumptions.equations drawn in
+    let stand : StandFor c.in-Some.pivots system =
+    subst (λ found. IfSome found (λ pivots. StandFor pivots system)) c.in-Some.is c.in_ok-pivots.ensures.pivots in
+    let prefer = plan_prefer problem s c.requires.shape plan c.requires.plan drawn c.requires.drawn in
+    ap (λ flags. length (picked flags drawn)) c.as_slice-solved.ensures ∙ prefer.one_each ∙ sym stand.size
+
+pub solution_by-requires-clause-below : goal.solution_by-requires-clause-below
+solution_by-requires-clause-below c =
+    let problem = c.args.problem.now in
+    let s = c.args.shape.now in
+    let plan = c.args.plan.now in
+    let drawn = c.args.drawn.now in
+    let system = system_for problem s plan.solved plan.assumptions.equations drawn in
+    let stand : StandFor c.in-Some.pivots system =
+    subst (λ found. IfSome found (λ pivots. StandFor pivots system)) c.in-Some.is c.in_ok-pivots.ensures.pivots in
+    let prefer = plan_prefer problem s c.requires.shape plan c.requires.plan drawn c.requires.drawn in
+    subst (λ m. All (λ value. value < m) (picked c.as_slice-solved.result.now drawn)) (sym stand.modulus)
+    (subst (λ flags. All (λ value. value < s.modulus) (picked flags drawn)) (sym c.as_slice-solved.ensures) prefer.below)
 
 pub filled-requires-clause-one_each : goal.filled-requires-clause-one_each
 filled-requires-clause-one_each c =
     let problem = c.args.problem.now in
     let flags = flag_of_each (quiver_of problem.parts.quiver) c.args.shape.now problem.parts.solved in
     c.requires.drawn.one_each ∙ sym flags ∙ ap length (sym (c.as_slice-solved.ensures ∙ c.requires.plan.solved))
-
-pub values-requires-clause-size : goal.values-requires-clause-size
-values-requires-clause-size c =
-    let problem = c.args.problem.now in
-    let s = c.args.shape.now in
-    let plan = c.args.plan.now in
-    let drawn = c.args.drawn.now in
-    let system = system_for problem s plan.solved plan.assumptions.equations drawn in
-    let stand : StandFor c.in-Some.pivots system =
-    subst (λ found. IfSome found (λ pivots. StandFor pivots system)) c.in-Some.is c.in_ok-pivots.ensures.pivots in
-    let prefer_is : c.as_slice.result.now ≡ picked plan.solved drawn =
-    c.as_slice.ensures ∙ c.in_ok-prefer.ensures ∙ ap (λ flags. picked flags drawn) c.as_slice-solved.ensures in
-    let prefer = plan_prefer problem s c.requires.shape plan c.requires.plan drawn c.requires.drawn in
-    ap length prefer_is ∙ prefer.one_each ∙ sym stand.size
-
-pub values-requires-clause-below : goal.values-requires-clause-below
-values-requires-clause-below c =
-    let problem = c.args.problem.now in
-    let s = c.args.shape.now in
-    let plan = c.args.plan.now in
-    let drawn = c.args.drawn.now in
-    let system = system_for problem s plan.solved plan.assumptions.equations drawn in
-    let stand : StandFor c.in-Some.pivots system =
-    subst (λ found. IfSome found (λ pivots. StandFor pivots system)) c.in-Some.is c.in_ok-pivots.ensures.pivots in
-    let prefer_is : c.as_slice.result.now ≡ picked plan.solved drawn =
-    c.as_slice.ensures ∙ c.in_ok-prefer.ensures ∙ ap (λ flags. picked flags drawn) c.as_slice-solved.ensures in
-    let prefer = plan_prefer problem s c.requires.shape plan c.requires.plan drawn c.requires.drawn in
-    subst (λ m. All (λ value. value < m) c.as_slice.result.now) (sym stand.modulus)
-    (subst (All (λ value. value < s.modulus)) (sym prefer_is) prefer.below)
 
 pub filled-requires-clause-one_for_each : goal.filled-requires-clause-one_for_each
 filled-requires-clause-one_for_each c =
@@ -61,10 +57,8 @@ filled-requires-clause-one_for_each c =
     let system = system_for problem s plan.solved plan.assumptions.equations drawn in
     let stand : StandFor c.in-Some.pivots system =
     subst (λ found. IfSome found (λ pivots. StandFor pivots system)) c.in-Some.is c.in_ok-pivots.ensures.pivots in
-    let prefer_is : c.as_slice.result.now ≡ picked plan.solved drawn =
-    c.as_slice.ensures ∙ c.in_ok-prefer.ensures ∙ ap (λ flags. picked flags drawn) c.as_slice-solved.ensures in
-    let greedy = subst (λ prefer. of_system.IsGreedy system prefer c.in_ok-values.values) prefer_is (c.in_ok-values.ensures system stand) in
-    ap length c.as_slice-2.ensures
+    let greedy = subst (λ flags. of_system.IsGreedy system (picked flags drawn) c.in_ok-values.values) c.as_slice-solved.ensures (c.in_ok-values.ensures system stand) in
+    ap length c.as_slice.ensures
     ∙ unknown_of_each_flag problem s c.requires.shape plan c.requires.plan drawn c.requires.drawn c.in_ok-values.values greedy.solves.are_values
     ∙ ap set_count (sym c.as_slice-solved.ensures)
 
@@ -77,12 +71,10 @@ returns-clause-greedy c =
     let system = system_for problem s plan.solved plan.assumptions.equations drawn in
     let stand : StandFor c.in-Some.pivots system =
     subst (λ found. IfSome found (λ pivots. StandFor pivots system)) c.in-Some.is c.in_ok-pivots.ensures.pivots in
-    let prefer_is : c.as_slice.result.now ≡ picked plan.solved drawn =
-    c.as_slice.ensures ∙ c.in_ok-prefer.ensures ∙ ap (λ flags. picked flags drawn) c.as_slice-solved.ensures in
-    let greedy = subst (λ prefer. of_system.IsGreedy system prefer c.in_ok-values.values) prefer_is (c.in_ok-values.ensures system stand) in
+    let greedy = subst (λ flags. of_system.IsGreedy system (picked flags drawn) c.in_ok-values.values) c.as_slice-solved.ensures (c.in_ok-values.ensures system stand) in
     let hold = subst (λ found. IfSome found (λ _. All (IsZeroAtSignature problem (model_by (quiver_of problem.parts.quiver) s 0 drawn))
     plan.assumptions.conditions)) c.in-Some.is c.in_ok-pivots.ensures.hold in
-    let all_is = c.in_ok-filled.ensures ∙ ap₂ (λ flags xs. filled flags drawn xs) c.as_slice-solved.ensures c.as_slice-2.ensures in
+    let all_is = c.in_ok-filled.ensures ∙ ap₂ (λ flags xs. filled flags drawn xs) c.as_slice-solved.ensures c.as_slice.ensures in
     subst (IsGreedy problem s drawn) (sym all_is)
     (plan_greedy problem s c.requires.shape plan c.requires.plan drawn c.requires.drawn hold c.in_ok-values.values greedy)
 
