@@ -1,7 +1,7 @@
 //! Proofs that cancel letters.
 
-use traced_rows::Lemma;
 use lists::Listing;
+use traced_rows::Lemma;
 use word_core::Letter;
 
 /// The end of a word at which a letter is taken off.

@@ -10,9 +10,9 @@ use crate::compare::{least_difference, overflow_of_multiple};
 use crate::rows::{add_rows, numbered};
 use crate::{Accepted, Refusal};
 use adjoint_rules::Problem;
-use traced_rows::Certificate;
 use nc_polynomial::Poly;
 use std::alloc::Global;
+use traced_rows::Certificate;
 
 /// Whether the rows of a certificate add up to the denominator times its claim, over the generators of the problem.
 /// The rows may be of any words. Each refusal comes exactly where its test is the first that fails, and none is of

@@ -8,8 +8,8 @@ use crate::certificate::check;
 use crate::lemma_certificate::check_lemmas;
 use crate::{Accepted, Refusal};
 use adjoint_rules::Problem;
-use traced_rows::Evidence;
 use std::alloc::Global;
+use traced_rows::Evidence;
 
 /// Whether the evidence shows its claim: its lemmas and its rows add up, over the generators of the problem.
 /// The rows may be of any words. Each refusal comes exactly where its test is the first that fails.

@@ -9,9 +9,9 @@ ghost use Rattle.cofactor_checker.specs.LemmaAcceptance.{HasScale, IsRanged};
 use crate::Refusal;
 use crate::compare::least_difference;
 use crate::lemma_rows::add_lemma_rows;
-use traced_rows::Lemma;
 use nc_polynomial::Poly;
 use std::alloc::Global;
+use traced_rows::Lemma;
 
 /// Whether the rows of the goal, before which so many stand, add up to its scale times the claim, over the generators and the
 /// lemmas. Each refusal comes exactly where its test is the first that fails.

@@ -10,9 +10,9 @@ use crate::lemmas::make_lemmas;
 use crate::rows::numbered;
 use crate::scales::{divides, first_loose, have_scales};
 use crate::{Accepted, Refusal};
-use traced_rows::LemmaCertificate;
 use nc_polynomial::Poly;
 use std::alloc::Global;
+use traced_rows::LemmaCertificate;
 
 // Whether the denominator and all scales are at least 1.
 fn is_positive(certificate: &LemmaCertificate) -> bool

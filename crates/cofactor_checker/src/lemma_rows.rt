@@ -13,10 +13,10 @@ ghost use Rattle.cofactor_checker.specs.Lemmas.{LemmaRowsPass, RefusesLemmaRows}
 use crate::Refusal;
 use crate::rows::{SUM_LIMIT, numbered};
 use crate::sum::add_row;
-use traced_rows::{CertFrom, LemmaRow};
 use nc_polynomial::{Poly, SumFault};
 use std::alloc::Global;
 use std::collections::BTreeMap;
+use traced_rows::{CertFrom, LemmaRow};
 use word_core::Word;
 
 // The generator or the lemma that a row is over.

@@ -6,10 +6,10 @@ ghost use Rattle.cofactor_checker.specs.LemmaAcceptance.{HasScale, IsRanged};
 
 use crate::Refusal;
 use crate::polynomial::make_polynomial;
-use traced_rows::Lemma;
 use lists::Listing;
 use nc_polynomial::Poly;
 use std::alloc::Global;
+use traced_rows::Lemma;
 
 /// The greatest number of terms that the polynomials of all lemmas have together.
 pub const KEPT_LIMIT: usize = 1_000_000;

@@ -7,10 +7,10 @@ ghost use Rattle.cofactor_checker.specs.LemmaAcceptance.{HasScale, IsRanged};
 use crate::Refusal;
 use crate::lemma_rows::add_lemma_rows;
 use crate::scales::divides;
-use traced_rows::Lemma;
 use nc_polynomial::table::descending;
 use nc_polynomial::{Poly, PolyFault};
 use std::alloc::Global;
+use traced_rows::Lemma;
 use word_core::Word;
 
 // The last term whose coefficient the scale doesn't divide.

@@ -10,10 +10,10 @@ ghost use Rattle.cofactor_checker.specs.RowRefusals.{RefusesRow};
 
 use crate::Refusal;
 use crate::sum::add_row;
-use traced_rows::CertRow;
 use nc_polynomial::{Poly, SumFault};
 use std::alloc::Global;
 use std::collections::BTreeMap;
+use traced_rows::CertRow;
 use word_core::Word;
 
 /// The greatest number of terms of a sum of rows.

@@ -9,10 +9,10 @@ ghost use Rattle.equation_chain.specs.Written.{chain_text};
 use crate::Chain;
 use crate::text::{LetterTexts, letter_texts, put_line, put_opening, put_use};
 use block_text::put;
-use traced_rows::CertRow;
 use nc_polynomial::Poly;
 use quiver::Quiver;
 use std::alloc::{AllocError, Global};
+use traced_rows::CertRow;
 
 /// A chain behind bytes, whose last line is ended by what stands behind it.
 pub fn put_chain(

@@ -9,10 +9,10 @@ use crate::ChainFault;
 use crate::line::{Line, first_line, next_line};
 use adjoint_rules::Problem;
 use cofactor_checker::check;
-use traced_rows::{CertRow, Certificate};
 use lists::{Duplicate, Listing};
 use nc_polynomial::Poly;
 use std::alloc::Global;
+use traced_rows::{CertRow, Certificate};
 
 /// A proof of a claim, a line at a time.
 #[derive(Drop)]

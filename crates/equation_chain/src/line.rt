@@ -14,8 +14,8 @@ use crate::ChainFault;
 use crate::step::{is_step, numbered};
 use adjoint_rules::Problem;
 use coef_int::negate;
-use traced_rows::{CertRow, Certificate};
 use nc_polynomial::{Poly, PolyFault};
+use traced_rows::{CertRow, Certificate};
 
 /// The greatest number of letters that the lines of a chain have together.
 pub const LETTER_LIMIT: usize = 10_000_000;

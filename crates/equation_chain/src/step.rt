@@ -7,9 +7,9 @@ ghost use Rattle.quiver.specs.Signatures.{ends_of};
 ghost use Rattle.equation_chain.specs.Steps.{claim_ends, generator_of, is_step, steps_of};
 
 use adjoint_rules::Problem;
-use traced_rows::{CertRow, Certificate};
 use nc_polynomial::Poly;
 use quiver::{Quiver, Sig};
+use traced_rows::{CertRow, Certificate};
 use word_core::{Object, Word};
 
 // The object from which the word leads to the target; none where its letters don't fit.

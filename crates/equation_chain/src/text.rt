@@ -9,12 +9,12 @@ ghost use Rattle.certificate_text.specs.Written.{opening_text};
 ghost use Rattle.equation_chain.specs.Spelled.{AreTexts, word_by, term_by, first_by, later_by, poly_by, line_by, use_by};
 
 use block_text::{put, put_integer, put_number, write_word};
-use traced_rows::CertRow;
 use lists::Listing;
 use nc_polynomial::Poly;
 use quiver::Quiver;
 use std::alloc::{AllocError, Global};
 use std::marker::Model;
+use traced_rows::CertRow;
 use word_core::{Letter, Word};
 
 /// The texts of the letters of a quiver.
