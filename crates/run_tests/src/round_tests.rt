@@ -4,6 +4,7 @@ ghost use Rattle.in_order_parallel.specs.Limits.{worker_limit};
 ghost use Rattle.traced_completion.specs.Completions.{IsBudget, IsCompletionOf};
 
 use adjoint_rules::Problem;
+use ambiguities::Kind;
 use cofactor_trace::{Cause, Halt, Made, Place};
 use in_order_parallel::OpenGate;
 use nc_polynomial::Poly;
@@ -219,6 +220,13 @@ fn write_step(text: &mut String, quiver: &Quiver, step: &Step) -> Result<(), All
     }
 }
 
+fn kind_name(kind: Kind) -> &'static str {
+    match kind {
+        Kind::Overlap => "Overlap",
+        Kind::Inclusion => "Inclusion",
+    }
+}
+
 // Writes the numbers of rules and of pending ambiguities, and the first of these with its word.
 fn write_state(
     text: &mut String,
@@ -234,8 +242,11 @@ fn write_state(
     let (which, word) = completion.pending_at(0);
     write!(
         text,
-        " first {} {} {:?} {}",
-        which.i, which.j, which.kind, which.place
+        " first {} {} {} {}",
+        which.i,
+        which.j,
+        kind_name(which.kind),
+        which.place
     )?;
     write_word(text, quiver, word)
 }
