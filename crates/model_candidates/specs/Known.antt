@@ -14,7 +14,8 @@ numbers_in k = unknown_numbers (solved_flags (quiver_in k.given) k.given.shape.n
 abbrev pub AreZeros : List Bool → List ℕ → Type 0
 AreZeros flags values = values ≡ filled flags values (unit_values (set_count flags) (set_count flags))
 
--- The values are ones of the shape, with 0 for each entry that is solved for, the numbers are those of its letters, and the coefficients those of the assumptions.
+-- The values are ones of the shape, with 0 for each entry that is solved for, the numbers are those of its letters,
+-- and the coefficients those of the assumptions.
 pub record IsKnown (k : Known) : Type 0 where
   pub given : AreTabled k.given
   pub zeros : AreZeros (solved_flags (quiver_in k.given) k.given.shape.now k.given.problem.now.parts.solved) k.given.values.now
