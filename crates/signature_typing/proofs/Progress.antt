@@ -1,10 +1,8 @@
 -- How far the lists of a stage are, before an element of a list.
-use Rattle.std.proofs.Common.{◌≡◌, ℕ, ◌+◌, ◌<◌, ◌≤◌, List, [], ◌∷◌, ◌++◌, length, get_or, take, Option, None, refl, sym, ◌∙◌, ap, append_assoc}
+use Rattle.std.proofs.Common.{◌≡◌, ℕ, ◌+◌, ◌<◌, ◌≤◌, List, [], ◌∷◌, ◌++◌, map, length, get_or, take, Option, None, refl, sym, ◌∙◌, ap, append_assoc}
 use Rattle.std.specs.List.{flat_map}
 use Rattle.std.proofs.lemmas.List.{take_all, map-append}
 use Rattle.std.proofs.lemmas.List.Concat.{flat_map-append}
-use Rattle.nc_polynomial.specs.declared.poly.Poly.{Poly}
-use Rattle.adjoint_rules.specs.Problem.{polynomials}
 use Rattle.statement_names.proofs.Items.{flat_next}
 use Rattle.signature_typing.specs.First.{first_among}
 use Rattle.signature_typing.proofs.FirstFound.{first_among_none_more}
@@ -45,6 +43,6 @@ one_more_statement assumed claimed wrong xs i assumptions claims more_assumption
   claimed_so_far = one_more claimed wrong xs i [] claims more_claims x lt is more_claimed here so_far.claimed_so_far;
 }
 
--- one more polynomial
-pub polynomials_push : (ps : List Poly) (p : Poly) → polynomials (ps ++ p ∷ []) ≡ polynomials ps ++ p.terms ∷ []
-polynomials_push ps p = map-append (λ r. r.terms) ps (p ∷ [])
+-- what is said of one more
+pub said_push : {V X : Type 0} (said : V → X) (vs : List V) (v : V) → map said (vs ++ v ∷ []) ≡ map said vs ++ said v ∷ []
+said_push said vs v = map-append said vs (v ∷ [])

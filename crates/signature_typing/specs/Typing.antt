@@ -3,7 +3,7 @@ use Rattle.std.specs.Prelude.{◌≡◌, List, [], ◌∷◌, ◌++◌, Option, 
 use Rattle.std.specs.List.{flat_map}
 use Rattle.std.specs.Option.{option_or, option_map}
 use Rattle.definitions.specs.Poly.{Poly}
-use Rattle.signature_typing.specs.Types.{PolyFault, Sig, Spot, Statement, Equation, SignatureFault, Parts, Problem, TypeFault}
+use Rattle.signature_typing.specs.Types.{PolyFault, Sig, Spot, Sum, Statement, Equation, SignatureFault, Parts, Problem, TypeFault}
 use Rattle.quiver.specs.Declarations.{Declaration}
 use Rattle.statement_names.specs.Faults.{name_fault_of}
 use Rattle.statement_names.specs.Numbered.{declarations_of}
@@ -19,6 +19,9 @@ use Rattle.signature_typing.specs.First.{first_among}
 use Rattle.signature_typing.specs.Fault.{told_name, told_signature, told_polynomial, no_claim}
 
 -- equations
+abbrev pub equation : Sum → Sum → Equation
+equation left right = record { left = left; right = right }
+
 abbrev pub signature_in : List Declaration → Equation → Result Sig SignatureFault
 signature_in ds e = equation_signature ds e.left e.right
 
@@ -34,13 +37,6 @@ abbrev pub value_in : {A E : Type 0} → Result A E → List A
 value_in (Ok x) = x ∷ []
 value_in (Err e) = []
 
--- the signatures of equations, and their polynomials
-abbrev pub signatures_of : List Declaration → List Equation → List Sig
-signatures_of ds es = flat_map (λ e. value_in (signature_in ds e)) es
-
-abbrev pub polynomials_of : List Declaration → List Equation → List Poly
-polynomials_of ds es = flat_map (λ e. value_in (polynomial_in ds e)) es
-
 -- what a statement assumes and claims
 abbrev pub equations_in : List Declaration → Statement → List Equation
 equations_in ds s = equations_of ds s ++ claims_in s.kind
@@ -52,12 +48,36 @@ signature_fault ds e = fault_in (told_signature ds) (signature_in ds e)
 abbrev pub polynomial_fault : List Declaration → Spot → Equation → Option TypeFault
 polynomial_fault ds at e = fault_in (told_polynomial at) (polynomial_in ds e)
 
--- the first of a statement
+-- What is made of equations: the values, and the fault, where the statement begins at a place.
+pub record Made (V : Type 0) : Type 0 where
+  pub values : List Declaration → Equation → List V
+  pub fault : List Declaration → Spot → Equation → Option TypeFault
+
+abbrev pub made_of : {V : Type 0} → Made V → List Declaration → List Equation → List V
+made_of made ds es = flat_map (made.values ds) es
+
+-- the first fault of a statement
+abbrev pub wrong_in : {V : Type 0} → Made V → List Declaration → Statement → Option TypeFault
+wrong_in made ds s = first_among (made.fault ds s.at) (equations_in ds s)
+
+-- signatures, and polynomials
+abbrev pub signature_stage : Made Sig
+signature_stage = record { values = λ ds e. value_in (signature_in ds e); fault = λ ds at e. signature_fault ds e }
+
+abbrev pub polynomial_stage : Made Poly
+polynomial_stage = record { values = λ ds e. value_in (polynomial_in ds e); fault = polynomial_fault }
+
+abbrev pub signatures_of : List Declaration → List Equation → List Sig
+signatures_of = made_of signature_stage
+
+abbrev pub polynomials_of : List Declaration → List Equation → List Poly
+polynomials_of = made_of polynomial_stage
+
 abbrev pub wrong_signature : List Declaration → Statement → Option TypeFault
-wrong_signature ds s = first_among (signature_fault ds) (equations_in ds s)
+wrong_signature = wrong_in signature_stage
 
 abbrev pub wrong_polynomial : List Declaration → Statement → Option TypeFault
-wrong_polynomial ds s = first_among (polynomial_fault ds s.at) (equations_in ds s)
+wrong_polynomial = wrong_in polynomial_stage
 
 -- no claim is made
 abbrev pub wrong_claims : List Equation → Option TypeFault

@@ -5,6 +5,7 @@ mod fault;
 mod laws;
 mod polynomials;
 mod signatures;
+mod stage;
 mod stages;
 
 pub use fault::TypeFault;

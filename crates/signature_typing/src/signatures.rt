@@ -1,33 +1,20 @@
-//! The signatures of the assumptions and the claims of a file.
+//! The stage of signatures: the signature of each equation.
 
-ghost use Rattle.std.specs.Prelude.{◌≡◌, ◌++◌, None, Ok, IfOk, IfErr, OnOk};
-ghost use Rattle.std.specs.List.{All};
-ghost use Rattle.abbreviations.specs.Written.{equations_of, assumptions_of, claims_in, claims_of};
-ghost use Rattle.statement_names.specs.Ready.{HasNames};
-ghost use Rattle.expression_names.specs.Names.{AreNames};
-ghost use Rattle.expressions.specs.Signatures.{equation_signature};
+ghost use Rattle.std.specs.Prelude.{◌≡◌, IfOk};
 ghost use Rattle.adjoint_rules.specs.Problem.{HasObjects};
-ghost use Rattle.signature_typing.specs.First.{first_among};
-ghost use Rattle.signature_typing.specs.Fault.{Explains, end_names, misfit_at, told_signature};
-ghost use Rattle.signature_typing.specs.Typing.{fault_in, equations_in, signature_fault, signatures_of, wrong_signature};
-ghost use Rattle.signature_typing.specs.Named.{AreNamed, HasFaultObjects};
+ghost use Rattle.signature_typing.specs.Fault.{end_names, misfit_at, told_signature};
+ghost use Rattle.signature_typing.specs.Typing.{signature_stage};
+ghost use Rattle.signature_typing.specs.Named.{HasFaultObjects};
 
 use crate::TypeFault;
 use crate::fault::fault_at;
-use abbreviations::{Equation, abbreviation};
+use crate::stage::Stage;
 use expressions::{SignatureFault, equation_signature};
-use lists::{Listing, Text};
+use lists::Text;
 use quiver::{Quiver, Sig};
-use statement_syntax::{Statement, StatementKind, Sum};
+use statement_syntax::Sum;
 use statement_tokens::Spot;
 use std::alloc::{AllocError, Global};
-
-/// The signatures of the assumptions and of the claims.
-#[derive(Drop)]
-pub(crate) struct Signatures {
-    pub assumptions: Listing<Sig>,
-    pub claims: Listing<Sig>,
-}
 
 // The names of the source and the target.
 fn end_names(alloc: Global, quiver: &Quiver, signature: Sig) -> Result<(Text, Text), AllocError>
@@ -81,88 +68,30 @@ fn signature_fault(
     }
 }
 
-fn signature_of(alloc: Global, quiver: &Quiver, left: &Sum, right: &Sum) -> Result<Sig, TypeFault>
-    requires left_names { AreNames quiver.now left.now }
-    requires right_names { AreNames quiver.now right.now }
-    ensures ok { IfOk result (λ signature. equation_signature quiver.now left.now right.now ≡ Ok signature) }
-    ensures err { IfErr result (Explains (fault_in (told_signature quiver.now) (equation_signature quiver.now left.now right.now))) }
-{
-    let _declared = quiver.objects();
-    match equation_signature(quiver, left, right) {
-        Ok(signature) => Ok(signature),
-        Err(fault) => Err(signature_fault(alloc, quiver, fault)?),
-    }
-}
+/// The signatures of equations.
+pub(crate) struct Signatures;
 
-// Adds the signatures of the equations.
-fn push_equations(
-    alloc: Global,
-    quiver: &Quiver,
-    signatures: &mut Listing<Sig>,
-    equations: &[Equation],
-) -> Result<(), TypeFault>
-    requires { All (HasNames quiver.now) equations.now }
-    ensures ok { OnOk result (signatures.new ≡ signatures.old ++ signatures_of quiver.now equations.now) }
-    ensures fits { OnOk result (first_among (signature_fault quiver.now) equations.now ≡ None) }
-    ensures err { IfErr result (Explains (first_among (signature_fault quiver.now) equations.now)) }
-{
-    for equation in equations {
-        let signature = signature_of(alloc, quiver, &equation.left, &equation.right)?;
-        signatures.push(signature)?;
-    }
-    Ok(())
-}
+impl Stage for Signatures {
+    type Value = Sig;
 
-impl Signatures {
-    // Adds those of the statement.
-    fn push_statement(
-        &mut self,
+    type Said = Sig;
+
+    ghost made = { λ _. signature_stage };
+
+    ghost said = { λ _ signature. signature };
+
+    fn value_of(
+        &self,
         alloc: Global,
         quiver: &Quiver,
-        statement: &Statement,
-    ) -> Result<(), TypeFault>
-        requires { All (HasNames quiver.now) (equations_in quiver.now statement.now) }
-        ensures assumptions { OnOk result (self.new.assumptions ≡ self.old.assumptions ++ signatures_of quiver.now (equations_of quiver.now statement.now)) }
-        ensures claims { OnOk result (self.new.claims ≡ self.old.claims ++ signatures_of quiver.now (claims_in statement.now.kind)) }
-        ensures fits { OnOk result (wrong_signature quiver.now statement.now ≡ None) }
-        ensures err { IfErr result (Explains (wrong_signature quiver.now statement.now)) }
-    {
-        match &statement.kind {
-            StatementKind::Assume(left, right) => {
-                let signature = signature_of(alloc, quiver, left, right)?;
-                self.assumptions.push(signature)?;
-            }
-            StatementKind::Claim(left, right) => {
-                let signature = signature_of(alloc, quiver, left, right)?;
-                self.claims.push(signature)?;
-            }
-            _ => {
-                let equations = abbreviation(alloc, quiver, statement)?;
-                push_equations(alloc, quiver, &mut self.assumptions, equations.as_slice())?;
-            }
+        _at: Spot,
+        left: &Sum,
+        right: &Sum,
+    ) -> Result<Sig, TypeFault> {
+        let _declared = quiver.objects();
+        match equation_signature(quiver, left, right) {
+            Ok(signature) => Ok(signature),
+            Err(fault) => Err(signature_fault(alloc, quiver, fault)?),
         }
-        Ok(())
     }
-}
-
-/// The signatures of the equations of a file, or the first fault of one.
-pub(crate) fn signatures_of(
-    alloc: Global,
-    quiver: &Quiver,
-    statements: &[Statement],
-) -> Result<Signatures, TypeFault>
-    requires { AreNamed quiver.now statements.now }
-    ensures assumptions { IfOk result (λ all. all.assumptions ≡ signatures_of quiver.now (assumptions_of quiver.now statements.now)) }
-    ensures claims { IfOk result (λ all. all.claims ≡ signatures_of quiver.now (claims_of statements.now)) }
-    ensures fits { IfOk result (λ all. first_among (wrong_signature quiver.now) statements.now ≡ None) }
-    ensures err { IfErr result (Explains (first_among (wrong_signature quiver.now) statements.now)) }
-{
-    let mut signatures = Signatures {
-        assumptions: Listing::new(alloc),
-        claims: Listing::new(alloc),
-    };
-    for statement in statements {
-        signatures.push_statement(alloc, quiver, statement)?;
-    }
-    Ok(signatures)
 }

@@ -11,10 +11,12 @@ ghost use Rattle.signature_typing.specs.Typing.{wrong_claims, wrong_polynomial, 
 
 use crate::TypeFault;
 use crate::fault::no_claim;
-use crate::polynomials::{Polynomials, polynomials_of};
-use crate::signatures::{Signatures, signatures_of};
+use crate::polynomials::Polynomials;
+use crate::signatures::Signatures;
+use crate::stage::{Stated, all_stated};
 use adjoint_rules::{Parts, Problem, close_problem};
-use quiver::Quiver;
+use nc_polynomial::Poly;
+use quiver::{Quiver, Sig};
 use statement_names::read_names;
 use statement_syntax::{Statement, Tree};
 use std::alloc::Global;
@@ -62,7 +64,7 @@ fn typed(
     alloc: Global,
     quiver: &Quiver,
     statements: &[Statement],
-) -> Result<(Signatures, Polynomials), TypeFault>
+) -> Result<(Stated<Sig>, Stated<Poly>), TypeFault>
     requires { AreNamed quiver.now statements.now }
     ensures signatures { IfOk result (λ both. both.0.assumptions ≡ signatures_of quiver.now (assumptions_of quiver.now statements.now)) }
     ensures claim_signatures { IfOk result (λ both. both.0.claims ≡ signatures_of quiver.now (claims_of statements.now)) }
@@ -73,8 +75,8 @@ fn typed(
     ensures some { OnOk result (wrong_claims (claims_of statements.now) ≡ None) }
     ensures refused { IfErr result (Explains (equation_fault quiver.now statements.now)) }
 {
-    let signatures = signatures_of(alloc, quiver, statements)?;
-    let polynomials = polynomials_of(alloc, quiver, statements)?;
+    let signatures = all_stated(alloc, &Signatures, quiver, statements)?;
+    let polynomials = all_stated(alloc, &Polynomials, quiver, statements)?;
     if polynomials.claims.len() == 0 {
         return Err(no_claim());
     }

@@ -1,4 +1,4 @@
-use Rattle.std.proofs.Common.{◌≡◌, Some, length, sym, ◌∙◌}
+use Rattle.std.proofs.Common.{◌≡◌, Some, length, sym, ◌∙◌, map-id}
 use Rattle.abbreviations.specs.Written.{claims_of}
 use Rattle.signature_typing.specs.Typing.{equation_fault}
 use Rattle.signature_typing.specs.Fault.{no_claim}
@@ -20,3 +20,9 @@ returns-clause-some c =
     let statements = c.args.statements.now in
     let count = claim_count c.args.quiver.now statements c.in_ok-signatures.ensures.fits c.in_ok-polynomials.ensures.fits c.in_ok-polynomials.polynomials.claims c.in_ok-polynomials.ensures.claims in
     some_claims (claims_of statements) (λ none. c.if-len-eq0.false (c.len.ensures ∙ count ∙ none))
+
+pub returns-clause-signatures : goal.returns-clause-signatures
+returns-clause-signatures c = sym (map-id c.in_ok-signatures.signatures.assumptions) ∙ c.in_ok-signatures.ensures.assumptions
+
+pub returns-clause-claim_signatures : goal.returns-clause-claim_signatures
+returns-clause-claim_signatures c = sym (map-id c.in_ok-signatures.signatures.claims) ∙ c.in_ok-signatures.ensures.claims
