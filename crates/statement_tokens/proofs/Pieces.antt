@@ -17,11 +17,11 @@ use Rattle.statement_tokens.specs.Language.{language_of}
 use Rattle.statement_tokens.specs.Pieces.{Piece, line_feed, return_and_line_feed, blank, tab, comment, name, literal, sign, piece_text, is_piece, IsLongest}
 use Rattle.statement_tokens.specs.Pieces.{BeginsNone, starts_name, is_digit, is_inside_line}
 use Rattle.statement_tokens.specs.Tokens.{behind, tokens_with, past_behind, sign_fault, fault_of, value_from, right_of}
-use Rattle.statement_tokens.specs.Items.{item_at, item_in, begins_with}
+use Rattle.statement_tokens.specs.Items.{item_at, item_in, caret_in, begins_with}
 use Rattle.statement_tokens.proofs.Reading.{tokens_from, with_front}
 use Rattle.statement_tokens.proofs.Scanning.{turn_fault, turn_gap, turn_token}
 use Rattle.statement_tokens.proofs.EachCharacter.{EachIs-take_while, all_are, front_passes}
-use Rattle.statement_tokens.proofs.Rescan.{name_read, sign_back, caret_back, arrow_back, minus_read}
+use Rattle.statement_tokens.proofs.Rescan.{name_read, sign_back, caret_read, arrow_back, minus_read}
 use Rattle.statement_tokens.proofs.Literals.{literal_read}
 use Rattle.statement_tokens.proofs.Longest.{begins_two, no_test}
 
@@ -60,6 +60,11 @@ pub front_none : (r : Read) → with_front [] r ≡ r
 front_none (Ok ts) = refl
 front_none (Err e) = refl
 
+-- what is read, but for a fault at the place
+abbrev pub outcome : Spot → Read → Option ScanFault → Read
+outcome at read None = read
+outcome at read (Some f) = Err (record { fault = f; at = at })
+
 -- a turn that reads a piece of these characters
 module _ (before : List Token) (c : ℕ) (cs later : List ℕ) (at : Spot) (past : ℕ) where
   abbrev there : Spot
@@ -79,94 +84,54 @@ module _ (before : List Token) (c : ℕ) (cs later : List ℕ) (at : Spot) (past
       turn_token before c (cs ++ later) later (length cs) (length (c ∷ cs)) (omega (arith, length-append cs later)) (sym (drop_at cs later (length cs) refl))
       (omega arith) at past k is
 
-kept : (b : Bool) (f : ScanFault) → (let o : Option ScanFault = (if b then None else Some f) in o) ≡ None → b ≡ true
-kept true f is = refl
-kept false f is = absurd cc
+  -- a token that a test lets through
+  tested : (k : TokenKind) (f : ScanFault) (b : Bool) → item_at before c (cs ++ later) ≡ (if b then Ok (item.Token k (length cs)) else Err f)
+      → tokens_from before (c ∷ (cs ++ later)) 0 at past ≡ outcome at
+      (with_front (record { at = at; kind = k } ∷ []) (tokens_from (before ++ record { at = at; kind = k } ∷ []) later 0 there (at.column + length (c ∷ cs))))
+      (if b then None else Some f)
+  tested k f true is = token k is
+  tested k f false is = turn_fault before c (cs ++ later) at past f is
 
-lost : (b : Bool) (f g : ScanFault) → (let o : Option ScanFault = (if b then None else Some f) in o) ≡ Some g → (b ≡ false) × (f ≡ g)
-lost true f g is = absurd cc
-lost false f g is = (refl, cc)
-
-abbrev ReadsPiece : List Token → Piece → List ℕ → Spot → ℕ → Type 0
-ReadsPiece before piece later at past =
-    tokens_from before (piece_text piece ++ later) 0 at past
-    ≡ with_front (tokens_with piece at past) (tokens_from (before ++ tokens_with piece at past) later 0 (behind piece at) (past_behind piece at past))
+abbrev ReadsPiece : List Token → Piece → List ℕ → Spot → ℕ → Option ScanFault → Type 0
+ReadsPiece before piece later at past fault =
+    tokens_from before (piece_text piece ++ later) 0 at past ≡ outcome at
+    (with_front (tokens_with piece at past) (tokens_from (before ++ tokens_with piece at past) later 0 (behind piece at) (past_behind piece at past))) fault
 
 reads_sign : (before : List Token) (k : TokenKind) (later : List ℕ) (at : Spot) (past : ℕ) → IsLongest (sign k) later
-    → sign_fault k (language_of before) ≡ None → ReadsPiece before (sign k) later at past
-reads_sign before (kind.Name text) later at past is good = let none = is.is in absurd cc
-reads_sign before (kind.Literal value) later at past is good = let none = is.is in absurd cc
-reads_sign before kind.End later at past is good = let none = is.is in absurd cc
-reads_sign before kind.Arrow later at past is good = token before 45 (62 ∷ []) later at past kind.Arrow (arrow_back before later)
-reads_sign before kind.Minus later at past is good = token before 45 [] later at past kind.Minus (minus_read before later (no_arrow later is))
-reads_sign before kind.Caret later at past is good = token before 94 [] later at past kind.Caret (caret_back before later (second (language_of before) good))
+    → ReadsPiece before (sign k) later at past (sign_fault k (language_of before))
+reads_sign before (kind.Name text) later at past is = let none = is.is in absurd cc
+reads_sign before (kind.Literal value) later at past is = let none = is.is in absurd cc
+reads_sign before kind.End later at past is = let none = is.is in absurd cc
+reads_sign before kind.Arrow later at past is = token before 45 (62 ∷ []) later at past kind.Arrow (arrow_back before later)
+reads_sign before kind.Minus later at past is = token before 45 [] later at past kind.Minus (minus_read before later (no_arrow later is))
+reads_sign before kind.Caret later at past is = by (language_of before) (caret_read before later)
   where
-    second : (l : Language) → sign_fault kind.Caret l ≡ None → l ≡ Second
-    second First good = absurd cc
-    second Second good = refl
-reads_sign before k later at past is good = token before _ [] later at past k (sign_back before later k refl)
+    by : (l : Language) → item_at before 94 later ≡ caret_in l → ReadsPiece before (sign kind.Caret) later at past (sign_fault kind.Caret l)
+    by First read = turn_fault before 94 later at past BadToken read
+    by Second read = token before 94 [] later at past kind.Caret read
+reads_sign before k later at past is = token before _ [] later at past k (sign_back before later k refl)
 
 pub reads_piece : (before : List Token) (piece : Piece) (later : List ℕ) (at : Spot) (past : ℕ) → IsLongest piece later
-    → fault_of (language_of before) piece ≡ None → ReadsPiece before piece later at past
+    → ReadsPiece before piece later at past (fault_of (language_of before) piece)
 unfolding tokens_from item_in
-reads_piece before line_feed later at past is good = refl
-reads_piece before return_and_line_feed later at past is good = refl
-reads_piece before blank later at past is good = gap before 32 [] later at past refl
-reads_piece before tab later at past is good = gap before 9 [] later at past refl
-reads_piece before (comment cs) later at past is good =
+reads_piece before line_feed later at past is = refl
+reads_piece before return_and_line_feed later at past is = refl
+reads_piece before blank later at past is = gap before 32 [] later at past refl
+reads_piece before tab later at past is = gap before 9 [] later at past refl
+reads_piece before (comment cs) later at past is =
     gap before 35 cs later at past (ap (λ n. Ok (item.Gap n)) (run_ends is_inside_line comment 35 cs later (λ xs. refl) (λ xs all. all) is.is is))
-reads_piece before (name []) later at past is good = let none = is.is in absurd cc
-reads_piece before (name (c ∷ cs)) later at past is good =
+reads_piece before (name []) later at past is = let none = is.is in absurd cc
+reads_piece before (name (c ∷ cs)) later at past is =
     let ends = name_ends c cs later is in
-    let text = encode_utf8_all (c ∷ cs) in
-    token before c cs later at past (kind.Name text)
-    (name_read before c cs later ends.0 ends.1
-    ∙ ap (λ b. if b then Ok (item.Token (kind.Name text) (length cs)) else Err BadToken) (kept (nat_le (length text) name_limit) BadToken good))
-reads_piece before (literal []) later at past is good = let none = is.is in absurd cc
-reads_piece before (literal (c ∷ cs)) later at past is good =
+    tested before c cs later at past (kind.Name (encode_utf8_all (c ∷ cs))) BadToken _ (name_read before c cs later ends.0 ends.1)
+reads_piece before (literal []) later at past is = let none = is.is in absurd cc
+reads_piece before (literal (c ∷ cs)) later at past is =
     let ends = literal_ends c cs later is in
-    let value = value_from 0 (c ∷ cs) in
-    token before c cs later at past (kind.Literal (pos value))
-    (literal_read before c cs later ends.0 ends.1
-    ∙ ap (λ b. if b then Ok (item.Token (kind.Literal (pos value)) (length cs)) else Err LiteralTooLarge) (kept (nat_lt value (2 ^ 127)) LiteralTooLarge good))
-reads_piece before (sign k) later at past is good = reads_sign before k later at past is good
+    tested before c cs later at past (kind.Literal (pos (value_from 0 (c ∷ cs)))) LiteralTooLarge _ (literal_read before c cs later ends.0 ends.1)
+reads_piece before (sign k) later at past is = reads_sign before k later at past is
 
-abbrev Stops : List Token → List ℕ → Spot → ℕ → ScanFault → Type 0
-Stops before text at past f = tokens_from before text 0 at past ≡ Err (record { fault = f; at = at })
-
-stops_sign : (before : List Token) (k : TokenKind) (later : List ℕ) (at : Spot) (past : ℕ) (f : ScanFault) (l : Language) → language_of before ≡ l
-    → sign_fault k l ≡ Some f
-    → Stops before (piece_text (sign k) ++ later) at past f
-unfolding item_in
-stops_sign before kind.Caret later at past f First first is =
-    let bad : BadToken ≡ f = cc in
-    turn_fault before 94 later at past f (rw (is_xid_start-ascii 94 (omega arith), first) (ap (λ x. Err x) bad))
-stops_sign before kind.Caret later at past f Second second is = absurd cc
-stops_sign before k later at past f l same is = absurd cc
-
-pub stops_piece : (before : List Token) (piece : Piece) (later : List ℕ) (at : Spot) (past : ℕ) (f : ScanFault) → IsLongest piece later
-    → fault_of (language_of before) piece ≡ Some f
-    → Stops before (piece_text piece ++ later) at past f
-stops_piece before (name []) later at past f is faulty = let none = is.is in absurd cc
-stops_piece before (name (c ∷ cs)) later at past f is faulty =
-    let ends = name_ends c cs later is in
-    let text = encode_utf8_all (c ∷ cs) in
-    let lacks = lost (nat_le (length text) name_limit) BadToken f faulty in
-    turn_fault before c (cs ++ later) at past f
-    (name_read before c cs later ends.0 ends.1
-    ∙ ap (λ b. if b then Ok (item.Token (kind.Name text) (length cs)) else Err BadToken) lacks.0 ∙ ap (λ x. Err x) lacks.1)
-stops_piece before (literal []) later at past f is faulty = let none = is.is in absurd cc
-stops_piece before (literal (c ∷ cs)) later at past f is faulty =
-    let ends = literal_ends c cs later is in
-    let value = value_from 0 (c ∷ cs) in
-    let lacks = lost (nat_lt value (2 ^ 127)) LiteralTooLarge f faulty in
-    turn_fault before c (cs ++ later) at past f
-    (literal_read before c cs later ends.0 ends.1
-    ∙ ap (λ b. if b then Ok (item.Token (kind.Literal (pos value)) (length cs)) else Err LiteralTooLarge) lacks.0 ∙ ap (λ x. Err x) lacks.1)
-stops_piece before (sign k) later at past f is faulty = stops_sign before k later at past f (language_of before) refl faulty
-stops_piece before piece later at past f is faulty = absurd cc
-
-pub stops_none : (before : List Token) (c : ℕ) (rest : List ℕ) (at : Spot) (past : ℕ) → BeginsNone (c ∷ rest) → Stops before (c ∷ rest) at past BadToken
+pub stops_none : (before : List Token) (c : ℕ) (rest : List ℕ) (at : Spot) (past : ℕ) → BeginsNone (c ∷ rest)
+    → tokens_from before (c ∷ rest) 0 at past ≡ Err (record { fault = BadToken; at = at })
 unfolding item_in
 stops_none before c rest at past none =
     let lacks = no_test c rest none in

@@ -1,5 +1,6 @@
 -- A token's text is read as that token, where what follows it begins no longer one.
-use Rattle.std.proofs.Common.{◌≡◌, ℕ, ◌+◌, ◌<◌, ◌==◌, ◌||◌, eqb, get_or, Bool, true, false, cond, List, [], ◌∷◌, ◌++◌, length, Ok, refl, sym, ap, subst, ◌∙◌, length-append, arith, ◌⊎◌, inl, inr}
+use Rattle.std.proofs.Common.{◌≡◌, ℕ, ◌+◌, ◌<◌, ◌==◌, ◌||◌, eqb, get_or, Bool, true, false, List}
+use Rattle.std.proofs.Common.{cond, [], ◌∷◌, ◌++◌, length, Ok, refl, sym, ap, subst, ◌∙◌, length-append, arith, ◌⊎◌, inl, inr}
 use Rattle.std.specs.List.{prefix_len}
 use Rattle.std.specs.Str.{encode_utf8_all}
 use Rattle.std.proofs.lemmas.List.{drop_at, take_at}
@@ -9,7 +10,7 @@ use Rattle.unicode_ident.proofs.IdentLemmas.{is_xid_start-ascii, is_xid_continue
 use Rattle.statement_tokens.specs.Types.{Token, TokenKind, TokenKind as kind, Item as item, Second}
 use Rattle.statement_tokens.specs.Language.{language_of}
 use Rattle.statement_tokens.specs.Pieces.{starts_name, is_digit, sign_text}
-use Rattle.statement_tokens.specs.Items.{item_at, item_in, begins_with, name_of}
+use Rattle.statement_tokens.specs.Items.{item_at, item_in, begins_with, name_of, caret_in}
 use Rattle.statement_tokens.proofs.Reading.{◌>>=◌, tokens_from, with_front}
 use Rattle.statement_tokens.proofs.Scanning.{spot, turn_token}
 use Rattle.statement_tokens.proofs.EachCharacter.{EachIs, differs}
@@ -142,9 +143,12 @@ module _ (before : List Token) (rest : List ℕ) where
   quote_back = sign_back kind.Quote refl
 
 -- a caret is read where the tokens before it are of the second language
-pub caret_back : (before : List Token) (rest : List ℕ) → language_of before ≡ Second → item_at before 94 rest ≡ Ok (item.Token kind.Caret 0)
+pub caret_read : (before : List Token) (rest : List ℕ) → item_at before 94 rest ≡ caret_in (language_of before)
 unfolding item_in
-caret_back before rest given = rw (is_xid_start-ascii 94 (omega arith), given) refl
+caret_read before rest = rw (is_xid_start-ascii 94 (omega arith)) refl
+
+pub caret_back : (before : List Token) (rest : List ℕ) → language_of before ≡ Second → item_at before 94 rest ≡ Ok (item.Token kind.Caret 0)
+caret_back before rest given = caret_read before rest ∙ ap caret_in given
 
 pub arrow_back : (before : List Token) (rest : List ℕ) → item_at before 45 (62 ∷ rest) ≡ Ok (item.Token kind.Arrow 1)
 unfolding item_in

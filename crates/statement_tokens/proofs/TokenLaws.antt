@@ -13,7 +13,7 @@ use Rattle.statement_tokens.specs.Laws.{HasTokensOrFault, EachTextHasTokensOrFau
 use Rattle.statement_tokens.specs.Scanned.{TellsBehind, Tells, Leaves, Hands, with_front}
 use Rattle.statement_tokens.proofs.Reading.{tokens_from, tokens_of, unread, HandsRead}
 use Rattle.statement_tokens.proofs.Longest.{Longest, begins_with_longest}
-use Rattle.statement_tokens.proofs.Pieces.{Read, front_none, reads_piece, stops_piece, stops_none}
+use Rattle.statement_tokens.proofs.Pieces.{Read, front_none, outcome, reads_piece, stops_none}
 
 abbrev start : Spot
 start = record { line = 1; column = 1 }
@@ -64,7 +64,8 @@ reads before more (piece ∷ pieces) rest at past good =
     let one : before ++ ((here ++ later) ++ more) ≡ (before ++ here) ++ (later ++ more) = simp append_assoc in
     let same = subst (λ ts. AreGood (language_of ts) (piece ∷ pieces) rest) one good in
     ap (λ text. tokens_from before text 0 at past) (append_assoc (piece_text piece) (pieces_text pieces) rest)
-    ∙ reads_piece before piece (pieces_text pieces ++ rest) at past same.0 (sym (same_fault before (later ++ more) piece at past) ∙ same.1)
+    ∙ reads_piece before piece (pieces_text pieces ++ rest) at past same.0
+    ∙ ap (outcome at (with_front here (tokens_from (before ++ here) (pieces_text pieces ++ rest) 0 to end))) (sym (same_fault before (later ++ more) piece at past) ∙ same.1)
     ∙ ap (with_front here) (reads (before ++ here) more pieces rest to end same.2)
     ∙ fronts here later (tokens_from ((before ++ here) ++ later) rest 0 (place_behind pieces to) (past_after pieces to end))
     ∙ ap (λ front. with_front (here ++ later) (tokens_from front rest 0 (place_behind pieces to) (past_after pieces to end))) (append_assoc before here later)
@@ -72,7 +73,7 @@ reads before more (piece ∷ pieces) rest at past good =
 stops_at : (before : List Token) (rest : List ℕ) (at : Spot) (past : ℕ) (f : ScanFault) → Begins (language_of before) rest f
     → tokens_from before rest 0 at past ≡ Err (record { fault = f; at = at })
 stops_at before rest at past f (inl (piece, later, text, is, faulty)) =
-    ap (λ cs. tokens_from before cs 0 at past) text ∙ stops_piece before piece later at past f is faulty
+    ap (λ cs. tokens_from before cs 0 at past) text ∙ reads_piece before piece later at past is ∙ ap (outcome at _) faulty
 stops_at before rest at past f (inr (c, later, text, none, bad)) =
     ap (λ cs. tokens_from before cs 0 at past) text ∙ stops_none before c later at past (subst BeginsNone text none)
     ∙ ap (λ f. Err (record { fault = f; at = at })) (sym bad)
