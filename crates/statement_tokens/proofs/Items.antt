@@ -6,6 +6,8 @@ use Rattle.std.specs.List.{prefix_len, take_while}
 use Rattle.std.specs.Str.{encode_utf8_all}
 use Rattle.unicode_ident.specs.Ident.{is_xid_continue}
 use Rattle.std.proofs.lemmas.Bool.{le-leb}
+use Rattle.std.proofs.lemmas.Result.{IfOk-from_err, IfOk-at_ok}
+use Rattle.std.proofs.lemmas.List.Sums.{prefix_len-le-length}
 use Rattle.statement_tokens.specs.Limits.{name_limit}
 use Rattle.statement_tokens.specs.Types.{TokenKind, TokenKind as kind, Item, Item as item, ItemError, ScanFault, BadToken, LiteralTooLarge, Language, First}
 use Rattle.statement_tokens.specs.Types.{Second}
@@ -46,3 +48,5 @@ sign_short n l c =
     one_sign n (c == 58) kind.Colon _ (one_sign n (c == 61) kind.Equals _ (one_sign n (c == 43) kind.Plus _ (one_sign n (c == 40) kind.Open _
     (one_sign n (c == 41) kind.Close _ (one_sign n (c == 91) kind.OpenSquare _ (one_sign n (c == 93) kind.CloseSquare _ (one_sign n (c == 39) kind.Quote _
     (chosen (λ i. more_of i ≤ n) (c == 94) (caret_in l) (Err BadToken) (caret_short n l) tt))))))))
+
+pub ruleset items_are_short = (given_short, name_short, literal_short, sign_short, prefix_len-le-length, IfOk-from_err, IfOk-at_ok)

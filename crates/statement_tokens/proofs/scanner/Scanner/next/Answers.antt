@@ -1,11 +1,11 @@
-use Rattle.std.proofs.Common.{◌+◌, ◌∷◌, [], Ok, Err, ap, subst, ◌∙◌, append-nil, refl, arith, length, ◌≤◌}
+use Rattle.std.proofs.Common.{◌∷◌, [], Ok, Err, ap, subst, ◌∙◌, append-nil, refl, arith, length, ◌≤◌}
 use Rattle.statement_tokens.specs.Items.{FailsItem, item_in, more_of}
 use Rattle.statement_tokens.specs.Scanned.{most_tokens}
 use Rattle.statement_tokens.specs.Tokens.{below}
 use Rattle.statement_tokens.proofs.Reading.{tokens_from}
 use Rattle.statement_tokens.proofs.TokenLaws.{hands, token_hands, leaves}
 use Rattle.statement_tokens.proofs.Pieces.{front_none}
-use Rattle.statement_tokens.proofs.Scanning.{cut, cut_length, scans_fault, scans_new_line, scans_gap, scans_token, turn_end, none_left, at_most_one, end_lessens}
+use Rattle.statement_tokens.proofs.Scanning.{cut, cut_length, scans_fault, scans_new_line, scans_gap, scans_token, turn_end, none_left, end_lessens}
 use Rattle.statement_tokens.proofs.scanner.Scanner.next.Goals as goal
 
 pub returns-in-Err-Fault-clause-hands : goal.returns-in-Err-Fault-clause-hands
@@ -41,14 +41,6 @@ loop-self-preserved c = record {
       (subst (λ x. more_of x ≤ length (cut 1 c.loop-self.self.text.now)) c.in-Gap.is c.in-Ok.ensures.within) (c.in-Ok.ensures.exact ∙ ap Ok c.in-Gap.is);
   fewer = omega (arith, cut_length 1 c.loop-self.self.text.now, cut_length c.in-Gap.more (cut 1 c.loop-self.self.text.now), c.loop-self.invariant.fewer);
 }
-
-pub returns-in-Some-clause-lessens : goal.returns-in-Some-clause-lessens
-returns-in-Some-clause-lessens c = omega (arith, cut_length 1 c.loop-self.self.text.now, c.loop-self.invariant.fewer)
-
-pub returns-in-Token-clause-lessens : goal.returns-in-Token-clause-lessens
-returns-in-Token-clause-lessens c =
-    let one = at_most_one (c.loop-self.self.at.column + (1 + c.in-Token.more)) in
-    omega (arith, cut_length 1 c.loop-self.self.text.now, cut_length c.in-Token.more (cut 1 c.loop-self.self.text.now), one, c.loop-self.invariant.fewer)
 
 pub returns-in-Token-clause-hands : goal.returns-in-Token-clause-hands
 returns-in-Token-clause-hands c before same =
