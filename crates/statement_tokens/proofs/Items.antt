@@ -5,6 +5,7 @@ use Rattle.std.specs.Result.{IfOk}
 use Rattle.std.specs.List.{prefix_len, take_while}
 use Rattle.std.specs.Str.{encode_utf8_all}
 use Rattle.unicode_ident.specs.Ident.{is_xid_continue}
+use Rattle.std.proofs.lemmas.Grind.{common_steps}
 use Rattle.std.proofs.lemmas.Bool.{le-leb}
 use Rattle.std.proofs.lemmas.Result.{IfOk-from_err, IfOk-at_ok}
 use Rattle.std.proofs.lemmas.List.Sums.{prefix_len-le-length}
@@ -22,31 +23,17 @@ name_read first rest text more count is short =
     let whole : text ≡ encode_utf8_all (first ∷ take_while is_xid_continue rest) = is ∙ ap (λ n. encode_utf8_all (first ∷ take n rest)) count in
     ap₂ name_of (sym whole) (sym count) ∙ name_fits text more short
 
-chosen : {X E : Type 0} (P : X → Type 0) (b : Bool) (first second : Result X E) → IfOk first P → IfOk second P → IfOk (if b then first else second) P
-chosen P true first second here there = here
-chosen P false first second here there = there
-
 pub given_short : (n : ℕ) (r : Result Item ItemError) (read : Result Item ScanFault) → GivesItem r read → IfOk read (λ i. more_of i ≤ n) → IfOk r (λ i. more_of i ≤ n)
 given_short n (Ok i) read gives short = subst (λ x. IfOk x (λ i. more_of i ≤ n)) gives short
 given_short n (Err e) read gives short = tt
 
 pub name_short : (n : ℕ) (text : List ℕ) (more : ℕ) → more ≤ n → IfOk (name_of text more) (λ i. more_of i ≤ n)
-name_short n text more short = chosen (λ i. more_of i ≤ n) (nat_le (length text) name_limit) (Ok (item.Token (kind.Name text) more)) (Err BadToken) short tt
+name_short n text more short = grind (arith, common_steps)
 
 pub literal_short : (n value more : ℕ) → more ≤ n → IfOk (literal_of value more) (λ i. more_of i ≤ n)
-literal_short n value more short = chosen (λ i. more_of i ≤ n) (nat_lt value (2 ^ 127)) (Ok (item.Token (kind.Literal (pos value)) more)) (Err LiteralTooLarge) short tt
-
-one_sign : (n : ℕ) (b : Bool) (k : TokenKind) (other : Result Item ScanFault) → IfOk other (λ i. more_of i ≤ n) → IfOk (if b then Ok (item.Token k 0) else other) (λ i. more_of i ≤ n)
-one_sign n b k other short = chosen (λ i. more_of i ≤ n) b (Ok (item.Token k 0)) other (omega arith) short
-
-caret_short : (n : ℕ) (l : Language) → IfOk (caret_in l) (λ i. more_of i ≤ n)
-caret_short n First = tt
-caret_short n Second = omega arith
+literal_short n value more short = grind (arith, common_steps)
 
 pub sign_short : (n : ℕ) (l : Language) (c : ℕ) → IfOk (sign_in l c) (λ i. more_of i ≤ n)
-sign_short n l c =
-    one_sign n (c == 58) kind.Colon _ (one_sign n (c == 61) kind.Equals _ (one_sign n (c == 43) kind.Plus _ (one_sign n (c == 40) kind.Open _
-    (one_sign n (c == 41) kind.Close _ (one_sign n (c == 91) kind.OpenSquare _ (one_sign n (c == 93) kind.CloseSquare _ (one_sign n (c == 39) kind.Quote _
-    (chosen (λ i. more_of i ≤ n) (c == 94) (caret_in l) (Err BadToken) (caret_short n l) tt))))))))
+sign_short n l c = grind (arith, common_steps)
 
 pub ruleset items_are_short = (given_short, name_short, literal_short, sign_short, prefix_len-le-length, IfOk-from_err, IfOk-at_ok)

@@ -55,7 +55,3 @@ returns-clause-hands c before same =
     let none = none_left c.loop-self.self.text.now c.in_default.len_below in
     hands before c.args.self.now (Ok c.line_end-end-2.result) _
     (turn_end before c.args.self.now c.loop-self.self _ c.line_end-end-2.result (c.loop-self.invariant.same before same) none none refl c.line_end-end-2.ensures)
-
-pub returns-clause-lessens : goal.returns-clause-lessens
-returns-clause-lessens c =
-    end_lessens (most_tokens c.args.self.now) c.loop-self.self c.line_end-end-2.result c.loop-self.invariant.fewer c.line_end-end-2.ensures
