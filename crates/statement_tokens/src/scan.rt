@@ -89,6 +89,7 @@ pub enum Class {
     Comment,
 }
 
+#[tactic(auto, unfolding(crate::specs::Items::is_in))]
 fn is_in(class: Class, ch: char) -> bool
     ensures { result ≡ is_in class ch }
 {

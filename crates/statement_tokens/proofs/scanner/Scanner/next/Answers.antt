@@ -1,11 +1,10 @@
 use Rattle.std.proofs.Common.{◌∷◌, [], Ok, Err, ap, subst, ◌∙◌, append-nil, refl, arith, length, ◌≤◌}
 use Rattle.statement_tokens.specs.Items.{FailsItem, item_in, more_of}
-use Rattle.statement_tokens.specs.Scanned.{most_tokens}
 use Rattle.statement_tokens.specs.Tokens.{below}
 use Rattle.statement_tokens.proofs.Reading.{tokens_from}
 use Rattle.statement_tokens.proofs.TokenLaws.{hands, token_hands, leaves}
 use Rattle.statement_tokens.proofs.Pieces.{front_none}
-use Rattle.statement_tokens.proofs.Scanning.{cut, cut_length, scans_fault, scans_new_line, scans_gap, scans_token, turn_end, none_left, end_lessens}
+use Rattle.statement_tokens.proofs.Scanning.{cut, cut_length, scans_fault, scans_new_line, scans_gap, scans_token, turn_end, none_left}
 use Rattle.statement_tokens.proofs.scanner.Scanner.next.Goals as goal
 
 pub returns-in-Err-Fault-clause-hands : goal.returns-in-Err-Fault-clause-hands
