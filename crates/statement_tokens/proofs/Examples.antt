@@ -1,5 +1,5 @@
 -- Rows of texts with their tokens or their first faults.
-use Rattle.std.proofs.Common.{[], ◌∷◌, refl, arith}
+use Rattle.std.proofs.Common.{[], ◌∷◌, Err, refl, arith}
 use Rattle.std.specs.Prelude.{pos, codes}
 use Rattle.unicode_ident.proofs.IdentLemmas.{is_xid_start-ascii}
 use Rattle.statement_tokens.specs.Types.{TokenKind as kind, BadToken}
@@ -7,7 +7,7 @@ use Rattle.statement_tokens.specs.Tokens.{AreTokens, IsFirstScanFault}
 use Rattle.statement_tokens.specs.Items.{item_in}
 use Rattle.statement_tokens.proofs.Reading.{tokens_from}
 use Rattle.statement_tokens.proofs.Scanning.{spot}
-use Rattle.statement_tokens.proofs.TokenLaws.{are_read, first_read}
+use Rattle.statement_tokens.proofs.TokenLaws.{are_read, tells}
 
 -- no line, no token
 empty : AreTokens [] []
@@ -31,7 +31,7 @@ arrow = are_read _ _ (rw (is_xid_start-ascii 45 (omega arith), is_xid_start-asci
 
 greater : IsFirstScanFault (codes "- >") BadToken (spot 1 3)
 unfolding tokens_from item_in
-greater = first_read _ _ _ (rw (is_xid_start-ascii 45 (omega arith), is_xid_start-ascii 62 (omega arith)) refl)
+greater = tells _ (Err _) (rw (is_xid_start-ascii 45 (omega arith), is_xid_start-ascii 62 (omega arith)) refl)
 
 -- a return is read before the end of a line alone
 returns : AreTokens (codes "(\r\n)") (record { at = spot 1 1; kind = kind.Open } ∷ record { at = spot 1 2; kind = kind.End } ∷ record { at = spot 2 1; kind = kind.Close } ∷ record { at = spot 2 2; kind = kind.End } ∷ [])
@@ -40,9 +40,9 @@ returns = are_read _ _ (rw (is_xid_start-ascii 40 (omega arith), is_xid_start-as
 
 lone_return : IsFirstScanFault (codes "(\r)") BadToken (spot 1 2)
 unfolding tokens_from item_in
-lone_return = first_read _ _ _ (rw (is_xid_start-ascii 40 (omega arith), is_xid_start-ascii 13 (omega arith)) refl)
+lone_return = tells _ (Err _) (rw (is_xid_start-ascii 40 (omega arith), is_xid_start-ascii 13 (omega arith)) refl)
 
 -- a caret is no token where no first line names the second language
 caret : IsFirstScanFault (codes "#^\n1^1") BadToken (spot 2 2)
 unfolding tokens_from item_in
-caret = first_read _ _ _ (rw (is_xid_start-ascii 49 (omega arith), is_xid_start-ascii 94 (omega arith)) refl)
+caret = tells _ (Err _) (rw (is_xid_start-ascii 49 (omega arith), is_xid_start-ascii 94 (omega arith)) refl)

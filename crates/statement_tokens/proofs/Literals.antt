@@ -1,15 +1,16 @@
 -- A written literal is read as its value.
-use Rattle.std.proofs.Common.{◌≡◌, ℕ, ◌+◌, ◌-◌, ◌*◌, ◌%◌, ◌<◌, ◌≤◌, ◌^◌, ◌==◌, Bool, true, false, List, [], ◌∷◌, ◌++◌, length, Ok, refl, ap, ◌∙◌, arith}
+use Rattle.std.proofs.Common.{◌≡◌, ℕ, ◌+◌, ◌-◌, ◌*◌, ◌%◌, ◌<◌, ◌≤◌, ◌^◌, Bool, true, false, List, [], ◌∷◌, ◌++◌, length, Ok, refl, ap, ◌∙◌, arith}
 use Rattle.std.specs.Prelude.{nat_le, pos, decimal}
+use Rattle.std.specs.List.{prefix_len}
 use Rattle.std.proofs.lemmas.Fmt.{decimal_by_steps_wide}
-use Rattle.std.proofs.lemmas.Bool.{le-leb, leb-true, lt-leb, lt-ltb, ne_eqb}
+use Rattle.std.proofs.lemmas.Bool.{and_parts, le-leb, leb-true, lt-leb, lt-ltb}
 use Rattle.std.proofs.lemmas.List.{take_at}
 use Rattle.unicode_ident.proofs.IdentLemmas.{is_xid_start-ascii}
 use Rattle.statement_tokens.specs.Types.{Token, TokenKind as kind, Item as item}
 use Rattle.statement_tokens.specs.Pieces.{is_digit, starts_name}
 use Rattle.statement_tokens.specs.Tokens.{value_from}
 use Rattle.statement_tokens.specs.Items.{item_at, item_in, literal_of}
-use Rattle.statement_tokens.proofs.EachCharacter.{EachIs, and_both}
+use Rattle.statement_tokens.proofs.EachCharacter.{EachIs, differs}
 use Rattle.statement_tokens.proofs.Rescan.{StopsAt, prefix_is}
 
 value_from-append : (k : ℕ) (ds : List ℕ) (d : ℕ) → value_from k (ds ++ d ∷ []) ≡ value_from k ds * 10 + (d - 48)
@@ -42,39 +43,38 @@ decimal_digits n below = decimal_by_steps_wide Digits
     })
     n below
 
--- a digit begins no name and no blank
+-- a digit begins no name
 pub record PlainDigit (c : ℕ) : Type 0 where
-  pub line : (c == 10) ≡ false
-  pub blank : (c == 32) ≡ false
-  pub tab : (c == 9) ≡ false
-  pub return : (c == 13) ≡ false
-  pub comment : (c == 35) ≡ false
   pub name : starts_name c ≡ false
   pub low : c < 128
 
 pub plain_digit : (c : ℕ) → is_digit c ≡ true → PlainDigit c
 plain_digit c known =
-    let parts = and_both (nat_le 48 c) (nat_le c 57) known in
+    let parts = and_parts (nat_le 48 c) (nat_le c 57) known in
     let low : 48 ≤ c = leb-true 48 c parts.0 in
     let high : c ≤ 57 = leb-true c 57 parts.1 in
     record {
-      line = ne_eqb c 10 (λ e. omega (arith, e, low));
-      blank = ne_eqb c 32 (λ e. omega (arith, e, low));
-      tab = ne_eqb c 9 (λ e. omega (arith, e, low));
-      return = ne_eqb c 13 (λ e. omega (arith, e, low));
-      comment = ne_eqb c 35 (λ e. omega (arith, e, low));
-      name = rw (is_xid_start-ascii c (omega (arith, high)), lt-leb 65 c (omega (arith, high)), lt-leb 97 c (omega (arith, high)), ne_eqb c 95 (λ e. omega (arith, e, high))) refl;
-      low = omega (arith, high);
+      name = rw (is_xid_start-ascii c (omega arith), lt-leb 65 c (omega arith), lt-leb 97 c (omega arith), differs is_digit c 95 known refl) refl;
+      low = omega arith;
     }
 
-pub literal_read : (before : List Token) (c : ℕ) (cs rest : List ℕ) → is_digit c ≡ true → EachIs is_digit cs → StopsAt is_digit rest
+pub literal_read : (before : List Token) (c : ℕ) (cs rest : List ℕ) → is_digit c ≡ true → prefix_len is_digit (cs ++ rest) ≡ length cs
     → item_at before c (cs ++ rest) ≡ literal_of (value_from 0 (c ∷ cs)) (length cs)
 unfolding item_in
-literal_read before c cs rest digit each stops =
-    let plain = plain_digit c digit in
-    rw (plain.line, plain.blank, plain.tab, plain.return, plain.comment, plain.name, digit, prefix_is is_digit cs rest each stops)
-    (rw (take_at cs rest (length cs) refl) refl)
+literal_read before c cs rest digit ends =
+    rw (
+      differs is_digit c 10 digit refl,
+      differs is_digit c 32 digit refl,
+      differs is_digit c 9 digit refl,
+      differs is_digit c 13 digit refl,
+      differs is_digit c 35 digit refl,
+      (plain_digit c digit).name,
+      digit,
+      ends,
+      take_at cs rest (length cs) refl,
+    ) refl
 
 pub literal_back : (before : List Token) (n c : ℕ) (cs rest : List ℕ) → n < 2 ^ 127 → value_from 0 (c ∷ cs) ≡ n → is_digit c ≡ true → EachIs is_digit cs
     → StopsAt is_digit rest → item_at before c (cs ++ rest) ≡ Ok (item.Token (kind.Literal (pos n)) (length cs))
-literal_back before n c cs rest below value digit each stops = literal_read before c cs rest digit each stops ∙ rw (value, lt-ltb n (2 ^ 127) below) refl
+literal_back before n c cs rest below value digit each stops =
+    literal_read before c cs rest digit (prefix_is is_digit cs rest each stops) ∙ rw (value, lt-ltb n (2 ^ 127) below) refl

@@ -1,18 +1,19 @@
 -- A token's text is read as that token, where what follows it begins no longer one.
-use Rattle.std.proofs.Common.{◌≡◌, ℕ, ◌+◌, ◌==◌, Bool, true, false, cond, List, [], ◌∷◌, ◌++◌, length, Result, Ok, refl, sym, ap, subst, ◌∙◌, length-append, arith, ◌⊎◌, inl, inr}
+use Rattle.std.proofs.Common.{◌≡◌, ℕ, ◌+◌, ◌<◌, ◌==◌, ◌||◌, eqb, get_or, Bool, true, false, List}
+use Rattle.std.proofs.Common.{cond, [], ◌∷◌, ◌++◌, length, Ok, refl, sym, ap, subst, ◌∙◌, length-append, arith, ◌⊎◌, inl, inr}
 use Rattle.std.specs.List.{prefix_len}
 use Rattle.std.specs.Str.{encode_utf8_all}
 use Rattle.std.proofs.lemmas.List.{drop_at, take_at}
-use Rattle.std.proofs.lemmas.Bool.{eqb-true}
+use Rattle.std.specs.Char.{is_ascii_alphabetic}
 use Rattle.unicode_ident.specs.Ident.{is_xid_continue}
 use Rattle.unicode_ident.proofs.IdentLemmas.{is_xid_start-ascii, is_xid_continue-ascii}
-use Rattle.statement_tokens.specs.Types.{Token, TokenKind, TokenKind as kind, Item as item, Placed, Second}
+use Rattle.statement_tokens.specs.Types.{Token, TokenKind, TokenKind as kind, Item as item, Second}
 use Rattle.statement_tokens.specs.Language.{language_of}
-use Rattle.statement_tokens.specs.Pieces.{starts_name, is_digit}
-use Rattle.statement_tokens.specs.Items.{item_at, item_in, begins_with, name_of}
-use Rattle.statement_tokens.proofs.Reading.{◌>>=◌, tokens_from, placed}
-use Rattle.statement_tokens.proofs.Scanning.{spot, skipped}
-use Rattle.statement_tokens.proofs.EachCharacter.{EachIs}
+use Rattle.statement_tokens.specs.Pieces.{starts_name, is_digit, sign_text}
+use Rattle.statement_tokens.specs.Items.{item_at, item_in, begins_with, name_of, caret_in}
+use Rattle.statement_tokens.proofs.Reading.{◌>>=◌, tokens_from, with_front}
+use Rattle.statement_tokens.proofs.Scanning.{spot, turn_token}
+use Rattle.statement_tokens.proofs.EachCharacter.{EachIs, differs}
 
 -- what follows does not go on
 abbrev pub StopsAt : (ℕ → Bool) → List ℕ → Type 0
@@ -24,44 +25,42 @@ prefix_is p [] [] e s = refl
 prefix_is p [] (d ∷ ds) e s = ap (λ b. cond b (1 + prefix_len p ds) 0) s
 prefix_is p (c ∷ cs) rest e s = ap (λ b. cond b (1 + prefix_len p (cs ++ rest)) 0) e.0 ∙ ap (λ n. 1 + n) (prefix_is p cs rest e.1 s) ∙ omega arith
 
-true_false : (b : Bool) → b ≡ true → b ≡ false → ⊥
-true_false b given k = let e : true ≡ false = sym given ∙ k in absurd cc
+-- a character that begins a name is none that doesn't
+pub no_start : (c n : ℕ) → starts_name c ≡ true → n < 128 → (is_ascii_alphabetic n || (n == 95)) ≡ false → (c == n) ≡ false
+no_start c n starts small other = differs starts_name c n starts (rw (is_xid_start-ascii n small) other)
 
-is_not : (c n : ℕ) (b : Bool) → (c == n) ≡ b → starts_name c ≡ true → starts_name n ≡ false → (c == n) ≡ false
-is_not c n false e given k = e
-is_not c n true e given k = absurd (true_false (starts_name c) given (ap starts_name (eqb-true c n e) ∙ k))
-
--- the characters before names in `item_at` start none
-pub plain_start : (c : ℕ) → starts_name c ≡ true → ((c == 10) ≡ false) × ((c == 32) ≡ false) × ((c == 9) ≡ false) × ((c == 13) ≡ false) × ((c == 35) ≡ false)
-plain_start c given = (
-  is_not c 10 (c == 10) refl given (rw (is_xid_start-ascii 10 (omega arith)) refl),
-  is_not c 32 (c == 32) refl given (rw (is_xid_start-ascii 32 (omega arith)) refl),
-  is_not c 9 (c == 9) refl given (rw (is_xid_start-ascii 9 (omega arith)) refl),
-  is_not c 13 (c == 13) refl given (rw (is_xid_start-ascii 13 (omega arith)) refl),
-  is_not c 35 (c == 35) refl given (rw (is_xid_start-ascii 35 (omega arith)) refl),
-)
-
-pub one_token : (before : List Token) (c : ℕ) (cs rest : List ℕ) (k : TokenKind) (line column past : ℕ) → item_at before c (cs ++ rest) ≡ Ok (item.Token k (length cs))
-    → tokens_from before (c ∷ (cs ++ rest)) 0 (spot line column) past
-    ≡ (tokens_from (before ++ record { at = spot line column; kind = k } ∷ []) rest 0 (spot line (column + 1 + length cs)) (column + 1 + length cs) >>= λ ts. Ok (record { at = spot line column; kind = k } ∷ ts))
-unfolding tokens_from
+pub one_token : (before : List Token) (c : ℕ) (cs rest : List ℕ) (k : TokenKind) (line column past : ℕ)
+    → item_at before c (cs ++ rest) ≡ Ok (item.Token k (length cs)) → tokens_from before (c ∷ (cs ++ rest)) 0 (spot line column) past
+    ≡ (tokens_from (before ++ record { at = spot line column; kind = k } ∷ []) rest 0 (spot line (column + 1 + length cs)) (column + 1 + length cs)
+    >>= λ ts. Ok (record { at = spot line column; kind = k } ∷ ts))
 one_token before c cs rest k line column past given =
-    let front : List Token = before ++ record { at = spot line column; kind = k } ∷ [] in
-    ap (λ i. placed before i (spot line column) past (λ front skip to end. tokens_from front (cs ++ rest) skip to end)) given
-    ∙ ap (λ (r : Result (List Token) Placed). r >>= λ ts. Ok (record { at = spot line column; kind = k } ∷ ts))
-    (skipped front (length cs) (cs ++ rest) line (column + 1) (column + 1 + length cs) (omega (arith, length-append cs rest))
-    ∙ ap (λ x. tokens_from front x 0 (spot line (column + 1 + length cs)) (column + 1 + length cs)) (drop_at cs rest (length cs) refl))
+    let token : Token = record { at = spot line column; kind = k } in
+    turn_token before c (cs ++ rest) rest (length cs) (length (c ∷ cs)) (omega (arith, length-append cs rest)) (sym (drop_at cs rest (length cs) refl))
+    (omega arith) (spot line column) past k given
+    ∙ ap (λ to. with_front (token ∷ []) (tokens_from (before ++ token ∷ []) rest 0 (spot line to) to)) (omega arith)
 
 pub blank_back : (before : List Token) (rest : List ℕ) → item_at before 32 rest ≡ Ok (item.Gap 0)
 unfolding item_in
 blank_back before rest = refl
 
-pub name_back : (before : List Token) (c : ℕ) (cs rest : List ℕ) → starts_name c ≡ true → EachIs is_xid_continue cs → StopsAt is_xid_continue rest
+pub name_read : (before : List Token) (c : ℕ) (cs rest : List ℕ) → starts_name c ≡ true → prefix_len is_xid_continue (cs ++ rest) ≡ length cs
     → item_at before c (cs ++ rest) ≡ name_of (encode_utf8_all (c ∷ cs)) (length cs)
 unfolding item_in
-name_back before c cs rest s e stop =
-    let plain = plain_start c s in
-    rw (plain.0, plain.1, plain.2, plain.3, plain.4, s, prefix_is is_xid_continue cs rest e stop, take_at cs rest (length cs) refl) refl
+name_read before c cs rest s ends =
+    rw (
+      no_start c 10 s (omega arith) refl,
+      no_start c 32 s (omega arith) refl,
+      no_start c 9 s (omega arith) refl,
+      no_start c 13 s (omega arith) refl,
+      no_start c 35 s (omega arith) refl,
+      s,
+      ends,
+      take_at cs rest (length cs) refl,
+    ) refl
+
+pub name_back : (before : List Token) (c : ℕ) (cs rest : List ℕ) → starts_name c ≡ true → EachIs is_xid_continue cs → StopsAt is_xid_continue rest
+    → item_at before c (cs ++ rest) ≡ name_of (encode_utf8_all (c ∷ cs)) (length cs)
+name_back before c cs rest s e stop = name_read before c cs rest s (prefix_is is_xid_continue cs rest e stop)
 
 -- what may stand behind a token with no blank between
 abbrev pub Ender : ℕ → Type 0
@@ -102,42 +101,54 @@ no_arrow : (rest : List ℕ) → EndsBefore rest → begins_with 62 rest ≡ fal
 no_arrow [] given = refl
 no_arrow (c ∷ rest) given = ender_by (λ c. (c == 62) ≡ false) refl refl refl refl refl refl c given
 
-pub colon_back : (before : List Token) (rest : List ℕ) → item_at before 58 rest ≡ Ok (item.Token kind.Colon 0)
-unfolding item_in
-colon_back before rest = rw (is_xid_start-ascii 58 (omega arith)) refl
+-- a sign of one character that is of both languages, and begins no longer one
+abbrev pub is_plain_sign : TokenKind → Bool
+is_plain_sign kind.Minus = false
+is_plain_sign kind.Caret = false
+is_plain_sign k = eqb (length (sign_text k)) 1
 
-pub equals_back : (before : List Token) (rest : List ℕ) → item_at before 61 rest ≡ Ok (item.Token kind.Equals 0)
-unfolding item_in
-equals_back before rest = rw (is_xid_start-ascii 61 (omega arith)) refl
+module _ (before : List Token) (rest : List ℕ) where
+  pub sign_back : (k : TokenKind) → is_plain_sign k ≡ true → item_at before (get_or (sign_text k) 0 0) rest ≡ Ok (item.Token k 0)
+  unfolding item_in
+  sign_back (kind.Name text) is = absurd cc
+  sign_back (kind.Literal value) is = absurd cc
+  sign_back kind.Arrow is = absurd cc
+  sign_back kind.Minus is = absurd cc
+  sign_back kind.Caret is = absurd cc
+  sign_back kind.End is = absurd cc
+  sign_back k is = rw (is_xid_start-ascii (get_or (sign_text k) 0 0) (omega arith)) refl
 
-pub plus_back : (before : List Token) (rest : List ℕ) → item_at before 43 rest ≡ Ok (item.Token kind.Plus 0)
-unfolding item_in
-plus_back before rest = rw (is_xid_start-ascii 43 (omega arith)) refl
+  pub colon_back : item_at before 58 rest ≡ Ok (item.Token kind.Colon 0)
+  colon_back = sign_back kind.Colon refl
 
-pub open_back : (before : List Token) (rest : List ℕ) → item_at before 40 rest ≡ Ok (item.Token kind.Open 0)
-unfolding item_in
-open_back before rest = rw (is_xid_start-ascii 40 (omega arith)) refl
+  pub equals_back : item_at before 61 rest ≡ Ok (item.Token kind.Equals 0)
+  equals_back = sign_back kind.Equals refl
 
-pub close_back : (before : List Token) (rest : List ℕ) → item_at before 41 rest ≡ Ok (item.Token kind.Close 0)
-unfolding item_in
-close_back before rest = rw (is_xid_start-ascii 41 (omega arith)) refl
+  pub plus_back : item_at before 43 rest ≡ Ok (item.Token kind.Plus 0)
+  plus_back = sign_back kind.Plus refl
 
-pub open_square_back : (before : List Token) (rest : List ℕ) → item_at before 91 rest ≡ Ok (item.Token kind.OpenSquare 0)
-unfolding item_in
-open_square_back before rest = rw (is_xid_start-ascii 91 (omega arith)) refl
+  pub open_back : item_at before 40 rest ≡ Ok (item.Token kind.Open 0)
+  open_back = sign_back kind.Open refl
 
-pub close_square_back : (before : List Token) (rest : List ℕ) → item_at before 93 rest ≡ Ok (item.Token kind.CloseSquare 0)
-unfolding item_in
-close_square_back before rest = rw (is_xid_start-ascii 93 (omega arith)) refl
+  pub close_back : item_at before 41 rest ≡ Ok (item.Token kind.Close 0)
+  close_back = sign_back kind.Close refl
 
-pub quote_back : (before : List Token) (rest : List ℕ) → item_at before 39 rest ≡ Ok (item.Token kind.Quote 0)
-unfolding item_in
-quote_back before rest = rw (is_xid_start-ascii 39 (omega arith)) refl
+  pub open_square_back : item_at before 91 rest ≡ Ok (item.Token kind.OpenSquare 0)
+  open_square_back = sign_back kind.OpenSquare refl
+
+  pub close_square_back : item_at before 93 rest ≡ Ok (item.Token kind.CloseSquare 0)
+  close_square_back = sign_back kind.CloseSquare refl
+
+  pub quote_back : item_at before 39 rest ≡ Ok (item.Token kind.Quote 0)
+  quote_back = sign_back kind.Quote refl
 
 -- a caret is read where the tokens before it are of the second language
-pub caret_back : (before : List Token) (rest : List ℕ) → language_of before ≡ Second → item_at before 94 rest ≡ Ok (item.Token kind.Caret 0)
+pub caret_read : (before : List Token) (rest : List ℕ) → item_at before 94 rest ≡ caret_in (language_of before)
 unfolding item_in
-caret_back before rest given = rw (is_xid_start-ascii 94 (omega arith), given) refl
+caret_read before rest = rw (is_xid_start-ascii 94 (omega arith)) refl
+
+pub caret_back : (before : List Token) (rest : List ℕ) → language_of before ≡ Second → item_at before 94 rest ≡ Ok (item.Token kind.Caret 0)
+caret_back before rest given = caret_read before rest ∙ ap caret_in given
 
 pub arrow_back : (before : List Token) (rest : List ℕ) → item_at before 45 (62 ∷ rest) ≡ Ok (item.Token kind.Arrow 1)
 unfolding item_in

@@ -2,9 +2,9 @@
 use Rattle.std.proofs.Common.{◌≡◌, ℕ, zero, suc, ◌+◌, ◌*◌, ◌-◌, ◌<◌, ◌≤◌, List, [], ◌∷◌, ◌++◌, length, length-drop, drop, take, get_or, Option, Some, None, Result, Ok, Err, refl, sym, ap, ap₂, ◌∙◌, arith}
 use Rattle.std.specs.Prelude.{MatchOption}
 use Rattle.std.proofs.lemmas.List.{drop_more, take_rest}
-use Rattle.statement_tokens.specs.Types.{Spot, Token, TokenKind, Item, Item as item, ScanFault, Placed, Language, Scanner}
-use Rattle.statement_tokens.specs.Tokens.{end_of}
-use Rattle.statement_tokens.specs.Items.{item_in}
+use Rattle.statement_tokens.specs.Types.{Spot, Token, TokenKind, Item, Item as item, ScanFault, Language, Scanner}
+use Rattle.statement_tokens.specs.Tokens.{right_of, below, end_of}
+use Rattle.statement_tokens.specs.Items.{item_at, item_in}
 use Rattle.statement_tokens.specs.Language.{language_of}
 use Rattle.statement_tokens.specs.Scanned.{Lessens, one_if_some, most_tokens, with_front}
 use Rattle.statement_tokens.proofs.Reading.{tokens_from, placed, unread, HandsRead}
@@ -20,57 +20,73 @@ skipped before (suc n) [] line column past given = absurd (omega arith)
 skipped before (suc n) (c ∷ cs) line column past given =
     skipped before n cs line (column + 1) past (omega arith) ∙ ap (λ k. tokens_from before (drop n cs) 0 (spot line k) past) (omega arith)
 
+-- one turn behind these tokens, at a character and those after it
+turn : (before : List Token) (c : ℕ) (rest : List ℕ) (at : Spot) (past : ℕ) (read : Result Item ScanFault) → item_at before c rest ≡ read
+    → tokens_from before (c ∷ rest) 0 at past ≡ placed before read at past (λ front skip to end. tokens_from front rest skip to end)
+unfolding tokens_from
+turn before c rest at past read is = ap (λ i. placed before i at past (λ front skip to end. tokens_from front rest skip to end)) is
+
+pub turn_fault : (before : List Token) (c : ℕ) (rest : List ℕ) (at : Spot) (past : ℕ) (f : ScanFault) → item_at before c rest ≡ Err f
+    → tokens_from before (c ∷ rest) 0 at past ≡ Err (record { fault = f; at = at })
+turn_fault before c rest at past f is = turn before c rest at past (Err f) is
+
+-- a turn that reads so many characters, and leaves the others
+module _ (before : List Token) (c : ℕ) (rest left : List ℕ) (more size : ℕ) (short : more ≤ length rest) (leaves : left ≡ drop more rest)
+    (sized : size ≡ 1 + more) (at : Spot) (past : ℕ) where
+  over : (front : List Token) (end : ℕ) → tokens_from front rest more (right_of at 1) end ≡ tokens_from front left 0 (right_of at size) end
+  over front end =
+      skipped front more rest at.line (at.column + 1) end short ∙ ap₂ (λ cs k. tokens_from front cs 0 (spot at.line k) end) (sym leaves) (omega arith)
+
+  pub turn_gap : item_at before c rest ≡ Ok (item.Gap more) → tokens_from before (c ∷ rest) 0 at past ≡ tokens_from before left 0 (right_of at size) past
+  turn_gap is = turn before c rest at past (Ok (item.Gap more)) is ∙ over before past
+
+  pub turn_token : (k : TokenKind) → item_at before c rest ≡ Ok (item.Token k more)
+      → tokens_from before (c ∷ rest) 0 at past ≡ with_front (record { at = at; kind = k } ∷ [])
+      (tokens_from (before ++ record { at = at; kind = k } ∷ []) left 0 (right_of at size) (at.column + size))
+  turn_token k is =
+      let longer : List Token = before ++ record { at = at; kind = k } ∷ [] in
+      turn before c rest at past (Ok (item.Token k more)) is
+      ∙ ap (with_front (record { at = at; kind = k } ∷ [])) (over longer (at.column + 1 + more) ∙ ap (tokens_from longer left 0 (right_of at size)) (omega arith))
+
 -- what is left behind so many characters, as the code slices it
 abbrev pub cut : ℕ → List ℕ → List ℕ
 cut n text = take (length text - n) (drop n text)
 
-cut-is : (n : ℕ) (text : List ℕ) → cut n text ≡ drop n text
-cut-is n text = rw take_rest refl
+pub cut_length : (n : ℕ) (text : List ℕ) → length (take (length text - n) (drop n text)) ≡ length text - n
+cut_length n text = ap length (take_rest text n) ∙ length-drop n text
 
-pub cut_short : (n : ℕ) (text : List ℕ) → length (cut n text) ≤ length text
-cut_short n text = omega (arith, ap length (cut-is n text), length-drop n text)
+-- a turn of a scanner behind tokens that tell the language, as the code takes it
+module _ (before : List Token) (here : Scanner) (first : ℕ) (language : Language) (some : 0 < length here.text.now)
+    (is : first ≡ get_or here.text.now 0 first) (same : language_of before ≡ language) where
+  abbrev rest : List ℕ
+  rest = cut 1 here.text.now
 
-pub first_is : (text : List ℕ) (first : ℕ) → 0 < length text → first ≡ get_or text 0 first → text ≡ first ∷ cut 1 text
-first_is text first some e = drop_more text 0 first some ∙ ap₂ (λ x xs. x ∷ xs) (sym e) (sym (cut-is 1 text))
+  begins : unread before here ≡ tokens_from before (first ∷ rest) 0 here.at here.past
+  begins = ap (λ cs. tokens_from before cs 0 here.at here.past)
+      (drop_more here.text.now 0 first some ∙ ap₂ (λ x xs. x ∷ xs) (sym is) (sym (take_rest here.text.now 1)))
 
--- one turn at a text that begins so, behind tokens that tell the language
-module _ (before : List Token) (text : List ℕ) (first : ℕ) (rest : List ℕ) (at : Spot) (past : ℕ) (language : Language)
-    (split : text ≡ first ∷ rest) (same : language_of before ≡ language) where
-  abbrev whole : Result (List Token) Placed
-  whole = tokens_from before text 0 at past
+  reads : (read : Result Item ScanFault) → item_in language first rest ≡ read → item_at before first rest ≡ read
+  reads read given = ap (λ l. item_in l first rest) same ∙ given
 
-  by_item : (read : Result Item ScanFault) → item_in language first rest ≡ read
-      → whole ≡ placed before read at past (λ front skip to end. tokens_from front rest skip to end)
-  unfolding tokens_from
-  by_item read given =
-      ap (λ cs. tokens_from before cs 0 at past) split
-      ∙ ap (λ i. placed before i at past (λ front skip to end. tokens_from front rest skip to end)) (ap (λ l. item_in l first rest) same ∙ given)
+  pub scans_fault : (f : ScanFault) → item_in language first rest ≡ Err f → unread before here ≡ Err (record { fault = f; at = here.at })
+  scans_fault f given = begins ∙ turn_fault before first rest here.at here.past f (reads (Err f) given)
 
-  pub turn_new_line : item_in language first rest ≡ Ok item.NewLine
-      → whole ≡ with_front (end_of at.line past) (tokens_from (before ++ end_of at.line past) rest 0 (spot (at.line + 1) 1) 0)
-  turn_new_line given = by_item (Ok item.NewLine) given
+  pub scans_new_line : (end : List Token) → end_of here.at.line here.past ≡ end → item_in language first rest ≡ Ok item.NewLine
+      → unread before here ≡ with_front end (tokens_from (before ++ end) rest 0 (below here.at) 0)
+  scans_new_line end ends given = begins ∙ turn before first rest here.at here.past (Ok item.NewLine) (reads (Ok item.NewLine) given)
+      ∙ ap (λ end. with_front end (tokens_from (before ++ end) rest 0 (below here.at) 0)) ends
 
-  over : (front : List Token) (more end : ℕ) → more ≤ length rest
-      → tokens_from front rest more (spot at.line (at.column + 1)) end ≡ tokens_from front (cut more rest) 0 (spot at.line (at.column + (1 + more))) end
-  over front more end short =
-      skipped front more rest at.line (at.column + 1) end short
-      ∙ ap₂ (λ cs k. tokens_from front cs 0 (spot at.line k) end) (sym (cut-is more rest)) (omega arith)
+  module _ (more : ℕ) (short : more ≤ length rest) where
+    pub scans_gap : item_in language first rest ≡ Ok (item.Gap more)
+        → unread before here ≡ tokens_from before (cut more rest) 0 (right_of here.at (1 + more)) here.past
+    scans_gap given = begins ∙ turn_gap before first rest (cut more rest) more (1 + more) short (take_rest rest more) refl here.at here.past
+        (reads (Ok (item.Gap more)) given)
 
-  pub turn_gap : (more : ℕ) → more ≤ length rest → item_in language first rest ≡ Ok (item.Gap more)
-      → whole ≡ tokens_from before (cut more rest) 0 (spot at.line (at.column + (1 + more))) past
-  turn_gap more short given = by_item (Ok (item.Gap more)) given ∙ over before more past short
-
-  pub turn_token : (k : TokenKind) (more : ℕ) → more ≤ length rest → item_in language first rest ≡ Ok (item.Token k more)
-      → whole ≡ with_front (record { at = at; kind = k } ∷ [])
-      (tokens_from (before ++ record { at = at; kind = k } ∷ []) (cut more rest) 0 (spot at.line (at.column + (1 + more))) (at.column + (1 + more)))
-  turn_token k more short given =
-      let longer : List Token = before ++ record { at = at; kind = k } ∷ [] in
-      by_item (Ok (item.Token k more)) given
-      ∙ ap (with_front (record { at = at; kind = k } ∷ [])) (over longer more (at.column + 1 + more) short
-      ∙ ap (λ k. tokens_from longer (cut more rest) 0 (spot at.line (at.column + (1 + more))) k) (omega arith))
-
-  pub turn_fault : (f : ScanFault) → item_in language first rest ≡ Err f → whole ≡ Err (record { fault = f; at = at })
-  turn_fault f given = by_item (Err f) given
+    pub scans_token : (k : TokenKind) → item_in language first rest ≡ Ok (item.Token k more)
+        → unread before here ≡ with_front (record { at = here.at; kind = k } ∷ [])
+        (tokens_from (before ++ record { at = here.at; kind = k } ∷ []) (cut more rest) 0 (right_of here.at (1 + more)) (here.at.column + (1 + more)))
+    scans_token k given = begins ∙ turn_token before first rest (cut more rest) more (1 + more) short (take_rest rest more) refl here.at here.past k
+        (reads (Ok (item.Token k more)) given)
 
 -- behind the last character the line that is read ends
 pub turn_end : (before : List Token) (old here new : Scanner) (end : Option Token) → unread before old ≡ unread before here → here.text.now ≡ []

@@ -89,6 +89,7 @@ pub enum Class {
     Comment,
 }
 
+#[tactic(auto, unfolding(crate::specs::Items::is_in))]
 fn is_in(class: Class, ch: char) -> bool
     ensures { result ≡ is_in class ch }
 {
@@ -154,6 +155,7 @@ fn caret_in(language: Language) -> Result<Item, ScanFault>
 const LARGEST: u128 = 170141183460469231731687303715884105727;
 
 // The value of digits, or None where it is 2^127 or more.
+#[tactic(auto, using(crate::proofs::Values::digit_more))]
 fn value_of(first: char, more: &[char]) -> Option<u128>
     ensures { SomeIff result (value_from 0 (first ∷ more.now) < 2 ^ 127) (value_from 0 (first ∷ more.now)) }
 {
@@ -174,6 +176,7 @@ fn value_of(first: char, more: &[char]) -> Option<u128>
 /// The greatest number of bytes of a name.
 pub const NAME_LIMIT: usize = 32;
 
+#[tactic(auto, using(crate::proofs::Items::name_read))]
 fn name_at(alloc: Global, first: char, rest: &[char]) -> Result<Item, ItemError>
     ensures { GivesItem result (name_of (encode_utf8_all (first ∷ take_while is_xid_continue rest.now)) (prefix_len is_xid_continue rest.now)) }
 {
@@ -206,7 +209,7 @@ fn begins_with(ch: char, text: &[char]) -> bool
 }
 
 /// What the first of these characters begins in a file of the language.
-#[tactic(auto, unfolding(crate::specs::Items::item_in))]
+#[tactic(auto, using(crate::proofs::Items::items_are_short), unfolding(crate::specs::Items::item_in))]
 pub fn item_in(
     alloc: Global,
     language: Language,
@@ -244,6 +247,7 @@ fn starts_name(ch: char) -> bool
 }
 
 /// The characters of a text. It fails only where memory is short.
+#[tactic(auto, using(std::proofs::lemmas::Str::chars_from_encodes))]
 pub fn characters(alloc: Global, text: &str) -> Result<Vec<char>, AllocError>
     ensures { IfOk result (λ v. v.items ≡ chars text.now) }
 {
