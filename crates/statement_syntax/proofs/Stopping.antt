@@ -134,17 +134,6 @@ is_only bytes ts statements read loop lines is =
     (ap (run (file_step language) (begun ts)) (sym parts.are) ∙ loop.1) in
     loop.2 ∙ ap (λ (p : Progress). p.statements) (sym same.1) ∙ ap (λ x. x ++ file_tree parts.others) (own ts).trees ∙ sym parts.trees
 
-stopped_misfit : (bytes : List ℕ) (ts : List Token) (lines : List StatedLine) (refused : SyntaxFault) → AreTokens (chars bytes) ts → StoppedAt ts refused → IsStatements bytes lines → ⊥
-stopped_misfit bytes ts lines refused read loop is =
-    let language = language_of ts in
-    let parts = lines_are bytes ts lines read is in
-    (file_misfit language (first_statements language ts) loop.front loop.progress loop.token loop.misfit loop.ran loop.stops loop.rest parts.others parts.speak (sym loop.splits ∙ parts.are)).0
-    (parts.fits is.fits)
-
-pub is_refused : (bytes : List ℕ) (ts : List Token) (lines : List StatedLine) (refused : SyntaxFault) → AreTokens (chars bytes) ts → Refused ts refused → IsStatements bytes lines → IsWantOfMemory refused
-is_refused bytes ts lines (refusal.Memory e) read loop is = tt
-is_refused bytes ts lines (refusal.Fault code l c) read loop is = stopped_misfit bytes ts lines (refusal.Fault code l c) read loop is
-
 -- the token at which the loop stopped is the first misfit
 module _ (ts : List Token) (refused : SyntaxFault) (loop : StoppedAt ts refused) where
   abbrev before : List Statement
