@@ -20,16 +20,11 @@ Allows language before = HasCarets language → HasCarets (language_of before)
 
 -- it stays one behind more tokens
 pub carets_stay : (before more : List Token) → HasCarets (language_of before) → HasCarets (language_of (before ++ more))
-carets_stay [] more has = absurd has
-carets_stay (a ∷ []) more has = absurd has
-carets_stay (a ∷ b ∷ []) more has = absurd has
 carets_stay (a ∷ b ∷ c ∷ before) more has = has
+carets_stay before more has = absurd has
 
 -- the first three kinds tell the language
 pub language_by : (ts : List Token) (a b c : TokenKind) (ks : List TokenKind) → kinds ts ≡ a ∷ b ∷ c ∷ ks → language_of ts ≡ (if is_language_word a && is_two b && is_end c then Second else First)
-language_by [] a b c ks given = absurd cc
-language_by (t ∷ []) a b c ks given = absurd cc
-language_by (t ∷ u ∷ []) a b c ks given = absurd cc
 language_by (t ∷ u ∷ v ∷ ts) a b c ks given =
     let one : t.kind ≡ a = cc in
     let two : u.kind ≡ b = cc in
@@ -37,3 +32,4 @@ language_by (t ∷ u ∷ v ∷ ts) a b c ks given =
     ap (λ k. if is_language_word k && is_two u.kind && is_end v.kind then Second else First) one
     ∙ ap (λ k. if is_language_word a && is_two k && is_end v.kind then Second else First) two
     ∙ ap (λ k. if is_language_word a && is_two b && is_end k then Second else First) three
+language_by ts a b c ks given = absurd cc

@@ -10,10 +10,10 @@ use Rattle.statement_tokens.specs.Language.{language_of}
 use Rattle.statement_tokens.specs.Tokens.{AreTokens, IsFirstScanFault}
 use Rattle.statement_tokens.specs.Laws.{HasTokensOrFault}
 use Rattle.statement_tokens.proofs.TokenLaws.{each_text_has_tokens_or_fault}
-use Rattle.statement_syntax.specs.Fault.{IsTreeOf, IsFirstFault, TellsFirstFault, fault_at, misfit_fault}
+use Rattle.statement_syntax.specs.Fault.{IsTreeOf, IsFirstFault, TellsFirstFault, fault_at, scan_fault, misfit_fault}
 use Rattle.statement_syntax.specs.Stages.{begun, left, StoppedAt, AllRead}
 use Rattle.statement_syntax.specs.Laws.{EachTextIsRead}
-use Rattle.statement_syntax.proofs.Stopping.{Runs, goes_on, is_found, is_first}
+use Rattle.statement_syntax.proofs.Stopping.{Runs, goes_on, is_found, is_first, told_scanned}
 
 -- all tokens are read, or one is the first that isn't
 data Comes (ts : List Token) : Type 0 where
@@ -38,19 +38,17 @@ abbrev IsRead : List ℕ → Type 0
 IsRead bytes = ((statements : List Statement) × IsTreeOf bytes statements) ⊎ ((f : Fault) × ((at : Spot) × IsFirstFault bytes f at))
 
 module _ (bytes : List ℕ) (utf8 : IsUtf8 bytes) where
-  scanned : (f : ScanFault) (at : Spot) → IsFirstScanFault (chars bytes) f at → IsRead bytes
-  scanned scan.BadToken at first = inr (fault.BadToken, (at, (utf8, first)))
-  scanned scan.LiteralTooLarge at first = inr (fault.LiteralTooLarge, (at, (utf8, first)))
+  faulted : (f : Fault) (at : Spot) → TellsFirstFault bytes (fault_at f at) → IsRead bytes
+  faulted f at tells = inr (tells.0, (at, tells.2))
 
   read_on : (ts : List Token) → AreTokens (chars bytes) ts → Comes ts → IsRead bytes
   read_on ts read (to_end statements all) = inl (statements, is_found bytes ts statements utf8 read all)
   read_on ts read (to_misfit misfit at stopped) =
-      let first : TellsFirstFault bytes (fault_at (misfit_fault misfit) at) = is_first bytes ts (fault_at (misfit_fault misfit) at) utf8 read stopped in
-      inr (first.0, (at, first.2))
+      faulted (misfit_fault misfit) at (is_first bytes ts (fault_at (misfit_fault misfit) at) utf8 read stopped)
 
   by_tokens : HasTokensOrFault (chars bytes) → IsRead bytes
   by_tokens (inl (ts, are)) = read_on ts are (comes ts)
-  by_tokens (inr (f, at, first)) = scanned f at first
+  by_tokens (inr (f, at, first)) = faulted (scan_fault f) at (told_scanned bytes _ f at refl utf8 first)
 
 pub each_text_is_read : EachTextIsRead
 each_text_is_read bytes = by (is_utf8 bytes) refl

@@ -19,10 +19,8 @@ IsLedOtherwise [] = Unit {0}
 IsLedOtherwise (t ∷ ts) = is_language_word t.kind ≡ false
 
 led_otherwise : (ts : List Token) → IsLedOtherwise ts → language_of ts ≡ First
-led_otherwise [] other = refl
-led_otherwise (t ∷ []) other = refl
-led_otherwise (t ∷ u ∷ []) other = refl
 led_otherwise (t ∷ u ∷ v ∷ ts) other = ap (λ b. chosen (b && is_two u.kind && is_end v.kind)) other
+led_otherwise ts other = refl
 
 stated_first : (s : Stated) (ts : List Token) → IsOf First s → language_of (stated_tokens s ++ ts) ≡ First
 stated_first (listed Eliminate at n ns) ts speaks = absurd speaks
@@ -118,9 +116,7 @@ end_is k is = absurd cc
 
 all_are : (b c d : Bool) → chosen (b && c && d) ≡ Second → (b ≡ true) × (c ≡ true) × (d ≡ true)
 all_are true true true is = (refl, refl, refl)
-all_are true true false is = absurd cc
-all_are true false d is = absurd cc
-all_are false c d is = absurd cc
+all_are b c d is = absurd cc
 
 by_kinds : (t u v : Token) (ts : List Token) → t.kind ≡ kind.Name (codes "language") → u.kind ≡ kind.Literal (pos 2) → v.kind ≡ kind.End → Divided Second (t ∷ u ∷ v ∷ ts)
 by_kinds t u v ts word two end =
@@ -129,9 +125,7 @@ by_kinds t u v ts word two end =
 
 pub divided : (language : Language) (ts : List Token) → language_of ts ≡ language → Divided language ts
 divided First ts is = first_divided ts
-divided Second [] is = absurd cc
-divided Second (t ∷ []) is = absurd cc
-divided Second (t ∷ u ∷ []) is = absurd cc
 divided Second (t ∷ u ∷ v ∷ ts) is =
     let are = all_are (is_language_word t.kind) (is_two u.kind) (is_end v.kind) is in
     by_kinds t u v ts (word_is t.kind are.0) (two_is u.kind are.1) (end_is v.kind are.2)
+divided Second ts is = absurd cc

@@ -1,4 +1,3 @@
-pub mod Branches
 pub mod Choices
 pub mod Machine
 pub mod Seen

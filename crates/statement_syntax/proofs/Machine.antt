@@ -56,8 +56,7 @@ with_power (beside fs f) at n = beside fs (raised f at n)
 -- a literal alone is a term only where its value is 0
 abbrev pub lone_literal : ℤ → Spot → Option Product
 lone_literal (pos zero) at = Some (zero_alone at)
-lone_literal (pos (suc n)) at = None
-lone_literal (negsuc n) at = None
+lone_literal z at = None
 
 -- the term, where it may end here
 abbrev pub whole_term : Part → Option Product
@@ -90,10 +89,8 @@ part_tokens (product l fs) = literal_tokens l ++ factors_tokens fs
 
 -- behind a caret the product stands in the focus
 abbrev pub kept_tokens : Part → Focus → List Token
-kept_tokens part outside = part_tokens part
-kept_tokens part (square left) = part_tokens part
-kept_tokens part (named left n) = part_tokens part
 kept_tokens part (behind_caret l fs caret) = []
+kept_tokens part focus = part_tokens part
 
 abbrev pub focus_tokens : Focus → List Token
 focus_tokens outside = []

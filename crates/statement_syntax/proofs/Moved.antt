@@ -1,381 +1,232 @@
 -- Tokens of the same kinds as those of statements without their places are the tokens of the same statements at other places.
-use Rattle.std.proofs.Common.{◌≡◌, ℕ, zero, suc, List, [], ◌∷◌, ◌++◌, map, Option, Some, None, refl, ap, ap₂, ◌∙◌}
-use Rattle.std.specs.Prelude.{codes}
-use Rattle.std.proofs.lemmas.List.{map-append}
-use Rattle.statement_syntax.specs.Types.{Spot, Token, Language, First, Second, TokenKind, TokenKind as kind, Name, Number, ListWord, Eliminate}
+use Rattle.std.proofs.Common.{◌≡◌, ℕ, zero, suc, List, [], ◌∷◌, ◌++◌, map, Option, Some, None, refl, sym, ap, ap₂, ◌∙◌, append_assoc}
+use Rattle.std.specs.Prelude.{codes, pos}
+use Rattle.std.proofs.lemmas.List.{append-nil, map-append}
+use Rattle.std.proofs.Math.Path.{transport}
+use Rattle.statement_syntax.specs.Types.{Spot, Token, Language, First, Second, TokenKind, TokenKind as kind, Name, Number, Eliminate}
 use Rattle.statement_syntax.specs.Limits.{bracket_limit}
-use Rattle.statement_syntax.specs.Grammar.{no_sign, lead_plus, lead_minus, Sign, plus, minus, Expr, first, joined, Product, zero_alone, factors, Factors, one, beside, Marked, plain, marked, raised, Prime, name, identity, bracket, sign_token, name_token, number_token, zero_at, signed_token, literal_tokens, expr_tokens, product_tokens, factors_tokens, marked_tokens, prime_tokens, ExprFits, ProductFits, FactorsFit, MarkedFits, PrimeFits, list_text, sides_text, pair_text, Ending, no_word, self_word, ending_tokens, word_token, names_tokens, pairs_tokens, Stated, listed, mapped, sides, paired, projected, by_degree, by_weight, modelled, second_language, two_at, stated_tokens, StatedFits, IsOf, NamesLanguage, StatedLine, AreLinesOf, IsFileOf, line_tokens, file_tokens, FileFits}
-use Rattle.statement_syntax.specs.Places.{somewhere, bare_name, bare_number, bare_literal, bare_sign, bare, bare_product, bare_factors, bare_marked, bare_prime, bare_ending, bare_names, bare_pair, bare_pairs, bare_stated, bare_line, bare_file}
+use Rattle.statement_syntax.specs.Grammar.{Lead, no_sign, lead_plus, lead_minus, Sign, plus, minus, Expr, first, joined, Product, zero_alone, factors, Factors}
+use Rattle.statement_syntax.specs.Grammar.{one, beside, Marked, plain, marked, raised, Prime, name, identity, bracket, sign_token, name_token, number_token}
+use Rattle.statement_syntax.specs.Grammar.{lead_tokens, signed_token, literal_tokens, expr_tokens, product_tokens, factors_tokens, marked_tokens, prime_tokens}
+use Rattle.statement_syntax.specs.Grammar.{ExprFits, ProductFits, FactorsFit, MarkedFits, PrimeFits, list_text, sides_text, pair_text, Ending, no_word}
+use Rattle.statement_syntax.specs.Grammar.{self_word, ending_tokens, names_tokens, pairs_tokens, Stated, listed, mapped, sides, paired, projected, by_degree}
+use Rattle.statement_syntax.specs.Grammar.{by_weight, modelled, second_language, stated_tokens, StatedFits, IsOf, NamesLanguage, StatedLine, AreLinesOf}
+use Rattle.statement_syntax.specs.Grammar.{IsFileOf, line_tokens, file_tokens, FileFits}
+use Rattle.statement_syntax.specs.Places.{somewhere, bare_name, bare_number, bare_literal, bare_lead, bare_sign, bare, bare_product, bare_factors, bare_marked}
+use Rattle.statement_syntax.specs.Places.{bare_prime, bare_ending, bare_names, bare_pairs, bare_stated, bare_line, bare_file}
 
 abbrev pub kinds : List Token → List TokenKind
 kinds ts = map (λ t. t.kind) ts
 
--- the first token, and the others
-record Led (ts : List Token) (k : TokenKind) (ks : List TokenKind) : Type 0 where
-  pub at : Spot
-  pub rest : List Token
-  pub are : ts ≡ sign_token k at ∷ rest
-  pub kinds_are : kinds rest ≡ ks
-
-led_by : (ts : List Token) (k : TokenKind) (ks : List TokenKind) → kinds ts ≡ k ∷ ks → Led ts k ks
-led_by [] k ks alike = absurd cc
-led_by (t ∷ ts) k ks alike =
-    let here : t.kind ≡ k = cc in
-    let there : kinds ts ≡ ks = cc in
-    record { at = t.at; rest = ts; are = ap (λ x. sign_token x t.at ∷ ts) here; kinds_are = there }
-
-none_left : (ts : List Token) → kinds ts ≡ [] → ts ≡ []
-none_left [] alike = refl
-none_left (t ∷ ts) alike = absurd cc
-
--- the tokens of two parts
-record Parts (ts : List Token) (xs ys : List TokenKind) : Type 0 where
-  pub left : List Token
-  pub right : List Token
-  pub are : ts ≡ left ++ right
-  pub left_are : kinds left ≡ xs
-  pub right_are : kinds right ≡ ys
-
-parts_by : (ts : List Token) (xs ys : List TokenKind) → kinds ts ≡ xs ++ ys → Parts ts xs ys
-parts_by ts [] ys alike = record { left = []; right = ts; are = refl; left_are = refl; right_are = alike }
-parts_by ts (x ∷ xs) ys alike =
-    let l = led_by ts x (xs ++ ys) alike in
-    let p = parts_by l.rest xs ys l.kinds_are in
-    record { left = sign_token x l.at ∷ p.left; right = p.right; are = l.are ∙ ap (λ y. sign_token x l.at ∷ y) p.are; left_are = ap (λ y. x ∷ y) p.left_are; right_are = p.right_are }
-
-parts_of : (ts us vs : List Token) → kinds ts ≡ kinds (us ++ vs) → Parts ts (kinds us) (kinds vs)
-parts_of ts us vs alike = parts_by ts (kinds us) (kinds vs) (alike ∙ map-append (λ t. t.kind) us vs)
-
--- the same at other places, which fits wherever it fits
-record Moved {A : Type 0} (tokens : A → List Token) (bare_of : A → A) (Fits : A → ℕ → Type 0) (x : A) (ts : List Token) : Type 0 where
-  pub moved : A
-  pub are : ts ≡ tokens moved
-  pub same : bare_of moved ≡ bare_of x
-  pub fits : (n : ℕ) → Fits x n → Fits moved n
-
--- the same at other places, in front of others
-record MovedFront {A : Type 0} (tokens : A → List Token) (bare_of : A → A) (x : A) (ts : List Token) (ks : List TokenKind) : Type 0 where
+-- the same at other places, in front of other tokens
+record Moved {A : Type 0} (tokens : A → List Token) (bare_of : A → A) (x : A) (ts : List Token) (ks : List TokenKind) : Type 0 where
   pub moved : A
   pub rest : List Token
   pub are : ts ≡ tokens moved ++ rest
   pub same : bare_of moved ≡ bare_of x
   pub kinds_are : kinds rest ≡ ks
 
-sign_moved : (s : Sign) (ts us : List Token) → kinds ts ≡ kinds (signed_token (bare_sign s) ∷ us) → MovedFront (λ s. signed_token s ∷ []) bare_sign s ts (kinds us)
-sign_moved (plus at) ts us alike = let l = led_by ts kind.Plus (kinds us) alike in record { moved = plus l.at; rest = l.rest; are = l.are; same = refl; kinds_are = l.kinds_are }
-sign_moved (minus at) ts us alike = let l = led_by ts kind.Minus (kinds us) alike in record { moved = minus l.at; rest = l.rest; are = l.are; same = refl; kinds_are = l.kinds_are }
+-- all tokens that begin with its kinds begin with its tokens at other places
+abbrev Moves : {A : Type 0} → (A → List Token) → (A → A) → A → Type 0
+Moves tokens bare_of x = (ts : List Token) (ks : List TokenKind) → kinds ts ≡ kinds (tokens (bare_of x)) ++ ks → Moved tokens bare_of x ts ks
 
-literal_moved : (l : Option Number) (ts us : List Token) → kinds ts ≡ kinds (literal_tokens (bare_literal l) ++ us) → MovedFront literal_tokens bare_literal l ts (kinds us)
-literal_moved None ts us alike = record { moved = None; rest = ts; are = refl; same = refl; kinds_are = alike }
-literal_moved (Some n) ts us alike =
-    let l = led_by ts (kind.Literal n.value) (kinds us) alike in
-    record { moved = Some (record { value = n.value; at = l.at }); rest = l.rest; are = l.are; same = refl; kinds_are = l.kinds_are }
+token_moves : (k : TokenKind) (at : Spot) → Moves (λ at. sign_token k at ∷ []) (λ at. somewhere) at
+token_moves k at [] ks alike = absurd cc
+token_moves k at (t ∷ ts) ks alike =
+    let here : t.kind ≡ k = cc in
+    record { moved = t.at; rest = ts; are = ap (λ x. sign_token x t.at ∷ ts) here; same = refl; kinds_are = cc }
 
-bracket_fits : (left right left' right' : Spot) (e d : Expr) → ((n : ℕ) → ExprFits e n → ExprFits d n) → (n : ℕ) → PrimeFits (bracket left e right) n → PrimeFits (bracket left' d right') n
-bracket_fits left right left' right' e d go zero f = f
-bracket_fits left right left' right' e d go (suc n) f = go n f
-
-mutual
-  expr_moved : (e : Expr) (ts : List Token) → kinds ts ≡ kinds (expr_tokens (bare e)) → Moved expr_tokens bare ExprFits e ts
-  expr_moved (first no_sign t) ts alike =
-      let p = product_moved t ts alike in
-      record { moved = first no_sign p.moved; are = p.are; same = ap (first no_sign) p.same; fits = p.fits }
-  expr_moved (first (lead_plus at) t) ts alike =
-      let p = product_moved t ts alike in
-      record { moved = first no_sign p.moved; are = p.are; same = ap (first no_sign) p.same; fits = p.fits }
-  expr_moved (first (lead_minus at) t) ts alike =
-      let l = led_by ts kind.Minus (kinds (product_tokens (bare_product t))) alike in
-      let p = product_moved t l.rest l.kinds_are in
-      record { moved = first (lead_minus l.at) p.moved; are = l.are ∙ ap (λ x. sign_token kind.Minus l.at ∷ x) p.are; same = ap (first (lead_minus somewhere)) p.same; fits = p.fits }
-  expr_moved (joined e s t) ts alike =
-      let parts = parts_of ts (expr_tokens (bare e)) (signed_token (bare_sign s) ∷ product_tokens (bare_product t)) alike in
-      let d = expr_moved e parts.left parts.left_are in
-      let sign = sign_moved s parts.right (product_tokens (bare_product t)) parts.right_are in
-      let p = product_moved t sign.rest sign.kinds_are in
-      record {
-        moved = joined d.moved sign.moved p.moved;
-        are = parts.are ∙ ap₂ (λ x y. x ++ y) d.are (sign.are ∙ ap (λ x. signed_token sign.moved ∷ x) p.are);
-        same = ap₂ (λ x y. joined x (bare_sign sign.moved) y) d.same p.same ∙ ap (λ x. joined (bare e) x (bare_product t)) sign.same;
-        fits = λ n f. (d.fits n f.0, p.fits n f.1);
-      }
-
-  product_moved : (t : Product) (ts : List Token) → kinds ts ≡ kinds (product_tokens (bare_product t)) → Moved product_tokens bare_product ProductFits t ts
-  product_moved (zero_alone at) ts alike =
-      let l = led_by ts (kind.Literal (zero_at at).value) [] alike in
-      record { moved = zero_alone l.at; are = l.are ∙ ap (λ x. number_token (zero_at l.at) ∷ x) (none_left l.rest l.kinds_are); same = refl; fits = λ n f. f }
-  product_moved (factors l fs) ts alike =
-      let m = literal_moved l ts (factors_tokens (bare_factors fs)) alike in
-      let f = factors_moved fs m.rest m.kinds_are in
-      record { moved = factors m.moved f.moved; are = m.are ∙ ap (λ x. literal_tokens m.moved ++ x) f.are; same = ap₂ factors m.same f.same; fits = f.fits }
-
-  factors_moved : (fs : Factors) (ts : List Token) → kinds ts ≡ kinds (factors_tokens (bare_factors fs)) → Moved factors_tokens bare_factors FactorsFit fs ts
-  factors_moved (one f) ts alike =
-      let m = marked_moved f ts alike in
-      record { moved = one m.moved; are = m.are; same = ap one m.same; fits = m.fits }
-  factors_moved (beside fs f) ts alike =
-      let parts = parts_of ts (factors_tokens (bare_factors fs)) (marked_tokens (bare_marked f)) alike in
-      let l = factors_moved fs parts.left parts.left_are in
-      let r = marked_moved f parts.right parts.right_are in
-      record { moved = beside l.moved r.moved; are = parts.are ∙ ap₂ (λ x y. x ++ y) l.are r.are; same = ap₂ beside l.same r.same; fits = λ n f. (l.fits n f.0, r.fits n f.1) }
-
-  marked_moved : (f : Marked) (ts : List Token) → kinds ts ≡ kinds (marked_tokens (bare_marked f)) → Moved marked_tokens bare_marked MarkedFits f ts
-  marked_moved (plain p) ts alike =
-      let m = prime_moved p ts alike in
-      record { moved = plain m.moved; are = m.are; same = ap plain m.same; fits = m.fits }
-  marked_moved (marked f at) ts alike =
-      let parts = parts_of ts (marked_tokens (bare_marked f)) (sign_token kind.Quote somewhere ∷ []) alike in
-      let m = marked_moved f parts.left parts.left_are in
-      let l = led_by parts.right kind.Quote [] parts.right_are in
-      record {
-        moved = marked m.moved l.at;
-        are = parts.are ∙ ap₂ (λ x y. x ++ y) m.are (l.are ∙ ap (λ x. sign_token kind.Quote l.at ∷ x) (none_left l.rest l.kinds_are));
-        same = ap (λ x. marked x somewhere) m.same;
-        fits = m.fits;
-      }
-  marked_moved (raised f at n) ts alike =
-      let parts = parts_of ts (marked_tokens (bare_marked f)) (sign_token kind.Caret somewhere ∷ number_token (bare_number n) ∷ []) alike in
-      let m = marked_moved f parts.left parts.left_are in
-      let l = led_by parts.right kind.Caret (kind.Literal n.value ∷ []) parts.right_are in
-      let r = led_by l.rest (kind.Literal n.value) [] l.kinds_are in
-      let number : Number = record { value = n.value; at = r.at } in
-      record {
-        moved = raised m.moved l.at number;
-        are = parts.are ∙ ap₂ (λ x y. x ++ y) m.are (l.are ∙ ap (λ x. sign_token kind.Caret l.at ∷ x) (r.are ∙ ap (λ x. number_token number ∷ x) (none_left r.rest r.kinds_are)));
-        same = ap (λ x. raised x somewhere (bare_number n)) m.same;
-        fits = m.fits;
-      }
-
-  prime_moved : (p : Prime) (ts : List Token) → kinds ts ≡ kinds (prime_tokens (bare_prime p)) → Moved prime_tokens bare_prime PrimeFits p ts
-  prime_moved (name n) ts alike =
-      let l = led_by ts (kind.Name n.text) [] alike in
-      let m : Name = record { text = n.text; at = l.at } in
-      record { moved = name m; are = l.are ∙ ap (λ x. name_token m ∷ x) (none_left l.rest l.kinds_are); same = refl; fits = λ n f. f }
-  prime_moved (identity left n right) ts alike =
-      let l = led_by ts kind.OpenSquare (kind.Name n.text ∷ kind.CloseSquare ∷ []) alike in
-      let k = led_by l.rest (kind.Name n.text) (kind.CloseSquare ∷ []) l.kinds_are in
-      let r = led_by k.rest kind.CloseSquare [] k.kinds_are in
-      let m : Name = record { text = n.text; at = k.at } in
-      record {
-        moved = identity l.at m r.at;
-        are = l.are ∙ ap (λ x. sign_token kind.OpenSquare l.at ∷ x) (k.are ∙ ap (λ x. name_token m ∷ x) (r.are ∙ ap (λ x. sign_token kind.CloseSquare r.at ∷ x) (none_left r.rest r.kinds_are)));
-        same = refl;
-        fits = λ n f. f;
-      }
-  prime_moved (bracket left e right) ts alike =
-      let l = led_by ts kind.Open (kinds (expr_tokens (bare e) ++ sign_token kind.Close somewhere ∷ [])) alike in
-      let parts = parts_of l.rest (expr_tokens (bare e)) (sign_token kind.Close somewhere ∷ []) l.kinds_are in
-      let d = expr_moved e parts.left parts.left_are in
-      let r = led_by parts.right kind.Close [] parts.right_are in
-      record {
-        moved = bracket l.at d.moved r.at;
-        are = l.are ∙ ap (λ x. sign_token kind.Open l.at ∷ x) (parts.are ∙ ap₂ (λ x y. x ++ y) d.are (r.are ∙ ap (λ x. sign_token kind.Close r.at ∷ x) (none_left r.rest r.kinds_are)));
-        same = ap (λ x. bracket somewhere x somewhere) d.same;
-        fits = bracket_fits left right l.at r.at e d.moved d.fits;
-      }
-
--- all of the tokens
-record MovedWhole {A : Type 0} (tokens : A → List Token) (bare_of : A → A) (x : A) (ts : List Token) : Type 0 where
-  pub moved : A
-  pub are : ts ≡ tokens moved
-  pub same : bare_of moved ≡ bare_of x
-
-name_moved : (n : Name) (ts us : List Token) → kinds ts ≡ kinds (name_token (bare_name n) ∷ us) → MovedFront (λ n. name_token n ∷ []) bare_name n ts (kinds us)
-name_moved n ts us alike =
-    let l = led_by ts (kind.Name n.text) (kinds us) alike in
-    record { moved = record { text = n.text; at = l.at }; rest = l.rest; are = l.are; same = refl; kinds_are = l.kinds_are }
-
-names_moved : (ns : List Name) (ts : List Token) → kinds ts ≡ kinds (names_tokens (bare_names ns)) → MovedWhole names_tokens bare_names ns ts
-names_moved [] ts alike = record { moved = []; are = none_left ts alike; same = refl }
-names_moved (n ∷ ns) ts alike =
-    let m = name_moved n ts (names_tokens (bare_names ns)) alike in
-    let ms = names_moved ns m.rest m.kinds_are in
-    record { moved = m.moved ∷ ms.moved; are = m.are ∙ ap (λ x. name_token m.moved ∷ x) ms.are; same = ap₂ (λ x y. x ∷ y) m.same ms.same }
-
-pair_moved : (p : Name × Number) (ts us : List Token) → kinds ts ≡ kinds (name_token (bare_pair p).0 ∷ number_token (bare_pair p).1 ∷ us) → MovedFront (λ p. name_token p.0 ∷ number_token p.1 ∷ []) bare_pair p ts (kinds us)
-pair_moved p ts us alike =
-    let l = led_by ts (kind.Name p.0.text) (kind.Literal p.1.value ∷ kinds us) alike in
-    let r = led_by l.rest (kind.Literal p.1.value) (kinds us) l.kinds_are in
+-- one behind another
+both : {A B : Type 0} {left : A → List Token} {right : B → List Token} {bare_left : A → A} {bare_right : B → B} {x : A} {y : B}
+    → Moves left bare_left x → Moves right bare_right y → Moves {A = A × B} (λ p. left p.0 ++ right p.1) (λ p. (bare_left p.0, bare_right p.1)) (x, y)
+both {left = left} {right = right} {bare_left = bare_left} {bare_right = bare_right} {x = x} {y = y} front behind ts ks alike =
+    let xs = left (bare_left x) in
+    let ys = right (bare_right y) in
+    let l = front ts (kinds ys ++ ks) (alike ∙ ap (λ zs. zs ++ ks) (map-append (λ t. t.kind) xs ys) ∙ append_assoc (kinds xs) (kinds ys) ks) in
+    let r = behind l.rest ks l.kinds_are in
     record {
-      moved = (record { text = p.0.text; at = l.at }, record { value = p.1.value; at = r.at });
+      moved = (l.moved, r.moved);
       rest = r.rest;
-      are = l.are ∙ ap (λ x. sign_token (kind.Name p.0.text) l.at ∷ x) r.are;
-      same = refl;
+      are = l.are ∙ ap (λ zs. left l.moved ++ zs) r.are ∙ sym (append_assoc (left l.moved) (right r.moved) r.rest);
+      same = ap₂ (λ x y. (x, y)) l.same r.same;
       kinds_are = r.kinds_are;
     }
 
-pairs_moved : (ps : List (Name × Number)) (ts : List Token) → kinds ts ≡ kinds (pairs_tokens (bare_pairs ps)) → MovedWhole pairs_tokens bare_pairs ps ts
-pairs_moved [] ts alike = record { moved = []; are = none_left ts alike; same = refl }
-pairs_moved (p ∷ ps) ts alike =
-    let m = pair_moved p ts (pairs_tokens (bare_pairs ps)) alike in
-    let ms = pairs_moved ps m.rest m.kinds_are in
-    record { moved = m.moved ∷ ms.moved; are = m.are ∙ ap (λ x. name_token m.moved.0 ∷ number_token m.moved.1 ∷ x) ms.are; same = ap₂ (λ x y. x ∷ y) m.same ms.same }
-
-ending_moved : (end : Ending) (ts : List Token) → kinds ts ≡ kinds (ending_tokens (bare_ending end)) → MovedWhole ending_tokens bare_ending end ts
-ending_moved no_word ts alike = record { moved = no_word; are = none_left ts alike; same = refl }
-ending_moved (self_word at) ts alike =
-    let l = led_by ts (kind.Name (codes "self")) [] alike in
-    record { moved = self_word l.at; are = l.are ∙ ap (λ x. word_token (codes "self") l.at ∷ x) (none_left l.rest l.kinds_are); same = refl }
-
-record MovedStated (s : Stated) (ts : List Token) : Type 0 where
-  pub moved : Stated
-  pub are : ts ≡ stated_tokens moved
-  pub same : bare_stated moved ≡ bare_stated s
-  pub fits : StatedFits s → StatedFits moved
-  pub speaks : (language : Language) → IsOf language s → IsOf language moved
-  pub names : NamesLanguage s → NamesLanguage moved
-
-list_of : (language : Language) (w : ListWord) (at to : Spot) (n m : Name) (ns ms : List Name) → IsOf language (listed w at n ns) → IsOf language (listed w to m ms)
-list_of First Eliminate at to n m ns ms speaks = speaks
-list_of language w at to n m ns ms speaks = tt
-
-stated_moved : (s : Stated) (ts : List Token) → kinds ts ≡ kinds (stated_tokens (bare_stated s)) → MovedStated s ts
-stated_moved (listed w at n ns) ts alike =
-    let l = led_by ts (kind.Name (list_text w)) (kinds (names_tokens (bare_names (n ∷ ns)))) alike in
-    let m = name_moved n l.rest (names_tokens (bare_names ns)) l.kinds_are in
-    let ms = names_moved ns m.rest m.kinds_are in
+-- what is made of parts has their tokens, and is without its places what is made of them without theirs
+made : {A B : Type 0} {parts : A → List Token} {bare_parts : A → A} {tokens : B → List Token} {bare_of : B → B} {x : A} (make : A → B)
+    → Moves parts bare_parts x → ((a : A) → tokens (make a) ≡ parts a) → ((a : A) → bare_of (make a) ≡ make (bare_parts a)) → Moves tokens bare_of (make x)
+made {bare_parts = bare_parts} {tokens = tokens} {x = x} make moves tokens_are bare_is ts ks alike =
+    let m = moves ts ks (alike ∙ ap (λ zs. kinds zs ++ ks) (ap tokens (bare_is x) ∙ tokens_are (bare_parts x))) in
     record {
-      moved = listed w l.at m.moved ms.moved;
-      are = l.are ∙ ap (λ x. word_token (list_text w) l.at ∷ x) (m.are ∙ ap (λ x. name_token m.moved ∷ x) ms.are);
-      same = ap₂ (listed w somewhere) m.same ms.same;
-      fits = λ f. f;
-      speaks = λ language speaks. list_of language w at l.at n m.moved ns ms.moved speaks;
-      names = λ names. names;
-    }
-stated_moved (mapped at n ns colon s arrow t end) ts alike =
-    let behind : List Token = sign_token kind.Colon somewhere ∷ name_token (bare_name s) ∷ sign_token kind.Arrow somewhere ∷ name_token (bare_name t) ∷ ending_tokens (bare_ending end) in
-    let l = led_by ts (kind.Name (codes "map")) (kinds (names_tokens (bare_names (n ∷ ns)) ++ behind)) alike in
-    let parts = parts_of l.rest (names_tokens (bare_names (n ∷ ns))) behind l.kinds_are in
-    let m = name_moved n parts.left (names_tokens (bare_names ns)) parts.left_are in
-    let ms = names_moved ns m.rest m.kinds_are in
-    let c = led_by parts.right kind.Colon (kinds (name_token (bare_name s) ∷ sign_token kind.Arrow somewhere ∷ name_token (bare_name t) ∷ ending_tokens (bare_ending end))) parts.right_are in
-    let source = name_moved s c.rest (sign_token kind.Arrow somewhere ∷ name_token (bare_name t) ∷ ending_tokens (bare_ending end)) c.kinds_are in
-    let a = led_by source.rest kind.Arrow (kinds (name_token (bare_name t) ∷ ending_tokens (bare_ending end))) source.kinds_are in
-    let target = name_moved t a.rest (ending_tokens (bare_ending end)) a.kinds_are in
-    let last = ending_moved end target.rest target.kinds_are in
-    record {
-      moved = mapped l.at m.moved ms.moved c.at source.moved a.at target.moved last.moved;
-      are = l.are ∙ ap (λ x. word_token (codes "map") l.at ∷ x) (parts.are ∙ ap₂ (λ x y. x ++ y) (m.are ∙ ap (λ x. name_token m.moved ∷ x) ms.are)
-          (c.are ∙ ap (λ x. sign_token kind.Colon c.at ∷ x) (source.are ∙ ap (λ x. name_token source.moved ∷ x) (a.are ∙ ap (λ x. sign_token kind.Arrow a.at ∷ x) (target.are ∙ ap (λ x. name_token target.moved ∷ x) last.are)))));
-      same = ap₂ (λ x y. mapped somewhere x y somewhere (bare_name source.moved) somewhere (bare_name target.moved) (bare_ending last.moved)) m.same ms.same
-          ∙ ap₂ (λ x y. mapped somewhere (bare_name n) (bare_names ns) somewhere x somewhere y (bare_ending last.moved)) source.same target.same
-          ∙ ap (mapped somewhere (bare_name n) (bare_names ns) somewhere (bare_name s) somewhere (bare_name t)) last.same;
-      fits = λ f. f;
-      speaks = λ language speaks. tt;
-      names = λ names. names;
-    }
-stated_moved (sides w at d equals e) ts alike =
-    let l = led_by ts (kind.Name (sides_text w)) (kinds (expr_tokens (bare d) ++ sign_token kind.Equals somewhere ∷ expr_tokens (bare e))) alike in
-    let parts = parts_of l.rest (expr_tokens (bare d)) (sign_token kind.Equals somewhere ∷ expr_tokens (bare e)) l.kinds_are in
-    let left = expr_moved d parts.left parts.left_are in
-    let q = led_by parts.right kind.Equals (kinds (expr_tokens (bare e))) parts.right_are in
-    let right = expr_moved e q.rest q.kinds_are in
-    record {
-      moved = sides w l.at left.moved q.at right.moved;
-      are = l.are ∙ ap (λ x. word_token (sides_text w) l.at ∷ x) (parts.are ∙ ap₂ (λ x y. x ++ y) left.are (q.are ∙ ap (λ x. sign_token kind.Equals q.at ∷ x) right.are));
-      same = ap₂ (λ x y. sides w somewhere x somewhere y) left.same right.same;
-      fits = λ f. (left.fits bracket_limit f.0, right.fits bracket_limit f.1);
-      speaks = λ language speaks. tt;
-      names = λ names. names;
-    }
-stated_moved (paired w at m n) ts alike =
-    let l = led_by ts (kind.Name (pair_text w)) (kinds (name_token (bare_name m) ∷ name_token (bare_name n) ∷ [])) alike in
-    let x = name_moved m l.rest (name_token (bare_name n) ∷ []) l.kinds_are in
-    let y = name_moved n x.rest [] x.kinds_are in
-    record {
-      moved = paired w l.at x.moved y.moved;
-      are = l.are ∙ ap (λ z. word_token (pair_text w) l.at ∷ z) (x.are ∙ ap (λ z. name_token x.moved ∷ z) (y.are ∙ ap (λ z. name_token y.moved ∷ z) (none_left y.rest y.kinds_are)));
-      same = ap₂ (paired w somewhere) x.same y.same;
-      fits = λ f. f;
-      speaks = λ language speaks. tt;
-      names = λ names. names;
-    }
-stated_moved (projected at n) ts alike =
-    let l = led_by ts (kind.Name (codes "projection")) (kinds (name_token (bare_name n) ∷ [])) alike in
-    let x = name_moved n l.rest [] l.kinds_are in
-    record {
-      moved = projected l.at x.moved;
-      are = l.are ∙ ap (λ z. word_token (codes "projection") l.at ∷ z) (x.are ∙ ap (λ z. name_token x.moved ∷ z) (none_left x.rest x.kinds_are));
-      same = ap (projected somewhere) x.same;
-      fits = λ f. f;
-      speaks = λ language speaks. tt;
-      names = λ names. names;
-    }
-stated_moved (by_degree at word) ts alike =
-    let l = led_by ts (kind.Name (codes "order")) (kind.Name (codes "degree") ∷ []) alike in
-    let r = led_by l.rest (kind.Name (codes "degree")) [] l.kinds_are in
-    record {
-      moved = by_degree l.at r.at;
-      are = l.are ∙ ap (λ z. word_token (codes "order") l.at ∷ z) (r.are ∙ ap (λ z. word_token (codes "degree") r.at ∷ z) (none_left r.rest r.kinds_are));
-      same = refl;
-      fits = λ f. f;
-      speaks = λ language speaks. tt;
-      names = λ names. names;
-    }
-stated_moved (by_weight at word p ps) ts alike =
-    let l = led_by ts (kind.Name (codes "order")) (kind.Name (codes "weight") ∷ kinds (pairs_tokens (bare_pairs (p ∷ ps)))) alike in
-    let r = led_by l.rest (kind.Name (codes "weight")) (kinds (pairs_tokens (bare_pairs (p ∷ ps)))) l.kinds_are in
-    let x = pair_moved p r.rest (pairs_tokens (bare_pairs ps)) r.kinds_are in
-    let xs = pairs_moved ps x.rest x.kinds_are in
-    record {
-      moved = by_weight l.at r.at x.moved xs.moved;
-      are = l.are ∙ ap (λ z. word_token (codes "order") l.at ∷ z) (r.are ∙ ap (λ z. word_token (codes "weight") r.at ∷ z) (x.are ∙ ap (λ z. name_token x.moved.0 ∷ number_token x.moved.1 ∷ z) xs.are));
-      same = ap₂ (by_weight somewhere somewhere) x.same xs.same;
-      fits = λ f. f;
-      speaks = λ language speaks. tt;
-      names = λ names. names;
-    }
-stated_moved (modelled at m ps) ts alike =
-    let l = led_by ts (kind.Name (codes "model")) (kind.Literal m.value ∷ kinds (pairs_tokens (bare_pairs ps))) alike in
-    let r = led_by l.rest (kind.Literal m.value) (kinds (pairs_tokens (bare_pairs ps))) l.kinds_are in
-    let xs = pairs_moved ps r.rest r.kinds_are in
-    record {
-      moved = modelled l.at (record { value = m.value; at = r.at }) xs.moved;
-      are = l.are ∙ ap (λ z. word_token (codes "model") l.at ∷ z) (r.are ∙ ap (λ z. number_token (record { value = m.value; at = r.at }) ∷ z) xs.are);
-      same = ap (modelled somewhere (bare_number m)) xs.same;
-      fits = λ f. f;
-      speaks = λ language speaks. tt;
-      names = λ names. names;
-    }
-stated_moved (second_language at number) ts alike =
-    let l = led_by ts (kind.Name (codes "language")) (kind.Literal (two_at somewhere).value ∷ []) alike in
-    let r = led_by l.rest (kind.Literal (two_at somewhere).value) [] l.kinds_are in
-    record {
-      moved = second_language l.at r.at;
-      are = l.are ∙ ap (λ z. word_token (codes "language") l.at ∷ z) (r.are ∙ ap (λ z. number_token (two_at r.at) ∷ z) (none_left r.rest r.kinds_are));
-      same = refl;
-      fits = λ f. f;
-      speaks = λ language speaks. speaks;
-      names = λ names. names;
+      moved = make m.moved;
+      rest = m.rest;
+      are = m.are ∙ ap (λ zs. zs ++ m.rest) (sym (tokens_are m.moved));
+      same = bare_is m.moved ∙ ap make m.same ∙ sym (bare_is x);
+      kinds_are = m.kinds_are;
     }
 
--- files
+name_moves : (n : Name) → Moves (λ n. name_token n ∷ []) bare_name n
+name_moves n = made (λ at. record { text = n.text; at = at }) (token_moves (kind.Name n.text) n.at) (λ at. refl) (λ at. refl)
+
+number_moves : (n : Number) → Moves (λ n. number_token n ∷ []) bare_number n
+number_moves n = made (λ at. record { value = n.value; at = at }) (token_moves (kind.Literal n.value) n.at) (λ at. refl) (λ at. refl)
+
+-- a leading plus is left out
+lead_moves : (l : Lead) → Moves lead_tokens bare_lead l
+lead_moves (lead_minus at) = made lead_minus (token_moves kind.Minus at) (λ at. refl) (λ at. refl)
+lead_moves l = λ ts ks alike. record { moved = no_sign; rest = ts; are = refl; same = refl; kinds_are = alike }
+
+sign_moves : (s : Sign) → Moves (λ s. signed_token s ∷ []) bare_sign s
+sign_moves (plus at) = made plus (token_moves kind.Plus at) (λ at. refl) (λ at. refl)
+sign_moves (minus at) = made minus (token_moves kind.Minus at) (λ at. refl) (λ at. refl)
+
+literal_moves : (l : Option Number) → Moves literal_tokens bare_literal l
+literal_moves None = λ ts ks alike. record { moved = None; rest = ts; are = refl; same = refl; kinds_are = alike }
+literal_moves (Some n) = made Some (number_moves n) (λ n. refl) (λ n. refl)
+
+mutual
+  expr_moves : (e : Expr) → Moves expr_tokens bare e
+  expr_moves (first l t) = made (λ p. first p.0 p.1) (both (lead_moves l) (product_moves t)) (λ p. refl) (λ p. refl)
+  expr_moves (joined e s t) =
+      made (λ p. joined p.0 p.1.0 p.1.1) (both (expr_moves e) (both (sign_moves s) (product_moves t))) (λ p. refl) (λ p. refl)
+
+  product_moves : (t : Product) → Moves product_tokens bare_product t
+  product_moves (zero_alone at) = made zero_alone (token_moves (kind.Literal (pos 0)) at) (λ at. refl) (λ at. refl)
+  product_moves (factors l fs) = made (λ p. factors p.0 p.1) (both (literal_moves l) (factors_move fs)) (λ p. refl) (λ p. refl)
+
+  factors_move : (fs : Factors) → Moves factors_tokens bare_factors fs
+  factors_move (one f) = made one (marked_moves f) (λ f. refl) (λ f. refl)
+  factors_move (beside fs f) = made (λ p. beside p.0 p.1) (both (factors_move fs) (marked_moves f)) (λ p. refl) (λ p. refl)
+
+  marked_moves : (f : Marked) → Moves marked_tokens bare_marked f
+  marked_moves (plain p) = made plain (prime_moves p) (λ p. refl) (λ p. refl)
+  marked_moves (marked f at) = made (λ p. marked p.0 p.1) (both (marked_moves f) (token_moves kind.Quote at)) (λ p. refl) (λ p. refl)
+  marked_moves (raised f at n) =
+      made (λ p. raised p.0 p.1.0 p.1.1) (both (marked_moves f) (both (token_moves kind.Caret at) (number_moves n))) (λ p. refl) (λ p. refl)
+
+  prime_moves : (p : Prime) → Moves prime_tokens bare_prime p
+  prime_moves (name n) = made name (name_moves n) (λ n. refl) (λ n. refl)
+  prime_moves (identity left n right) =
+      made (λ p. identity p.0 p.1.0 p.1.1) (both (token_moves kind.OpenSquare left) (both (name_moves n) (token_moves kind.CloseSquare right)))
+      (λ p. refl) (λ p. refl)
+  prime_moves (bracket left e right) =
+      made (λ p. bracket p.0 p.1.0 p.1.1) (both (token_moves kind.Open left) (both (expr_moves e) (token_moves kind.Close right))) (λ p. refl) (λ p. refl)
+
+-- statements
+names_move : (ns : List Name) → Moves names_tokens bare_names ns
+names_move [] = λ ts ks alike. record { moved = []; rest = ts; are = refl; same = refl; kinds_are = alike }
+names_move (n ∷ ns) = made (λ p. p.0 ∷ p.1) (both (name_moves n) (names_move ns)) (λ p. refl) (λ p. refl)
+
+pairs_move : (ps : List (Name × Number)) → Moves pairs_tokens bare_pairs ps
+pairs_move [] = λ ts ks alike. record { moved = []; rest = ts; are = refl; same = refl; kinds_are = alike }
+pairs_move (p ∷ ps) = made (λ q. q.0 ∷ q.1) (both (both (name_moves p.0) (number_moves p.1)) (pairs_move ps)) (λ q. refl) (λ q. refl)
+
+ending_moves : (end : Ending) → Moves ending_tokens bare_ending end
+ending_moves no_word = λ ts ks alike. record { moved = no_word; rest = ts; are = refl; same = refl; kinds_are = alike }
+ending_moves (self_word at) = made self_word (token_moves (kind.Name (codes "self")) at) (λ at. refl) (λ at. refl)
+
+stated_moves : (s : Stated) → Moves stated_tokens bare_stated s
+stated_moves (listed w at n ns) =
+    made (λ p. listed w p.0 p.1.0 p.1.1) (both (token_moves (kind.Name (list_text w)) at) (both (name_moves n) (names_move ns))) (λ p. refl) (λ p. refl)
+stated_moves (mapped at n ns colon s arrow t end) =
+    made (λ p. mapped p.0.0 p.0.1.0 p.0.1.1 p.1.0.0 p.1.0.1 p.1.1.0 p.1.1.1.0 p.1.1.1.1)
+    (both (both (token_moves (kind.Name (codes "map")) at) (both (name_moves n) (names_move ns)))
+    (both (both (token_moves kind.Colon colon) (name_moves s)) (both (token_moves kind.Arrow arrow) (both (name_moves t) (ending_moves end)))))
+    (λ p. refl) (λ p. refl)
+stated_moves (sides w at d equals e) =
+    made (λ p. sides w p.0 p.1.0 p.1.1.0 p.1.1.1)
+    (both (token_moves (kind.Name (sides_text w)) at) (both (expr_moves d) (both (token_moves kind.Equals equals) (expr_moves e)))) (λ p. refl) (λ p. refl)
+stated_moves (paired w at m n) =
+    made (λ p. paired w p.0 p.1.0 p.1.1) (both (token_moves (kind.Name (pair_text w)) at) (both (name_moves m) (name_moves n))) (λ p. refl) (λ p. refl)
+stated_moves (projected at n) =
+    made (λ p. projected p.0 p.1) (both (token_moves (kind.Name (codes "projection")) at) (name_moves n)) (λ p. refl) (λ p. refl)
+stated_moves (by_degree at word) =
+    made (λ p. by_degree p.0 p.1) (both (token_moves (kind.Name (codes "order")) at) (token_moves (kind.Name (codes "degree")) word)) (λ p. refl) (λ p. refl)
+stated_moves (by_weight at word p ps) =
+    made (λ q. by_weight q.0.0 q.0.1 q.1.0 q.1.1)
+    (both (both (token_moves (kind.Name (codes "order")) at) (token_moves (kind.Name (codes "weight")) word))
+    (both (both (name_moves p.0) (number_moves p.1)) (pairs_move ps))) (λ q. refl) (λ q. refl)
+stated_moves (modelled at m ps) =
+    made (λ p. modelled p.0 p.1.0 p.1.1) (both (token_moves (kind.Name (codes "model")) at) (both (number_moves m) (pairs_move ps))) (λ p. refl) (λ p. refl)
+stated_moves (second_language at number) =
+    made (λ p. second_language p.0 p.1) (both (token_moves (kind.Name (codes "language")) at) (token_moves (kind.Literal (pos 2)) number))
+    (λ p. refl) (λ p. refl)
+
+line_moves : (l : StatedLine) → Moves line_tokens bare_line l
+line_moves l = made (λ p. record { stated = p.0; end = p.1 }) (both (stated_moves l.stated) (token_moves kind.End l.end)) (λ p. refl) (λ p. refl)
+
+lines_move : (ls : List StatedLine) → Moves file_tokens bare_file ls
+lines_move [] = λ ts ks alike. record { moved = []; rest = ts; are = refl; same = refl; kinds_are = alike }
+lines_move (l ∷ ls) = made (λ p. p.0 ∷ p.1) (both (line_moves l) (lines_move ls)) (λ p. refl) (λ p. refl)
+
+-- the limit of brackets and the languages are the same without places
+mutual
+  expr_fits : (e : Expr) (d : ℕ) → ExprFits (bare e) d ≡ ExprFits e d
+  expr_fits (first l t) d = product_fits t d
+  expr_fits (joined e s t) d = ap₂ (λ F G. F × G) (expr_fits e d) (product_fits t d)
+
+  product_fits : (t : Product) (d : ℕ) → ProductFits (bare_product t) d ≡ ProductFits t d
+  product_fits (zero_alone at) d = refl
+  product_fits (factors l fs) d = factors_fit fs d
+
+  factors_fit : (fs : Factors) (d : ℕ) → FactorsFit (bare_factors fs) d ≡ FactorsFit fs d
+  factors_fit (one f) d = marked_fits f d
+  factors_fit (beside fs f) d = ap₂ (λ F G. F × G) (factors_fit fs d) (marked_fits f d)
+
+  marked_fits : (f : Marked) (d : ℕ) → MarkedFits (bare_marked f) d ≡ MarkedFits f d
+  marked_fits (plain p) d = prime_fits p d
+  marked_fits (marked f at) d = marked_fits f d
+  marked_fits (raised f at n) d = marked_fits f d
+
+  prime_fits : (p : Prime) (d : ℕ) → PrimeFits (bare_prime p) d ≡ PrimeFits p d
+  prime_fits (bracket left e right) (suc d) = expr_fits e d
+  prime_fits p d = refl
+
+file_fits : (ls : List StatedLine) → FileFits (bare_file ls) ≡ FileFits ls
+file_fits [] = refl
+file_fits (l ∷ ls) = ap₂ (λ F G. F × G) (fits l.stated) (file_fits ls)
+  where
+    fits : (s : Stated) → StatedFits (bare_stated s) ≡ StatedFits s
+    fits (sides w at d equals e) = ap₂ (λ F G. F × G) (expr_fits d bracket_limit) (expr_fits e bracket_limit)
+    fits s = refl
+
+lines_speak : (language : Language) (ls : List StatedLine) → AreLinesOf language (bare_file ls) ≡ AreLinesOf language ls
+lines_speak language [] = refl
+lines_speak language (l ∷ ls) = ap₂ (λ F G. F × G) (speaks language l.stated) (lines_speak language ls)
+  where
+    speaks : (language : Language) (s : Stated) → IsOf language (bare_stated s) ≡ IsOf language s
+    speaks First (listed Eliminate at n ns) = refl
+    speaks Second (listed Eliminate at n ns) = refl
+    speaks language s = refl
+
+file_speaks : (language : Language) (ls : List StatedLine) → IsFileOf language (bare_file ls) ≡ IsFileOf language ls
+file_speaks First ls = lines_speak First ls
+file_speaks Second [] = refl
+file_speaks Second (l ∷ ls) = ap₂ (λ F G. F × G) (names l.stated) (lines_speak Second ls)
+  where
+    names : (s : Stated) → NamesLanguage (bare_stated s) ≡ NamesLanguage s
+    names (second_language at number) = refl
+    names s = refl
+
+-- all tokens are those of a file
 pub record MovedFile (ls : List StatedLine) (ts : List Token) : Type 0 where
   pub moved : List StatedLine
   pub are : ts ≡ file_tokens moved
   pub same : bare_file moved ≡ bare_file ls
   pub fits : FileFits ls → FileFits moved
-  pub speak : (language : Language) → AreLinesOf language ls → AreLinesOf language moved
   pub speaks : (language : Language) → IsFileOf language ls → IsFileOf language moved
 
-file_speaks : (language : Language) (l m : StatedLine) (ls ms : List StatedLine) → (IsOf language l.stated → IsOf language m.stated) → (NamesLanguage l.stated → NamesLanguage m.stated)
-    → (AreLinesOf language ls → AreLinesOf language ms) → IsFileOf language (l ∷ ls) → IsFileOf language (m ∷ ms)
-file_speaks First l m ls ms stated named others speaks = (stated speaks.0, others speaks.1)
-file_speaks Second l m ls ms stated named others speaks = (named speaks.0, others speaks.1)
-
 pub file_moved : (ls : List StatedLine) (ts : List Token) → kinds ts ≡ kinds (file_tokens (bare_file ls)) → MovedFile ls ts
-file_moved [] ts alike = record { moved = []; are = none_left ts alike; same = refl; fits = λ f. f; speak = λ language speak. speak; speaks = λ language speaks. speaks }
-file_moved (l ∷ ls) ts alike =
-    let outer = parts_of ts (line_tokens (bare_line l)) (file_tokens (bare_file ls)) alike in
-    let inner = parts_of outer.left (stated_tokens (bare_stated l.stated)) (sign_token kind.End somewhere ∷ []) outer.left_are in
-    let s = stated_moved l.stated inner.left inner.left_are in
-    let e = led_by inner.right kind.End [] inner.right_are in
-    let rest = file_moved ls outer.right outer.right_are in
-    let line : StatedLine = record { stated = s.moved; end = e.at } in
+file_moved ls ts alike =
+    let m = lines_move ls ts [] (alike ∙ sym (append-nil (kinds (file_tokens (bare_file ls))))) in
     record {
-      moved = line ∷ rest.moved;
-      are = outer.are ∙ ap₂ (λ x y. x ++ y) (inner.are ∙ ap₂ (λ x y. x ++ y) s.are (e.are ∙ ap (λ x. sign_token kind.End e.at ∷ x) (none_left e.rest e.kinds_are))) rest.are;
-      same = ap₂ (λ x y. record { stated = x; end = somewhere } ∷ y) s.same rest.same;
-      fits = λ f. (s.fits f.0, rest.fits f.1);
-      speak = λ language f. (s.speaks language f.0, rest.speak language f.1);
-      speaks = λ language. file_speaks language l line ls rest.moved (s.speaks language) s.names (rest.speak language);
+      moved = m.moved;
+      are = m.are ∙ ap (λ rest. file_tokens m.moved ++ rest) (none_left m.rest m.kinds_are) ∙ append-nil (file_tokens m.moved);
+      same = m.same;
+      fits = transport (sym (file_fits ls) ∙ ap FileFits (sym m.same) ∙ file_fits m.moved);
+      speaks = λ language. transport (sym (file_speaks language ls) ∙ ap (IsFileOf language) (sym m.same) ∙ file_speaks language m.moved);
     }
+  where
+    none_left : (ts : List Token) → kinds ts ≡ [] → ts ≡ []
+    none_left [] none = refl
+    none_left (t ∷ ts) none = absurd cc

@@ -26,22 +26,22 @@ module _ {S : Type 0} (step : S → Token → Result S Misfit) where
   unfolding run
   failing st t more f fails = ap (λ (r : Result S Misfit). r >>= λ s. run step s more) fails
 
+  -- one run behind another
+  pub run-append : (st : S) (front rest : List Token) → run step st (front ++ rest) ≡ (run step st front >>= λ next. run step next rest)
+  unfolding run
+  run-append st [] rest = refl
+  run-append st (t ∷ front) rest = by (step st t) (λ next. run-append next front rest)
+    where
+      by : (r : Result S Misfit) → ((s : S) → run step s (front ++ rest) ≡ (run step s front >>= λ next. run step next rest))
+          → (r >>= λ s. run step s (front ++ rest)) ≡ ((r >>= λ s. run step s front) >>= λ next. run step next rest)
+      by (Ok s) goes = goes s
+      by (Err f) goes = refl
+
   pub run_front : (st : S) (front : List Token) (next : S) (rest : List Token) → run step st front ≡ Ok next → run step st (front ++ rest) ≡ run step next rest
-  unfolding run
-  run_front st [] next rest ran = ap (λ s. run step s rest) (ok_is st next ran)
-  run_front st (t ∷ front) next rest ran =
-      let one = bind_ok (step st t) (λ s. run step s front) next ran in
-      one_step st one.0 t (front ++ rest) one.1 ∙ run_front one.0 front next rest one.2
+  run_front st front next rest ran = run-append st front rest ∙ ap (λ (r : Result S Misfit). r >>= λ s. run step s rest) ran
 
-  fails_by : (front rest : List Token) (f : Misfit) (r : Result S Misfit) → ((s : S) → run step s front ≡ Err f → run step s (front ++ rest) ≡ Err f)
-      → (r >>= λ s. run step s front) ≡ Err f → (r >>= λ s. run step s (front ++ rest)) ≡ Err f
-  fails_by front rest f (Ok s) go given = go s given
-  fails_by front rest f (Err e) go given = given
-
-  pub run_fails : (st : S) (front : List Token) (f : Misfit) (rest : List Token) → run step st front ≡ Err f → run step st (front ++ rest) ≡ Err f
-  unfolding run
-  run_fails st [] f rest ran = absurd (ok_differs st f ran)
-  run_fails st (t ∷ front) f rest ran = fails_by front rest f (step st t) (λ s given. run_fails s front f rest given) ran
+  run_fails : (st : S) (front : List Token) (f : Misfit) (rest : List Token) → run step st front ≡ Err f → run step st (front ++ rest) ≡ Err f
+  run_fails st front f rest ran = run-append st front rest ∙ ap (λ (r : Result S Misfit). r >>= λ s. run step s rest) ran
 
 -- it is within the limit and goes on as this, or it is not and stops at a bracket that is too deep
 abbrev pub Upto : {S : Type 0} → Type 0 → Result S Misfit → Result S Misfit → Type 0
@@ -73,23 +73,18 @@ upto_ok r meant next (inr (f, p)) given = absurd (ok_differs next TooDeep (sym g
 -- one run inside another, whose steps do the same wherever the token is one that is expected
 module _ {S T : Type 0} (inner : S → Token → Result S Misfit) (outer : T → Token → Result T Misfit) (wrap : S → T)
     (alike : (s : S) (t : Token) (read : Result S Misfit) → inner s t ≡ read → (read ≡ Err Expected → ⊥) → outer (wrap s) t ≡ (read >>= λ x. Ok (wrap x))) where
-  pub inside : (ts : List Token) (s end : S) → run inner s ts ≡ Ok end → run outer (wrap s) ts ≡ Ok (wrap end)
+  inside : (ts : List Token) (s : S) (read : Result S Misfit) → run inner s ts ≡ read → (read ≡ Err Expected → ⊥)
+      → run outer (wrap s) ts ≡ (read >>= λ x. Ok (wrap x))
   unfolding run
-  inside [] s end ran = ap (λ x. Ok (wrap x)) (ok_is s end ran)
-  inside (t ∷ ts) s end ran =
-      let one = bind_ok (inner s t) (λ x. run inner x ts) end ran in
-      one_step outer (wrap s) (wrap one.0) t ts (alike s t (Ok one.0) one.1 (ok_differs one.0 Expected)) ∙ inside ts one.0 end one.2
-
-  deep_by : (t : Token) (ts : List Token) (s : S) (r : Result S Misfit) → inner s t ≡ r → ((x : S) → run inner x ts ≡ Err TooDeep → run outer (wrap x) ts ≡ Err TooDeep)
-      → (r >>= λ x. run inner x ts) ≡ Err TooDeep → run outer (wrap s) (t ∷ ts) ≡ Err TooDeep
-  deep_by t ts s (Ok x) is go given = one_step outer (wrap s) (wrap x) t ts (alike s t (Ok x) is (ok_differs x Expected)) ∙ go x given
-  deep_by t ts s (Err f) is go given = failing outer (wrap s) t ts TooDeep (alike s t (Err TooDeep) (is ∙ given) deep_differs)
-
-  pub inside_deep : (ts : List Token) (s : S) → run inner s ts ≡ Err TooDeep → run outer (wrap s) ts ≡ Err TooDeep
-  unfolding run
-  inside_deep [] s ran = absurd (ok_differs s TooDeep ran)
-  inside_deep (t ∷ ts) s ran = deep_by t ts s (inner s t) refl (λ x given. inside_deep ts x given) ran
+  inside [] s read ran fits = ap (λ (r : Result S Misfit). r >>= λ x. Ok (wrap x)) ran
+  inside (t ∷ ts) s read ran fits = by (inner s t) refl ran (λ next. inside ts next read)
+    where
+      by : (r : Result S Misfit) → inner s t ≡ r → (r >>= λ x. run inner x ts) ≡ read
+          → ((x : S) → run inner x ts ≡ read → (read ≡ Err Expected → ⊥) → run outer (wrap x) ts ≡ (read >>= λ x. Ok (wrap x)))
+          → run outer (wrap s) (t ∷ ts) ≡ (read >>= λ x. Ok (wrap x))
+      by (Ok x) is runs go = one_step outer (wrap s) (wrap x) t ts (alike s t (Ok x) is (ok_differs x Expected)) ∙ go x runs fits
+      by (Err f) is runs go = failing outer (wrap s) t ts f (alike s t (Err f) is (λ e. fits (sym runs ∙ e))) ∙ ap (λ r. r >>= λ x. Ok (wrap x)) runs
 
   pub inside_upto : {F : Type 0} (ts : List Token) (s end : S) → Upto F (run inner s ts) (Ok end) → Upto F (run outer (wrap s) ts) (Ok (wrap end))
-  inside_upto ts s end (inl (f, p)) = inl (f, inside ts s end p)
-  inside_upto ts s end (inr (f, p)) = inr (f, inside_deep ts s p)
+  inside_upto ts s end (inl (f, p)) = inl (f, inside ts s (Ok end) p (ok_differs end Expected))
+  inside_upto ts s end (inr (f, p)) = inr (f, inside ts s (Err TooDeep) p deep_differs)

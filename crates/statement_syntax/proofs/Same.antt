@@ -13,8 +13,7 @@ use Rattle.statement_syntax.proofs.Seen.{head_of, part_of, focus_of, levels_of, 
 
 pub add-seen : (part : Part) (p : Prime) → steps.part_with (part_of part) (prime_tree p) (prime_at p) ≡ part_of (add part p)
 add-seen nothing p = refl
-add-seen (scaled n) p = refl
-add-seen (product l fs) p = refl
+add-seen part p = refl
 
 abbrev pub product_or : Option Product → Bool → Result Term Misfit
 product_or None negative = Err Expected
@@ -22,8 +21,7 @@ product_or (Some t) negative = Ok (product_tree t negative)
 
 lone-seen : (z : ℤ) (at : Spot) (negative : Bool) → steps.lone_term z (record { value = z; at = at }) negative ≡ product_or (lone_literal z at) negative
 lone-seen (pos zero) at negative = refl
-lone-seen (pos (suc n)) at negative = refl
-lone-seen (negsuc n) at negative = refl
+lone-seen z at negative = refl
 
 pub ended-seen : (part : Part) (negative : Bool) → steps.ended_part (part_of part) negative ≡ product_or (whole_term part) negative
 ended-seen nothing negative = refl
@@ -36,15 +34,11 @@ product-place (factors l fs) negative = rw out-roll-Term refl
 
 place-seen : (head : Head) (t : Product) → steps.sum_at (head_of head) (product_tree t (head_of head).negative) ≡ expr_at (with_term head t)
 place-seen (led no_sign) t = product-place t false
-place-seen (led (lead_plus at)) t = refl
-place-seen (led (lead_minus at)) t = refl
-place-seen (after e s) t = refl
+place-seen head t = refl
 
 terms-seen : (head : Head) (t : Product) → (head_of head).terms ++ product_tree t (head_of head).negative ∷ [] ≡ expr_terms (with_term head t)
 terms-seen (led no_sign) t = refl
-terms-seen (led (lead_plus at)) t = refl
-terms-seen (led (lead_minus at)) t = refl
-terms-seen (after e s) t = refl
+terms-seen head t = refl
 
 sum-seen : (head : Head) (t : Product) → steps.sum_with (head_of head) (product_tree t (head_of head).negative) ≡ expr_tree (with_term head t)
 sum-seen head t = ap₂ steps.sum_of (place-seen head t) (terms-seen head t)
@@ -90,15 +84,12 @@ closed-seen level levels head part t at whole =
 
 whole_made : (levels : List Level) (head : Head) (part : Part) (f : Focus)
     → steps.whole_by (levels_of levels) (head_of head) (part_of part) (focus_of f) ≡ tree_or (end_by levels head f (whole_term part)) Expected
-whole_made (level ∷ levels) head part f = refl
-whole_made [] head part (square left) = refl
-whole_made [] head part (named left n) = refl
-whole_made [] head part (behind_caret l fs caret) = refl
 whole_made [] head part outside = ap (λ r. r >>= λ t. Ok (steps.sum_with (head_of head) t)) (ended-seen part (head_of head).negative) ∙ last (whole_term part)
   where
     last : (t : Option Product) → (product_or t (head_of head).negative >>= λ x. Ok (steps.sum_with (head_of head) x)) ≡ tree_or (end_by [] head outside t) Expected
     last None = refl
     last (Some t) = ap (λ s. Ok s) (sum-seen head t)
+whole_made levels head part f = refl
 
 pub whole-seen : (st : State) → steps.whole_sum (reading_of st) ≡ tree_or (whole st) Expected
 whole-seen st = whole_made st.levels st.head st.part st.focus

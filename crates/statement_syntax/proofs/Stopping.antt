@@ -13,7 +13,7 @@ use Rattle.statement_syntax.specs.Lines.{line_end, ended, file_step}
 use Rattle.statement_syntax.specs.Fault.{IsStatements, IsTreeOf, GoesOn, GoesOnWithin, IsMisfit, IsFirstFault, TellsFirstFault, IsWantOfMemory, fault_at, scan_fault, misfit_fault}
 use Rattle.statement_syntax.specs.Stages.{first_statements, begun, left, StoppedAt, AllRead, Refused, IsRefusal}
 use Rattle.statement_tokens.proofs.TokenLaws.{read_are, tokens_are_unique, tokens_have_no_fault}
-use Rattle.statement_syntax.proofs.Run.{bind_ok, ok_is, run_front, one_step, upto_ok}
+use Rattle.statement_syntax.proofs.Run.{bind_ok, ok_is, run-append, run_front, one_step, upto_ok}
 use Rattle.statement_syntax.proofs.LastToken.{EndsWell, ends_from, rest_ends}
 use Rattle.statement_syntax.proofs.LineReads.{LineReads}
 use Rattle.statement_syntax.proofs.FirstLine.{file_language, Divided, Behind, divided}
@@ -48,15 +48,6 @@ stops_at ts front t rest p (error.Misfit f) refused splits ran fails tells = sub
 
 -- after all tokens no line is left open
 module _ (language : Language) where
-  run_split : (p : Progress) (xs ys : List Token) (next : Progress) → run (file_step language) p (xs ++ ys) ≡ Ok next
-      → (mid : Progress) × (run (file_step language) p xs ≡ Ok mid) × (run (file_step language) mid ys ≡ Ok next)
-  unfolding run
-  run_split p [] ys next ran = (p, refl, ran)
-  run_split p (x ∷ xs) ys next ran =
-      let one = bind_ok (file_step language p x) (λ q. run (file_step language) q (xs ++ ys)) next ran in
-      let rest = run_split one.0 xs ys next one.2 in
-      (rest.0, ap (λ r. r >>= λ q. run (file_step language) q xs) one.1 ∙ rest.1, rest.2)
-
   end_starts : (mid p : Progress) (at : Spot) → run (file_step language) mid (sign_token kind.End at ∷ []) ≡ Ok p → p.line ≡ line.Start
   unfolding run
   end_starts mid p at ran =
@@ -68,7 +59,10 @@ module _ (language : Language) where
   unfolding run
   closed_by before ts p (inl loop) ran = ap (λ (q : Progress). q.line) (sym (ok_is (in_file before line.Start) p (sym (ap (run (file_step language) (in_file before line.Start)) loop.1) ∙ ran)))
   closed_by before ts p (inr loop) ran =
-      let parts = run_split (in_file before line.Start) loop.0 (sign_token kind.End loop.1 ∷ []) p (sym (ap (run (file_step language) (in_file before line.Start)) loop.2) ∙ ran) in
+      let end = sign_token kind.End loop.1 ∷ [] in
+      let start = in_file before line.Start in
+      let parts = bind_ok (run (file_step language) start loop.0) (λ mid. run (file_step language) mid end) p
+      (sym (ap (run (file_step language) start) loop.2 ∙ run-append (file_step language) start loop.0 end) ∙ ran) in
       end_starts parts.0 p loop.1 parts.2
 
 -- the clauses
@@ -133,17 +127,6 @@ is_only bytes ts statements read loop lines is =
     let same = upto_ok _ (in_file (before ++ file_tree parts.others) line.Start) loop.0 (lines_run language before parts.others parts.speak)
     (ap (run (file_step language) (begun ts)) (sym parts.are) ∙ loop.1) in
     loop.2 ∙ ap (λ (p : Progress). p.statements) (sym same.1) ∙ ap (λ x. x ++ file_tree parts.others) (own ts).trees ∙ sym parts.trees
-
-stopped_misfit : (bytes : List ℕ) (ts : List Token) (lines : List StatedLine) (refused : SyntaxFault) → AreTokens (chars bytes) ts → StoppedAt ts refused → IsStatements bytes lines → ⊥
-stopped_misfit bytes ts lines refused read loop is =
-    let language = language_of ts in
-    let parts = lines_are bytes ts lines read is in
-    (file_misfit language (first_statements language ts) loop.front loop.progress loop.token loop.misfit loop.ran loop.stops loop.rest parts.others parts.speak (sym loop.splits ∙ parts.are)).0
-    (parts.fits is.fits)
-
-pub is_refused : (bytes : List ℕ) (ts : List Token) (lines : List StatedLine) (refused : SyntaxFault) → AreTokens (chars bytes) ts → Refused ts refused → IsStatements bytes lines → IsWantOfMemory refused
-is_refused bytes ts lines (refusal.Memory e) read loop is = tt
-is_refused bytes ts lines (refusal.Fault code l c) read loop is = stopped_misfit bytes ts lines (refusal.Fault code l c) read loop is
 
 -- the token at which the loop stopped is the first misfit
 module _ (ts : List Token) (refused : SyntaxFault) (loop : StoppedAt ts refused) where
@@ -225,8 +208,7 @@ no_first : (bytes : List ℕ) (lines : List StatedLine) (f : Fault) (at : Spot) 
 no_first bytes lines fault.NotUtf8 at first is = first.0 is.utf8
 no_first bytes lines fault.BadToken at first is = tokens_have_no_fault (chars bytes) _ _ at is.tokens first.1
 no_first bytes lines fault.LiteralTooLarge at first is = tokens_have_no_fault (chars bytes) _ _ at is.tokens first.1
-no_first bytes lines fault.Expected at first is = no_misfit bytes lines at first.0 is
-no_first bytes lines fault.TooDeep at first is = no_misfit bytes lines at first.0 is
+no_first bytes lines f at first is = no_misfit bytes lines at first.0 is
 
 pub want_alone : (bytes : List ℕ) (lines : List StatedLine) (refused : SyntaxFault) → TellsFirstFault bytes refused → IsStatements bytes lines → IsWantOfMemory refused
 want_alone bytes lines (refusal.Memory e) tells is = tt

@@ -24,16 +24,12 @@ IsLong (a ∷ b ∷ c ∷ more) = Unit {0}
 IsLong ts = ⊥
 
 pub short_first : (ts : List Token) → length ts < 3 → language_of ts ≡ First
-short_first [] short = refl
-short_first (a ∷ []) short = refl
-short_first (a ∷ b ∷ []) short = refl
 short_first (a ∷ b ∷ c ∷ more) short = absurd (omega (arith, short))
+short_first ts short = refl
 
 three_long : (ts : List Token) → length ts ≡ 3 → IsLong ts
-three_long [] three = absurd (omega (arith, three))
-three_long (a ∷ []) three = absurd (omega (arith, three))
-three_long (a ∷ b ∷ []) three = absurd (omega (arith, three))
 three_long (a ∷ b ∷ c ∷ more) three = tt
+three_long ts three = absurd (omega (arith, three))
 
 -- one token more behind three and others
 module _ (a b c : Token) (more : List Token) (t : Token) where
@@ -78,22 +74,16 @@ module _ (a b c : Token) (more : List Token) (t : Token) where
 
 read_more : (front : List Token) (t : Token) → IsLong front → (read next : Result Progress SyntaxFault) → IsReadSoFar front read
     → Goes (language_of front) read t next → IsReadSoFar (front ++ t ∷ []) next
-read_more [] t long = absurd long
-read_more (a ∷ []) t long = absurd long
-read_more (a ∷ b ∷ []) t long = absurd long
 read_more (a ∷ b ∷ c ∷ more) t long = one_more a b c more t
+read_more ts t long = absurd long
 
 long_more : (front more : List Token) → IsLong front → IsLong (front ++ more)
-long_more [] more long = absurd long
-long_more (a ∷ []) more long = absurd long
-long_more (a ∷ b ∷ []) more long = absurd long
 long_more (a ∷ b ∷ c ∷ ts) more long = tt
+long_more ts more long = absurd long
 
 language_more : (front more : List Token) → IsLong front → language_of (front ++ more) ≡ language_of front
-language_more [] more long = absurd long
-language_more (a ∷ []) more long = absurd long
-language_more (a ∷ b ∷ []) more long = absurd long
 language_more (a ∷ b ∷ c ∷ ts) more long = refl
+language_more ts more long = absurd long
 
 no_token : (t : Token) (rest : Result (List Token) Placed) → with_front (t ∷ []) rest ≡ Ok [] → ⊥
 no_token t (Ok ts) is = absurd cc

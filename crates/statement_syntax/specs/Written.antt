@@ -75,15 +75,6 @@ sides_kinds word left right = word_kinds word ++ sum_kinds left ++ kind.Equals �
 abbrev pub two_kinds : List ℕ → Name → Name → List TokenKind
 two_kinds word first second = word_kinds word ++ name_kinds first ++ name_kinds second
 
-abbrev pub projection_kinds : Name → List TokenKind
-projection_kinds name = word_kinds (codes "projection") ++ name_kinds name
-
-abbrev pub language_kinds : List TokenKind
-language_kinds = word_kinds (codes "language") ++ kind.Literal (pos 2) ∷ []
-
-abbrev pub degree_kinds : List TokenKind
-degree_kinds = word_kinds (codes "order") ++ word_kinds (codes "degree")
-
 abbrev pub weight_kinds : List (Name × Number) → List TokenKind
 weight_kinds weights = word_kinds (codes "order") ++ word_kinds (codes "weight") ++ flat_map pair_kinds weights
 
@@ -91,7 +82,7 @@ abbrev pub shape_kinds : Number → List (Name × Number) → List TokenKind
 shape_kinds modulus sides = word_kinds (codes "model") ++ number_kinds modulus ++ flat_map pair_kinds sides
 
 abbrev pub statement_kinds : StatementKind → List TokenKind
-statement_kinds statement.Language = language_kinds
+statement_kinds statement.Language = word_kinds (codes "language") ++ kind.Literal (pos 2) ∷ []
 statement_kinds (statement.Objects names) = list_kinds (codes "object") names
 statement_kinds (statement.Maps names source target selfmade) = map_kinds names source target selfmade
 statement_kinds (statement.Assume left right) = sides_kinds (codes "assume") left right
@@ -99,8 +90,8 @@ statement_kinds (statement.Claim left right) = sides_kinds (codes "claim") left 
 statement_kinds (statement.Pinv first second) = two_kinds (codes "pinv") first second
 statement_kinds (statement.Inverse first second) = two_kinds (codes "inverse") first second
 statement_kinds (statement.Inner first second) = two_kinds (codes "inner") first second
-statement_kinds (statement.Projection name) = projection_kinds name
-statement_kinds statement.Degree = degree_kinds
+statement_kinds (statement.Projection name) = word_kinds (codes "projection") ++ name_kinds name
+statement_kinds statement.Degree = word_kinds (codes "order") ++ word_kinds (codes "degree")
 statement_kinds (statement.Weight weights) = weight_kinds weights
 statement_kinds (statement.Solve names) = list_kinds (codes "solve") names
 statement_kinds (statement.Eliminate names) = list_kinds (codes "eliminate") names

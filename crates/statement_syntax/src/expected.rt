@@ -23,13 +23,10 @@ pub fn number_in(token: &Token) -> Result<Number, Misfit>
     ensures { result ≡ number_in token.now.kind token.now.at }
 {
     match &token.kind {
-        TokenKind::Literal(value) => {
-            let value = *value;
-            Ok(Number {
-                value,
-                at: token.at,
-            })
-        }
+        TokenKind::Literal(value) => Ok(Number {
+            value: *value,
+            at: token.at,
+        }),
         _ => Err(Misfit::Expected),
     }
 }

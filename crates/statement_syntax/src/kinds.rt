@@ -2,10 +2,8 @@
 
 ghost use Rattle.std.specs.Prelude.{◌≡◌, ◌++◌, OnOk};
 ghost use Rattle.std.specs.List.{flat_map};
-ghost use Rattle.statement_syntax.specs.Written.{name_kinds, number_kinds, sign_kinds, mark_kinds, literal_kinds, term_kinds, sum_kinds};
-ghost use Rattle.statement_syntax.specs.Written.{factor_kinds, word_kinds, pair_kinds, list_kinds, self_kinds, map_kinds, sides_kinds};
-ghost use Rattle.statement_syntax.specs.Written.{two_kinds, projection_kinds, language_kinds, degree_kinds, weight_kinds, shape_kinds};
-ghost use Rattle.statement_syntax.specs.Written.{statement_kinds};
+ghost use Rattle.statement_syntax.specs.Written.{name_kinds, number_kinds, sign_kinds, mark_kinds, term_kinds, sum_kinds, factor_kinds, word_kinds};
+ghost use Rattle.statement_syntax.specs.Written.{pair_kinds, list_kinds, map_kinds, sides_kinds, two_kinds, weight_kinds, shape_kinds, statement_kinds};
 
 use crate::tree::{Factor, Mark, Name, Number, Primary, StatementKind, Sum, Term};
 use lists::{Duplicate, Listing, Text};
@@ -15,25 +13,22 @@ use std::alloc::{AllocError, Global};
 fn put_name(name: &Name, out: &mut Listing<TokenKind>) -> Result<(), AllocError>
     ensures { OnOk result (out.new ≡ out.old ++ name_kinds name.now) }
 {
-    out.push(TokenKind::Name(name.text.duplicate()?))?;
-    Ok(())
+    Ok(out.push(TokenKind::Name(name.text.duplicate()?))?)
 }
 
 fn put_number(number: &Number, out: &mut Listing<TokenKind>) -> Result<(), AllocError>
     ensures { OnOk result (out.new ≡ out.old ++ number_kinds number.now) }
 {
-    let value = number.value;
-    out.push(TokenKind::Literal(value))?;
-    Ok(())
+    Ok(out.push(TokenKind::Literal(number.value))?)
 }
 
 fn put_sign(leading: bool, negative: bool, out: &mut Listing<TokenKind>) -> Result<(), AllocError>
     ensures { OnOk result (out.new ≡ out.old ++ sign_kinds leading negative) }
 {
-    if negative {
-        out.push(TokenKind::Minus)?;
-    } else if !leading {
-        out.push(TokenKind::Plus)?;
+    match (leading, negative) {
+        (_, true) => out.push(TokenKind::Minus)?,
+        (false, false) => out.push(TokenKind::Plus)?,
+        (true, false) => {}
     }
     Ok(())
 }
@@ -59,15 +54,6 @@ fn put_marks(marks: &Listing<Mark>, out: &mut Listing<TokenKind>) -> Result<(), 
     Ok(())
 }
 
-fn put_literal(literal: &Option<Number>, out: &mut Listing<TokenKind>) -> Result<(), AllocError>
-    ensures { OnOk result (out.new ≡ out.old ++ literal_kinds literal.now) }
-{
-    match literal {
-        Some(number) => put_number(number, out),
-        None => Ok(()),
-    }
-}
-
 #[cycle(kinds)]
 fn put_sum(sum: &Sum, out: &mut Listing<TokenKind>) -> Result<(), AllocError>
     ensures { OnOk result (out.new ≡ out.old ++ sum_kinds sum.now) }
@@ -85,7 +71,9 @@ fn put_term(leading: bool, term: &Term, out: &mut Listing<TokenKind>) -> Result<
     ensures { OnOk result (out.new ≡ out.old ++ term_kinds leading term.now) }
 {
     put_sign(leading, term.negative, out)?;
-    put_literal(&term.literal, out)?;
+    if let Some(number) = &term.literal {
+        put_number(number, out)?;
+    }
     for factor in term.factors.as_slice() {
         put_factor(factor, out)?;
     }
@@ -115,8 +103,7 @@ fn put_factor(factor: &Factor, out: &mut Listing<TokenKind>) -> Result<(), Alloc
 fn put_word(alloc: Global, word: &str, out: &mut Listing<TokenKind>) -> Result<(), AllocError>
     ensures { OnOk result (out.new ≡ out.old ++ word_kinds word.now) }
 {
-    out.push(TokenKind::Name(Text::from_str(alloc, word)?))?;
-    Ok(())
+    Ok(out.push(TokenKind::Name(Text::from_str(alloc, word)?))?)
 }
 
 fn put_names(names: &Listing<Name>, out: &mut Listing<TokenKind>) -> Result<(), AllocError>
@@ -153,15 +140,6 @@ fn put_list(
     put_names(names, out)
 }
 
-fn put_self(alloc: Global, selfmade: bool, out: &mut Listing<TokenKind>) -> Result<(), AllocError>
-    ensures { OnOk result (out.new ≡ out.old ++ self_kinds selfmade) }
-{
-    if selfmade {
-        put_word(alloc, "self", out)?;
-    }
-    Ok(())
-}
-
 fn put_map(
     alloc: Global,
     names: &Listing<Name>,
@@ -177,7 +155,10 @@ fn put_map(
     put_name(source, out)?;
     out.push(TokenKind::Arrow)?;
     put_name(target, out)?;
-    put_self(alloc, selfmade, out)
+    if selfmade {
+        put_word(alloc, "self", out)?;
+    }
+    Ok(())
 }
 
 fn put_sides(
@@ -209,24 +190,6 @@ fn put_two(
     put_name(second, out)
 }
 
-fn put_projection(
-    alloc: Global,
-    name: &Name,
-    out: &mut Listing<TokenKind>,
-) -> Result<(), AllocError>
-    ensures { OnOk result (out.new ≡ out.old ++ projection_kinds name.now) }
-{
-    put_word(alloc, "projection", out)?;
-    put_name(name, out)
-}
-
-fn put_degree(alloc: Global, out: &mut Listing<TokenKind>) -> Result<(), AllocError>
-    ensures { OnOk result (out.new ≡ out.old ++ degree_kinds) }
-{
-    put_word(alloc, "order", out)?;
-    put_word(alloc, "degree", out)
-}
-
 fn put_weights(
     alloc: Global,
     weights: &Listing<(Name, Number)>,
@@ -252,14 +215,6 @@ fn put_shape(
     put_pairs(sides, out)
 }
 
-fn put_language(alloc: Global, out: &mut Listing<TokenKind>) -> Result<(), AllocError>
-    ensures { OnOk result (out.new ≡ out.old ++ language_kinds) }
-{
-    put_word(alloc, "language", out)?;
-    out.push(TokenKind::Literal(2))?;
-    Ok(())
-}
-
 /// Adds the tokens of a statement.
 pub fn put_statement(
     alloc: Global,
@@ -269,7 +224,10 @@ pub fn put_statement(
     ensures { OnOk result (out.new ≡ out.old ++ statement_kinds kind.now) }
 {
     match kind {
-        StatementKind::Language => put_language(alloc, out),
+        StatementKind::Language => {
+            put_word(alloc, "language", out)?;
+            Ok(out.push(TokenKind::Literal(2))?)
+        }
         StatementKind::Objects(names) => put_list(alloc, "object", names, out),
         StatementKind::Maps {
             names,
@@ -282,8 +240,14 @@ pub fn put_statement(
         StatementKind::Pinv(first, second) => put_two(alloc, "pinv", first, second, out),
         StatementKind::Inverse(first, second) => put_two(alloc, "inverse", first, second, out),
         StatementKind::Inner(first, second) => put_two(alloc, "inner", first, second, out),
-        StatementKind::Projection(name) => put_projection(alloc, name, out),
-        StatementKind::Degree => put_degree(alloc, out),
+        StatementKind::Projection(name) => {
+            put_word(alloc, "projection", out)?;
+            put_name(name, out)
+        }
+        StatementKind::Degree => {
+            put_word(alloc, "order", out)?;
+            put_word(alloc, "degree", out)
+        }
         StatementKind::Weight(weights) => put_weights(alloc, weights, out),
         StatementKind::Solve(names) => put_list(alloc, "solve", names, out),
         StatementKind::Eliminate(names) => put_list(alloc, "eliminate", names, out),

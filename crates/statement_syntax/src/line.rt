@@ -174,34 +174,20 @@ fn bare_line(alloc: Global, language: Language, line: &Line, token: Token) -> Re
 pub fn line_end(alloc: Global, line: Line) -> Result<Statement, ReadError>
     ensures { Gives result (line_end line) }
 {
-    match line {
-        Line::List { word, at, names } => Ok(Statement {
-            at,
-            kind: list_end(word, names)?,
-        }),
-        Line::Map { at, names, rest } => Ok(Statement {
-            at,
-            kind: map_end(names, rest)?,
-        }),
+    let (at, kind) = match line {
+        Line::List { word, at, names } => (at, list_end(word, names)?),
+        Line::Map { at, names, rest } => (at, map_end(names, rest)?),
         Line::Sides {
             word,
             at,
             left,
             reading,
-        } => Ok(Statement {
-            at,
-            kind: sides_end(alloc, word, left, reading)?,
-        }),
-        Line::Weights(at, pairs) => Ok(Statement {
-            at,
-            kind: weights_end(pairs)?,
-        }),
-        Line::Shape(at, modulus, pairs) => Ok(Statement {
-            at,
-            kind: shape_end(modulus, pairs)?,
-        }),
-        Line::Whole(statement) => Ok(statement),
+        } => (at, sides_end(alloc, word, left, reading)?),
+        Line::Weights(at, pairs) => (at, weights_end(pairs)?),
+        Line::Shape(at, modulus, pairs) => (at, shape_end(modulus, pairs)?),
+        Line::Whole(statement) => return Ok(statement),
         Line::Start | Line::Pair { .. } | Line::Projection(_) | Line::Order(_) | Line::Model(_) =>
-            Err(ReadError::Misfit(Misfit::Expected)),
-    }
+            return Err(ReadError::Misfit(Misfit::Expected)),
+    };
+    Ok(Statement { at, kind })
 }

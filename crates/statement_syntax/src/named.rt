@@ -69,23 +69,14 @@ pub fn map_step(
 ) -> Result<Line, ReadError>
     ensures { Gives result (map_step at names rest token.kind token.at) }
 {
-    match rest {
-        MapRest::Names => map_names_step(at, names, token),
-        MapRest::Colon => {
-            let rest = MapRest::Source(name_in(token)?);
-            Ok(Line::Map { at, names, rest })
-        }
+    let rest = match rest {
+        MapRest::Names => return map_names_step(at, names, token),
+        MapRest::Colon => MapRest::Source(name_in(token)?),
         MapRest::Source(source) => match &token.kind {
-            TokenKind::Arrow => {
-                let rest = MapRest::Arrow(source);
-                Ok(Line::Map { at, names, rest })
-            }
-            _ => Err(ReadError::Misfit(Misfit::Expected)),
+            TokenKind::Arrow => MapRest::Arrow(source),
+            _ => return Err(ReadError::Misfit(Misfit::Expected)),
         },
-        MapRest::Arrow(source) => {
-            let rest = MapRest::Target(source, name_in(token)?);
-            Ok(Line::Map { at, names, rest })
-        }
+        MapRest::Arrow(source) => MapRest::Target(source, name_in(token)?),
         MapRest::Target(source, target) => {
             if !is_word(&token, "self") {
                 return Err(ReadError::Misfit(Misfit::Expected));
@@ -96,9 +87,10 @@ pub fn map_step(
                 target,
                 selfmade: true,
             };
-            Ok(Line::Whole(Statement { at, kind }))
+            return Ok(Line::Whole(Statement { at, kind }));
         }
-    }
+    };
+    Ok(Line::Map { at, names, rest })
 }
 
 /// The map without `self`, where its target is read.

@@ -1,7 +1,7 @@
 //! The text of a tree: the tokens of each statement, and their characters.
 
 ghost use Rattle.std.specs.Prelude.{◌≡◌, ◌++◌, OnOk, IfOk};
-ghost use Rattle.statement_syntax.specs.Written.{opens, closes, kind_text, gap, line_text, tree_text};
+ghost use Rattle.statement_syntax.specs.Written.{opens, closes, kind_text, line_text, tree_text};
 ghost use Rattle.statement_syntax.specs.Places.{ReadsBackAs};
 
 use crate::kinds::put_statement;
@@ -53,21 +53,14 @@ fn put_text(kind: &TokenKind, text: &mut Vec<u8>) -> Result<(), AllocError>
     }
 }
 
-fn put_gap(glued: bool, text: &mut Vec<u8>) -> Result<(), AllocError>
-    ensures { OnOk result (text.new.items ≡ text.old.items ++ gap glued) }
-{
-    if !glued {
-        text.push(b' ')?;
-    }
-    Ok(())
-}
-
 fn put_line(kinds: &[TokenKind], text: &mut Vec<u8>) -> Result<(), AllocError>
     ensures { OnOk result (text.new.items ≡ text.old.items ++ line_text kinds.now) }
 {
     let mut glued = true;
     for kind in kinds {
-        put_gap(glued || closes(kind), text)?;
+        if !glued && !closes(kind) {
+            text.push(b' ')?;
+        }
         put_text(kind, text)?;
         glued = opens(kind);
     }

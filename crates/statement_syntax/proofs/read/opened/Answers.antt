@@ -1,15 +1,11 @@
-use Rattle.std.proofs.Common.{◌≡◌, ◌++◌, ◌∷◌, [], List, length, sym, ap, ap₂, subst, ◌∙◌, refl, rules, arith, append_assoc, append-nil, Ok}
+use Rattle.std.proofs.Common.{◌≡◌, ◌∷◌, [], length, sym, ap, ap₂, subst, ◌∙◌, rules, arith, append_assoc, Ok}
 use Rattle.std.specs.Vec.Iter.{into_iter_items, into_iter_len}
 use Rattle.statement_tokens.specs.Language.{language_of}
-use Rattle.statement_syntax.specs.Steps.{run, Fails}
+use Rattle.statement_syntax.specs.Steps.{run}
 use Rattle.statement_syntax.specs.Lines.{file_step}
-use Rattle.statement_syntax.specs.Stages.{first_statements, behind_first, begun}
-use Rattle.statement_syntax.proofs.Stopping.{goes_on, stops_at}
+use Rattle.statement_syntax.specs.Stages.{first_statements, behind_first}
+use Rattle.statement_syntax.proofs.Stopping.{goes_on}
 use Rattle.statement_syntax.proofs.read.opened.Goals as goal
-
-nothing_left : {X : Type 0} (l : List X) → length l ≡ 0 → l ≡ []
-nothing_left [] none = refl
-nothing_left (x ∷ xs) none = absurd (omega arith)
 
 pub loop-token-init : goal.loop-token-init
 unfolding run
@@ -23,15 +19,6 @@ loop-token-init c =
       ran = ap Ok (ap (λ s. record { statements = s; line = _ }) (sym (c.in-Ok.ensures.statements ∙ ap₂ first_statements language items)));
     }
 
-pub returns-in-Err-file_step : goal.returns-in-Err-file_step
-returns-in-Err-file_step c =
-    let at = c.loop-token in
-    let language : c.args.language ≡ language_of c.args.tokens.items = c.requires in
-    let steps : into_iter_items at.token-iterator ≡ c.in-Some.token ∷ into_iter_items c.next.new.self = c.in-Some.ensures.steps.0 in
-    stops_at c.args.tokens.items at.yielded c.in-Some.token (into_iter_items c.next.new.self) at.progress c.in-Err-file_step.error c.refusal.result
-    (sym at.invariant.splits ∙ ap (λ rest. at.yielded ++ rest) steps) at.invariant.ran
-    (subst (λ l. Fails c.in-Err-file_step.error (file_step l at.progress c.in-Some.token)) language c.in-Err-file_step.ensures) c.refusal.ensures
-
 pub loop-token-preserved : goal.loop-token-preserved
 loop-token-preserved c =
     let at = c.loop-token in
@@ -44,10 +31,3 @@ loop-token-preserved c =
       ran = goes_on c.args.tokens.items at.yielded c.in-Some.token at.progress c.file_step.new.progress at.invariant.ran
           (subst (λ l. file_step l at.progress c.in-Some.token ≡ Ok c.file_step.new.progress) language stepped);
     }
-
-pub returns : goal.returns
-returns c =
-    let at = c.loop-token in
-    let empty : into_iter_items at.token-iterator ≡ [] = nothing_left _ (sym at.invariant.left ∙ c.in-None.ensures.steps.0) in
-    let all = sym (append-nil at.yielded) ∙ rw empty at at.invariant.splits in
-    ap (run (file_step (language_of c.args.tokens.items)) (begun c.args.tokens.items)) (sym all) ∙ at.invariant.ran
