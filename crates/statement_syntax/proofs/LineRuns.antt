@@ -47,15 +47,16 @@ opens language (opening.Sides Assume) at rest speaks = refl
 opens language (opening.Pair Pinv) at rest speaks = refl
 opens language o at rest speaks = refl
 
--- an expression inside a line: it goes on with no equals sign
-no_equals : (r : Reading) (f : Focus) (at : Spot) → focus_step r.levels r.head r.part f kind.Equals at ≡ Err Expected
-no_equals r focus.Outside at = refl
-no_equals r f at = refl
+-- an expression inside a line goes on with no equals sign, and with no end of the line
+pub no_line_sign : (r : Reading) (f : Focus) (at : Spot)
+    → (focus_step r.levels r.head r.part f kind.Equals at ≡ Err Expected) × (focus_step r.levels r.head r.part f kind.End at ≡ Err Expected)
+no_line_sign r focus.Outside at = (refl, refl)
+no_line_sign r f at = (refl, refl)
 
 first_step : (language : Language) (w : SidesWord) (at : Spot) (r : Reading) (t : Token) (read : Result Reading Misfit) → reading_step r t ≡ read
     → (read ≡ Err Expected → ⊥) → by_token language (line.Sides w at None r) t ≡ (read >>= λ x. Ok (line.Sides w at None x))
 first_step language w at r t read goes other =
-    not_equals _ _ t.kind (λ k. other (sym goes ∙ ap (λ x. token_step r x t.at) k ∙ no_equals r r.focus t.at))
+    not_equals _ _ t.kind (λ k. other (sym goes ∙ ap (λ x. token_step r x t.at) k ∙ (no_line_sign r r.focus t.at).0))
     ∙ ap (λ x. x >>= λ r. Ok (line.Sides w at None r)) goes
 
 second_step : (language : Language) (w : SidesWord) (at : Spot) (left : Sum) (r : Reading) (t : Token) (read : Result Reading Misfit) → reading_step r t ≡ read
