@@ -131,9 +131,6 @@ module _ (language : Language) (before : List Statement) where
       by_end (Goes ts t.at) (ended p) (λ k. within_line language p k t.at) (end_goes p ts t.at (line_end p.line) refl read)
       (λ k differs. within_goes p ts t.at k (line_step language p.line k t.at) refl read) t.kind
 
-  file_step_reads : (p next : Progress) (ts : List Token) (t : Token) → file_step language p t ≡ Ok next → FileReads language before p ts → FileReads language before next (ts ++ t ∷ [])
-  file_step_reads p next ts t goes read = subst (Goes ts t.at t.kind) goes (file_goes p ts t read)
-
   -- with a bracket that is too deep it can go on to a file that is not within the limit
   pub file_deeper : (p : Progress) (ts : List Token) (t : Token) → FileReads language before p ts → file_step language p t ≡ Err TooDeep
       → (more : List Token) × (lines : List StatedLine) × AreLinesOf language lines × ((ts ++ t ∷ []) ++ more ≡ file_tokens lines)
@@ -144,7 +141,8 @@ module _ (language : Language) (before : List Statement) where
   run_reads_from p next ts [] ran read = subst (λ x. FileReads language before x (ts ++ [])) (ok_is p next ran) (subst (FileReads language before p) (sym (append-nil ts)) read)
   run_reads_from p next ts (t ∷ us) ran read =
       let one = bind_ok (file_step language p t) (λ x. run (file_step language) x us) next ran in
-      subst (FileReads language before next) (append_assoc ts (t ∷ []) us) (run_reads_from one.0 next (ts ++ t ∷ []) us one.2 (file_step_reads p one.0 ts t one.1 read))
+      subst (FileReads language before next) (append_assoc ts (t ∷ []) us)
+      (run_reads_from one.0 next (ts ++ t ∷ []) us one.2 (subst (Goes ts t.at t.kind) one.1 (file_goes p ts t read)))
 
   -- a run reads what it was given
   pub run_reads : (p : Progress) (ts : List Token) → run (file_step language) (in_file before line.Start) ts ≡ Ok p → FileReads language before p ts
@@ -164,17 +162,15 @@ module _ (language : Language) (before : List Statement) where
         rw (read.are, file_tokens-append, ← on.4) (simp (append-nil, append_assoc)),
       )
 
-  misfit_by : (lines : List StatedLine) (ts : List Token) (f : Misfit) → ts ≡ file_tokens lines → run (file_step language) (in_file before line.Start) ts ≡ Err f
-      → Upto (FileFits lines) (run (file_step language) (in_file before line.Start) (file_tokens lines)) (Ok (in_file (before ++ file_tree lines) line.Start)) → (FileFits lines → ⊥) × (f ≡ TooDeep)
-  misfit_by lines ts f is fails (inl (fits, ran)) = absurd (ok_differs _ f (sym ran ∙ ap (run (file_step language) (in_file before line.Start)) (sym is) ∙ fails))
-  misfit_by lines ts f is fails (inr (wide, ran)) = (wide, err_is (sym fails ∙ ap (run (file_step language) (in_file before line.Start)) is ∙ ran))
-    where
-      err_is : (let r : Result Progress Misfit = Err f in r) ≡ Err TooDeep → f ≡ TooDeep
-      err_is read = cc
+  misfit_by : (F : Type 0) (r : Result Progress Misfit) (p : Progress) (f : Misfit) → r ≡ Err f → Upto F r (Ok p) → (F → ⊥) × (f ≡ TooDeep)
+  misfit_by F r p f fails (inl (fits, ran)) = absurd cc
+  misfit_by F r p f fails (inr (wide, ran)) = (wide, cc)
 
   -- where a token is a misfit no lines go on with it but some that are not within the limit, and that only where the misfit is a bracket that is too deep
-  pub file_misfit : (front : List Token) (p : Progress) (t : Token) (f : Misfit) → run (file_step language) (in_file before line.Start) front ≡ Ok p → file_step language p t ≡ Err f
-      → (more : List Token) (lines : List StatedLine) → AreLinesOf language lines → front ++ t ∷ more ≡ file_tokens lines → (FileFits lines → ⊥) × (f ≡ TooDeep)
+  pub file_misfit : (front : List Token) (p : Progress) (t : Token) (f : Misfit) → run (file_step language) (in_file before line.Start) front ≡ Ok p
+      → file_step language p t ≡ Err f → (more : List Token) (lines : List StatedLine) → AreLinesOf language lines → front ++ t ∷ more ≡ file_tokens lines
+      → (FileFits lines → ⊥) × (f ≡ TooDeep)
   file_misfit front p t f ran fails more lines speak is =
-      misfit_by lines (front ++ t ∷ more) f is
-      (run_front (file_step language) (in_file before line.Start) front p (t ∷ more) ran ∙ failing (file_step language) p t more f fails) (lines_run language before lines speak)
+      misfit_by _ _ _ f
+      (ap (run (file_step language) (in_file before line.Start)) (sym is) ∙ run_front (file_step language) (in_file before line.Start) front p (t ∷ more) ran
+      ∙ failing (file_step language) p t more f fails) (lines_run language before lines speak)
