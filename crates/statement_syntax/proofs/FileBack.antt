@@ -3,6 +3,7 @@ use Rattle.std.proofs.Common.{◌≡◌, ℕ, zero, suc, ◌+◌, ◌≤◌, tru
 use Rattle.std.specs.Prelude.{pos, codes}
 use Rattle.std.specs.Str.{IsUtf8, chars, encode_utf8_all}
 use Rattle.std.proofs.Math.Utf8.{scalars}
+use Rattle.std.proofs.lemmas.List.{map-append}
 use Rattle.std.proofs.lemmas.Str.{encode_ascii, chars_from_encodes, scalars-chars}
 use Rattle.statement_syntax.specs.Types.{Spot, Token, TokenKind, TokenKind as kind, Language, First, Second, Statement, Item as item, Placed}
 use Rattle.statement_tokens.specs.Tokens.{end_of}
@@ -34,9 +35,7 @@ file-bytes language (l ∷ ls) all =
     let ks = kinds (stated_tokens (bare_stated l.stated)) in
     let more = file_characters language ls all.1 in
     characters-bytes language ks all.0 true (10 ∷ more)
-    ∙ ap₂ (λ x y. text_from true x ++ (y ++ encode_utf8_all more)) (sym (stated-kinds l.stated)) (encode_ascii 10 (omega arith))
-    ∙ ap (λ x. text_from true (statement_kinds (stated_kind l.stated)) ++ 10 ∷ x) (file-bytes language ls all.1)
-    ∙ sym (append_assoc (text_from true (statement_kinds (stated_kind l.stated))) (10 ∷ []) (tree_text (file_tree ls)))
+    ∙ rw (← stated-kinds l.stated, encode_ascii 10 (omega arith), file-bytes language ls all.1) (simp append_assoc)
 
 file-scalars : (language : Language) (ls : List StatedLine) (all : AllSpelled language ls) → scalars (file_characters language ls all) ≡ true
 file-scalars language [] all = refl
@@ -58,24 +57,9 @@ end-kinds line zero some = absurd (omega (arith, some))
 end-kinds line (suc past) some = refl
 
 -- a statement has a token
-first_token : (s : Stated) → (t : Token) × (ts : List Token) × (stated_tokens s ≡ t ∷ ts)
-first_token (listed w at n ns) = (_, _, refl)
-first_token (mapped at n ns colon s arrow t end) = (_, _, refl)
-first_token (sides w at d equals e) = (_, _, refl)
-first_token (paired w at m n) = (_, _, refl)
-first_token (projected at n) = (_, _, refl)
-first_token (by_degree at word) = (_, _, refl)
-first_token (by_weight at word p ps) = (_, _, refl)
-first_token (modelled at m ps) = (_, _, refl)
-first_token (second_language at number) = (_, _, refl)
-
-some_kinds : (k : TokenKind) (ks : List TokenKind) → 1 ≤ 0 + length (k ∷ ks)
-some_kinds k ks = omega arith
-
 some_tokens : (s : Stated) → 1 ≤ 0 + length (kinds (stated_tokens s))
-some_tokens s =
-    let f = first_token s in
-    subst (λ ts. 1 ≤ 0 + length (kinds ts)) (sym f.2) (some_kinds f.0.kind (kinds f.1))
+some_tokens (listed w at n ns) = omega arith
+some_tokens s = omega arith
 
 -- behind these tokens the characters are read as tokens of the statements' kinds
 record FileRead (before : List Token) (ls : List StatedLine) (text : List ℕ) (line : ℕ) : Type 0 where
@@ -101,11 +85,7 @@ module _ (before : List Token) (s : Stated) (text rest : List ℕ) (line : ℕ) 
   line_and_more end ls more = record {
     tokens = r.tokens ++ (end_of line r.past' ++ more.tokens);
     read = r.reads ∙ ap (with_front r.tokens) (line_step (before ++ r.tokens) rest line r.column' r.past' ∙ ap (λ (x : Result (List Token) Placed). x >>= λ ts. Ok (end_of line r.past' ++ ts)) more.read);
-    are = kinds-append r.tokens (end_of line r.past' ++ more.tokens)
-        ∙ ap₂ (λ x y. x ++ y) r.are (kinds-append (end_of line r.past') more.tokens ∙ ap₂ (λ x y. x ++ y) (end-kinds line r.past' some_read) more.are)
-        ∙ sym (append_assoc (kinds (stated_tokens (bare_stated s))) (kind.End ∷ []) (kinds (file_tokens (bare_file ls))))
-        ∙ ap (λ x. x ++ kinds (file_tokens (bare_file ls))) (sym (kinds-append (stated_tokens (bare_stated s)) (sign_token kind.End somewhere ∷ [])))
-        ∙ sym (kinds-append (stated_tokens (bare_stated s) ++ sign_token kind.End somewhere ∷ []) (file_tokens (bare_file ls)));
+    are = simp (map-append, r.are, end-kinds line r.past' some_read, more.are, append_assoc);
   }
 
 -- lines of a language, behind tokens that tell it

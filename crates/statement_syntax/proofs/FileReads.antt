@@ -12,30 +12,19 @@ use Rattle.statement_syntax.proofs.Viable.{somewhere}
 use Rattle.statement_syntax.proofs.Choices.{by_end, not_end}
 use Rattle.statement_syntax.proofs.LineReads.{LineReads, line_step_reads, line_step_deep}
 use Rattle.statement_syntax.proofs.LineEnds.{EndsAs, line_ends, line_on}
-use Rattle.statement_syntax.proofs.LineRuns.{by_token, end_line, stated_run, stated_end}
+use Rattle.statement_syntax.proofs.LineRuns.{by_token, no_line_sign, end_line, stated_run, stated_end}
 
 -- the end of a line is a step of no line
-focus_no_end : (r : Reading) (f : Focus) (at : Spot) → focus_step r.levels r.head r.part f kind.End at ≡ Err Expected
-focus_no_end r focus.Outside at = refl
-focus_no_end r f at = refl
-
-sides_no_end : (w : SidesWord) (at : Spot) (left : Option Sum) (r : Reading) (t : Spot) → sides_step w at left r kind.End t ≡ Err Expected
-sides_no_end w at None r t = ap (λ x. x >>= λ next. Ok (line.Sides w at None next)) (focus_no_end r r.focus t)
-sides_no_end w at (Some left) r t = ap (λ x. x >>= λ next. Ok (line.Sides w at (Some left) next)) (focus_no_end r r.focus t)
-
-map_no_end : (at : Spot) (names : List Name) (r : MapRest) (t : Spot) → map_step at names r kind.End t ≡ Err Expected
-map_no_end at names rest.Names t = refl
-map_no_end at names r t = refl
-
 pairs_no_end : (ps : List (Name × Number)) (half : Option Name) (t : Spot) → pairs_by ps half kind.End t ≡ Err Expected
 pairs_no_end ps None t = refl
-pairs_no_end ps (Some n) t = refl
+pairs_no_end ps half t = refl
 
 line_no_end : (language : Language) (l : Line) (t : Spot) → line_step language l kind.End t ≡ Err Expected
-line_no_end language (line.Map at names r) t = map_no_end at names r t
-line_no_end language (line.Sides w at left r) t = sides_no_end w at left r t
-line_no_end language (line.Weights at p) t = ap (λ x. x >>= λ q. Ok (line.Weights at q)) (pairs_no_end p.whole p.half t)
-line_no_end language (line.Shape at m p) t = ap (λ x. x >>= λ q. Ok (line.Shape at m q)) (pairs_no_end p.whole p.half t)
+line_no_end language (line.Map at names rest.Names) t = refl
+line_no_end language (line.Sides w at None r) t = rw ((no_line_sign r r.focus t).1) refl
+line_no_end language (line.Sides w at (Some left) r) t = rw ((no_line_sign r r.focus t).1) refl
+line_no_end language (line.Weights at p) t = rw (pairs_no_end p.whole p.half t) refl
+line_no_end language (line.Shape at m p) t = rw (pairs_no_end p.whole p.half t) refl
 line_no_end language l t = refl
 
 -- a line inside a file
@@ -58,15 +47,16 @@ pub lines_run : (language : Language) (statements : List Statement) (lines : Lis
 unfolding run
 lines_run language statements [] speak = inl (tt, ap (λ x. Ok (in_file x line.Start)) (sym (append-nil statements)))
 lines_run language statements (l ∷ lines) speak =
-    let behind : List Token = sign_token kind.End l.end ∷ file_tokens lines in
     let more : List Statement = statements ++ stated_tree l.stated ∷ [] in
-    before_it (ap (run (file_step language) (in_file statements line.Start)) (append_assoc (stated_tokens l.stated) (sign_token kind.End l.end ∷ []) (file_tokens lines)))
+    rw append_assoc
     (then_on
-    (run_upto (file_step language) (in_file statements line.Start) (stated_tokens l.stated) (in_file statements (end_line l.stated)) behind
+    (run_upto (file_step language) (in_file statements line.Start) (stated_tokens l.stated) (in_file statements (end_line l.stated))
+    (sign_token kind.End l.end ∷ file_tokens lines)
     (inside_upto (by_token language) (file_step language) (in_file statements) (file_by language statements) (stated_tokens l.stated)
     line.Start (end_line l.stated) (stated_run language l.stated speak.0)))
-    (before_it (one_step (file_step language) (in_file statements (end_line l.stated)) (in_file more line.Start) (sign_token kind.End l.end) (file_tokens lines) (line_ended language statements l.stated l.end))
-    (after_it (lines_run language more lines speak.1) (ap (λ x. Ok (in_file x line.Start)) (append_assoc statements (stated_tree l.stated ∷ []) (file_tree lines))))))
+    (before_it (one_step (file_step language) (in_file statements (end_line l.stated)) (in_file more line.Start) (sign_token kind.End l.end)
+    (file_tokens lines) (line_ended language statements l.stated l.end))
+    (after_it (lines_run language more lines speak.1) (rw append_assoc refl))))
 
 -- the lines of it behind these statements
 pub record FileReads (language : Language) (before : List Statement) (p : Progress) (ts : List Token) : Type 0 where
@@ -80,7 +70,7 @@ pub record FileReads (language : Language) (before : List Statement) (p : Progre
 
 pub file_tokens-append : (ls ms : List StatedLine) → file_tokens (ls ++ ms) ≡ file_tokens ls ++ file_tokens ms
 file_tokens-append [] ms = refl
-file_tokens-append (l ∷ ls) ms = ap (λ x. line_tokens l ++ x) (file_tokens-append ls ms) ∙ sym (append_assoc (line_tokens l) (file_tokens ls) (file_tokens ms))
+file_tokens-append (l ∷ ls) ms = rw (file_tokens-append ls ms) (simp append_assoc)
 
 pub FileFits-append : (ls ms : List StatedLine) → FileFits ls → FileFits ms → FileFits (ls ++ ms)
 FileFits-append [] ms f g = g
@@ -90,11 +80,6 @@ pub AreLinesOf-append : (language : Language) (ls ms : List StatedLine) → AreL
 AreLinesOf-append language [] ms f g = g
 AreLinesOf-append language (l ∷ ls) ms f g = (f.0, AreLinesOf-append language ls ms f.1 g)
 
--- with one line more
-one_line : (lines : List StatedLine) (s : Stated) (end : Spot) → file_tokens (lines ++ record { stated = s; end = end } ∷ []) ≡ file_tokens lines ++ (stated_tokens s ++ sign_token kind.End end ∷ [])
-one_line lines s end =
-    file_tokens-append lines (record { stated = s; end = end } ∷ []) ∙ ap (λ x. file_tokens lines ++ x) (append-nil (stated_tokens s ++ sign_token kind.End end ∷ []))
-
 module _ (language : Language) (before : List Statement) where
   abbrev Goes : List Token → Spot → TokenKind → Result Progress Misfit → Type 0
   Goes ts at k (Ok p) = FileReads language before p (ts ++ sign_token k at ∷ [])
@@ -102,9 +87,6 @@ module _ (language : Language) (before : List Statement) where
   -- a bracket that is too deep can go on to lines, if not to some within the limit
   Goes ts at k (Err TooDeep) =
       (more : List Token) × (lines : List StatedLine) × AreLinesOf language lines × ((ts ++ sign_token k at ∷ []) ++ more ≡ file_tokens lines)
-
-  next_is : (ts front now : List Token) (t : Token) → ts ≡ front ++ now → ts ++ t ∷ [] ≡ front ++ (now ++ t ∷ [])
-  next_is ts front now t read = ap (λ (x : List Token). x ++ t ∷ []) read ∙ append_assoc front now (t ∷ [])
 
   end_goes : (p : Progress) (ts : List Token) (t : Spot) (r : Result Statement Misfit) → line_end p.line ≡ r → FileReads language before p ts
       → Goes ts t kind.End (r >>= λ s. Ok (record { statements = p.statements ++ s ∷ []; line = line.Start }))
@@ -116,11 +98,11 @@ module _ (language : Language) (before : List Statement) where
         lines = read.lines ++ record { stated = w.stated; end = t } ∷ [];
         speak = AreLinesOf-append language read.lines _ read.speak (w.speaks, tt);
         fits = FileFits-append read.lines _ read.fits (w.fits, tt);
-        trees = ap₂ (λ x y. x ++ y ∷ []) read.trees w.tree ∙ append_assoc before (file_tree read.lines) (stated_tree w.stated ∷ [])
-            ∙ ap (λ x. before ++ x) (sym (map-append (λ l. stated_tree l.stated) read.lines (record { stated = w.stated; end = t } ∷ [])));
+        trees = rw (read.trees, map-append) (ap (λ x. (before ++ file_tree read.lines) ++ x ∷ []) w.tree ∙ append_assoc before (file_tree read.lines) _);
         now = [];
         reads = refl;
-        are = next_is ts (file_tokens read.lines) read.now (sign_token kind.End t) read.are ∙ ap (λ x. file_tokens read.lines ++ (x ++ sign_token kind.End t ∷ [])) w.are ∙ sym (one_line read.lines w.stated t) ∙ sym (append-nil _);
+        are = rw (read.are, file_tokens-append)
+            (simp (append-nil, append_assoc) (ap (λ x. file_tokens read.lines ++ (x ++ sign_token kind.End t ∷ [])) w.are));
       }
 
   within_goes : (p : Progress) (ts : List Token) (t : Spot) (k : TokenKind) (r : Lined) → line_step language p.line k t ≡ r → FileReads language before p ts
@@ -128,16 +110,11 @@ module _ (language : Language) (before : List Statement) where
   within_goes p ts t k (Err Expected) is read = tt
   within_goes p ts t k (Err TooDeep) is read =
       let on = line_step_deep language p.line (sign_token k t) read.now is read.reads in
-      let end : List Token = sign_token kind.End somewhere ∷ [] in
       let last : StatedLine = record { stated = on.1; end = somewhere } in (
-        on.0 ++ end,
+        on.0 ++ sign_token kind.End somewhere ∷ [],
         read.lines ++ last ∷ [],
         AreLinesOf-append language read.lines (last ∷ []) read.speak (on.2, tt),
-        ap (λ (x : List Token). (x ++ sign_token k t ∷ []) ++ (on.0 ++ end)) read.are
-            ∙ ap (λ (x : List Token). x ++ (on.0 ++ end)) (append_assoc (file_tokens read.lines) read.now (sign_token k t ∷ []))
-            ∙ append_assoc (file_tokens read.lines) (read.now ++ sign_token k t ∷ []) (on.0 ++ end)
-            ∙ ap (λ x. file_tokens read.lines ++ x) (sym (append_assoc (read.now ++ sign_token k t ∷ []) on.0 end) ∙ ap (λ x. x ++ end) on.3)
-            ∙ sym (one_line read.lines on.1 somewhere),
+        rw (read.are, file_tokens-append, ← on.3) (simp (append-nil, append_assoc)),
       )
   within_goes p ts t k (Ok l) is read = record {
     lines = read.lines;
@@ -146,16 +123,13 @@ module _ (language : Language) (before : List Statement) where
     trees = read.trees;
     now = read.now ++ sign_token k t ∷ [];
     reads = line_step_reads language p.line l (sign_token k t) read.now is read.reads;
-    are = next_is ts (file_tokens read.lines) read.now (sign_token k t) read.are;
+    are = rw read.are (simp append_assoc);
   }
 
   file_goes : (p : Progress) (ts : List Token) (t : Token) → FileReads language before p ts → Goes ts t.at t.kind (file_step language p t)
   file_goes p ts t read =
       by_end (Goes ts t.at) (ended p) (λ k. within_line language p k t.at) (end_goes p ts t.at (line_end p.line) refl read)
       (λ k differs. within_goes p ts t.at k (line_step language p.line k t.at) refl read) t.kind
-
-  file_step_reads : (p next : Progress) (ts : List Token) (t : Token) → file_step language p t ≡ Ok next → FileReads language before p ts → FileReads language before next (ts ++ t ∷ [])
-  file_step_reads p next ts t goes read = subst (Goes ts t.at t.kind) goes (file_goes p ts t read)
 
   -- with a bracket that is too deep it can go on to a file that is not within the limit
   pub file_deeper : (p : Progress) (ts : List Token) (t : Token) → FileReads language before p ts → file_step language p t ≡ Err TooDeep
@@ -167,7 +141,8 @@ module _ (language : Language) (before : List Statement) where
   run_reads_from p next ts [] ran read = subst (λ x. FileReads language before x (ts ++ [])) (ok_is p next ran) (subst (FileReads language before p) (sym (append-nil ts)) read)
   run_reads_from p next ts (t ∷ us) ran read =
       let one = bind_ok (file_step language p t) (λ x. run (file_step language) x us) next ran in
-      subst (FileReads language before next) (append_assoc ts (t ∷ []) us) (run_reads_from one.0 next (ts ++ t ∷ []) us one.2 (file_step_reads p one.0 ts t one.1 read))
+      subst (FileReads language before next) (append_assoc ts (t ∷ []) us)
+      (run_reads_from one.0 next (ts ++ t ∷ []) us one.2 (subst (Goes ts t.at t.kind) one.1 (file_goes p ts t read)))
 
   -- a run reads what it was given
   pub run_reads : (p : Progress) (ts : List Token) → run (file_step language) (in_file before line.Start) ts ≡ Ok p → FileReads language before p ts
@@ -184,23 +159,18 @@ module _ (language : Language) (before : List Statement) where
         read.lines ++ last ∷ [],
         AreLinesOf-append language read.lines (last ∷ []) read.speak (on.3, tt),
         FileFits-append read.lines (last ∷ []) read.fits (on.2, tt),
-        ap (λ (x : List Token). x ++ (on.0 ++ sign_token kind.End somewhere ∷ [])) read.are
-            ∙ append_assoc (file_tokens read.lines) read.now (on.0 ++ sign_token kind.End somewhere ∷ [])
-            ∙ ap (λ x. file_tokens read.lines ++ x) (sym (append_assoc read.now on.0 (sign_token kind.End somewhere ∷ [])) ∙ ap (λ x. x ++ sign_token kind.End somewhere ∷ []) on.4)
-            ∙ sym (one_line read.lines on.1 somewhere),
+        rw (read.are, file_tokens-append, ← on.4) (simp (append-nil, append_assoc)),
       )
 
-  misfit_by : (lines : List StatedLine) (ts : List Token) (f : Misfit) → ts ≡ file_tokens lines → run (file_step language) (in_file before line.Start) ts ≡ Err f
-      → Upto (FileFits lines) (run (file_step language) (in_file before line.Start) (file_tokens lines)) (Ok (in_file (before ++ file_tree lines) line.Start)) → (FileFits lines → ⊥) × (f ≡ TooDeep)
-  misfit_by lines ts f is fails (inl (fits, ran)) = absurd (ok_differs _ f (sym ran ∙ ap (run (file_step language) (in_file before line.Start)) (sym is) ∙ fails))
-  misfit_by lines ts f is fails (inr (wide, ran)) = (wide, err_is (sym fails ∙ ap (run (file_step language) (in_file before line.Start)) is ∙ ran))
-    where
-      err_is : (let r : Result Progress Misfit = Err f in r) ≡ Err TooDeep → f ≡ TooDeep
-      err_is read = cc
+  misfit_by : (F : Type 0) (r : Result Progress Misfit) (p : Progress) (f : Misfit) → r ≡ Err f → Upto F r (Ok p) → (F → ⊥) × (f ≡ TooDeep)
+  misfit_by F r p f fails (inl (fits, ran)) = absurd cc
+  misfit_by F r p f fails (inr (wide, ran)) = (wide, cc)
 
   -- where a token is a misfit no lines go on with it but some that are not within the limit, and that only where the misfit is a bracket that is too deep
-  pub file_misfit : (front : List Token) (p : Progress) (t : Token) (f : Misfit) → run (file_step language) (in_file before line.Start) front ≡ Ok p → file_step language p t ≡ Err f
-      → (more : List Token) (lines : List StatedLine) → AreLinesOf language lines → front ++ t ∷ more ≡ file_tokens lines → (FileFits lines → ⊥) × (f ≡ TooDeep)
+  pub file_misfit : (front : List Token) (p : Progress) (t : Token) (f : Misfit) → run (file_step language) (in_file before line.Start) front ≡ Ok p
+      → file_step language p t ≡ Err f → (more : List Token) (lines : List StatedLine) → AreLinesOf language lines → front ++ t ∷ more ≡ file_tokens lines
+      → (FileFits lines → ⊥) × (f ≡ TooDeep)
   file_misfit front p t f ran fails more lines speak is =
-      misfit_by lines (front ++ t ∷ more) f is
-      (run_front (file_step language) (in_file before line.Start) front p (t ∷ more) ran ∙ failing (file_step language) p t more f fails) (lines_run language before lines speak)
+      misfit_by _ _ _ f
+      (ap (run (file_step language) (in_file before line.Start)) (sym is) ∙ run_front (file_step language) (in_file before line.Start) front p (t ∷ more) ran
+      ∙ failing (file_step language) p t more f fails) (lines_run language before lines speak)

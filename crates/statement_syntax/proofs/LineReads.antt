@@ -1,26 +1,26 @@
 -- The tokens that bring a line to what has been read of it; with each step there is one more, and where the line may end they are a statement's.
-use Rattle.std.proofs.Common.{◌≡◌, ℕ, Bool, true, false, cond, List, [], ◌∷◌, ◌++◌, Option, Some, None, Result, Ok, Err, refl, sym, ap, ap₂, subst, ◌∙◌}
+use Rattle.std.proofs.Common.{◌≡◌, ℕ, Bool, true, false, cond, List, [], ◌∷◌, ◌++◌, Option, Some, None, Result, Ok, Err, refl, ap, subst, ◌∙◌}
 use Rattle.std.proofs.Common.{append_assoc}
 use Rattle.std.specs.Prelude.{bytes_eq, codes}
 use Rattle.std.proofs.lemmas.List.{append-nil, map-append}
+use Rattle.std.proofs.lemmas.Grind.{flat_map-append}
 use Rattle.std.proofs.lemmas.Slice.Eq.{bytes_eq-Decides}
 use Rattle.statement_syntax.specs.Types.{Spot, Token, Language, First, Second, TokenKind, TokenKind as kind, Name, Number, Sum, Statement}
 use Rattle.statement_syntax.specs.Types.{StatementKind as statement, Misfit, Expected, TooDeep, Reading, ListWord, Object, Solve, Eliminate, SidesWord, Assume}
 use Rattle.statement_syntax.specs.Types.{Claim}
-use Rattle.statement_syntax.specs.Types.{PairWord, Pinv, Inverse, Inner, Opening, Opening as opening, MapRest, MapRest as rest, Pairs, Line, Line as line}
+use Rattle.statement_syntax.specs.Types.{Pinv, Inverse, Inner, Opening, Opening as opening, MapRest, MapRest as rest, Pairs, Line, Line as line}
 use Rattle.statement_syntax.specs.Limits.{bracket_limit}
 use Rattle.statement_syntax.specs.Steps.{◌>>=◌, run, token_step, whole_sum}
 use Rattle.statement_syntax.specs.Grammar.{Expr, expr_tokens, ExprFits, sign_token, name_token, number_token, word_token, names_tokens, pairs_tokens, list_text}
 use Rattle.statement_syntax.specs.Grammar.{sides_text, pair_text, self_word, Stated, listed, mapped, sides, paired, projected, by_degree, stated_tokens}
 use Rattle.statement_syntax.specs.Grammar.{StatedFits, IsOf}
 use Rattle.statement_syntax.specs.Tree.{expr_tree, stated_tree}
-use Rattle.statement_syntax.specs.Lines.{Lined, named, name_in, common_opening, opening_in, start_reading, opened, begun, start_step, whole, list_step}
-use Rattle.statement_syntax.specs.Lines.{colon_after, map_names_step, map_step, sides_step, pair_step, no_pairs, pairs_by, pairs_step, order_step}
-use Rattle.statement_syntax.specs.Lines.{projection_step, line_step}
+use Rattle.statement_syntax.specs.Lines.{Lined, named, common_opening, start_reading, opened, begun, start_step, whole}
+use Rattle.statement_syntax.specs.Lines.{sides_step, no_pairs, pairs_by}
+use Rattle.statement_syntax.specs.Lines.{line_step}
 use Rattle.statement_syntax.proofs.Run.{run_front}
 use Rattle.statement_syntax.proofs.StateReads.{reading_step}
 use Rattle.statement_syntax.proofs.Viable.{ExprReads, reading_ends, reading_lacks, deep, somewhere, some_name, some_expr}
-use Rattle.statement_syntax.proofs.Choices.{by_name, by_number, by_colon, by_arrow, by_equals}
 
 pub record HasFirst {A : Type 0} (xs : List A) : Type 0 where
   pub first : A
@@ -118,113 +118,55 @@ opening_text opening.Projection = codes "projection"
 opening_text opening.Order = codes "order"
 opening_text opening.Model = codes "model"
 
--- the word begins a statement of the language
-abbrev IsOpeningOf : Language → Opening → Type 0
-IsOpeningOf language (opening.List w) = IsListOf w language
-IsOpeningOf language o = Unit {0}
-
--- whatever begins with the word is this
-abbrev Opens : Language → List ℕ → Option Opening → Type 0
-Opens language word found = (o : Opening) → found ≡ Some o → (word ≡ opening_text o) × IsOpeningOf language o
-
-choose : (language : Language) (word : List ℕ) (o : Opening) (rest : Option Opening) (b : Bool) → bytes_eq word (opening_text o) ≡ b → IsOpeningOf language o → Opens language word rest
-    → Opens language word (cond b (Some o) rest)
-choose language word o rest true is speaks there p read =
-    let same : o ≡ p = cc in
-    ((bytes_eq-Decides word (opening_text o)).0 is ∙ ap opening_text same, subst (IsOpeningOf language) same speaks)
-choose language word o rest false is speaks there p read = there p read
-
-none_is : (language : Language) (word : List ℕ) → Opens language word None
-none_is language word p read = absurd cc
-
-common_is : (language : Language) (word : List ℕ) → Opens language word (common_opening word)
-common_is language word =
-    choose language word (opening.List Object) _ _ refl tt (
-    choose language word (opening.List Solve) _ _ refl tt (
-    choose language word opening.Map _ _ refl tt (
-    choose language word (opening.Sides Assume) _ _ refl tt (
-    choose language word (opening.Sides Claim) _ _ refl tt (
-    choose language word (opening.Pair Pinv) _ _ refl tt (
-    choose language word (opening.Pair Inverse) _ _ refl tt (
-    choose language word (opening.Pair Inner) _ _ refl tt (
-    choose language word opening.Projection _ _ refl tt (
-    choose language word opening.Order _ _ refl tt (
-    choose language word opening.Model _ _ refl tt (none_is language word)))))))))))
-
-opening_is : (language : Language) (word : List ℕ) → Opens language word (opening_in language word)
-opening_is First word = common_is First word
-opening_is Second word = choose Second word (opening.List Eliminate) _ _ refl tt (common_is Second word)
-
 pub start_reads : ExprReads start_reading []
 unfolding run
 start_reads = refl
 
-opened_reads : (language : Language) (o : Opening) (at : Spot) → IsOpeningOf language o → LineReads language (opened o at) (word_token (opening_text o) at ∷ [])
-opened_reads language (opening.List w) at speaks = (speaks, refl)
-opened_reads language (opening.Sides w) at speaks = record { side = []; reads = start_reads; are = refl }
-opened_reads language o at speaks = refl
+module _ (language : Language) (word : List ℕ) (at : Spot) where
+  -- what begins with the word has read it
+  abbrev Begins : Option Opening → Type 0
+  Begins found = After language (begun found at) (word_token word at ∷ [])
 
-begun_reads : (language : Language) (word : List ℕ) (o : Option Opening) (at : Spot) → Opens language word o → After language (begun o at) (word_token word at ∷ [])
-begun_reads language word None at is = tt
-begun_reads language word (Some o) at is =
-    let opens = is o refl in
-    subst (λ x. LineReads language (opened o at) (word_token x at ∷ [])) (sym opens.0) (opened_reads language o at opens.1)
+  choose : (o : Opening) (rest : Option Opening) (b : Bool) → bytes_eq word (opening_text o) ≡ b
+      → LineReads language (opened o at) (word_token (opening_text o) at ∷ []) → Begins rest → Begins (cond b (Some o) rest)
+  choose o rest true is here there = rw ((bytes_eq-Decides word (opening_text o)).0 is) here
+  choose o rest false is here there = there
 
-start_grows : (language : Language) (k : TokenKind) (at : Spot) → Grows language [] at k (start_step language k at)
-start_grows language (kind.Name x) at = begun_reads language x (opening_in language x) at (opening_is language x)
-start_grows language k at = tt
+  common_begins : Begins (common_opening word)
+  common_begins =
+      choose (opening.List Object) _ _ refl (tt, refl) (
+      choose (opening.List Solve) _ _ refl (tt, refl) (
+      choose opening.Map _ _ refl refl (
+      choose (opening.Sides Assume) _ _ refl (record { side = []; reads = start_reads; are = refl }) (
+      choose (opening.Sides Claim) _ _ refl (record { side = []; reads = start_reads; are = refl }) (
+      choose (opening.Pair Pinv) _ _ refl refl (
+      choose (opening.Pair Inverse) _ _ refl refl (
+      choose (opening.Pair Inner) _ _ refl refl (
+      choose opening.Projection _ _ refl refl (
+      choose opening.Order _ _ refl refl (
+      choose opening.Model _ _ refl refl tt))))))))))
 
--- the other tokens
-with_next : (ts us : List Token) (t : Token) → ts ≡ us → ts ++ t ∷ [] ≡ us ++ t ∷ []
-with_next ts us t read = ap (λ (x : List Token). x ++ t ∷ []) read
+start_grows : (language : Language) (word : List ℕ) (at : Spot) → Grows language [] at (kind.Name word) (start_step language (kind.Name word) at)
+start_grows First word at = common_begins First word at
+start_grows Second word at = choose Second word at (opening.List Eliminate) _ _ refl (tt, refl) (common_begins Second word at)
 
-more_names : (front : Token) (names : List Name) (n : Name) → (front ∷ names_tokens names) ++ name_token n ∷ [] ≡ front ∷ names_tokens (names ++ n ∷ [])
-more_names front names n = ap (λ x. front ∷ x) (sym (map-append name_token names (n ∷ [])))
+-- a map's names and what stands behind them, with one token more
+map_more : {at : Spot} {names : List Name} {ts behind : List Token} (t : Token) → MapReads at names ts behind → MapReads at names (ts ++ t ∷ []) (behind ++ t ∷ [])
+map_more t read = record { has_first = read.has_first; are = rw read.are (simp append_assoc) }
 
-list_grows : (language : Language) (w : ListWord) (at : Spot) (names : List Name) (ts : List Token) (t : Spot) (k : TokenKind) → LineReads language (line.List w at names) ts → Grows language ts t k (list_step w at names k t)
-list_grows language w at names ts t k read =
-    by_name (Grows language ts t) _ t (λ x. (read.0, with_next ts _ _ read.1 ∙ more_names (word_token (list_text w) at) names (named x t))) (λ k. tt) k
-
-map_more : (at : Spot) (names : List Name) (ts behind : List Token) (t : Token) → MapReads at names ts behind → MapReads at names (ts ++ t ∷ []) (behind ++ t ∷ [])
-map_more at names ts behind t read = record {
-  has_first = read.has_first;
-  are = with_next ts _ t read.are ∙ ap (λ x. word_token (codes "map") at ∷ x) (append_assoc (names_tokens names) behind (t ∷ []));
-}
-
-colon_grows : (language : Language) (at : Spot) (names : List Name) (ts : List Token) (t : Spot) → RestReads at names rest.Names ts → Grows language ts t kind.Colon (colon_after at names)
-colon_grows language at [] ts t read = tt
-colon_grows language at (n ∷ ns) ts t read = (t, record { has_first = record { first = n; more = ns; is = refl }; are = with_next ts _ _ read })
-
-map_names_grows : (language : Language) (at : Spot) (names : List Name) (ts : List Token) (t : Spot) (k : TokenKind) → RestReads at names rest.Names ts → Grows language ts t k (map_names_step at names k t)
-map_names_grows language at names ts t k read =
-    by_colon (Grows language ts t) (colon_after at names) (λ k. name_in k t >>= λ n. Ok (line.Map at (names ++ n ∷ []) rest.Names)) (colon_grows language at names ts t read)
-    (λ k. by_name (Grows language ts t) _ t (λ x. with_next ts _ _ read ∙ more_names (word_token (codes "map") at) names (named x t)) (λ k. tt) k) k
-
-self_grows : (language : Language) (at : Spot) (names : List Name) (s e : Name) (ts : List Token) (t : Spot) (x : List ℕ) (b : Bool) → bytes_eq x (codes "self") ≡ b → RestReads at names (rest.Target s e) ts
+self_grows : (language : Language) (at : Spot) (names : List Name) (s e : Name) (ts : List Token) (t : Spot) (x : List ℕ) (b : Bool)
+    → bytes_eq x (codes "self") ≡ b → RestReads at names (rest.Target s e) ts
     → Grows language ts t (kind.Name x) (cond b (Ok (whole at (statement.Maps names s e true))) (Err Expected))
 self_grows language at names s e ts t x false is read = tt
 self_grows language at names s e ts t x true is read =
-    let wider = map_more at names ts _ (word_token x t) read.2 in
     let first = read.2.has_first in
     record {
       stated = mapped at first.first first.more read.0 s read.1 e (self_word t);
       speaks = tt;
       fits = tt;
-      tree = ap (λ ns. record { at = at; kind = statement.Maps ns s e true }) first.is;
-      are = wider.are ∙ ap₂ (λ ns y. word_token (codes "map") at ∷ (names_tokens ns ++ sign_token kind.Colon read.0 ∷ name_token s ∷ sign_token kind.Arrow read.1 ∷ name_token e ∷ word_token y t ∷ []))
-          first.is ((bytes_eq-Decides x (codes "self")).0 is);
+      tree = rw first.is refl;
+      are = (map_more (word_token x t) read.2).are ∙ rw (first.is, (bytes_eq-Decides x (codes "self")).0 is) refl;
     }
-
-map_grows : (language : Language) (at : Spot) (names : List Name) (r : MapRest) (ts : List Token) (t : Spot) (k : TokenKind) → RestReads at names r ts → Grows language ts t k (map_step at names r k t)
-map_grows language at names rest.Names ts t k read = map_names_grows language at names ts t k read
-map_grows language at names rest.Colon ts t k read = by_name (Grows language ts t) _ t (λ x. (read.0, map_more at names ts _ (word_token x t) read.1)) (λ k. tt) k
-map_grows language at names (rest.Source s) ts t k read = by_arrow (Grows language ts t) (Ok (line.Map at names (rest.Arrow s))) (λ k. Err Expected) (read.0, t, map_more at names ts _ (sign_token kind.Arrow t) read.1) (λ k. tt) k
-map_grows language at names (rest.Arrow s) ts t k read = by_name (Grows language ts t) _ t (λ x. (read.0, read.1, map_more at names ts _ (word_token x t) read.2)) (λ k. tt) k
-map_grows language at names (rest.Target s e) ts t k read = on_word k
-  where
-    on_word : (k : TokenKind) → Grows language ts t k (map_step at names (rest.Target s e) k t)
-    on_word (kind.Name x) = self_grows language at names s e ts t x (bytes_eq x (codes "self")) refl read
-    on_word k = tt
 
 -- expressions
 reading_grows : (r next : Reading) (ts : List Token) (k : TokenKind) (t : Spot) → ExprReads r ts → token_step r k t ≡ Ok next
@@ -233,57 +175,34 @@ unfolding run
 reading_grows r next ts k t read goes =
     run_front reading_step start_reading ts r (sign_token k t ∷ []) read ∙ ap (λ x. x >>= λ s. run reading_step s []) goes
 
-side_more : (front ts side : List Token) (t : Token) → ts ≡ front ++ side → ts ++ t ∷ [] ≡ front ++ (side ++ t ∷ [])
-side_more front ts side t read = with_next ts _ t read ∙ append_assoc front side (t ∷ [])
-
-first_grows : (language : Language) (w : SidesWord) (at : Spot) (r : Reading) (ts : List Token) (t : Spot) (k : TokenKind) (res : Result Reading Misfit) → token_step r k t ≡ res → FirstSide w at r ts
-    → Grows language ts t k (res >>= λ x. Ok (line.Sides w at None x))
+first_grows : (language : Language) (w : SidesWord) (at : Spot) (r : Reading) (ts : List Token) (t : Spot) (k : TokenKind) (res : Result Reading Misfit)
+    → token_step r k t ≡ res → FirstSide w at r ts → Grows language ts t k (res >>= λ x. Ok (line.Sides w at None x))
 first_grows language w at r ts t k (Err Expected) is read = tt
 first_grows language w at r ts t k (Err TooDeep) is read =
     let on = deep read.side r (sign_token k t) read.reads is in
-    let last : List Token = sign_token kind.Equals somewhere ∷ name_token some_name ∷ [] in (
-      on.0 ++ last,
-      sides w at on.1 somewhere some_expr,
-      tt,
-      ap (λ (x : List Token). (x ++ sign_token k t ∷ []) ++ (on.0 ++ last)) read.are
-          ∙ ap (λ x. word_token (sides_text w) at ∷ x)
-          (append_assoc read.side (sign_token k t ∷ []) (on.0 ++ last) ∙ sym (append_assoc read.side (sign_token k t ∷ on.0) last) ∙ ap (λ x. x ++ last) on.2),
-    )
-first_grows language w at r ts t k (Ok next) is read = record {
-  side = read.side ++ sign_token k t ∷ [];
-  reads = reading_grows r next read.side k t read.reads is;
-  are = side_more (word_token (sides_text w) at ∷ []) ts read.side (sign_token k t) read.are;
-}
+    let last : List Token = sign_token kind.Equals somewhere ∷ name_token some_name ∷ [] in
+    (on.0 ++ last, sides w at on.1 somewhere some_expr, tt, rw (read.are, ← on.2) (simp append_assoc))
+first_grows language w at r ts t k (Ok next) is read =
+    record { side = read.side ++ sign_token k t ∷ []; reads = reading_grows r next read.side k t read.reads is; are = rw read.are refl }
 
-second_grows : (language : Language) (w : SidesWord) (at : Spot) (left : Sum) (r : Reading) (ts : List Token) (t : Spot) (k : TokenKind) (res : Result Reading Misfit) → token_step r k t ≡ res → SecondSide w at left r ts
-    → Grows language ts t k (res >>= λ x. Ok (line.Sides w at (Some left) x))
+second_grows : (language : Language) (w : SidesWord) (at : Spot) (left : Sum) (r : Reading) (ts : List Token) (t : Spot) (k : TokenKind) (res : Result Reading Misfit)
+    → token_step r k t ≡ res → SecondSide w at left r ts → Grows language ts t k (res >>= λ x. Ok (line.Sides w at (Some left) x))
 second_grows language w at left r ts t k (Err Expected) is read = tt
 second_grows language w at left r ts t k (Err TooDeep) is read =
-    let on = deep read.side r (sign_token k t) read.reads is in (
-      on.0,
-      sides w at read.expr read.equals on.1,
-      tt,
-      ap (λ (x : List Token). (x ++ sign_token k t ∷ []) ++ on.0) read.are
-          ∙ ap (λ x. word_token (sides_text w) at ∷ x)
-          (append_assoc (expr_tokens read.expr ++ sign_token kind.Equals read.equals ∷ read.side) (sign_token k t ∷ []) on.0
-          ∙ append_assoc (expr_tokens read.expr) (sign_token kind.Equals read.equals ∷ read.side) (sign_token k t ∷ on.0)
-          ∙ ap (λ x. expr_tokens read.expr ++ sign_token kind.Equals read.equals ∷ x) on.2),
-    )
-second_grows language w at left r ts t k (Ok next) is read =
-    let front : List Token = word_token (sides_text w) at ∷ (expr_tokens read.expr ++ sign_token kind.Equals read.equals ∷ []) in
-    record {
-      expr = read.expr;
-      fits = read.fits;
-      left_is = read.left_is;
-      equals = read.equals;
-      side = read.side ++ sign_token k t ∷ [];
-      reads = reading_grows r next read.side k t read.reads is;
-      are = side_more front ts read.side (sign_token k t) (read.are ∙ ap (λ x. word_token (sides_text w) at ∷ x) (sym (append_assoc (expr_tokens read.expr) (sign_token kind.Equals read.equals ∷ []) read.side)))
-          ∙ ap (λ x. word_token (sides_text w) at ∷ x) (append_assoc (expr_tokens read.expr) (sign_token kind.Equals read.equals ∷ []) (read.side ++ sign_token k t ∷ []));
-    }
+    let on = deep read.side r (sign_token k t) read.reads is in
+    (on.0, sides w at read.expr read.equals on.1, tt, rw (read.are, ← on.2) (simp append_assoc))
+second_grows language w at left r ts t k (Ok next) is read = record {
+  expr = read.expr;
+  fits = read.fits;
+  left_is = read.left_is;
+  equals = read.equals;
+  side = read.side ++ sign_token k t ∷ [];
+  reads = reading_grows r next read.side k t read.reads is;
+  are = rw read.are (simp append_assoc);
+}
 
-equals_grows : (language : Language) (w : SidesWord) (at : Spot) (r : Reading) (ts : List Token) (t : Spot) (res : Result Sum Misfit) → whole_sum r ≡ res → FirstSide w at r ts
-    → Grows language ts t kind.Equals (res >>= λ left. Ok (line.Sides w at (Some left) start_reading))
+equals_grows : (language : Language) (w : SidesWord) (at : Spot) (r : Reading) (ts : List Token) (t : Spot) (res : Result Sum Misfit) → whole_sum r ≡ res
+    → FirstSide w at r ts → Grows language ts t kind.Equals (res >>= λ left. Ok (line.Sides w at (Some left) start_reading))
 equals_grows language w at r ts t (Err Expected) is read = tt
 equals_grows language w at r ts t (Err TooDeep) is read = let same = reading_lacks r read.side TooDeep read.reads is in absurd cc
 equals_grows language w at r ts t (Ok left) is read =
@@ -295,86 +214,63 @@ equals_grows language w at r ts t (Ok left) is read =
       equals = t;
       side = [];
       reads = start_reads;
-      are = with_next ts _ _ read.are ∙ ap (λ x. word_token (sides_text w) at ∷ (x ++ sign_token kind.Equals t ∷ [])) e.3;
+      are = rw read.are (ap (λ x. word_token (sides_text w) at ∷ (x ++ sign_token kind.Equals t ∷ [])) e.3);
     }
 
-sides_grows : (language : Language) (w : SidesWord) (at : Spot) (left : Option Sum) (r : Reading) (ts : List Token) (t : Spot) (k : TokenKind) → SidesReads w at left r ts → Grows language ts t k (sides_step w at left r k t)
+sides_grows : (language : Language) (w : SidesWord) (at : Spot) (left : Option Sum) (r : Reading) (ts : List Token) (t : Spot) (k : TokenKind)
+    → SidesReads w at left r ts → Grows language ts t k (sides_step w at left r k t)
 sides_grows language w at (Some left) r ts t k read = second_grows language w at left r ts t k (token_step r k t) refl read
-sides_grows language w at None r ts t k read =
-    by_equals (Grows language ts t) _ (λ k. token_step r k t >>= λ x. Ok (line.Sides w at None x)) (equals_grows language w at r ts t (whole_sum r) refl read)
-    (λ k differs. first_grows language w at r ts t k (token_step r k t) refl read) k
+sides_grows language w at None r ts t kind.Equals read = equals_grows language w at r ts t (whole_sum r) refl read
+sides_grows language w at None r ts t k read = first_grows language w at r ts t k (token_step r k t) refl read
 
--- names and pairs
-pair_grows : (language : Language) (w : PairWord) (at : Spot) (first : Option Name) (ts : List Token) (t : Spot) (k : TokenKind) → LineReads language (line.Pair w at first) ts → Grows language ts t k (pair_step w at first k t)
-pair_grows language w at None ts t k read = by_name (Grows language ts t) _ t (λ x. with_next ts _ _ read) (λ k. tt) k
-pair_grows language w at (Some m) ts t k read =
-    by_name (Grows language ts t) _ t (λ x. record { stated = paired w at m (named x t); speaks = tt; fits = tt; tree = refl; are = with_next ts _ _ read }) (λ k. tt) k
-
-projection_grows : (language : Language) (at : Spot) (ts : List Token) (t : Spot) (k : TokenKind) → LineReads language (line.Projection at) ts → Grows language ts t k (projection_step at k t)
-projection_grows language at ts t k read = by_name (Grows language ts t) _ t (λ x. record { stated = projected at (named x t); speaks = tt; fits = tt; tree = refl; are = with_next ts _ _ read }) (λ k. tt) k
-
--- what a step of pairs makes of their tokens
-abbrev PairsGrow : Pairs → Spot → TokenKind → Result Pairs Misfit → Type 0
-PairsGrow p t k (Ok q) = read_pairs q ≡ read_pairs p ++ sign_token k t ∷ []
-PairsGrow p t k (Err Expected) = Unit {0}
-PairsGrow p t k (Err TooDeep) = ⊥
-
+-- pairs
 pub pairs_more : (ps : List (Name × Number)) (n : Name) (m : Number) → pairs_tokens (ps ++ (n, m) ∷ []) ≡ pairs_tokens ps ++ name_token n ∷ number_token m ∷ []
-pairs_more [] n m = refl
-pairs_more (p ∷ ps) n m = ap (λ x. name_token p.0 ∷ number_token p.1 ∷ x) (pairs_more ps n m)
+pairs_more ps n m = flat_map-append (λ p. name_token p.0 ∷ number_token p.1 ∷ []) ps ((n, m) ∷ [])
 
-pairs_grow : (ps : List (Name × Number)) (half : Option Name) (t : Spot) (k : TokenKind) → PairsGrow (record { whole = ps; half = half }) t k (pairs_by ps half k t)
-pairs_grow ps None t k = by_name (PairsGrow (record { whole = ps; half = None }) t) _ t (λ x. ap (λ y. y ++ word_token x t ∷ []) (sym (append-nil (pairs_tokens ps)))) (λ k. tt) k
-pairs_grow ps (Some n) t k =
-    by_number (PairsGrow (record { whole = ps; half = Some n }) t) _ t
-    (λ v. append-nil (pairs_tokens (ps ++ (n, record { value = v; at = t }) ∷ []))
-    ∙ pairs_more ps n (record { value = v; at = t })
-    ∙ sym (append_assoc (pairs_tokens ps) (name_token n ∷ []) (sign_token (kind.Literal v) t ∷ []))) (λ k. tt) k
+-- behind these tokens
+pairs_grow : (language : Language) (wrap : Pairs → Line) (front : List Token) → ((p : Pairs) (us : List Token) → us ≡ front ++ read_pairs p → LineReads language (wrap p) us)
+    → (ps : List (Name × Number)) (half : Option Name) (ts : List Token) (t : Spot) (k : TokenKind) → ts ≡ front ++ read_pairs (record { whole = ps; half = half })
+    → Grows language ts t k (pairs_by ps half k t >>= λ p. Ok (wrap p))
+pairs_grow language wrap front are ps None ts t (kind.Name x) read = are _ _ (rw read (simp (append-nil, append_assoc)))
+pairs_grow language wrap front are ps (Some n) ts t (kind.Literal v) read = are _ _ (rw (read, pairs_more) (simp (append-nil, append_assoc)))
+pairs_grow language wrap front are ps None ts t k read = tt
+pairs_grow language wrap front are ps (Some n) ts t k read = tt
 
-weights_grow : (language : Language) (at : Spot) (p : Pairs) (ts : List Token) (t : Spot) (k : TokenKind) (res : Result Pairs Misfit) → PairsGrow p t k res → LineReads language (line.Weights at p) ts
-    → Grows language ts t k (res >>= λ q. Ok (line.Weights at q))
-weights_grow language at p ts t k (Err Expected) grows read = tt
-weights_grow language at p ts t k (Err TooDeep) grows read = absurd grows
-weights_grow language at p ts t k (Ok q) grows read = (read.0, with_next ts _ _ read.1 ∙ ap (λ x. word_token (codes "order") at ∷ word_token (codes "weight") read.0 ∷ x) (sym grows))
-
-shape_grows : (language : Language) (at : Spot) (m : Number) (p : Pairs) (ts : List Token) (t : Spot) (k : TokenKind) (res : Result Pairs Misfit) → PairsGrow p t k res → LineReads language (line.Shape at m p) ts
-    → Grows language ts t k (res >>= λ q. Ok (line.Shape at m q))
-shape_grows language at m p ts t k (Err Expected) grows read = tt
-shape_grows language at m p ts t k (Err TooDeep) grows read = absurd grows
-shape_grows language at m p ts t k (Ok q) grows read = with_next ts _ _ read ∙ ap (λ x. word_token (codes "model") at ∷ number_token m ∷ x) (sym grows)
-
-model_grows : (language : Language) (at : Spot) (ts : List Token) (t : Spot) (k : TokenKind) → LineReads language (line.Model at) ts → Grows language ts t k (line_step language (line.Model at) k t)
-model_grows language at ts t k read = by_number (Grows language ts t) _ t (λ v. with_next ts _ _ read) (λ k. tt) k
-
-order_by : (language : Language) (at : Spot) (ts : List Token) (t : Spot) (x : List ℕ) (b c : Bool) → bytes_eq x (codes "degree") ≡ b → bytes_eq x (codes "weight") ≡ c → LineReads language (line.Order at) ts
+order_grows : (language : Language) (at : Spot) (ts : List Token) (t : Spot) (x : List ℕ) (b c : Bool) → bytes_eq x (codes "degree") ≡ b → bytes_eq x (codes "weight") ≡ c
+    → LineReads language (line.Order at) ts
     → Grows language ts t (kind.Name x) (cond b (Ok (whole at statement.Degree)) (cond c (Ok (line.Weights at no_pairs)) (Err Expected)))
-order_by language at ts t x true c is_degree is_weight read = record {
-  stated = by_degree at t;
-  speaks = tt;
-  fits = tt;
-  tree = refl;
-  are = with_next ts _ _ read ∙ ap (λ y. word_token (codes "order") at ∷ word_token y t ∷ []) ((bytes_eq-Decides x (codes "degree")).0 is_degree);
-}
-order_by language at ts t x false true is_degree is_weight read = (t, with_next ts _ _ read ∙ ap (λ y. word_token (codes "order") at ∷ word_token y t ∷ []) ((bytes_eq-Decides x (codes "weight")).0 is_weight))
-order_by language at ts t x false false is_degree is_weight read = tt
+order_grows language at ts t x true c is_degree is_weight read =
+    record { stated = by_degree at t; speaks = tt; fits = tt; tree = refl; are = rw (read, (bytes_eq-Decides x (codes "degree")).0 is_degree) refl }
+order_grows language at ts t x false true is_degree is_weight read = (t, rw (read, (bytes_eq-Decides x (codes "weight")).0 is_weight) refl)
+order_grows language at ts t x false false is_degree is_weight read = tt
 
-order_grows : (language : Language) (at : Spot) (ts : List Token) (t : Spot) (k : TokenKind) → LineReads language (line.Order at) ts → Grows language ts t k (order_step at k)
-order_grows language at ts t (kind.Name x) read = order_by language at ts t x (bytes_eq x (codes "degree")) (bytes_eq x (codes "weight")) refl refl read
-order_grows language at ts t k read = tt
-
--- all lines
+-- all lines: a token that brings one on stands behind what was read, and any other is not expected
 line_grows : (language : Language) (l : Line) (ts : List Token) (t : Spot) (k : TokenKind) → LineReads language l ts → Grows language ts t k (line_step language l k t)
-line_grows language line.Start ts t k read = subst (λ us. Grows language us t k (start_step language k t)) (sym read) (start_grows language k t)
-line_grows language (line.List w at names) ts t k read = list_grows language w at names ts t k read
-line_grows language (line.Map at names r) ts t k read = map_grows language at names r ts t k read
+line_grows language line.Start ts t (kind.Name x) read = rw read (start_grows language x t)
+line_grows language (line.List w at names) ts t (kind.Name x) read = (read.0, rw (read.1, map-append) refl)
+line_grows language (line.Map at [] rest.Names) ts t (kind.Name x) read = rw read refl
+line_grows language (line.Map at (n ∷ ns) rest.Names) ts t kind.Colon read =
+    (t, record { has_first = record { first = n; more = ns; is = refl }; are = rw read refl })
+line_grows language (line.Map at (n ∷ ns) rest.Names) ts t (kind.Name x) read = rw (read, map-append) refl
+line_grows language (line.Map at names rest.Colon) ts t (kind.Name x) read = (read.0, map_more _ read.1)
+line_grows language (line.Map at names (rest.Source s)) ts t kind.Arrow read = (read.0, t, map_more _ read.1)
+line_grows language (line.Map at names (rest.Arrow s)) ts t (kind.Name x) read = (read.0, read.1, map_more _ read.2)
+line_grows language (line.Map at names (rest.Target s e)) ts t (kind.Name x) read = self_grows language at names s e ts t x (bytes_eq x (codes "self")) refl read
 line_grows language (line.Sides w at left r) ts t k read = sides_grows language w at left r ts t k read
-line_grows language (line.Pair w at first) ts t k read = pair_grows language w at first ts t k read
-line_grows language (line.Projection at) ts t k read = projection_grows language at ts t k read
-line_grows language (line.Order at) ts t k read = order_grows language at ts t k read
-line_grows language (line.Weights at p) ts t k read = weights_grow language at p ts t k (pairs_step p k t) (pairs_grow p.whole p.half t k) read
-line_grows language (line.Model at) ts t k read = model_grows language at ts t k read
-line_grows language (line.Shape at m p) ts t k read = shape_grows language at m p ts t k (pairs_step p k t) (pairs_grow p.whole p.half t k) read
-line_grows language (line.Whole s) ts t k read = tt
+line_grows language (line.Pair w at None) ts t (kind.Name x) read = rw read refl
+line_grows language (line.Pair w at (Some m)) ts t (kind.Name x) read =
+    record { stated = paired w at m (named x t); speaks = tt; fits = tt; tree = refl; are = rw read refl }
+line_grows language (line.Projection at) ts t (kind.Name x) read =
+    record { stated = projected at (named x t); speaks = tt; fits = tt; tree = refl; are = rw read refl }
+line_grows language (line.Order at) ts t (kind.Name x) read =
+    order_grows language at ts t x (bytes_eq x (codes "degree")) (bytes_eq x (codes "weight")) refl refl read
+line_grows language (line.Weights at p) ts t k read =
+    pairs_grow language (line.Weights at) (word_token (codes "order") at ∷ word_token (codes "weight") read.0 ∷ []) (λ q us are. (read.0, are))
+    p.whole p.half ts t k read.1
+line_grows language (line.Model at) ts t (kind.Literal n) read = rw read refl
+line_grows language (line.Shape at m p) ts t k read =
+    pairs_grow language (line.Shape at m) (word_token (codes "model") at ∷ number_token m ∷ []) (λ q us are. are) p.whole p.half ts t k read
+line_grows language l ts t k read = tt
 
 -- one step reads one token
 pub line_step_reads : (language : Language) (l next : Line) (t : Token) (ts : List Token) → line_step language l t.kind t.at ≡ Ok next → LineReads language l ts → LineReads language next (ts ++ t ∷ [])

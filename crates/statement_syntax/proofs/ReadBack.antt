@@ -1,10 +1,11 @@
 -- A written text is read as tokens of the kinds that it was written from.
-use Rattle.std.proofs.Common.{◌≡◌, ℕ, ◌+◌, ◌≤◌, ◌<◌, ◌||◌, ◌&&◌, Bool, true, false, cond, List, [], ◌∷◌, ◌++◌, inl, inr, length, Result, Ok, Err, refl, sym, ap, ap₂, subst, ◌∙◌, append_assoc, arith}
-use Rattle.std.specs.Prelude.{ℤ, decimal}
+use Rattle.std.proofs.Common.{◌≡◌, ℕ, ◌+◌, ◌≤◌, ◌<◌, ◌||◌, ◌&&◌, Bool, true, false, cond, List, [], ◌∷◌, ◌++◌, inl, inr, length, get_or, drop, Result, Ok}
+use Rattle.std.proofs.Common.{Err, refl, sym, ap, ap₂, subst, ◌∙◌, append_assoc, arith}
+use Rattle.std.specs.Prelude.{ℤ, decimal, nat_lt}
 use Rattle.std.specs.Fmt.{signed_decimal}
 use Rattle.std.specs.Str.{encode_utf8_all}
 use Rattle.std.proofs.Math.Utf8.{scalar, scalars}
-use Rattle.std.proofs.lemmas.Bool.{le-leb, lt-ltb}
+use Rattle.std.proofs.lemmas.Bool.{le-leb, lt-ltb, ltb-true}
 use Rattle.std.proofs.lemmas.List.{append-nil}
 use Rattle.std.proofs.lemmas.Str.{encodes-append, encode_ascii}
 use Rattle.statement_syntax.specs.Types.{Token, TokenKind, TokenKind as kind, Item as item, BadToken, Placed, Language}
@@ -27,20 +28,21 @@ use Rattle.statement_tokens.proofs.Literals.{Digits, decimal_digits, plain_digit
 pub digits_of : (v : ℤ) → (t : SpellsNumber v) → Digits t.size (decimal t.size)
 digits_of v t = decimal_digits t.size (omega (arith, t.below))
 
-scalar_ascii : (c : ℕ) → c < 128 → scalar c ≡ true
-scalar_ascii c low = rw (lt-ltb c 55296 (omega (arith, low))) refl
+-- characters below 128 are their own bytes
+abbrev AreLow : List ℕ → Type 0
+AreLow cs = EachIs (λ c. nat_lt c 128) cs
 
--- digits are their own bytes
-digits_bytes : (ds : List ℕ) → EachIs is_digit ds → encode_utf8_all ds ≡ ds
-digits_bytes [] given = refl
-digits_bytes (d ∷ ds) given = ap₂ (λ x y. x ++ y) (encode_ascii d (plain_digit d given.0).low) (digits_bytes ds given.1)
+low_bytes : (cs : List ℕ) → AreLow cs → encode_utf8_all cs ≡ cs
+low_bytes [] given = refl
+low_bytes (c ∷ cs) given = rw (encode_ascii c (ltb-true c 128 given.0), low_bytes cs given.1) refl
 
-digits_scalars : (ds : List ℕ) → EachIs is_digit ds → scalars ds ≡ true
-digits_scalars [] given = refl
-digits_scalars (d ∷ ds) given = ap₂ (λ x y. x && y) (scalar_ascii d (plain_digit d given.0).low) (digits_scalars ds given.1)
+digits_low : (ds : List ℕ) → EachIs is_digit ds → AreLow ds
+digits_low [] given = tt
+digits_low (d ∷ ds) given = (lt-ltb d 128 (plain_digit d given.0).low, digits_low ds given.1)
 
-one_byte : (c : ℕ) → c < 128 → c ∷ [] ≡ encode_utf8_all (c ∷ [])
-one_byte c low = ap (λ x. x ++ []) (sym (encode_ascii c low))
+scalars_low : (cs : List ℕ) → AreLow cs → scalars cs ≡ true
+scalars_low [] given = refl
+scalars_low (c ∷ cs) given = rw (lt-ltb c 55296 (omega (arith, ltb-true c 128 given.0)), scalars_low cs given.1) refl
 
 -- what may stand behind a token
 abbrev Behind : TokenKind → List ℕ → Type 0
@@ -113,47 +115,26 @@ module _ (language : Language) where
   abbrev pub first_of : (k : TokenKind) → IsToken language k → ℕ
   first_of (kind.Name x) t = t.first
   first_of (kind.Literal v) t = (digits_of v t).first
-  first_of kind.Colon t = 58
-  first_of kind.Arrow t = 45
-  first_of kind.Equals t = 61
-  first_of kind.Plus t = 43
-  first_of kind.Minus t = 45
-  first_of kind.Open t = 40
-  first_of kind.Close t = 41
-  first_of kind.OpenSquare t = 91
-  first_of kind.CloseSquare t = 93
-  first_of kind.Quote t = 39
-  first_of kind.Caret t = 94
   first_of kind.End t = absurd t
+  first_of k t = get_or (kind_text k) 0 0
 
   abbrev pub more_of : (k : TokenKind) → IsToken language k → List ℕ
   more_of (kind.Name x) t = t.more
   more_of (kind.Literal v) t = (digits_of v t).more
-  more_of kind.Arrow t = 62 ∷ []
-  more_of kind.End t = absurd t
-  more_of k t = []
+  more_of k t = drop 1 (kind_text k)
 
   text_is : (k : TokenKind) (t : IsToken language k) → kind_text k ≡ encode_utf8_all (first_of k t ∷ more_of k t)
   text_is (kind.Name x) t = t.is
   text_is (kind.Literal v) t =
       let d = digits_of v t in
-      ap signed_decimal t.is ∙ sym (digits_bytes (decimal t.size) d.each) ∙ ap encode_utf8_all d.is
-  text_is kind.Colon t = one_byte 58 (omega arith)
-  text_is kind.Arrow t = ap₂ (λ x y. x ++ y) (sym (encode_ascii 45 (omega arith))) (one_byte 62 (omega arith))
-  text_is kind.Equals t = one_byte 61 (omega arith)
-  text_is kind.Plus t = one_byte 43 (omega arith)
-  text_is kind.Minus t = one_byte 45 (omega arith)
-  text_is kind.Open t = one_byte 40 (omega arith)
-  text_is kind.Close t = one_byte 41 (omega arith)
-  text_is kind.OpenSquare t = one_byte 91 (omega arith)
-  text_is kind.CloseSquare t = one_byte 93 (omega arith)
-  text_is kind.Quote t = one_byte 39 (omega arith)
-  text_is kind.Caret t = one_byte 94 (omega arith)
+      ap signed_decimal t.is ∙ sym (low_bytes (decimal t.size) (digits_low _ d.each)) ∙ ap encode_utf8_all d.is
   text_is kind.End t = absurd t
+  text_is kind.Arrow t = sym (low_bytes (kind_text kind.Arrow) (refl, (refl, tt)))
+  text_is k t = sym (low_bytes (kind_text k) (refl, tt))
 
   scalar_is : (k : TokenKind) (t : IsToken language k) → scalars (first_of k t ∷ more_of k t) ≡ true
   scalar_is (kind.Name x) t = t.scalar
-  scalar_is (kind.Literal v) t = let d = digits_of v t in ap scalars (sym d.is) ∙ digits_scalars (decimal t.size) d.each
+  scalar_is (kind.Literal v) t = let d = digits_of v t in ap scalars (sym d.is) ∙ scalars_low (decimal t.size) (digits_low _ d.each)
   scalar_is kind.End t = absurd t
   scalar_is k t = refl
 
@@ -185,10 +166,7 @@ module _ (language : Language) where
   characters-bytes (k ∷ ks) all glued rest =
       let more = characters ks all.1 (opens k) rest in
       glue-bytes (glued || closes k) (first_of k all.0 ∷ (more_of k all.0 ++ more))
-      ∙ ap (λ x. gap (glued || closes k) ++ x)
-      (encodes-append (first_of k all.0 ∷ more_of k all.0) more ∙ ap₂ (λ x y. x ++ y) (sym (text_is k all.0)) (characters-bytes ks all.1 (opens k) rest) ∙ sym (append_assoc (kind_text k) (text_from (opens k) ks) (encode_utf8_all rest)))
-      ∙ sym (append_assoc (gap (glued || closes k)) (kind_text k ++ text_from (opens k) ks) (encode_utf8_all rest))
-      ∙ ap (λ x. x ++ encode_utf8_all rest) (sym (append_assoc (gap (glued || closes k)) (kind_text k) (text_from (opens k) ks)))
+      ∙ rw (encodes-append (first_of k all.0 ∷ more_of k all.0) more, ← text_is k all.0, characters-bytes ks all.1 (opens k) rest) (simp append_assoc)
 
   pub characters-scalars : (ks : List TokenKind) (all : AllKinds (IsToken language) ks) (glued : Bool) (rest : List ℕ) → scalars rest ≡ true → scalars (characters ks all glued rest) ≡ true
   characters-scalars [] all glued rest given = given

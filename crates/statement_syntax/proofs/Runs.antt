@@ -50,9 +50,8 @@ whole_is (factors l fs) = refl
 sign_behind : (levels : List Level) (head : Head) (t : Product) (s : Sign)
     → goes (at_outside levels head (whole_part t)) (signed_token s) ≡ Ok (reading_of (at_outside levels (after (with_term head t) s) nothing))
 sign_behind levels head (zero_alone at) (plus x) = ap (λ r. Ok r) (signed-seen levels head (zero_alone at) (plus x))
-sign_behind levels head (zero_alone at) (minus x) = ap (λ r. Ok r) (signed-seen levels head (zero_alone at) (minus x))
 sign_behind levels head (factors l fs) (plus x) = ap (λ r. Ok r) (signed-seen levels head (factors l fs) (plus x))
-sign_behind levels head (factors l fs) (minus x) = ap (λ r. Ok r) (signed-seen levels head (factors l fs) (minus x))
+sign_behind levels head t s = ap (λ r. Ok r) (signed-seen levels head t s)
 
 sign_step : (levels : List Level) (e : Expr) (s : Sign) → goes (end_state levels e) (signed_token s) ≡ Ok (reading_of (at_outside levels (after e s) nothing))
 sign_step levels (first l t) s = sign_behind levels (led l) t s
@@ -73,16 +72,14 @@ open_step levels head part left room =
 quote_step : (levels : List Level) (head : Head) (part : Part) (f : Marked) (at : Spot)
     → goes (at_outside levels head (add_marked part f)) (sign_token kind.Quote at) ≡ Ok (reading_of (at_outside levels head (add_marked part (marked f at))))
 quote_step levels head nothing f at = refl
-quote_step levels head (scaled n) f at = refl
-quote_step levels head (product l fs) f at = refl
+quote_step levels head part f at = refl
 
 power_run : (levels : List Level) (head : Head) (part : Part) (f : Marked) (at : Spot) (n : Number) (rest : List Token)
     → runs (at_outside levels head (add_marked part f)) (sign_token kind.Caret at ∷ number_token n ∷ rest)
     ≡ runs (at_outside levels head (add_marked part (raised f at n))) rest
 unfolding run
 power_run levels head nothing f at n rest = refl
-power_run levels head (scaled m) f at n rest = refl
-power_run levels head (product l fs) f at n rest = refl
+power_run levels head part f at n rest = refl
 
 literal_run : (levels : List Level) (head : Head) (l : Option Number) (rest : List Token)
     → runs (at_outside levels head nothing) (literal_tokens l ++ rest) ≡ runs (at_outside levels head (after_literal l)) rest
@@ -93,17 +90,11 @@ literal_run levels head (Some n) rest = refl
 lead_run : (levels : List Level) (l : Lead) (rest : List Token) → runs (fresh levels) (lead_tokens l ++ rest) ≡ runs (at_outside levels (led l) nothing) rest
 unfolding run
 lead_run levels no_sign rest = refl
-lead_run levels (lead_plus at) rest = refl
-lead_run levels (lead_minus at) rest = refl
+lead_run levels l rest = refl
 
 plain_is : (part : Part) (p : Prime) → add part p ≡ add_marked part (plain p)
 plain_is nothing p = refl
-plain_is (scaled n) p = refl
-plain_is (product l fs) p = refl
-
-literal_is : (l : Option Number) (f : Marked) → add_marked (after_literal l) f ≡ product l (one f)
-literal_is None f = refl
-literal_is (Some n) f = refl
+plain_is part p = refl
 
 name_run : (levels : List Level) (head : Head) (part : Part) (n : Name) (rest : List Token)
     → runs (at_outside levels head part) (name_token n ∷ rest) ≡ runs (at_outside levels head (add part (name n))) rest
@@ -130,12 +121,9 @@ mutual
   pub expr_run : (levels : List Level) (e : Expr) (d : ℕ) (rest : List Token) → length (levels_of levels) + d ≡ bracket_limit
       → Upto (ExprFits e d) (runs (fresh levels) (expr_tokens e ++ rest)) (runs (end_state levels e) rest)
   expr_run levels (first l t) d rest room =
-      before_it (ap (runs (fresh levels)) (append_assoc (lead_tokens l) (product_tokens t) rest)
-      ∙ lead_run levels l (product_tokens t ++ rest))
-      (product_run levels (led l) t d rest room)
+      rw append_assoc (before_it (lead_run levels l (product_tokens t ++ rest)) (product_run levels (led l) t d rest room))
   expr_run levels (joined e s t) d rest room =
-      before_it (ap (runs (fresh levels)) (append_assoc (expr_tokens e) (signed_token s ∷ product_tokens t) rest))
-      (then_on (expr_run levels e d (signed_token s ∷ (product_tokens t ++ rest)) room)
+      rw append_assoc (then_on (expr_run levels e d (signed_token s ∷ (product_tokens t ++ rest)) room)
       (before_it (one_step reading_step _ _ (signed_token s) (product_tokens t ++ rest) (sign_step levels e s))
       (product_run levels (after e s) t d rest room)))
 
@@ -143,49 +131,41 @@ mutual
       → Upto (ProductFits t d) (runs (at_outside levels head nothing) (product_tokens t ++ rest)) (runs (at_outside levels head (whole_part t)) rest)
   product_run levels head (zero_alone at) d rest room = inl (tt, literal_run levels head (Some (zero_at at)) rest)
   product_run levels head (factors l fs) d rest room =
-      before_it (ap (runs (at_outside levels head nothing)) (append_assoc (literal_tokens l) (factors_tokens fs) rest)
-      ∙ literal_run levels head l (factors_tokens fs ++ rest))
-      (factors_run levels head l fs d rest room)
+      rw append_assoc (before_it (literal_run levels head l (factors_tokens fs ++ rest)) (factors_run levels head l fs d rest room))
 
   factors_run : (levels : List Level) (head : Head) (l : Option Number) (fs : Factors) (d : ℕ) (rest : List Token)
       → length (levels_of levels) + d ≡ bracket_limit
       → Upto (FactorsFit fs d) (runs (at_outside levels head (after_literal l)) (factors_tokens fs ++ rest)) (runs (at_outside levels head (product l fs)) rest)
-  factors_run levels head l (one f) d rest room =
-      after_it (marked_run levels head (after_literal l) f d rest room) (ap (λ p. runs (at_outside levels head p) rest) (literal_is l f))
+  factors_run levels head None (one f) d rest room = marked_run levels head nothing f d rest room
+  factors_run levels head (Some n) (one f) d rest room = marked_run levels head (scaled n) f d rest room
   factors_run levels head l (beside fs f) d rest room =
-      before_it (ap (runs (at_outside levels head (after_literal l))) (append_assoc (factors_tokens fs) (marked_tokens f) rest))
-      (then_on (factors_run levels head l fs d (marked_tokens f ++ rest) room)
-      (marked_run levels head (product l fs) f d rest room))
+      rw append_assoc (then_on (factors_run levels head l fs d (marked_tokens f ++ rest) room) (marked_run levels head (product l fs) f d rest room))
 
   marked_run : (levels : List Level) (head : Head) (part : Part) (f : Marked) (d : ℕ) (rest : List Token) → length (levels_of levels) + d ≡ bracket_limit
       → Upto (MarkedFits f d) (runs (at_outside levels head part) (marked_tokens f ++ rest)) (runs (at_outside levels head (add_marked part f)) rest)
   marked_run levels head part (plain p) d rest room =
       after_it (prime_run levels head part p d rest room) (ap (λ q. runs (at_outside levels head q) rest) (plain_is part p))
   marked_run levels head part (marked f at) d rest room =
-      before_it (ap (runs (at_outside levels head part)) (append_assoc (marked_tokens f) (sign_token kind.Quote at ∷ []) rest))
-      (after_it (marked_run levels head part f d (sign_token kind.Quote at ∷ rest) room)
+      rw append_assoc (after_it (marked_run levels head part f d (sign_token kind.Quote at ∷ rest) room)
       (one_step reading_step _ _ (sign_token kind.Quote at) rest (quote_step levels head part f at)))
   marked_run levels head part (raised f at n) d rest room =
-      before_it (ap (runs (at_outside levels head part)) (append_assoc (marked_tokens f) (sign_token kind.Caret at ∷ number_token n ∷ []) rest))
-      (after_it (marked_run levels head part f d (sign_token kind.Caret at ∷ number_token n ∷ rest) room) (power_run levels head part f at n rest))
+      rw append_assoc (after_it (marked_run levels head part f d (sign_token kind.Caret at ∷ number_token n ∷ rest) room)
+      (power_run levels head part f at n rest))
 
   prime_run : (levels : List Level) (head : Head) (part : Part) (p : Prime) (d : ℕ) (rest : List Token) → length (levels_of levels) + d ≡ bracket_limit
       → Upto (PrimeFits p d) (runs (at_outside levels head part) (prime_tokens p ++ rest)) (runs (at_outside levels head (add part p)) rest)
   prime_run levels head part (name n) d rest room = inl (tt, name_run levels head part n rest)
   prime_run levels head part (identity left n right) d rest room = inl (tt, identity_run levels head part left n right rest)
-  prime_run levels head part (bracket left e right) zero rest room =
-      inr (λ x. x, open_fails levels head part left ((expr_tokens e ++ sign_token kind.Close right ∷ []) ++ rest) room)
+  prime_run levels head part (bracket left e right) zero rest room = inr (λ x. x, open_fails levels head part left _ room)
   prime_run levels head part (bracket left e right) (suc d) rest room =
       let inner = record { head = head; part = part; at = left } ∷ levels in
-      before_it (one_step reading_step _ _ (sign_token kind.Open left) ((expr_tokens e ++ sign_token kind.Close right ∷ []) ++ rest)
-      (open_step levels head part left (omega (arith, room)))
-      ∙ ap (runs (fresh inner)) (append_assoc (expr_tokens e) (sign_token kind.Close right ∷ []) rest))
+      rw append_assoc
+      (before_it (one_step reading_step _ _ (sign_token kind.Open left) _ (open_step levels head part left (omega (arith, room))))
       (after_it (expr_run inner e d (sign_token kind.Close right ∷ rest) (omega (arith, room)))
-      (one_step reading_step _ _ (sign_token kind.Close right) rest (close_step levels head part left e right)))
+      (one_step reading_step _ _ (sign_token kind.Close right) rest (close_step levels head part left e right))))
 
 -- an expression ends where its tokens do
 pub end-whole : (e : Expr) → whole (end_state [] e) ≡ Some e
 end-whole (first l (zero_alone at)) = refl
-end-whole (first l (factors n fs)) = refl
 end-whole (joined e s (zero_alone at)) = refl
-end-whole (joined e s (factors n fs)) = refl
+end-whole e = refl

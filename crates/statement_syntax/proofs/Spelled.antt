@@ -44,10 +44,8 @@ IsToken language k = Unit {0}
 
 -- it can be a token of a file of the language
 abbrev pub IsFileToken : Language → TokenKind → Type 0
-IsFileToken language (kind.Name text) = SpellsName text
-IsFileToken language (kind.Literal value) = SpellsNumber value
-IsFileToken language kind.Caret = HasCarets language
-IsFileToken language k = Unit {0}
+IsFileToken language kind.End = Unit {0}
+IsFileToken language k = IsToken language k
 
 abbrev pub AllKinds : (TokenKind → Type 0) → List TokenKind → Type 0
 AllKinds P [] = Unit {0}
@@ -136,17 +134,13 @@ module _ (before : List Token) where
 
 -- all tokens
 file_token : (language : Language) (k : TokenKind) → IsToken language k → IsFileToken language k
-file_token language (kind.Name x) t = t
-file_token language (kind.Literal n) t = t
-file_token language kind.Caret t = t
-file_token language k t = tt
+file_token language kind.End t = tt
+file_token language k t = t
 
 -- it is a token of all that goes on with it
 token_stays : (before more : List Token) (k : TokenKind) → IsFileToken (language_of before) k → IsFileToken (language_of (before ++ more)) k
-token_stays before more (kind.Name x) t = t
-token_stays before more (kind.Literal n) t = t
 token_stays before more kind.Caret t = carets_stay before more t
-token_stays before more k t = tt
+token_stays before more k t = t
 
 -- behind these they are tokens of one file
 abbrev AreBehind : List Token → List Token → Type 0

@@ -8,8 +8,8 @@ use Rattle.statement_syntax.specs.Limits.{bracket_limit}
 use Rattle.statement_syntax.specs.Steps as steps
 use Rattle.statement_syntax.specs.Steps.{◌>>=◌, run}
 use Rattle.statement_syntax.specs.Grammar.{no_sign, lead_plus, lead_minus, Sign, plus, minus, Product, zero_alone, factors, Factors, one, beside, Prime, name}
-use Rattle.statement_syntax.specs.Grammar.{identity, bracket, sign_token, name_token, number_token, signed_token, literal_tokens, expr_tokens}
-use Rattle.statement_syntax.specs.Grammar.{product_tokens, factors_tokens, marked_tokens, prime_tokens}
+use Rattle.statement_syntax.specs.Grammar.{identity, bracket, sign_token, name_token, number_token, signed_token, expr_tokens}
+use Rattle.statement_syntax.specs.Grammar.{product_tokens, factors_tokens, prime_tokens}
 use Rattle.statement_syntax.specs.Tree.{is_minus}
 use Rattle.statement_syntax.proofs.Run.{bind_ok}
 use Rattle.statement_syntax.proofs.Machine.{Head, led, after, Part, nothing, scaled, product, Focus, outside, square, named, behind_caret, Level, State}
@@ -24,18 +24,17 @@ abbrev pub reading_step : Reading → Token → Result Reading Misfit
 reading_step r t = steps.token_step r t.kind t.at
 
 add-tokens : (part : Part) (p : Prime) → part_tokens (add part p) ≡ part_tokens part ++ prime_tokens p
-add-tokens nothing p = refl
-add-tokens (scaled n) p = refl
-add-tokens (product l fs) p = sym (append_assoc (literal_tokens l) (factors_tokens fs) (prime_tokens p))
+add-tokens (product l fs) p = simp append_assoc
+add-tokens part p = refl
 
 mark-tokens : (fs : Factors) (at : Spot) → factors_tokens (with_mark fs at) ≡ factors_tokens fs ++ sign_token kind.Quote at ∷ []
 mark-tokens (one f) at = refl
-mark-tokens (beside fs f) at = sym (append_assoc (factors_tokens fs) (marked_tokens f) (sign_token kind.Quote at ∷ []))
+mark-tokens (beside fs f) at = simp append_assoc
 
 power-tokens : (fs : Factors) (at : Spot) (n : Number)
     → factors_tokens (with_power fs at n) ≡ factors_tokens fs ++ sign_token kind.Caret at ∷ number_token n ∷ []
 power-tokens (one f) at n = refl
-power-tokens (beside fs f) at n = sym (append_assoc (factors_tokens fs) (marked_tokens f) (sign_token kind.Caret at ∷ number_token n ∷ []))
+power-tokens (beside fs f) at n = simp append_assoc
 
 pub with_term-tokens : (head : Head) (t : Product) → expr_tokens (with_term head t) ≡ head_tokens head ++ product_tokens t
 with_term-tokens (led l) t = refl
@@ -62,50 +61,34 @@ Reads levels head part focus t (Ok r) = (next : State) × (r ≡ reading_of next
 Reads levels head part focus t (Err Expected) = Unit {0}
 Reads levels head part focus t (Err TooDeep) = (next : State) × Grows levels head part focus t next
 
-grow : (base x y e : List Token) → x ≡ y ++ e → (base ++ x) ++ [] ≡ ((base ++ y) ++ []) ++ e
-grow base x y e given = rw (given, append-nil, append-nil) (sym (append_assoc base y e))
-
 name_reads : (levels : List Level) (head : Head) (part : Part) (n : Name)
     → Reads levels head part outside (name_token n) (steps.outside_step (levels_of levels) (head_of head) (part_of part) (kind.Name n.text) n.at)
 name_reads levels head part n = (
   at_outside levels head (add part (name n)),
   ap (steps.outside (levels_of levels) (head_of head)) (add-seen part (name n)),
-  grow (level_tokens levels ++ head_tokens head) _ (part_tokens part) _ (add-tokens part (name n)),
+  simp (add-tokens, append-nil, append_assoc),
 )
 
 literal_reads : (levels : List Level) (head : Head) (part : Part) (n : Number)
     → Reads levels head part outside (number_token n) (steps.literal_step (levels_of levels) (head_of head) (part_of part) n)
-literal_reads levels head nothing n = (at_outside levels head (scaled n), refl, grow (level_tokens levels ++ head_tokens head) _ [] _ refl)
+literal_reads levels head nothing n = (at_outside levels head (scaled n), refl, simp append-nil)
 literal_reads levels head part n = tt
 
 quote_reads : (levels : List Level) (head : Head) (part : Part) (at : Spot)
     → Reads levels head part outside (sign_token kind.Quote at)
     (steps.mark_step (part_of part) Adjoint >>= λ p. Ok (steps.outside (levels_of levels) (head_of head) p))
-quote_reads levels head nothing at = tt
-quote_reads levels head (scaled m) at = tt
 quote_reads levels head (product l fs) at = (
   at_outside levels head (product l (with_mark fs at)),
   ap (steps.outside (levels_of levels) (head_of head)) (marked-seen l fs at),
-  grow (level_tokens levels ++ head_tokens head) _ (part_tokens (product l fs)) _
-      (ap (λ (x : List Token). literal_tokens l ++ x) (mark-tokens fs at)
-      ∙ sym (append_assoc (literal_tokens l) (factors_tokens fs) (sign_token kind.Quote at ∷ []))),
+  simp (mark-tokens, append-nil, append_assoc),
 )
-
-caret_group : (a p q e : List Token) → (a ++ []) ++ ((p ++ q) ++ e) ≡ ((a ++ (p ++ q)) ++ []) ++ e
-caret_group a p q e = simp (append-nil, append_assoc) refl
+quote_reads levels head part at = tt
 
 caret_reads : (levels : List Level) (head : Head) (part : Part) (at : Spot)
     → Reads levels head part outside (sign_token kind.Caret at) (steps.caret_step (levels_of levels) (head_of head) (part_of part) at)
-caret_reads levels head nothing at = tt
-caret_reads levels head (scaled m) at = tt
-caret_reads levels head (product l fs) at = (
-  record { levels = levels; head = head; part = nothing; focus = behind_caret l fs at },
-  refl,
-  caret_group (level_tokens levels ++ head_tokens head) (literal_tokens l) (factors_tokens fs) (sign_token kind.Caret at ∷ []),
-)
-
-sign_group : (a b c d e : List Token) → d ≡ b ++ c → ((a ++ (d ++ e)) ++ []) ++ [] ≡ (((a ++ b) ++ c) ++ []) ++ e
-sign_group a b c d e given = simp (given, append-nil, append_assoc) refl
+caret_reads levels head (product l fs) at =
+    (record { levels = levels; head = head; part = nothing; focus = behind_caret l fs at }, refl, simp (append-nil, append_assoc))
+caret_reads levels head part at = tt
 
 -- behind a term
 sign_after : (levels : List Level) (head : Head) (part : Part) (s : Sign) (t : Option Product) → whole_term part ≡ t
@@ -115,30 +98,17 @@ sign_after levels head part s None given = tt
 sign_after levels head part s (Some t) given = (
   at_outside levels (after (with_term head t) s) nothing,
   signed-seen levels head t s,
-  sign_group (level_tokens levels) (head_tokens head) (part_tokens part) (expr_tokens (with_term head t)) (signed_token s ∷ [])
-      (with_term-tokens head t ∙ ap (λ (x : List Token). head_tokens head ++ x) (whole_term-tokens part t given)),
+  simp (with_term-tokens, whole_term-tokens part t given, append-nil, append_assoc),
 )
-
-lead_group : (a e : List Token) → ((a ++ e) ++ []) ++ [] ≡ (((a ++ []) ++ []) ++ []) ++ e
-lead_group a e = simp append-nil refl
 
 sign_reads : (levels : List Level) (head : Head) (part : Part) (s : Sign)
     → Reads levels head part outside (signed_token s)
     (steps.signed_step (levels_of levels) (head_of head) (part_of part) (signed_token s).at (is_minus s))
-sign_reads levels (led no_sign) nothing (plus at) =
-    (at_outside levels (led (lead_plus at)) nothing, refl, lead_group (level_tokens levels) (sign_token kind.Plus at ∷ []))
-sign_reads levels (led no_sign) nothing (minus at) =
-    (at_outside levels (led (lead_minus at)) nothing, refl, lead_group (level_tokens levels) (sign_token kind.Minus at ∷ []))
-sign_reads levels head (scaled n) s =
-    subst (λ r. Reads levels head (scaled n) outside (signed_token s)
-    (steps.sign_by (head_of head) r (is_minus s) >>= λ h. Ok (steps.outside (levels_of levels) h (part_of nothing))))
-    (sym (ended-seen (scaled n) (head_of head).negative)) (sign_after levels head (scaled n) s _ refl)
+sign_reads levels (led no_sign) nothing (plus at) = (at_outside levels (led (lead_plus at)) nothing, refl, simp append-nil)
+sign_reads levels (led no_sign) nothing (minus at) = (at_outside levels (led (lead_minus at)) nothing, refl, simp append-nil)
+sign_reads levels head (scaled n) s = rw (ended-seen (scaled n) (head_of head).negative) (sign_after levels head (scaled n) s _ refl)
 sign_reads levels head (product l fs) s = sign_after levels head (product l fs) s _ refl
 sign_reads levels head nothing s = tt
-
-close_group : (a b c o given p e r x : List Token) → e ≡ given ++ p → x ≡ c ++ (o ++ (e ++ r))
-    → ((a ++ b) ++ x) ++ [] ≡ ((((((a ++ b) ++ c) ++ o) ++ given) ++ p) ++ []) ++ r
-close_group a b c o given p e r x h1 h2 = simp (h2, h1, append-nil, append_assoc) refl
 
 close_after : (levels : List Level) (head : Head) (part : Part) (at : Spot) (t : Option Product) → whole_term part ≡ t
     → Reads levels head part outside (sign_token kind.Close at)
@@ -148,29 +118,18 @@ close_after [] head part at (Some t) given = tt
 close_after (level ∷ levels) head part at (Some t) given = (
   at_outside levels level.head (add level.part (bracket level.at (with_term head t) at)),
   bracket-seen level levels head t at,
-  close_group (level_tokens levels) (head_tokens level.head) (part_tokens level.part) (sign_token kind.Open level.at ∷ []) (head_tokens head)
-      (part_tokens part) (expr_tokens (with_term head t)) (sign_token kind.Close at ∷ []) _
-      (with_term-tokens head t ∙ ap (λ (x : List Token). head_tokens head ++ x) (whole_term-tokens part t given))
-      (add-tokens level.part (bracket level.at (with_term head t) at)),
+  simp (add-tokens, with_term-tokens, whole_term-tokens part t given, append-nil, append_assoc),
 )
 
 close_reads : (levels : List Level) (head : Head) (part : Part) (at : Spot)
     → Reads levels head part outside (sign_token kind.Close at) (steps.close_step (levels_of levels) (head_of head) (part_of part))
-close_reads levels head part at =
-    subst (λ r. Reads levels head part outside (sign_token kind.Close at)
-    (r >>= λ x. steps.close_by (levels_of levels) (steps.sum_with (head_of head) x)))
-    (sym (ended-seen part (head_of head).negative)) (close_after levels head part at (whole_term part) refl)
-
-open_group : (a b c e : List Token) → ((((((a ++ b) ++ c) ++ e) ++ []) ++ []) ++ []) ≡ (((a ++ b) ++ c) ++ []) ++ e
-open_group a b c e = simp append-nil refl
+close_reads levels head part at = rw (ended-seen part (head_of head).negative) (close_after levels head part at (whole_term part) refl)
 
 open_reads : (levels : List Level) (head : Head) (part : Part) (at : Spot) (b : Bool)
     → Reads levels head part outside (sign_token kind.Open at)
     (cond b (Ok (reading_of (fresh (record { head = head; part = part; at = at } ∷ levels)))) (Err TooDeep))
-open_reads levels head part at true =
-    (fresh (record { head = head; part = part; at = at } ∷ levels), refl, open_group (level_tokens levels) (head_tokens head) (part_tokens part) _)
-open_reads levels head part at false =
-    (fresh (record { head = head; part = part; at = at } ∷ levels), open_group (level_tokens levels) (head_tokens head) (part_tokens part) _)
+open_reads levels head part at true = (fresh (record { head = head; part = part; at = at } ∷ levels), refl, simp append-nil)
+open_reads levels head part at false = (fresh (record { head = head; part = part; at = at } ∷ levels), simp append-nil)
 
 outside_reads : (levels : List Level) (head : Head) (part : Part) (k : TokenKind) (at : Spot)
     → Reads levels head part outside (sign_token k at) (steps.outside_step (levels_of levels) (head_of head) (part_of part) k at)
@@ -181,51 +140,28 @@ outside_reads levels head part kind.Minus at = sign_reads levels head part (minu
 outside_reads levels head part kind.Open at = open_reads levels head part at (nat_lt (length (levels_of levels)) bracket_limit)
 outside_reads levels head part kind.Close at = close_reads levels head part at
 outside_reads levels head part kind.OpenSquare at =
-    (record { levels = levels; head = head; part = part; focus = square at }, refl, simp append-nil refl)
+    (record { levels = levels; head = head; part = part; focus = square at }, refl, simp append-nil)
 outside_reads levels head part kind.Quote at = quote_reads levels head part at
 outside_reads levels head part kind.Caret at = caret_reads levels head part at
 outside_reads levels head part k at = tt
 
-square_reads : (levels : List Level) (head : Head) (part : Part) (left : Spot) (k : TokenKind) (at : Spot)
-    → Reads levels head part (square left) (sign_token k at) (steps.square_step (levels_of levels) (head_of head) (part_of part) left k at)
-square_reads levels head part left (kind.Name x) at =
-    (record { levels = levels; head = head; part = part; focus = named left (record { text = x; at = at }) }, refl, simp append_assoc refl)
-square_reads levels head part left k at = tt
-
-named_group : (a p q r x : List Token) → x ≡ p ++ (q ++ r) → (a ++ x) ++ [] ≡ ((a ++ p) ++ q) ++ r
-named_group a p q r x given = simp (given, append-nil, append_assoc) refl
-
-named_reads : (levels : List Level) (head : Head) (part : Part) (left : Spot) (n : Name) (k : TokenKind) (at : Spot)
-    → Reads levels head part (named left n) (sign_token k at) (steps.named_step (levels_of levels) (head_of head) (part_of part) left n k)
-named_reads levels head part left n kind.CloseSquare at = (
-  at_outside levels head (add part (identity left n at)),
-  ap (steps.outside (levels_of levels) (head_of head)) (add-seen part (identity left n at)),
-  named_group (level_tokens levels ++ head_tokens head) (part_tokens part) (sign_token kind.OpenSquare left ∷ name_token n ∷ [])
-      (sign_token kind.CloseSquare at ∷ []) _ (add-tokens part (identity left n at)),
-)
-named_reads levels head part left n k at = tt
-
-power_group : (a p q c n f : List Token) → f ≡ q ++ (c ++ n) → (a ++ (p ++ f)) ++ [] ≡ ((a ++ []) ++ ((p ++ q) ++ c)) ++ n
-power_group a p q c n f given = simp (given, append-nil, append_assoc) refl
-
-power_reads : (levels : List Level) (head : Head) (part : Part) (l : Option Number) (fs : Factors) (caret : Spot) (k : TokenKind) (at : Spot)
-    → Reads levels head part (behind_caret l fs caret) (sign_token k at)
-    (steps.focus_step (levels_of levels) (head_of head) (part_of part) (focus_of (behind_caret l fs caret)) k at)
-power_reads levels head part l fs caret (kind.Literal n) at =
-    let number : Number = record { value = n; at = at } in (
-      at_outside levels head (product l (with_power fs caret number)),
-      ap (steps.outside (levels_of levels) (head_of head)) (raised-seen l fs caret number),
-      power_group (level_tokens levels ++ head_tokens head) (literal_tokens l) (factors_tokens fs) (sign_token kind.Caret caret ∷ [])
-          (number_token number ∷ []) _ (power-tokens fs caret number),
-    )
-power_reads levels head part l fs caret k at = tt
-
 focus_reads : (levels : List Level) (head : Head) (part : Part) (focus : Focus) (k : TokenKind) (at : Spot)
     → Reads levels head part focus (sign_token k at) (steps.focus_step (levels_of levels) (head_of head) (part_of part) (focus_of focus) k at)
 focus_reads levels head part outside k at = outside_reads levels head part k at
-focus_reads levels head part (square left) k at = square_reads levels head part left k at
-focus_reads levels head part (named left n) k at = named_reads levels head part left n k at
-focus_reads levels head part (behind_caret l fs caret) k at = power_reads levels head part l fs caret k at
+focus_reads levels head part (square left) (kind.Name x) at =
+    (record { levels = levels; head = head; part = part; focus = named left (record { text = x; at = at }) }, refl, simp append_assoc)
+focus_reads levels head part (named left n) kind.CloseSquare at = (
+  at_outside levels head (add part (identity left n at)),
+  ap (steps.outside (levels_of levels) (head_of head)) (add-seen part (identity left n at)),
+  simp (add-tokens, append-nil, append_assoc),
+)
+focus_reads levels head part (behind_caret l fs caret) (kind.Literal n) at =
+    let number : Number = record { value = n; at = at } in (
+      at_outside levels head (product l (with_power fs caret number)),
+      ap (steps.outside (levels_of levels) (head_of head)) (raised-seen l fs caret number),
+      simp (power-tokens, append-nil, append_assoc),
+    )
+focus_reads levels head part focus k at = tt
 
 -- one step reads one token
 step_reads : (st : State) (t : Token) (next : Reading) → reading_step (reading_of st) t ≡ Ok next
