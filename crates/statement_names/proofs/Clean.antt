@@ -1,27 +1,26 @@
 -- What holds of occurrences none of which has a fault.
-use Rattle.std.proofs.Common.{◌≡◌, ℕ, ◌+◌, Bool, true, false, ◌&&◌, not, nat_lt, is_some, List, [], ◌∷◌, ◌++◌, Option, Some, None, ap, sym, subst, ◌∙◌, arith, append_assoc, if◌then◌else◌}
-use Rattle.std.specs.List.{sum_by}
+use Rattle.std.proofs.Common.{◌≡◌, ℕ, Bool, true, false, ◌&&◌, is_some, List, [], ◌∷◌, ◌++◌, Option, Some, None, ap, sym, subst, ◌∙◌, arith, append_assoc, if◌then◌else◌}
 use Rattle.std.proofs.lemmas.Grind.{flat_map-append}
 use Rattle.std.proofs.lemmas.List.{append-nil}
 use Rattle.definitions.specs.Moduli.{is_field_modulus}
-use Rattle.statement_names.specs.Types.{NameFault, Kind, Object, Map}
+use Rattle.statement_names.specs.Types.{Statement, NameFault, Kind, Object, Map}
 use Rattle.statement_names.specs.Occurrences.{Occurrence, declares_object, declares_map, uses, lists, counts, modulus}
-use Rattle.statement_names.specs.Faults.{declared_by, maps_by, declared_in, kind_in, is_kind, are_two_objects, is_among, is_between, value_of, fault_behind, first_fault}
+use Rattle.statement_names.specs.Faults.{declared_by, declared_in, is_kind, are_two_objects, is_among, is_between, value_of, or_else, fault_of, known_behind, first_fault, kind_within}
 use Rattle.statement_names.proofs.Apart.{Apart, Apart-push, none_first, none_later}
 use Rattle.statement_names.proofs.Each.{Each}
 
 -- tests that let an occurrence through
-pub test_false : (b : Bool) (fault : NameFault) (rest : Option NameFault) → (if b then Some fault else rest) ≡ None → b ≡ false
-test_false b fault rest e = grind arith
+passed : (b : Bool) (fault : NameFault) → (if b then None else Some fault) ≡ None → b ≡ true
+passed b fault e = grind arith
 
-test_true : (b : Bool) (fault : NameFault) → (if b then None else Some fault) ≡ None → b ≡ true
-test_true b fault e = grind arith
+pub or_else_none : (found : Option NameFault) (wrong : Bool) (later : NameFault) → or_else found wrong later ≡ None → found ≡ None
+or_else_none found wrong later e = grind arith
 
-pub test_rest : (b : Bool) (fault : NameFault) (rest : Option NameFault) → (if b then Some fault else rest) ≡ None → rest ≡ None
-test_rest b fault rest e = grind arith
+not_wrong : (found : Option NameFault) (wrong : Bool) (later : NameFault) → or_else found wrong later ≡ None → wrong ≡ false
+not_wrong found wrong later e = grind arith
 
-not_not : (b : Bool) → not b ≡ false → b ≡ true
-not_not b e = grind arith
+pub new_name : (found : Option Kind) (fault : NameFault) (rest : Option NameFault) → (if is_some found then Some fault else rest) ≡ None → found ≡ None
+new_name found fault rest e = grind arith
 
 pub absent_from : (found : Option Kind) → is_some found ≡ false → found ≡ None
 absent_from found e = grind arith
@@ -35,24 +34,26 @@ IsGood kind (counts most n) = is_between 1 most (value_of n.value) ≡ true
 IsGood kind (modulus n) = is_field_modulus (value_of n.value) ≡ true
 IsGood kind o = Unit {0}
 
+-- so do all of a list, in a file
+abbrev pub AreGood : List Statement → List Occurrence → Type 0
+AreGood statements os = Each (IsGood (kind_within statements)) os
+
+pub declared_push : (before : List Occurrence) (o : Occurrence) → declared_in before ++ declared_by o ≡ declared_in (before ++ o ∷ [])
+declared_push before o = sym (flat_map-append declared_by before (o ∷ []) ∙ ap (λ ds. declared_in before ++ ds) (append-nil (declared_by o)))
+
 module _ (most_maps : ℕ) (kind : List ℕ → Option Kind) where
-  pub head_clean : (before : List Occurrence) (o : Occurrence) (os : List Occurrence) → first_fault most_maps kind before (o ∷ os) ≡ None → fault_behind most_maps kind before o ≡ None
-  head_clean before o os clean = none_first (fault_behind most_maps kind before o) (first_fault most_maps kind (before ++ o ∷ []) os) clean
+  pub head_clean : (before : List Occurrence) (o : Occurrence) (os : List Occurrence) → first_fault most_maps kind before (o ∷ os) ≡ None → fault_of (known_behind most_maps kind before) o ≡ None
+  head_clean before o os clean = none_first (fault_of (known_behind most_maps kind before) o) (first_fault most_maps kind (before ++ o ∷ []) os) clean
 
   pub tail_clean : (before : List Occurrence) (o : Occurrence) (os : List Occurrence) → first_fault most_maps kind before (o ∷ os) ≡ None → first_fault most_maps kind (before ++ o ∷ []) os ≡ None
-  tail_clean before o os clean = none_later (fault_behind most_maps kind before o) (first_fault most_maps kind (before ++ o ∷ []) os) clean
+  tail_clean before o os clean = none_later (fault_of (known_behind most_maps kind before) o) (first_fault most_maps kind (before ++ o ∷ []) os) clean
 
-  good : (before : List Occurrence) (o : Occurrence) → fault_behind most_maps kind before o ≡ None → IsGood kind o
-  good before (declares_map n u v selfmade) clean =
-      let room = test_rest (is_some (kind_in (declared_in before) n.text)) _ _ clean in
-      test_false (selfmade && are_two_objects kind u v) _ None (test_rest (nat_lt most_maps (sum_by maps_by before + 1)) _ _ room)
-  good before (uses u) clean = test_true (is_kind (kind u.name.text) u.kind) _ clean
-  good before (lists front u) clean = (
-    not_not (is_kind (kind u.name.text) u.kind) (test_false (not (is_kind (kind u.name.text) u.kind)) _ _ clean),
-    test_false (is_among front u.name.text) _ None (test_rest (not (is_kind (kind u.name.text) u.kind)) _ _ clean),
-  )
-  good before (counts most n) clean = test_true (is_between 1 most (value_of n.value)) _ clean
-  good before (modulus n) clean = test_true (is_field_modulus (value_of n.value)) _ clean
+  good : (before : List Occurrence) (o : Occurrence) → fault_of (known_behind most_maps kind before) o ≡ None → IsGood kind o
+  good before (declares_map n u v selfmade) clean = not_wrong _ _ _ clean
+  good before (uses u) clean = passed _ _ clean
+  good before (lists front u) clean = (passed _ _ (or_else_none _ _ _ clean), not_wrong _ _ _ clean)
+  good before (counts most n) clean = passed _ _ clean
+  good before (modulus n) clean = passed _ _ clean
   good before o clean = tt
 
   pub each_good : (before os : List Occurrence) → first_fault most_maps kind before os ≡ None → Each (IsGood kind) os
@@ -60,15 +61,12 @@ module _ (most_maps : ℕ) (kind : List ℕ → Option Kind) where
   each_good before (o ∷ os) clean = (good before o (head_clean before o os clean), each_good (before ++ o ∷ []) os (tail_clean before o os clean))
 
   -- different names
-  apart_next : (before : List Occurrence) (o : Occurrence) → fault_behind most_maps kind before o ≡ None → Apart (declared_in before) → Apart (declared_in before ++ declared_by o)
+  apart_next : (before : List Occurrence) (o : Occurrence) → fault_of (known_behind most_maps kind before) o ≡ None → Apart (declared_in before) → Apart (declared_in before ++ declared_by o)
   apart_next before (declares_object n) clean apart =
-      Apart-push (declared_in before) (n.text, Object) apart (absent_from (kind_in (declared_in before) n.text) (test_false (is_some (kind_in (declared_in before) n.text)) _ _ clean))
+      Apart-push (declared_in before) (n.text, Object) apart (new_name _ _ _ clean)
   apart_next before (declares_map n u v selfmade) clean apart =
-      Apart-push (declared_in before) (n.text, Map) apart (absent_from (kind_in (declared_in before) n.text) (test_false (is_some (kind_in (declared_in before) n.text)) _ _ clean))
+      Apart-push (declared_in before) (n.text, Map) apart (new_name _ _ _ (or_else_none _ _ _ clean))
   apart_next before o clean apart = subst Apart (sym (append-nil (declared_in before))) apart
-
-  declared_push : (before : List Occurrence) (o : Occurrence) → declared_in before ++ declared_by o ≡ declared_in (before ++ o ∷ [])
-  declared_push before o = sym (flat_map-append declared_by before (o ∷ []) ∙ ap (λ ds. declared_in before ++ ds) (append-nil (declared_by o)))
 
   pub apart_declared : (before os : List Occurrence) → Apart (declared_in before) → first_fault most_maps kind before os ≡ None → Apart (declared_in (before ++ os))
   apart_declared before [] apart clean = subst (λ xs. Apart (declared_in xs)) (sym (append-nil before)) apart

@@ -2,7 +2,7 @@
 use Rattle.std.proofs.Common.{◌≡◌, ◌<◌, ◌≤◌, List, None, refl, sym, subst}
 use Rattle.quiver.specs.Declarations.{object_count, letter_count}
 use Rattle.statement_names.specs.Types.{Statement}
-use Rattle.statement_names.specs.Faults.{name_fault_of}
+use Rattle.statement_names.specs.Faults.{Assumptions, Claims, name_fault_of}
 use Rattle.statement_names.specs.Marked.{an_object, is_marked}
 use Rattle.statement_names.specs.Numbered.{declarations_of}
 use Rattle.statement_names.specs.Ordered.{letter}
@@ -31,9 +31,9 @@ file_ready statements clean =
       declared = file_declared statements clean;
       objects_first = first;
       order = order_sound statements clean;
-      few_assumptions = subst (λ n. n ≤ assumption_limit) (sym (length-assumptions ds statements)) limits.assumptions;
+      few_assumptions = subst (λ n. n ≤ assumption_limit) (sym (length-assumptions ds statements)) (limits Assumptions);
       assumptions = Each-at (HasNames ds) (assumptions_of ds statements) (assumptions_named statements clean);
-      few_claims = subst (λ n. n ≤ claim_limit) (sym (length-claims statements)) limits.claims;
+      few_claims = subst (λ n. n ≤ claim_limit) (sym (length-claims statements)) (limits Claims);
       claims = Each-at (HasNames ds) (claims_of statements) (all_claims_named statements clean);
       marked_objects = numbers_hold an_object (object_count ds) (is_marked ds statements) (λ v. v.0 < object_count ds) (λ k below is. below);
       marked_ascending = numbers_ascend an_object (object_count ds) (is_marked ds statements) (λ v. v.0) (λ k. refl);

@@ -10,12 +10,12 @@ use Rattle.statement_names.specs.Types.{Named, named, Name, Statement, Statement
 use Rattle.quiver.specs.Declarations.{Declaration, object, arrow, name_of, objects_of, letters_of, Turn, named_by, named_in}
 use Rattle.quiver.proofs.Growth.{names_from}
 use Rattle.expression_names.specs.Names.{is_map, is_object, object_of}
-use Rattle.statement_names.specs.Faults.{kind_in, is_kind, declared_in, name_fault_of}
+use Rattle.statement_names.specs.Faults.{kind_in, is_kind, kind_within, name_fault_of}
 use Rattle.statement_names.specs.Limits.{map_limit_of}
 use Rattle.statement_names.specs.Occurrences.{occurrences_of}
 use Rattle.statement_names.specs.Numbered.{objects_in, maps_in, declared_objects, declared_maps, declarations_of}
 use Rattle.statement_names.specs.Survey.{kinded, kinds_by}
-use Rattle.statement_names.proofs.Apart.{Apart, Apart-sorted, kind_in-sorted, among, sorted}
+use Rattle.statement_names.proofs.Apart.{Apart, Apart-none, Apart-sorted, kind_in-sorted, among, sorted}
 use Rattle.statement_names.proofs.Clean.{apart_declared}
 use Rattle.statement_names.proofs.Quiet.{declared-statements}
 
@@ -111,19 +111,19 @@ kinds-declarations_of statements =
 
 -- in a file in whose names nothing is wrong
 module _ (statements : List Statement) (clean : name_fault_of statements ≡ None) where
-  apart_statements : Apart (statement_kinds statements)
-  apart_statements = subst Apart (declared-statements statements) (apart_declared (map_limit_of statements) (kind_in (declared_in (occurrences_of statements))) [] (occurrences_of statements) tt clean)
+  pub apart_statements : Apart (statement_kinds statements)
+  apart_statements = subst Apart (declared-statements statements) (apart_declared (map_limit_of statements) (kind_within statements) [] (occurrences_of statements) Apart-none clean)
 
   pub apart_declarations : Apart (kinds (declarations_of statements))
   apart_declarations = subst Apart (sym (kinds-declarations_of statements)) (Apart-sorted (statement_kinds statements) apart_statements)
 
-  pub kind_declared : (q : List ℕ) → kind_in (kinds (declarations_of statements)) q ≡ kind_in (declared_in (occurrences_of statements)) q
+  pub kind_declared : (q : List ℕ) → kind_in (kinds (declarations_of statements)) q ≡ kind_within statements q
   kind_declared q =
       ap (λ ks. kind_in ks q) (kinds-declarations_of statements) ∙ kind_in-sorted (statement_kinds statements) apart_statements q
       ∙ ap (λ ks. kind_in ks q) (sym (declared-statements statements))
 
-  pub map_named : (q : List ℕ) → is_kind (kind_in (declared_in (occurrences_of statements)) q) Map ≡ true → IsTrue (is_map (named_in (declarations_of statements) q))
+  pub map_named : (q : List ℕ) → is_kind (kind_within statements q) Map ≡ true → IsTrue (is_map (named_in (declarations_of statements) q))
   map_named q is = map_from (named_in (declarations_of statements) q) (ap (λ found. is_kind found Map) (kind-named_in (declarations_of statements) q ∙ kind_declared q) ∙ is)
 
-  pub object_named : (q : List ℕ) → is_kind (kind_in (declared_in (occurrences_of statements)) q) Object ≡ true → IsTrue (is_object (named_in (declarations_of statements) q))
+  pub object_named : (q : List ℕ) → is_kind (kind_within statements q) Object ≡ true → IsTrue (is_object (named_in (declarations_of statements) q))
   object_named q is = object_from (named_in (declarations_of statements) q) (ap (λ found. is_kind found Object) (kind-named_in (declarations_of statements) q ∙ kind_declared q) ∙ is)

@@ -9,8 +9,8 @@ use Rattle.statement_names.specs.Types.{Row_of-Factor, end_of-Factor, more_of-Fa
 use Rattle.adjoint_rules.specs.Limits.{shape_side_limit}
 use Rattle.word_orders.specs.Limits.{weight_limit}
 use Rattle.statement_names.specs.Uses.{Use}
-use Rattle.statement_names.specs.Occurrences.{Occurrence, declares_object, declares_map, uses, lists, counts, modulus, names_behind, pairs_behind, used_names, mark_occurrences, primary_occurrences, factors_occurrences, term_occurrences, terms_occurrences, sum_occurrences, sides_occurrences, kind_occurrences, statement_occurrences, occurrences_of}
-use Rattle.statement_names.specs.Faults.{declared_by, declared_in}
+use Rattle.statement_names.specs.Occurrences.{Occurrence, declares_object, declares_map, begins_order, begins_assumptions, begins_claim, begins_shape, uses, lists, counts, modulus, names_behind, pairs_behind, used_names, mark_occurrences, primary_occurrences, factors_occurrences, term_occurrences, terms_occurrences, sum_occurrences, sides_occurrences, kind_occurrences, statement_occurrences, occurrences_of}
+use Rattle.statement_names.specs.Faults.{declared_by, declared_in, Counted, Objects, Maps, Orders, Assumptions, Claims, Shapes, amount}
 use Rattle.statement_names.specs.Survey.{kinded, kinds_by}
 use Rattle.statement_names.proofs.Each.{Each, Each-append}
 
@@ -67,10 +67,19 @@ mutual
 pub sides-quiet : (left right : Sum) → IsQuiet (sides_occurrences left right)
 sides-quiet left right = Each-append IsUse (sum_occurrences left) (sum_occurrences right) (sum-quiet left) (sum-quiet right)
 
--- a count of occurrences that leaves out those
-pub sum_by-quiet : (by : Occurrence → ℕ) → ((o : Occurrence) → IsUse o → by o ≡ 0) → (os : List Occurrence) → IsQuiet os → sum_by by os ≡ 0
-sum_by-quiet by out [] h = refl
-sum_by-quiet by out (o ∷ os) h = sum_by-cons by o os ∙ ap₂ (λ a b. a + b) (out o h.0) (sum_by-quiet by out os h.1)
+-- which adds to no count and declares nothing
+use_amount : (c : Counted) (o : Occurrence) → IsUse o → amount c o ≡ 0
+use_amount Objects (declares_object n) h = absurd h
+use_amount Maps (declares_map n u v selfmade) h = absurd h
+use_amount Orders (begins_order at) h = absurd h
+use_amount Assumptions (begins_assumptions count at) h = absurd h
+use_amount Claims (begins_claim at) h = absurd h
+use_amount Shapes (begins_shape at) h = absurd h
+use_amount c o h = refl
+
+pub amount-quiet : (c : Counted) (os : List Occurrence) → IsQuiet os → sum_by (amount c) os ≡ 0
+amount-quiet c [] h = refl
+amount-quiet c (o ∷ os) h = sum_by-cons (amount c) o os ∙ ap₂ (λ a b. a + b) (use_amount c o h.0) (amount-quiet c os h.1)
 
 declares_nothing : (o : Occurrence) → IsUse o → declared_by o ≡ []
 declares_nothing (declares_object n) h = absurd h

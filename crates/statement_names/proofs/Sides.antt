@@ -1,8 +1,10 @@
 -- The sides that pairs of names and literals give to objects.
-use Rattle.std.proofs.Common.{◌≡◌, ◌≢◌, ℕ, zero, suc, ◌+◌, ◌<◌, ◌≤◌, Bool, true, false, cond, IsTrue, List, [], ◌∷◌, length, map, take, get_or, set, AllPairs, Option, Some, None, unwrap_or, refl, ap, ap₂, sym, subst, ◌∙◌, arith, get_or-set_same, get_or-set_other}
-use Rattle.std.specs.Map.{lookup}
+use Rattle.std.proofs.Common.{◌≡◌, ◌≢◌, ℕ, ◌+◌, ◌<◌, ◌≤◌, Bool, true, false, cond, IsTrue, List, [], ◌∷◌, ◌++◌, length, map, take, drop, get_or, set, Option, Some, None, unwrap_or, refl, ap, ap₂, sym, subst, ◌∙◌, arith, get_or-set_same, get_or-set_other}
+use Rattle.std.specs.List.{IsDistinct}
+use Rattle.std.specs.Map.{keys_of, lookup}
 use Rattle.std.specs.Option.{option_or}
 use Rattle.std.specs.Str.{bytes_eq}
+use Rattle.std.proofs.lemmas.Simd.{map-map}
 use Rattle.std.proofs.lemmas.List.{ext_get_or, map-append, take_all}
 use Rattle.statement_names.specs.Types.{Named, named, Name, Number}
 use Rattle.std.proofs.lemmas.List.FromFn.{length-map-range_with_len, get_or-map-range_with_len}
@@ -11,11 +13,10 @@ use Rattle.quiver.proofs.Found.{is_named}
 use Rattle.expression_names.specs.Names.{is_object, object_number, object_of}
 use Rattle.statement_names.specs.Faults.{value_of}
 use Rattle.statement_names.specs.Shapes.{side_in, sides_of}
-use Rattle.statement_names.proofs.Apart.{other_bytes, own_bytes}
+use Rattle.statement_names.proofs.Apart.{own_bytes, fresh_before}
 use Rattle.statement_names.proofs.Found.{named_object}
-use Rattle.statement_names.proofs.Fresh.{apart_of, pairs_head, pairs_tail}
-use Rattle.statement_names.proofs.Each.{Each}
-use Rattle.statement_names.proofs.Items.{take_next}
+use Rattle.statement_names.proofs.Fresh.{apart_of}
+use Rattle.statement_names.proofs.Items.{take_next, map_split}
 use Rattle.statement_names.proofs.KindsFound.{same_bytes, lookup-append, option_or-nothing}
 
 pub sides_from : (ds : List Declaration) (pairs : List (Name × Number)) (i : ℕ) (sides : List ℕ) → length pairs ≤ i → length sides ≡ object_count ds
@@ -32,19 +33,6 @@ sides_from ds pairs i sides done size given =
 abbrev given_side : Name × Number → List ℕ × ℕ
 given_side p = (p.0.text, value_of p.1.value)
 
-earlier_differ : (pairs : List (Name × Number)) (i : ℕ) (p : Name × Number) → AllPairs (λ q r. q.0.text ≢ r.0.text) pairs → i < length pairs → p ≡ get_or pairs i p → Each (λ q. p.0.text ≢ q.0.text) (take i pairs)
-earlier_differ [] i p once below at = absurd (omega arith)
-earlier_differ (x ∷ pairs) zero p once below at = tt
-earlier_differ (x ∷ pairs) (suc i) p once below at =
-    let in_range : i < length pairs = omega arith in (
-      λ same. pairs_head (λ q r. q.0.text ≢ r.0.text) x pairs once i p in_range (sym same ∙ ap (λ q. q.0.text) at),
-      earlier_differ pairs i p (pairs_tail (λ q r. q.0.text ≢ r.0.text) x pairs once) in_range at,
-    )
-
-absent_side : (pairs : List (Name × Number)) (q : List ℕ) → Each (λ p. q ≢ p.0.text) pairs → lookup (bytes_eq q) (map given_side pairs) ≡ None
-absent_side [] q differ = refl
-absent_side (p ∷ pairs) q differ = ap₂ (λ b found. cond b (Some (value_of p.1.value)) found) (other_bytes q p.0.text differ.0) (absent_side pairs q differ.1)
-
 object_is : (found : Option Named) → IsTrue (is_object found) → found ≡ Some (named.Object (record { 0 = object_number found }))
 object_is (Some (named.Object v)) e = refl
 object_is (Some (named.Map a)) e = absurd (cc)
@@ -54,7 +42,10 @@ some_object : (v w : ℕ) → ◌≡◌ {A = Option Named} (Some (named.Object (
 some_object v w e = ap object_number e
 
 module _ (ds : List Declaration) (declared : IsDeclared ds) (pairs : List (Name × Number)) (i : ℕ) (p : Name × Number) (below : i < length pairs) (at : p ≡ get_or pairs i p)
-    (once : AllPairs (λ q r. q.0.text ≢ r.0.text) pairs) (is : IsTrue (is_object (named_in ds p.0.text))) where
+    (once : IsDistinct bytes_eq (map (λ q. q.0.text) pairs)) (is : IsTrue (is_object (named_in ds p.0.text))) where
+  apart : IsDistinct bytes_eq (keys_of (map given_side (take i pairs) ++ given_side p ∷ map given_side (drop (i + 1) pairs)))
+  apart = subst (λ gs. IsDistinct bytes_eq (keys_of gs)) (map_split pairs i p below at given_side []) (subst (IsDistinct bytes_eq) (sym (map-map (λ g. g.0) given_side pairs)) once)
+
   -- the object that the pair names has the pair's name, and no other has
   own_name : object_name ds (object_of ds p.0) ≡ p.0.text
   own_name = (is_named ds p.0.text (named.Object (record { 0 = object_of ds p.0 })) (object_is (named_in ds p.0.text) is)).1
@@ -80,13 +71,13 @@ module _ (ds : List Declaration) (declared : IsDeclared ds) (pairs : List (Name 
           let here : v ≡ object_of ds p.0 = only_name v in_range text in
           let fits : object_of ds p.0 < length sides = subst (λ n. object_of ds p.0 < n) (sym size) (subst (λ n. n < object_count ds) here in_range) in
           let new : lookup (bytes_eq (object_name ds v)) (map given_side (take i pairs)) ≡ None =
-          ap (λ q. lookup (bytes_eq q) (map given_side (take i pairs))) text ∙ absent_side (take i pairs) p.0.text (earlier_differ pairs i p once below at) in
+          ap (λ q. lookup (bytes_eq q) (map given_side (take i pairs))) text ∙ fresh_before (map given_side (take i pairs)) (map given_side (drop (i + 1) pairs)) (given_side p) apart in
           ap (λ w. get_or (set sides (object_of ds p.0) (value_of p.1.value)) w 1) here
           ∙ get_or-set_same sides (object_of ds p.0) (value_of p.1.value) 1 fits
           ∙ sym (side_next (object_name ds v) ∙ ap₂ (λ found b. unwrap_or (option_or found (cond b (Some (value_of p.1.value)) None)) 1) new named)
       go false other =
-          let apart : v ≢ object_of ds p.0 = λ here. let named : bytes_eq (object_name ds v) p.0.text ≡ true = ap (λ w. bytes_eq (object_name ds w) p.0.text) here ∙ ap (λ q. bytes_eq q p.0.text) own_name ∙ own_bytes p.0.text in cc in
-          get_or-set_other sides (object_of ds p.0) v (value_of p.1.value) 1 apart
+          let elsewhere : v ≢ object_of ds p.0 = λ here. let named : bytes_eq (object_name ds v) p.0.text ≡ true = ap (λ w. bytes_eq (object_name ds w) p.0.text) here ∙ ap (λ q. bytes_eq q p.0.text) own_name ∙ own_bytes p.0.text in cc in
+          get_or-set_other sides (object_of ds p.0) v (value_of p.1.value) 1 elsewhere
           ∙ given v in_range
           ∙ sym (side_next (object_name ds v) ∙ ap (λ b. unwrap_or (option_or (lookup (bytes_eq (object_name ds v)) (map given_side (take i pairs))) (cond b (Some (value_of p.1.value)) None)) 1) other
           ∙ ap (λ found. unwrap_or found 1) (option_or-nothing (lookup (bytes_eq (object_name ds v)) (map given_side (take i pairs)))))

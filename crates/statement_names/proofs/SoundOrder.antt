@@ -1,11 +1,13 @@
 -- Nothing is wrong with the order of a file in whose names nothing is wrong.
-use Rattle.std.proofs.Common.{◌≡◌, ◌≢◌, ℕ, ◌<◌, ◌≤◌, Bool, true, false, ◌&&◌, if◌then◌else◌, IsTrue, List, [], ◌∷◌, ◌++◌, map, Option, Some, None, refl, ap, ap₂, sym, subst, ◌∙◌, arith}
+use Rattle.std.proofs.Common.{◌≡◌, ◌≢◌, ℕ, ◌<◌, Bool, true, false, ◌&&◌, if◌then◌else◌, IsTrue, List, [], ◌∷◌, ◌++◌, map, Option, Some, None, refl, ap, ap₂, sym, subst, ◌∙◌, arith}
 use Rattle.std.specs.List.{flat_map}
 use Rattle.std.specs.Option.{option_or}
 use Rattle.std.proofs.lemmas.Bool.{lt-ltb, le-leb}
 use Rattle.std.proofs.lemmas.Bool.Decides.{nat_tests}
+use Rattle.std.specs.Str.{bytes_eq}
 use Rattle.std.proofs.lemmas.List.{map-append}
-use Rattle.statement_names.specs.Types.{Letter, OrderSpec, Named, named, Spot, Name, Number, Statement, StatementKind, statement, Kind, Map}
+use Rattle.std.proofs.lemmas.Map.Keys.{IsDistinct-head, IsDistinct-tail}
+use Rattle.statement_names.specs.Types.{Letter, OrderSpec, Named, named, Name, Number, Statement, StatementKind, statement}
 use Rattle.word_orders.specs.declared.fault.OrderFault.TheVariants.{BadWeight, RepeatedLetter, NoSuchLetter}
 use Rattle.word_orders.specs.Faults.{is_weight, letter_fault, block_fault, entry_fault, HasNoFault}
 use Rattle.word_orders.specs.Lists.{is_listed}
@@ -13,16 +15,13 @@ use Rattle.word_orders.specs.Specified.{IsSound}
 use Rattle.quiver.specs.Declarations.{Declaration, letter_count, letter_name, named_in}
 use Rattle.expression_names.specs.Names.{is_map, letter_number, letter_of}
 use Rattle.word_orders.specs.Limits.{weight_limit}
-use Rattle.statement_names.specs.Faults.{kind_in, is_kind, declared_in, value_of, name_fault_of}
-use Rattle.statement_names.specs.Occurrences.{kind_occurrences, statement_occurrences, occurrences_of}
+use Rattle.statement_names.specs.Faults.{value_of, name_fault_of}
 use Rattle.statement_names.specs.Numbered.{declarations_of}
 use Rattle.statement_names.specs.Ordered.{letters_for, weights_of, order_or, order_of}
-use Rattle.statement_names.proofs.Each.{Each, Each-right, Each-append, Each-map, Each-weaker}
+use Rattle.statement_names.proofs.Apart.{differ_by}
+use Rattle.statement_names.proofs.Each.{Each, Each-right, Each-append, Each-weaker}
 use Rattle.statement_names.proofs.Found.{letters_from_number, IsLetterOf, HasLetters, map_letters}
-use Rattle.statement_names.proofs.Stated.{Once, named_by, names_are, names_apart, IsPair, pairs_are, pairs_apart}
-use Rattle.statement_names.proofs.Clean.{IsGood}
-use Rattle.statement_names.proofs.FileDeclared.{statements_good}
-use Rattle.statement_names.proofs.NamedKinds.{map_named}
+use Rattle.statement_names.proofs.Stated.{IsBetween, AreBetween, Once, named_by, AreListed, IsMapIn, IsStated, all_stated}
 
 -- letters of a list, each once
 abbrev Spread : List Letter → Type 0
@@ -51,11 +50,8 @@ block_good letters block in_range spread before l after split =
     (not_before before l after (subst Spread split spread))
 
 -- nor with weights of such letters
-abbrev IsWeight : ℕ → Type 0
-IsWeight w = (1 ≤ w) × (w ≤ weight_limit)
-
 abbrev IsWeighed : Letter × ℕ → Type 0
-IsWeighed e = IsWeight e.1
+IsWeighed e = IsBetween weight_limit e.1
 
 abbrev letters_in : List (Letter × ℕ) → List Letter
 letters_in es = map (λ e. e.0) es
@@ -79,7 +75,7 @@ map_is None e = absurd (cc)
 
 module _ (ds : List Declaration) where
   abbrev IsMapName : Name → Type 0
-  IsMapName n = IsTrue (is_map (named_in ds n.text))
+  IsMapName n = IsMapIn ds n.text
 
   letters_of_map : (n : Name) → IsMapName n → HasLetters ds n.text (letter_of ds n)
   letters_of_map n is = map_letters ds n.text (letter_of ds n) (map_is (named_in ds n.text) is)
@@ -101,7 +97,7 @@ module _ (ds : List Declaration) where
       (Each-weaker (λ l. IsLetterOf ds n.text l.0) (λ l. l.0 < letter_count ds) (letters_for ds n) (λ l is. is.in_range) (own_letters n maps.0))
       (letters_in_range names maps.1)
 
-  others_named : (q : List ℕ) (names : List Name) → Each IsMapName names → Each (λ m. q ≢ m.text) names → Each (λ l. q ≢ letter_name ds l.0) (flat_map (letters_for ds) names)
+  others_named : (q : List ℕ) (names : List Name) → Each IsMapName names → Each (λ p. q ≢ p) (map (λ m. m.text) names) → Each (λ l. q ≢ letter_name ds l.0) (flat_map (letters_for ds) names)
   others_named q [] maps differ = tt
   others_named q (m ∷ names) maps differ =
       Each-append (λ l. q ≢ letter_name ds l.0) (letters_for ds m) (flat_map (letters_for ds) names)
@@ -111,15 +107,17 @@ module _ (ds : List Declaration) where
   letters_spread : (names : List Name) → Each IsMapName names → Once names → Spread (flat_map (letters_for ds) names)
   letters_spread [] maps once = tt
   letters_spread (n ∷ names) maps once =
-      Spread-append (letters_for ds n) (flat_map (letters_for ds) names) (own_spread n maps.0) (letters_spread names maps.1 once.1)
+      let texts = map (λ m. m.text) names in
+      let differ = Each-weaker (λ q. bytes_eq n.text q ≡ false) (λ q. n.text ≢ q) texts (λ q other. differ_by n.text q other) (IsDistinct-head bytes_eq n.text texts once) in
+      Spread-append (letters_for ds n) (flat_map (letters_for ds) names) (own_spread n maps.0) (letters_spread names maps.1 (IsDistinct-tail bytes_eq n.text texts once))
       (Each-weaker (λ l. IsLetterOf ds n.text l.0) (λ l. Each (λ m. l.0 ≢ m.0) (flat_map (letters_for ds) names)) (letters_for ds n)
       (λ l is. Each-weaker (λ m. n.text ≢ letter_name ds m.0) (λ m. l.0 ≢ m.0) (flat_map (letters_for ds) names)
-      (λ m other. λ same. other (sym is.named ∙ ap (letter_name ds) same)) (others_named n.text names maps.1 once.0))
+      (λ m other. λ same. other (sym is.named ∙ ap (letter_name ds) same)) (others_named n.text names maps.1 differ))
       (own_letters n maps.0))
 
   -- the block of some maps
-  block_sound : (names : List Name) → Each IsMapName names → Once names → HasNoFault (block_fault (letter_count ds)) (flat_map (letters_for ds) names)
-  block_sound names maps once = block_good (letter_count ds) (flat_map (letters_for ds) names) (letters_in_range names maps) (letters_spread names maps once)
+  block_sound : (names : List Name) → AreListed (IsMapIn ds) names → HasNoFault (block_fault (letter_count ds)) (flat_map (letters_for ds) names)
+  block_sound names listed = block_good (letter_count ds) (flat_map (letters_for ds) names) (letters_in_range names listed.named) (letters_spread names listed.named listed.once)
 
   -- and their weights
   letters_weighed : (w : ℕ) (ls : List Letter) → letters_in (map (λ l. (l, w)) ls) ≡ ls
@@ -132,49 +130,32 @@ module _ (ds : List Declaration) where
       map-append (λ e. e.0) (weights_of ds p) (flat_map (weights_of ds) pairs)
       ∙ ap₂ (λ xs ys. xs ++ ys) (letters_weighed (value_of p.1.value) (letters_for ds p.0)) (weighed_letters pairs)
 
-  weight_each : (w : ℕ) (ls : List Letter) → IsWeight w → Each IsWeighed (map (λ l. (l, w)) ls)
+  weight_each : (w : ℕ) (ls : List Letter) → IsBetween weight_limit w → Each IsWeighed (map (λ l. (l, w)) ls)
   weight_each w [] is = tt
   weight_each w (l ∷ ls) is = (is, weight_each w ls is)
 
-  weights_between : (pairs : List (Name × Number)) → Each (λ p. IsWeight (value_of p.1.value)) pairs → Each IsWeighed (flat_map (weights_of ds) pairs)
+  weights_between : (pairs : List (Name × Number)) → AreBetween weight_limit pairs → Each IsWeighed (flat_map (weights_of ds) pairs)
   weights_between [] weights = tt
   weights_between (p ∷ pairs) weights =
       Each-append IsWeighed (weights_of ds p) (flat_map (weights_of ds) pairs) (weight_each (value_of p.1.value) (letters_for ds p.0) weights.0) (weights_between pairs weights.1)
 
-  weights_sound : (pairs : List (Name × Number)) → Each IsMapName (named_by pairs) → Each (λ p. IsWeight (value_of p.1.value)) pairs → Once (named_by pairs)
-      → HasNoFault (entry_fault (letter_count ds)) (flat_map (weights_of ds) pairs)
-  weights_sound pairs maps weights once =
+  weights_sound : (pairs : List (Name × Number)) → AreListed (IsMapIn ds) (named_by pairs) → AreBetween weight_limit pairs → HasNoFault (entry_fault (letter_count ds)) (flat_map (weights_of ds) pairs)
+  weights_sound pairs listed weights =
       entries_good (letter_count ds) (flat_map (weights_of ds) pairs)
-      (subst (Each (λ l. l.0 < letter_count ds)) (sym (weighed_letters pairs)) (letters_in_range (named_by pairs) maps))
+      (subst (Each (λ l. l.0 < letter_count ds)) (sym (weighed_letters pairs)) (letters_in_range (named_by pairs) listed.named))
       (weights_between pairs weights)
-      (subst Spread (sym (weighed_letters pairs)) (letters_spread (named_by pairs) maps once))
+      (subst Spread (sym (weighed_letters pairs)) (letters_spread (named_by pairs) listed.named listed.once))
+
+  kind_sound : (k : StatementKind) (later : OrderSpec) → IsStated ds k → IsSound (letter_count ds) later → IsSound (letter_count ds) (order_or ds k later)
+  kind_sound statement.Degree later stated sound = tt
+  kind_sound (statement.Weight pairs) later stated sound = weights_sound pairs stated.0 stated.1
+  kind_sound (statement.Eliminate names) later stated sound = block_sound names stated
+  kind_sound k later stated sound = sound
+
+  each_sound : (ss : List Statement) → Each (λ s. IsStated ds s.kind) ss → IsSound (letter_count ds) (order_of ds ss)
+  each_sound [] stated = tt
+  each_sound (s ∷ ss) stated = kind_sound s.kind (order_of ds ss) stated.0 (each_sound ss stated.1)
 
 -- in a file in whose names nothing is wrong
-module _ (statements : List Statement) (clean : name_fault_of statements ≡ None) where
-  abbrev kind : List ℕ → Option Kind
-  kind = kind_in (declared_in (occurrences_of statements))
-
-  abbrev all : List Declaration
-  all = declarations_of statements
-
-  kind_sound : (at : Spot) (k : StatementKind) (later : OrderSpec) → Each (IsGood kind) (kind_occurrences at k) → IsSound (letter_count all) later → IsSound (letter_count all) (order_or all k later)
-  kind_sound at statement.Degree later good sound = tt
-  kind_sound at (statement.Weight pairs) later good sound =
-      let are = pairs_are kind Map weight_limit [] pairs good.1 in
-      weights_sound all pairs
-      (Each-map (λ n. IsTrue (is_map (named_in all n.text))) (λ p. p.0) pairs
-      (Each-weaker (IsPair kind Map weight_limit) (λ p. IsTrue (is_map (named_in all p.0.text))) pairs (λ p pair. map_named statements clean p.0.text pair.of_kind) are))
-      (Each-weaker (IsPair kind Map weight_limit) (λ p. IsWeight (value_of p.1.value)) pairs (λ p pair. (pair.least, pair.most_)) are)
-      (pairs_apart kind Map weight_limit [] pairs good.1)
-  kind_sound at (statement.Eliminate names) later good sound =
-      block_sound all names
-      (Each-weaker (λ n. is_kind (kind n.text) Map ≡ true) (λ n. IsTrue (is_map (named_in all n.text))) names (λ n of_kind. map_named statements clean n.text of_kind) (names_are kind Map [] names good.1))
-      (names_apart kind Map [] names good.1)
-  kind_sound at k later good sound = sound
-
-  each_sound : (ss : List Statement) → Each (λ s. Each (IsGood kind) (statement_occurrences s)) ss → IsSound (letter_count all) (order_of all ss)
-  each_sound [] good = tt
-  each_sound (s ∷ ss) good = kind_sound s.at s.kind (order_of all ss) good.0 (each_sound ss good.1)
-
-  pub order_sound : IsSound (letter_count (declarations_of statements)) (order_of (declarations_of statements) statements)
-  order_sound = each_sound statements (statements_good statements clean)
+pub order_sound : (statements : List Statement) → name_fault_of statements ≡ None → IsSound (letter_count (declarations_of statements)) (order_of (declarations_of statements) statements)
+order_sound statements clean = each_sound (declarations_of statements) statements (all_stated statements clean)

@@ -1,5 +1,5 @@
 -- The shapes of a file in whose names nothing is wrong.
-use Rattle.std.proofs.Common.{◌≡◌, ℕ, ◌≤◌, Bool, true, false, cond, List, [], ◌∷◌, length, map, replicate, All, Option, Some, None, unwrap_or, refl, sym, subst, arith}
+use Rattle.std.proofs.Common.{◌≡◌, ℕ, ◌≤◌, Bool, true, false, cond, List, [], ◌∷◌, length, map, replicate, All, Some, None, unwrap_or, refl, sym, subst, arith}
 use Rattle.std.specs.List.{flat_map, range_with_len}
 use Rattle.std.specs.Map.{lookup}
 use Rattle.std.specs.Str.{bytes_eq}
@@ -9,16 +9,13 @@ use Rattle.std.proofs.lemmas.List.Elements.{All-map, All-replicate}
 use Rattle.quiver.specs.Declarations.{Declaration, object_count, object_name}
 use Rattle.adjoint_rules.specs.Limits.{shape_limit, shape_side_limit}
 use Rattle.adjoint_rules.specs.Problem.{IsShape, IsSide}
-use Rattle.statement_names.specs.Types.{Shape, Spot, Name, Number, Statement, StatementKind, statement, Kind, Object}
-use Rattle.statement_names.specs.Faults.{kind_in, declared_in, value_of, name_fault_of}
+use Rattle.statement_names.specs.Types.{Shape, Name, Number, Statement, StatementKind, statement}
+use Rattle.statement_names.specs.Faults.{Shapes, value_of, name_fault_of}
 use Rattle.statement_names.specs.Numbered.{declarations_of}
-use Rattle.statement_names.specs.Occurrences.{kind_occurrences, statement_occurrences, occurrences_of}
 use Rattle.statement_names.specs.Shapes.{shape, side_in, shapes_in, default_shapes, or_shapes, shapes_of}
 use Rattle.statement_names.proofs.Bridge.{within_limits}
-use Rattle.statement_names.proofs.Clean.{IsGood}
 use Rattle.statement_names.proofs.Each.{Each, Each-at, Each-weaker, Each-flat_map}
-use Rattle.statement_names.proofs.FileDeclared.{statements_good}
-use Rattle.statement_names.proofs.Stated.{IsPair, pairs_are}
+use Rattle.statement_names.proofs.Stated.{AreBetween, IsStated, all_stated}
 use Rattle.statement_names.proofs.Tally.{length-shapes}
 
 -- sides
@@ -28,12 +25,12 @@ one_side = record { least = omega arith; most = omega arith }
 two_side : IsSide 2
 two_side = record { least = omega arith; most = omega arith }
 
-side_is : (kind : List ℕ → Option Kind) (pairs : List (Name × Number)) → Each (IsPair kind Object shape_side_limit) pairs → (q : List ℕ) → IsSide (side_in pairs q)
-side_is kind [] good q = one_side
-side_is kind (p ∷ pairs) good q = go (bytes_eq q p.0.text) (side_is kind pairs good.1 q)
+side_is : (pairs : List (Name × Number)) → AreBetween shape_side_limit pairs → (q : List ℕ) → IsSide (side_in pairs q)
+side_is [] between q = one_side
+side_is (p ∷ pairs) between q = go (bytes_eq q p.0.text) (side_is pairs between.1 q)
   where
     go : (b : Bool) → IsSide (side_in pairs q) → IsSide (unwrap_or (cond b (Some (value_of p.1.value)) (lookup (bytes_eq q) (map (λ pair. (pair.0.text, value_of pair.1.value)) pairs))) 1)
-    go true rest = record { least = good.0.least; most = good.0.most_ }
+    go true rest = record { least = between.0.0; most = between.0.1 }
     go false rest = rest
 
 even_shape : (n side : ℕ) → IsSide side → IsShape n (shape 2 (replicate n side))
@@ -44,26 +41,21 @@ module _ (statements : List Statement) (clean : name_fault_of statements ≡ Non
   abbrev all : List Declaration
   all = declarations_of statements
 
-  abbrev kind : List ℕ → Option Kind
-  kind = kind_in (declared_in (occurrences_of statements))
-
-  kind_shapes : (at : Spot) (k : StatementKind) → Each (IsGood kind) (kind_occurrences at k) → Each (IsShape (object_count all)) (shapes_in all k)
-  kind_shapes at (statement.Shape m sides) good = (
+  kind_shapes : (k : StatementKind) → IsStated all k → Each (IsShape (object_count all)) (shapes_in all k)
+  kind_shapes (statement.Shape m sides) stated = (
     record {
-      modulus = good.1.0;
+      modulus = stated.0;
       side_of_each = length-map-range_with_len (λ v. side_in sides (object_name all v)) 0 (object_count all);
-      sides =
-          All-map IsSide (λ v. side_in sides (object_name all v)) (range_with_len 0 (object_count all))
-          (λ i d below. side_is kind sides (pairs_are kind Object shape_side_limit [] sides good.1.1) _);
+      sides = All-map IsSide (λ v. side_in sides (object_name all v)) (range_with_len 0 (object_count all)) (λ i d below. side_is sides stated.1.1 _);
     },
     tt,
   )
-  kind_shapes at k good = tt
+  kind_shapes k stated = tt
 
   file_shapes : Each (IsShape (object_count all)) (flat_map (λ s. shapes_in all s.kind) statements)
   file_shapes =
       Each-flat_map (IsShape (object_count all)) (λ s. shapes_in all s.kind) statements
-      (Each-weaker (λ s. Each (IsGood kind) (statement_occurrences s)) (λ s. Each (IsShape (object_count all)) (shapes_in all s.kind)) statements (λ s good. kind_shapes s.at s.kind good) (statements_good statements clean))
+      (Each-weaker (λ s. IsStated all s.kind) (λ s. Each (IsShape (object_count all)) (shapes_in all s.kind)) statements (λ s stated. kind_shapes s.kind stated) (all_stated statements clean))
 
   -- what holds of the shapes that are given and of the default ones
   pub record AreShapes (shapes : List Shape) : Type 0 where
@@ -83,4 +75,4 @@ module _ (statements : List Statement) (clean : name_fault_of statements ≡ Non
   pub shapes_sound : AreShapes (shapes_of (declarations_of statements) statements)
   shapes_sound =
       or_default (flat_map (λ s. shapes_in all s.kind) statements) file_shapes
-      (subst (λ n. n ≤ shape_limit) (sym (length-shapes all statements)) (within_limits statements clean).shapes)
+      (subst (λ n. n ≤ shape_limit) (sym (length-shapes all statements)) (within_limits statements clean Shapes))

@@ -12,12 +12,12 @@ use Rattle.definitions.specs.Quiver.{IsQuiver, source, target}
 use Rattle.quiver.proofs.Counts.{letters-quiver_of}
 use Rattle.quiver.proofs.Found.{is_named}
 use Rattle.quiver.proofs.Identities.{is_quiver}
-use Rattle.statement_names.specs.Faults.{kind_in, is_kind, declared_in, name_fault_of}
+use Rattle.statement_names.specs.Faults.{is_kind, kind_within, name_fault_of}
 use Rattle.statement_names.specs.Numbered.{declarations_of}
-use Rattle.statement_names.specs.Occurrences.{mark_occurrences, primary_occurrences, factors_occurrences, term_occurrences, terms_occurrences, sum_occurrences, sides_occurrences, kind_occurrences, statement_occurrences, occurrences_of}
+use Rattle.statement_names.specs.Occurrences.{mark_occurrences, primary_occurrences, factors_occurrences, term_occurrences, terms_occurrences, sum_occurrences, sides_occurrences, kind_occurrences, statement_occurrences}
 use Rattle.statement_names.specs.Ready.{HasNames}
 use Rattle.abbreviations.specs.Written.{letter_at, word_at, adjoint_at, product_at, identity_at, marked_letter, equation, inner_equation, adjoint_equation, identity_equation, projection_equations, end_name, source_name, target_name, equations_in, equations_of, assumptions_of, claims_in, claims_of}
-use Rattle.statement_names.proofs.Clean.{IsGood}
+use Rattle.statement_names.proofs.Clean.{IsGood, AreGood}
 use Rattle.statement_names.proofs.Each.{Each, Each-left, Each-right, Each-weaker, Each-flat_map}
 use Rattle.statement_names.proofs.FileDeclared.{statements_good, file_declared, file_objects_first}
 use Rattle.statement_names.proofs.Found.{named_object}
@@ -114,13 +114,10 @@ module _ (statements : List Statement) (clean : name_fault_of statements ≡ Non
   abbrev all : List Declaration
   all = declarations_of statements
 
-  abbrev kind : List ℕ → Option Kind
-  kind = kind_in (declared_in (occurrences_of statements))
-
-  sides_named : (left right : Sum) → Each (IsGood kind) (sides_occurrences left right) → HasNames all (equation left right)
+  sides_named : (left right : Sum) → AreGood statements (sides_occurrences left right) → HasNames all (equation left right)
   sides_named left right good = record {
-    left = are_named all kind (map_named statements clean) (object_named statements clean) left (Each-left (IsGood kind) (sum_occurrences left) (sum_occurrences right) good);
-    right = are_named all kind (map_named statements clean) (object_named statements clean) right (Each-right (IsGood kind) (sum_occurrences left) (sum_occurrences right) good);
+    left = are_named all (kind_within statements) (map_named statements clean) (object_named statements clean) left (Each-left (IsGood (kind_within statements)) (sum_occurrences left) (sum_occurrences right) good);
+    right = are_named all (kind_within statements) (map_named statements clean) (object_named statements clean) right (Each-right (IsGood (kind_within statements)) (sum_occurrences left) (sum_occurrences right) good);
   }
 
   quiver_is : IsQuiver (quiver_of all)
@@ -132,7 +129,7 @@ module _ (statements : List Statement) (clean : name_fault_of statements ≡ Non
   target_in : (a : ℕ) → a < letter_count all → target (quiver_of all) a < object_count all
   target_in a below = quiver_is.target_is_object a (subst (λ n. a < n) (sym (letters-quiver_of all)) below)
 
-  equations_named : (at : Spot) (k : StatementKind) → Each (IsGood kind) (kind_occurrences at k) → Each (HasNames all) (equations_in all at k)
+  equations_named : (at : Spot) (k : StatementKind) → AreGood statements (kind_occurrences at k) → Each (HasNames all) (equations_in all at k)
   equations_named at (statement.Assume left right) good = (sides_named left right good.1, tt)
   equations_named at (statement.Pinv a x) good =
       let first = map_named statements clean a.text good.1.0 in
@@ -153,16 +150,16 @@ module _ (statements : List Statement) (clean : name_fault_of statements ≡ Non
   equations_named at (statement.Projection p) good = projection_named all at p.text (map_named statements clean p.text good.1.0)
   equations_named at k good = tt
 
-  claims_named : (at : Spot) (k : StatementKind) → Each (IsGood kind) (kind_occurrences at k) → Each (HasNames all) (claims_in k)
+  claims_named : (at : Spot) (k : StatementKind) → AreGood statements (kind_occurrences at k) → Each (HasNames all) (claims_in k)
   claims_named at (statement.Claim left right) good = (sides_named left right good.1, tt)
   claims_named at k good = tt
 
   pub assumptions_named : Each (HasNames (declarations_of statements)) (assumptions_of (declarations_of statements) statements)
   assumptions_named =
       Each-flat_map (HasNames all) (equations_of all) statements
-      (Each-weaker (λ s. Each (IsGood kind) (statement_occurrences s)) (λ s. Each (HasNames all) (equations_of all s)) statements (λ s good. equations_named s.at s.kind good) (statements_good statements clean))
+      (Each-weaker (λ s. AreGood statements (statement_occurrences s)) (λ s. Each (HasNames all) (equations_of all s)) statements (λ s good. equations_named s.at s.kind good) (statements_good statements clean))
 
   pub all_claims_named : Each (HasNames (declarations_of statements)) (claims_of statements)
   all_claims_named =
       Each-flat_map (HasNames all) (λ s. claims_in s.kind) statements
-      (Each-weaker (λ s. Each (IsGood kind) (statement_occurrences s)) (λ s. Each (HasNames all) (claims_in s.kind)) statements (λ s good. claims_named s.at s.kind good) (statements_good statements clean))
+      (Each-weaker (λ s. AreGood statements (statement_occurrences s)) (λ s. Each (HasNames all) (claims_in s.kind)) statements (λ s good. claims_named s.at s.kind good) (statements_good statements clean))

@@ -1,50 +1,55 @@
 -- The first thing that is wrong with the names, literals and first words of a file.
-use Rattle.std.specs.Prelude.{◌≡◌, ℕ, ℤ, ◌+◌, pos, negsuc, Bool, true, false, ◌&&◌, not, nat_lt, nat_le, if◌then◌else◌, is_some, List, []}
+use Rattle.std.specs.Prelude.{◌≡◌, ℕ, ℤ, ◌-◌, pos, negsuc, Bool, true, false, ◌&&◌, not, nat_lt, nat_le, if◌then◌else◌, is_some, List, []}
 use Rattle.std.specs.Prelude.{◌∷◌, ◌++◌, Option, Some, None, sum_by}
 use Rattle.std.specs.List.{flat_map, list_any}
 use Rattle.std.specs.Map.{lookup}
 use Rattle.std.specs.Option.{option_or}
 use Rattle.std.specs.Str.{bytes_eq}
 use Rattle.definitions.specs.Moduli.{is_field_modulus}
-use Rattle.statement_names.specs.Types.{Statement, NameFault, Unknown, Double, TooMany, NotSquare, BadNumber, NameStop, stop, Kind, Object, Map}
+use Rattle.statement_names.specs.Types.{Name, Statement, NameFault, Unknown, Double, TooMany, NotSquare, BadNumber, NameStop, stop, Kind, Object, Map}
 use Rattle.statement_names.specs.Occurrences.{Occurrence, declares_object, declares_map, uses, lists, counts, modulus, begins_order}
 use Rattle.statement_names.specs.Occurrences.{begins_assumptions, begins_claim, begins_shape, occurrences_of}
 use Rattle.quiver.specs.Limits.{object_limit}
 use Rattle.adjoint_rules.specs.Limits.{assumption_limit, claim_limit, shape_limit}
 use Rattle.statement_names.specs.Limits.{map_limit_of}
+use Rattle.statement_names.specs.Uses.{Use}
 
--- what occurrences declare, and how much they begin
+-- what occurrences declare
 abbrev pub declared_by : Occurrence → List (List ℕ × Kind)
 declared_by (declares_object name) = (name.text, Object) ∷ []
 declared_by (declares_map name source target selfmade) = (name.text, Map) ∷ []
 declared_by o = []
 
-abbrev pub objects_by : Occurrence → ℕ
-objects_by (declares_object name) = 1
-objects_by o = 0
-
-abbrev pub maps_by : Occurrence → ℕ
-maps_by (declares_map name source target selfmade) = 1
-maps_by o = 0
-
-abbrev pub orders_by : Occurrence → ℕ
-orders_by (begins_order at) = 1
-orders_by o = 0
-
-abbrev pub assumptions_by : Occurrence → ℕ
-assumptions_by (begins_assumptions count at) = count
-assumptions_by o = 0
-
-abbrev pub claims_by : Occurrence → ℕ
-claims_by (begins_claim at) = 1
-claims_by o = 0
-
-abbrev pub shapes_by : Occurrence → ℕ
-shapes_by (begins_shape at) = 1
-shapes_by o = 0
-
 abbrev pub declared_in : List Occurrence → List (List ℕ × Kind)
 declared_in os = flat_map declared_by os
+
+-- what a file may have only so many of
+pub data Counted : Type 0 where
+  Objects : Counted
+  Maps : Counted
+  Orders : Counted
+  Assumptions : Counted
+  Claims : Counted
+  Shapes : Counted
+
+-- how many there may be, where this many maps may be declared
+abbrev pub limit_of : ℕ → Counted → ℕ
+limit_of most_maps Objects = object_limit
+limit_of most_maps Maps = most_maps
+limit_of most_maps Orders = 1
+limit_of most_maps Assumptions = assumption_limit
+limit_of most_maps Claims = claim_limit
+limit_of most_maps Shapes = shape_limit
+
+-- how many of them an occurrence declares or begins
+abbrev pub amount : Counted → Occurrence → ℕ
+amount Objects (declares_object name) = 1
+amount Maps (declares_map name source target selfmade) = 1
+amount Orders (begins_order at) = 1
+amount Assumptions (begins_assumptions count at) = count
+amount Claims (begins_claim at) = 1
+amount Shapes (begins_shape at) = 1
+amount counted o = 0
 
 -- what a name is declared as: its first declaration counts
 abbrev pub kind_in : List (List ℕ × Kind) → List ℕ → Option Kind
@@ -71,40 +76,70 @@ value_of (negsuc n) = 0
 abbrev pub is_between : ℕ → ℕ → ℕ → Bool
 is_between least most n = nat_le least n && nat_le n most
 
--- What is wrong with an occurrence behind those before it, where it is known how many maps the file may declare and what
--- each of its names is declared as.
-abbrev pub fault_behind : ℕ → (List ℕ → Option Kind) → List Occurrence → Occurrence → Option NameFault
-fault_behind most_maps kind before (declares_object name) =
-    if is_some (kind_in (declared_in before) name.text) then Some (Double name.at)
-    else if nat_lt object_limit (sum_by objects_by before + 1) then Some (TooMany name.at object_limit)
-    else None
-fault_behind most_maps kind before (declares_map name source target selfmade) =
-    if is_some (kind_in (declared_in before) name.text) then Some (Double name.at)
-    else if nat_lt most_maps (sum_by maps_by before + 1) then Some (TooMany name.at most_maps)
-    else if selfmade && are_two_objects kind source target then Some (NotSquare name.at)
-    else None
-fault_behind most_maps kind before (uses u) =
-    if is_kind (kind u.name.text) u.kind then None else Some (Unknown u.name.at)
-fault_behind most_maps kind before (lists front u) =
-    if not (is_kind (kind u.name.text) u.kind) then Some (Unknown u.name.at)
-    else if is_among front u.name.text then Some (Double u.name.at)
-    else None
-fault_behind most_maps kind before (counts most n) = if is_between 1 most (value_of n.value) then None else Some (BadNumber n.at)
-fault_behind most_maps kind before (modulus n) = if is_field_modulus (value_of n.value) then None else Some (BadNumber n.at)
-fault_behind most_maps kind before (begins_order at) = if nat_lt 1 (sum_by orders_by before + 1) then Some (Double at) else None
-fault_behind most_maps kind before (begins_assumptions count at) = if nat_lt assumption_limit
-    (sum_by assumptions_by before + count) then Some (TooMany at assumption_limit) else None
-fault_behind most_maps kind before (begins_claim at) = if nat_lt claim_limit (sum_by claims_by before + 1) then Some (TooMany at claim_limit) else None
-fault_behind most_maps kind before (begins_shape at) = if nat_lt shape_limit (sum_by shapes_by before + 1) then Some (TooMany at shape_limit) else None
+-- the fault where there is no room for so many more
+abbrev pub short_of : ℕ → ℕ → NameFault → Option NameFault
+short_of room more fault = if nat_lt room more then Some fault else None
+
+-- a name that is declared already, or no room for it
+abbrev pub declared_fault : List (List ℕ × Kind) → ℕ → ℕ → Name → Option NameFault
+declared_fault declared room limit name =
+    if is_some (kind_in declared name.text) then Some (Double name.at) else short_of room 1 (TooMany name.at limit)
+
+-- a name that isn't declared, or is of the other kind
+abbrev pub used_fault : (List ℕ → Option Kind) → Use → Option NameFault
+used_fault kind u = if is_kind (kind u.name.text) u.kind then None else Some (Unknown u.name.at)
+
+-- the first fault, or else another where something is wrong
+abbrev pub or_else : Option NameFault → Bool → NameFault → Option NameFault
+or_else (Some fault) wrong later = Some fault
+or_else None wrong later = if wrong then Some later else None
+
+abbrev pub number_fault : Bool → NameFault → Option NameFault
+number_fault good fault = if good then None else Some fault
+
+-- What is known in front of an occurrence: how many maps the file may declare, what each of its names is declared as,
+-- what is declared so far, and how many more there may be.
+pub record Known : Type 0 where
+  pub most_maps : ℕ
+  pub kind : List ℕ → Option Kind
+  pub declared : List (List ℕ × Kind)
+  pub room : Counted → ℕ
+
+-- what is wrong with it
+abbrev pub fault_of : Known → Occurrence → Option NameFault
+fault_of k (declares_object name) = declared_fault k.declared (k.room Objects) object_limit name
+fault_of k (declares_map name source target selfmade) =
+    or_else (declared_fault k.declared (k.room Maps) k.most_maps name) (selfmade && are_two_objects k.kind source target) (NotSquare name.at)
+fault_of k (uses u) = used_fault k.kind u
+fault_of k (lists front u) = or_else (used_fault k.kind u) (is_among front u.name.text) (Double u.name.at)
+fault_of k (counts most n) = number_fault (is_between 1 most (value_of n.value)) (BadNumber n.at)
+fault_of k (modulus n) = number_fault (is_field_modulus (value_of n.value)) (BadNumber n.at)
+fault_of k (begins_order at) = short_of (k.room Orders) 1 (Double at)
+fault_of k (begins_assumptions count at) = short_of (k.room Assumptions) count (TooMany at assumption_limit)
+fault_of k (begins_claim at) = short_of (k.room Claims) 1 (TooMany at claim_limit)
+fault_of k (begins_shape at) = short_of (k.room Shapes) 1 (TooMany at shape_limit)
+
+-- what is known behind some occurrences: they have taken up room
+abbrev pub known_behind : ℕ → (List ℕ → Option Kind) → List Occurrence → Known
+known_behind most_maps kind before = record {
+  most_maps = most_maps;
+  kind = kind;
+  declared = declared_in before;
+  room = λ counted. limit_of most_maps counted - sum_by (amount counted) before;
+}
 
 -- the fault of the first of some occurrences that has one behind all before it
 abbrev pub first_fault : ℕ → (List ℕ → Option Kind) → List Occurrence → List Occurrence → Option NameFault
 first_fault most_maps kind before [] = None
-first_fault most_maps kind before (o ∷ os) = option_or (fault_behind most_maps kind before o) (first_fault most_maps kind (before ++ o ∷ []) os)
+first_fault most_maps kind before (o ∷ os) = option_or (fault_of (known_behind most_maps kind before) o) (first_fault most_maps kind (before ++ o ∷ []) os)
+
+-- what each name of a file is declared as
+abbrev pub kind_within : List Statement → List ℕ → Option Kind
+kind_within statements = kind_in (declared_in (occurrences_of statements))
 
 -- the first thing that is wrong with the file
 abbrev pub name_fault_of : List Statement → Option NameFault
-name_fault_of statements = let os = occurrences_of statements in first_fault (map_limit_of statements) (kind_in (declared_in os)) [] os
+name_fault_of statements = first_fault (map_limit_of statements) (kind_within statements) [] (occurrences_of statements)
 
 -- the fault that is found is the answer, or memory was short
 abbrev pub Explains : Option NameFault → NameStop → Type 0

@@ -2,7 +2,7 @@
 use Rattle.std.specs.Prelude.{IsTrue, List, [], ◌++◌, map}
 use Rattle.std.specs.List.{flat_map}
 use Rattle.statement_names.specs.Types.{Statement, StatementKind, statement}
-use Rattle.quiver.specs.Declarations.{Declaration, object, arrow, named_in}
+use Rattle.quiver.specs.Declarations.{Declaration, object, arrow, named_in, IsDeclared}
 use Rattle.expression_names.specs.Names.{is_object, object_of}
 
 -- the objects of a statement
@@ -20,6 +20,10 @@ maps_in objects kind = []
 abbrev pub HasEnds : List Declaration → StatementKind → Type 0
 HasEnds ds (statement.Maps names source target selfmade) = IsTrue (is_object (named_in ds source.text)) × IsTrue (is_object (named_in ds target.text))
 HasEnds ds kind = Unit {0}
+
+-- they are the first of a quiver's declarations
+abbrev pub AreFirst : List Declaration → Type 0
+AreFirst ds = (more : List Declaration) × IsDeclared (ds ++ more)
 
 -- first all objects, and then all maps, in the order of the file
 abbrev pub declared_objects : List Statement → List Declaration

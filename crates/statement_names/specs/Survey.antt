@@ -1,14 +1,10 @@
 -- How the program looks for the first fault: occurrence by occurrence, with how much more of each there may be.
-use Rattle.std.specs.Prelude.{ℕ, ◌+◌, ◌-◌, Bool, ◌&&◌, nat_lt, if◌then◌else◌, is_some, List, [], ◌∷◌, ◌++◌, map, fold, take}
+use Rattle.std.specs.Prelude.{ℕ, ◌+◌, ◌-◌, if◌then◌else◌, is_some, List, [], ◌∷◌, ◌++◌, map, fold, take}
 use Rattle.std.specs.Prelude.{Option, Some, None, Result, Ok, Err}
-use Rattle.definitions.specs.Moduli.{is_field_modulus}
-use Rattle.statement_names.specs.Types.{NameFault, Unknown, Double, TooMany, NotSquare, BadNumber, Kind, Object, Map, Survey, Name, StatementKind, statement}
-use Rattle.statement_names.specs.Occurrences.{Occurrence, declares_object, declares_map, uses, lists, counts, modulus, begins_order}
-use Rattle.statement_names.specs.Occurrences.{begins_assumptions, begins_claim, begins_shape}
-use Rattle.statement_names.specs.Uses.{Use}
-use Rattle.statement_names.specs.Faults.{kind_in, is_kind, are_two_objects, is_among, value_of, is_between}
+use Rattle.statement_names.specs.Types.{NameFault, Kind, Object, Map, Survey, Name, StatementKind, statement}
+use Rattle.statement_names.specs.Occurrences.{Occurrence, declares_object, declares_map, begins_order, begins_assumptions, begins_claim, begins_shape}
+use Rattle.statement_names.specs.Faults.{kind_in, Counted, Objects, Maps, Orders, Assumptions, Claims, Shapes, fault_of}
 use Rattle.quiver.specs.Limits.{object_limit}
-use Rattle.adjoint_rules.specs.Limits.{assumption_limit, claim_limit, shape_limit}
 
 -- what a statement declares
 abbrev pub kinded : Kind → List Name → List (List ℕ × Kind)
@@ -35,41 +31,18 @@ declared_count s = (object_limit - s.objects) + (s.map_limit - s.maps)
 abbrev pub declared_before : Survey → List (List ℕ × Kind)
 declared_before s = take (declared_count s) s.kinds
 
--- the fault where there is no room for so many more
-abbrev pub short_of : ℕ → ℕ → NameFault → Option NameFault
-short_of room more fault = if nat_lt room more then Some fault else None
-
--- a name that is declared already, or no room for it
-abbrev pub declared_fault : List (List ℕ × Kind) → ℕ → ℕ → Name → Option NameFault
-declared_fault declared room limit name =
-    if is_some (kind_in declared name.text) then Some (Double name.at) else short_of room 1 (TooMany name.at limit)
-
--- a name that isn't declared, or is of the other kind
-abbrev pub used_fault : List (List ℕ × Kind) → Use → Option NameFault
-used_fault kinds u = if is_kind (kind_in kinds u.name.text) u.kind then None else Some (Unknown u.name.at)
-
--- the first fault, or else another where something is wrong
-abbrev pub or_else : Option NameFault → Bool → NameFault → Option NameFault
-or_else (Some fault) wrong later = Some fault
-or_else None wrong later = if wrong then Some later else None
-
-abbrev pub number_fault : Bool → NameFault → Option NameFault
-number_fault good fault = if good then None else Some fault
+-- how many more of each there may be
+abbrev pub room_of : Survey → Counted → ℕ
+room_of s Objects = s.objects
+room_of s Maps = s.maps
+room_of s Orders = s.orders
+room_of s Assumptions = s.assumptions
+room_of s Claims = s.claims
+room_of s Shapes = s.shapes
 
 -- what is wrong with an occurrence
 abbrev pub fault_at : Survey → Occurrence → Option NameFault
-fault_at s (declares_object name) = declared_fault (declared_before s) s.objects object_limit name
-fault_at s (declares_map name source target selfmade) =
-    or_else (declared_fault (declared_before s) s.maps s.map_limit name)
-    (selfmade && are_two_objects (kind_in s.kinds) source target) (NotSquare name.at)
-fault_at s (uses u) = used_fault s.kinds u
-fault_at s (lists front u) = or_else (used_fault s.kinds u) (is_among front u.name.text) (Double u.name.at)
-fault_at s (counts most n) = number_fault (is_between 1 most (value_of n.value)) (BadNumber n.at)
-fault_at s (modulus n) = number_fault (is_field_modulus (value_of n.value)) (BadNumber n.at)
-fault_at s (begins_order at) = short_of s.orders 1 (Double at)
-fault_at s (begins_assumptions count at) = short_of s.assumptions count (TooMany at assumption_limit)
-fault_at s (begins_claim at) = short_of s.claims 1 (TooMany at claim_limit)
-fault_at s (begins_shape at) = short_of s.shapes 1 (TooMany at shape_limit)
+fault_at s o = fault_of (record { most_maps = s.map_limit; kind = kind_in s.kinds; declared = declared_before s; room = room_of s }) o
 
 -- the survey behind it
 abbrev pub behind : Survey → Occurrence → Survey

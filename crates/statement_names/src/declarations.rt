@@ -1,9 +1,8 @@
 //! The quiver of a file: all its objects, and then all its maps.
 
 ghost use Rattle.std.specs.Prelude.{◌≡◌, ◌++◌, None, IfOk, OnOk};
-ghost use Rattle.quiver.specs.Declarations.{IsDeclared};
 ghost use Rattle.statement_names.specs.Faults.{name_fault_of};
-ghost use Rattle.statement_names.specs.Numbered.{objects_in, maps_in, declarations_of, HasEnds};
+ghost use Rattle.statement_names.specs.Numbered.{objects_in, maps_in, declarations_of, HasEnds, AreFirst};
 
 use expression_names::object_of;
 use quiver::Quiver;
@@ -33,7 +32,7 @@ pub fn declare_all(alloc: Global, statements: &[Statement]) -> Result<Quiver, Al
 
 // Declares the objects of a statement.
 fn add_objects(quiver: &mut Quiver, statement: &StatementKind) -> Result<(), AllocError>
-    requires { IsDeclared (quiver.old ++ objects_in statement.now) }
+    requires { AreFirst (quiver.old ++ objects_in statement.now) }
     ensures { OnOk result (quiver.new ≡ quiver.old ++ objects_in statement.now) }
 {
     if let StatementKind::Objects(names) = statement {
@@ -47,7 +46,7 @@ fn add_objects(quiver: &mut Quiver, statement: &StatementKind) -> Result<(), All
 // Declares the maps of a statement between objects that are declared.
 fn add_maps(quiver: &mut Quiver, statement: &StatementKind) -> Result<(), AllocError>
     requires ends { HasEnds quiver.old statement.now }
-    requires fits { IsDeclared (quiver.old ++ maps_in quiver.old statement.now) }
+    requires fits { AreFirst (quiver.old ++ maps_in quiver.old statement.now) }
     ensures { OnOk result (quiver.new ≡ quiver.old ++ maps_in quiver.old statement.now) }
 {
     if let StatementKind::Maps {

@@ -2,8 +2,7 @@
 
 ghost use Rattle.std.specs.Prelude.{◌≡◌, None, Some, OnOk, IfErr};
 ghost use Rattle.definitions.specs.Moduli.{is_field_modulus};
-ghost use Rattle.statement_names.specs.Faults.{is_between, value_of};
-ghost use Rattle.statement_names.specs.Survey.{number_fault};
+ghost use Rattle.statement_names.specs.Faults.{is_between, number_fault, value_of};
 
 use crate::fault::NameFault;
 use adjoint_rules::is_field_modulus;

@@ -1,7 +1,8 @@
 //! The shapes of models that a file asks for, or the two that are looked for where it asks for none.
 
-ghost use Rattle.std.specs.Prelude.{◌≡◌, ◌≢◌, ◌≤◌, ◌<◌, ◌^◌, AllPairs, replicate, None, IfOk, IsTrue};
-ghost use Rattle.std.specs.List.{All};
+ghost use Rattle.std.specs.Prelude.{◌≡◌, ◌≤◌, ◌<◌, ◌^◌, map, replicate, None, IfOk, IsTrue};
+ghost use Rattle.std.specs.List.{All, IsDistinct};
+ghost use Rattle.std.specs.Str.{bytes_eq};
 ghost use Rattle.quiver.specs.Declarations.{named_in, object_count};
 ghost use Rattle.expression_names.specs.Names.{is_object};
 ghost use Rattle.adjoint_rules.specs.Limits.{shape_side_limit};
@@ -61,7 +62,7 @@ fn sides_of(
 ) -> Result<Listing<u32>, AllocError>
     requires objects { All (λ pair. IsTrue (is_object (named_in quiver.now pair.0.text))) pairs.now }
     requires small { All (λ pair. value_of pair.1.value ≤ shape_side_limit) pairs.now }
-    requires once { AllPairs (λ first second. first.0.text ≢ second.0.text) pairs.now }
+    requires once { IsDistinct bytes_eq (map (λ pair. pair.0.text) pairs.now) }
     ensures { IfOk result (λ sides. sides ≡ sides_of quiver.now pairs.now) }
 {
     let mut sides = vec![in alloc; 1u32; quiver.objects() as usize]?;

@@ -1,10 +1,10 @@
 //! The search for the first fault: each name, literal and first word of the file, in reading order.
 
 ghost use Rattle.std.specs.Prelude.{◌≡◌, ◌-◌, None, Some, OnOk, OnErr, IfErr};
-ghost use Rattle.statement_names.specs.Faults.{name_fault_of, Explains};
+ghost use Rattle.statement_names.specs.Faults.{name_fault_of, short_of, Explains};
 ghost use Rattle.statement_names.specs.Limits.{map_limit_of};
 ghost use Rattle.statement_names.specs.Occurrences.{begins_order, begins_assumptions, begins_claim, begins_shape};
-ghost use Rattle.statement_names.specs.Survey.{fault_at, behind, short_of};
+ghost use Rattle.statement_names.specs.Survey.{fault_at, behind};
 
 use crate::fault::{NameFault, NameStop};
 use crate::kinds::{Kinds, kinds_of};

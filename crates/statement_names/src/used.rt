@@ -2,10 +2,10 @@
 
 ghost use Rattle.std.specs.Prelude.{◌≡◌, ◌∷◌, [], ◌++◌, None, Some, Ok, OnOk, IfErr};
 ghost use Rattle.std.specs.List.{flat_map};
-ghost use Rattle.statement_names.specs.Faults.{Explains, kind_in, is_kind};
+ghost use Rattle.statement_names.specs.Faults.{Explains, kind_in, is_kind, used_fault};
 ghost use Rattle.statement_names.specs.Occurrences.{lists, names_behind, pairs_behind, used_names, mark_occurrences, primary_occurrences};
 ghost use Rattle.statement_names.specs.Occurrences.{factor_occurrences, term_occurrences, sum_occurrences, sides_occurrences};
-ghost use Rattle.statement_names.specs.Survey.{fault_at, run, fault_in, used_fault, names_in};
+ghost use Rattle.statement_names.specs.Survey.{fault_at, run, fault_in, names_in};
 ghost use Rattle.statement_names.specs.Uses.{use_of};
 
 use crate::fault::{NameFault, NameStop};
@@ -28,8 +28,8 @@ impl Survey {
 
     // A name that is used as an object or a map.
     pub(crate) fn name(&self, name: &Name, kind: Kind) -> Result<(), NameFault>
-        ensures ok { OnOk result (used_fault self.now.kinds (use_of kind name.now) ≡ None) }
-        ensures err { IfErr result (λ e. used_fault self.now.kinds (use_of kind name.now) ≡ Some e) }
+        ensures ok { OnOk result (used_fault (kind_in self.now.kinds) (use_of kind name.now) ≡ None) }
+        ensures err { IfErr result (λ e. used_fault (kind_in self.now.kinds) (use_of kind name.now) ≡ Some e) }
     {
         if !self.is_of_kind(name, kind) {
             return Err(NameFault::Unknown { at: name.at });

@@ -1,9 +1,9 @@
 use Rattle.std.proofs.Common.{◌≡◌, List, ◌++◌, ◌∷◌, ℕ, ◌+◌, ◌<◌, Bool, map, drop, None, arith, ap, ap₂, sym, subst, ◌∙◌}
-use Rattle.quiver.specs.Declarations.{Declaration, arrow, object_count, IsDeclared}
+use Rattle.quiver.specs.Declarations.{Declaration, arrow, object_count}
 use Rattle.quiver.specs.Refusals.{map_fault}
 use Rattle.quiver.proofs.Counts.{object_count-append}
 use Rattle.statement_names.specs.Types.{Name}
-use Rattle.statement_names.specs.Numbered.{maps_in}
+use Rattle.statement_names.specs.Numbered.{maps_in, AreFirst}
 use Rattle.statement_names.proofs.Items.{map_split}
 use Rattle.statement_names.proofs.Fresh.{no_map_fault}
 use Rattle.statement_names.proofs.declarations.add_maps.Goals as goal
@@ -37,4 +37,4 @@ declare_map-requires-clause-sound c =
     ∙ map_split names c.loop-name.name-index c.name-item.result c.loop-name-test.true c.name-item.is made c.args.quiver.now
     ∙ ap (λ q. q ++ made c.name-item.result ∷ rest) (sym c.loop-name.invariant) in
     subst (λ t. map_fault c.loop-name.quiver t u v c.in-Maps.selfmade ≡ None) (sym c.as_str.ensures)
-    (no_map_fault c.loop-name.quiver c.name-item.result.text u v c.in-Maps.selfmade rest (subst IsDeclared whole c.requires.fits))
+    (no_map_fault c.loop-name.quiver c.name-item.result.text u v c.in-Maps.selfmade rest (subst AreFirst whole c.requires.fits))

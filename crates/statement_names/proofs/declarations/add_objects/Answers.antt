@@ -1,9 +1,9 @@
 use Rattle.std.proofs.Common.{◌≡◌, ◌++◌, ◌∷◌, map, drop, None, ap, sym, subst, ◌∙◌, ◌+◌}
 use Rattle.std.proofs.lemmas.List.{take_all}
-use Rattle.quiver.specs.Declarations.{Declaration, object, IsDeclared}
+use Rattle.quiver.specs.Declarations.{Declaration, object}
 use Rattle.quiver.specs.Refusals.{object_fault}
 use Rattle.statement_names.specs.Types.{Name}
-use Rattle.statement_names.specs.Numbered.{objects_in}
+use Rattle.statement_names.specs.Numbered.{objects_in, AreFirst}
 use Rattle.statement_names.proofs.Items.{map_split}
 use Rattle.statement_names.proofs.Fresh.{no_object_fault}
 use Rattle.statement_names.proofs.declarations.add_objects.Goals as goal
@@ -20,7 +20,7 @@ declare_object-requires c =
     ∙ ap (λ q. q ++ object c.name-item.result.text ∷ map declaration (drop (c.loop-name.name-index + 1) names)) (sym c.loop-name.invariant) in
     subst (λ t. object_fault c.loop-name.quiver t ≡ None) (sym c.as_str.ensures)
     (no_object_fault c.loop-name.quiver c.name-item.result.text (map declaration (drop (c.loop-name.name-index + 1) names))
-    (subst IsDeclared whole c.requires))
+    (subst AreFirst whole c.requires))
 
 pub returns-after-loop-name : goal.returns-after-loop-name
 returns-after-loop-name c =

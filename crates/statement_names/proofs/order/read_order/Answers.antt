@@ -1,24 +1,21 @@
-use Rattle.std.proofs.Common.{◌≤◌, IsTrue, All, sym, subst}
-use Rattle.quiver.specs.Declarations.{named_in}
-use Rattle.expression_names.specs.Names.{is_map}
+use Rattle.std.proofs.Common.{All, sym, subst}
 use Rattle.word_orders.specs.Limits.{weight_limit}
-use Rattle.statement_names.specs.Faults.{value_of}
-use Rattle.statement_names.proofs.Stated.{weights_named, weights_small, eliminated_named}
+use Rattle.statement_names.specs.Types.{statement}
+use Rattle.statement_names.proofs.Each.{Each-at}
+use Rattle.statement_names.proofs.Stated.{IsMapIn, AreListed, AreBetween, named_by, pairs_named, pairs_small, stated_at}
 use Rattle.statement_names.proofs.order.read_order.Goals as goal
 
-pub weights_of-requires-clause-maps : goal.weights_of-requires-clause-maps
-weights_of-requires-clause-maps c =
-    subst (λ pairs. All (λ p. IsTrue (is_map (named_in c.args.quiver.now p.0.text))) pairs) (sym c.as_slice.ensures)
-    (subst (λ ds. All (λ p. IsTrue (is_map (named_in ds p.0.text))) c.in-Weight.weights) (sym c.requires.declared)
-    (weights_named c.args.statements.now c.requires.sound c.loop-statement.statement-index c.statement-item.result c.loop-statement-test.true c.statement-item.is c.in-Weight.weights c.in-Weight.is))
-
-pub weights_of-requires-clause-small : goal.weights_of-requires-clause-small
-weights_of-requires-clause-small c =
-    subst (λ pairs. All (λ p. value_of p.1.value ≤ weight_limit) pairs) (sym c.as_slice.ensures)
-    (weights_small c.args.statements.now c.requires.sound c.loop-statement.statement-index c.statement-item.result c.loop-statement-test.true c.statement-item.is c.in-Weight.weights c.in-Weight.is)
+pub weights_of-requires : goal.weights_of-requires
+weights_of-requires c =
+    let ds = c.args.quiver.now in
+    let stated = stated_at c.args.statements.now c.requires.sound ds c.requires.declared c.loop-statement.statement-index c.statement-item.result c.loop-statement-test.true c.statement-item.is
+    (statement.Weight c.in-Weight.weights) c.in-Weight.is in
+    let listed = subst (λ pairs. AreListed (IsMapIn ds) (named_by pairs) × AreBetween weight_limit pairs) (sym c.as_slice.ensures) stated in
+    record { maps = pairs_named (IsMapIn ds) _ listed.0; small = pairs_small weight_limit _ listed.1 }
 
 pub block_of-requires : goal.block_of-requires
 block_of-requires c =
-    subst (λ names. All (λ n. IsTrue (is_map (named_in c.args.quiver.now n.text))) names) (sym c.as_slice-in-Eliminate.ensures)
-    (subst (λ ds. All (λ n. IsTrue (is_map (named_in ds n.text))) c.in-Eliminate.names) (sym c.requires.declared)
-    (eliminated_named c.args.statements.now c.requires.sound c.loop-statement.statement-index c.statement-item.result c.loop-statement-test.true c.statement-item.is c.in-Eliminate.names c.in-Eliminate.is))
+    let ds = c.args.quiver.now in
+    let stated = stated_at c.args.statements.now c.requires.sound ds c.requires.declared c.loop-statement.statement-index c.statement-item.result c.loop-statement-test.true c.statement-item.is
+    (statement.Eliminate c.in-Eliminate.names) c.in-Eliminate.is in
+    subst (All (λ n. IsMapIn ds n.text)) (sym c.as_slice-in-Eliminate.ensures) (Each-at (λ n. IsMapIn ds n.text) c.in-Eliminate.names stated.named)
