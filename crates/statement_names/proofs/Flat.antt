@@ -14,8 +14,8 @@ flat-terms : (n : _) (k : Row_of-Term n) → terms_occurrences k ≡ flat_map te
 flat-terms n end_of-Term = refl
 flat-terms n (more_of-Term t rest) = ap (λ os. term_occurrences t ++ os) (flat-terms _ rest)
 
-pub term-flat : (t : Term) → term_occurrences t ≡ flat_map factor_occurrences (out-Term t).factors
-term-flat (Term' at negative literal shape factors) = flat-factors _ factors ∙ of_term (flat_map factor_occurrences) at negative literal shape factors
+pub term_flat : (t : Term) → term_occurrences t ≡ flat_map factor_occurrences (out-Term t).factors
+term_flat (Term' at negative literal shape factors) = flat-factors _ factors ∙ of_term (flat_map factor_occurrences) at negative literal shape factors
 
-pub sum-flat : (s : Sum) → sum_occurrences s ≡ flat_map term_occurrences (out-Sum s).terms
-sum-flat (Sum' at shape terms) = flat-terms _ terms ∙ of_sum (flat_map term_occurrences) at shape terms
+pub sum_flat : (s : Sum) → sum_occurrences s ≡ flat_map term_occurrences (out-Sum s).terms
+sum_flat (Sum' at shape terms) = flat-terms _ terms ∙ of_sum (flat_map term_occurrences) at shape terms

@@ -15,10 +15,6 @@ module _ {A : Type 0} (items : List A) (i : ℕ) (x : A) (below : i < length ite
   take_next = take_more items i x below ∙ ap (λ y. take i items ++ y ∷ []) (sym at)
 
   module _ {B : Type 0} (f : A → B) (front : List B) where
-    -- one item more
-    pub map_next : (front ++ map f (take i items)) ++ f x ∷ [] ≡ front ++ map f (take (i + 1) items)
-    map_next = append_assoc front (map f (take i items)) (f x ∷ []) ∙ ap (λ xs. front ++ xs) (sym (ap (map f) take_next ∙ map-append f (take i items) (x ∷ [])))
-
     pub map_split : front ++ map f items ≡ (front ++ map f (take i items)) ++ f x ∷ map f (drop (i + 1) items)
     map_split =
         ap (λ xs. front ++ map f xs) items_split

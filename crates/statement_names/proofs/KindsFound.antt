@@ -1,17 +1,14 @@
 -- What is found for a name in lists of declarations.
-use Rattle.std.proofs.Common.{◌≡◌, ℕ, ◌+◌, ◌<◌, length, get_or, take, Bool, true, false, is_some, List, [], ◌∷◌, ◌++◌, Option, None, refl, ap, sym, ◌∙◌, append_assoc, arith, if◌then◌else◌}
-use Rattle.std.specs.List.{flat_map}
+use Rattle.std.proofs.Common.{◌≡◌, ℕ, length, take, Bool, true, false, is_some, List, [], ◌∷◌, ◌++◌, Option, None, refl, ap, sym, ◌∙◌, append_assoc, arith, if◌then◌else◌}
 use Rattle.std.proofs.lemmas.List.{append-nil}
-use Rattle.std.proofs.lemmas.List.Sums.{fold-append, fold_push}
 use Rattle.std.proofs.Math.Seq.{take-append_seam}
 use Rattle.std.specs.Map.{lookup}
 use Rattle.std.specs.Option.{option_or}
 use Rattle.std.specs.Str.{bytes_eq}
 use Rattle.std.proofs.lemmas.Slice.Eq.{bytes_eq-Decides}
-use Rattle.statement_names.specs.Types.{Kind, Name, Statement}
+use Rattle.statement_names.specs.Types.{Kind}
 use Rattle.statement_names.specs.Faults.{kind_in, is_among}
-use Rattle.statement_names.proofs.Items.{map_next, flat_next}
-use Rattle.statement_names.specs.Survey.{names_in, with_kind, with_kinds, kinded, kinds_by}
+use Rattle.statement_names.specs.Survey.{names_in, with_kind, with_kinds}
 
 pub same_bytes : (xs ys : List ℕ) → bytes_eq xs ys ≡ true → xs ≡ ys
 same_bytes xs ys e = (bytes_eq-Decides xs ys).0 e
@@ -60,19 +57,3 @@ grown front (d ∷ more) = go (is_some (kind_in front d.0)) (grown front more) (
 
 pub take-with_kinds : (front more : List (List ℕ × Kind)) → take (length front) (with_kinds front more) ≡ front
 take-with_kinds front more = let new = grown front more in ap (take (length front)) new.1 ∙ take-append_seam front new.0
-
--- one name or statement more
-pub name_put : (kinds new front : List (List ℕ × Kind)) (kind : Kind) (names : List Name) (i : ℕ) (n : Name) → i < length names → n ≡ get_or names i n
-    → kinds ≡ with_kinds front (kinded kind (take i names)) → new ≡ with_kind kinds n.text kind → new ≡ with_kinds front (kinded kind (take (i + 1) names))
-name_put kinds new front kind names i n below at so_far is =
-    is ∙ ap (λ ks. with_kind ks n.text kind) so_far
-    ∙ sym (fold_push (λ ks d. with_kind ks d.0 d.1) front (kinded kind (take i names)) (n.text, kind))
-    ∙ ap (with_kinds front) (map_next names i n below at (λ n. (n.text, kind)) [])
-
-pub statement_put : (kinds new : List (List ℕ × Kind)) (statements : List Statement) (i : ℕ) (s : Statement) → i < length statements → s ≡ get_or statements i s
-    → kinds ≡ with_kinds [] (flat_map (λ s. kinds_by s.kind) (take i statements)) → new ≡ with_kinds kinds (kinds_by s.kind)
-    → new ≡ with_kinds [] (flat_map (λ s. kinds_by s.kind) (take (i + 1) statements))
-statement_put kinds new statements i s below at so_far is =
-    is ∙ ap (λ ks. with_kinds ks (kinds_by s.kind)) so_far
-    ∙ sym (fold-append (λ ks d. with_kind ks d.0 d.1) [] (flat_map (λ s. kinds_by s.kind) (take i statements)) (kinds_by s.kind))
-    ∙ ap (with_kinds []) (sym (flat_next statements i s below at (λ s. kinds_by s.kind)))

@@ -1,5 +1,5 @@
 -- What the occurrences of a statement declare and begin.
-use Rattle.std.proofs.Common.{◌≡◌, ℕ, ◌+◌, List, [], ◌∷◌, ◌++◌, map, refl, ap₂, ◌∙◌}
+use Rattle.std.proofs.Common.{◌≡◌, ℕ, ◌+◌, List, [], ◌∷◌, ◌++◌, map, refl, ap, ap₂, sym, ◌∙◌}
 use Rattle.std.specs.List.{flat_map, sum_by}
 use Rattle.std.proofs.lemmas.Grind.{flat_map-append}
 use Rattle.std.proofs.lemmas.List.{append-nil}
@@ -8,8 +8,8 @@ use Rattle.statement_names.specs.Types.{Spot, Name, Number, Statement, Statement
 use Rattle.statement_names.specs.Types.{Row_of-Factor, end_of-Factor, more_of-Factor, Sum, Sum', Row_of-Term, end_of-Term, more_of-Term, Kind, Object, Map}
 use Rattle.adjoint_rules.specs.Limits.{shape_side_limit}
 use Rattle.word_orders.specs.Limits.{weight_limit}
-use Rattle.statement_names.specs.Uses.{Use}
-use Rattle.statement_names.specs.Occurrences.{Occurrence, declares_object, declares_map, begins_order, begins_assumptions, begins_claim, begins_shape, uses, lists, counts, modulus, names_behind, pairs_behind, used_names, mark_occurrences, primary_occurrences, factors_occurrences, term_occurrences, terms_occurrences, sum_occurrences, sides_occurrences, kind_occurrences, statement_occurrences, occurrences_of}
+use Rattle.statement_names.specs.Uses.{object_use, map_use}
+use Rattle.statement_names.specs.Occurrences.{Occurrence, declares_object, declares_map, begins_order, begins_assumptions, begins_claim, begins_shape, uses, lists, counts, modulus, names_behind, pairs_behind, mark_occurrences, primary_occurrences, factors_occurrences, term_occurrences, terms_occurrences, sum_occurrences, sides_occurrences, kind_occurrences, statement_occurrences, occurrences_of}
 use Rattle.statement_names.specs.Faults.{declared_by, declared_in, Counted, Objects, Maps, Orders, Assumptions, Claims, Shapes, amount}
 use Rattle.statement_names.specs.Survey.{kinded, kinds_by}
 use Rattle.statement_names.proofs.Each.{Each, Each-append}
@@ -25,15 +25,11 @@ IsUse o = ⊥
 abbrev pub IsQuiet : List Occurrence → Type 0
 IsQuiet os = Each IsUse os
 
-pub used_names-quiet : (us : List Use) → IsQuiet (used_names us)
-used_names-quiet [] = tt
-used_names-quiet (u ∷ us) = (tt, used_names-quiet us)
-
-pub names_behind-quiet : (kind : Kind) (front : List (List ℕ)) (names : List Name) → IsQuiet (names_behind kind front names)
+names_behind-quiet : (kind : Kind) (front : List (List ℕ)) (names : List Name) → IsQuiet (names_behind kind front names)
 names_behind-quiet kind front [] = tt
 names_behind-quiet kind front (n ∷ names) = (tt, names_behind-quiet kind (front ++ n.text ∷ []) names)
 
-pub pairs_behind-quiet : (kind : Kind) (most : ℕ) (front : List (List ℕ)) (pairs : List (Name × Number)) → IsQuiet (pairs_behind kind most front pairs)
+pairs_behind-quiet : (kind : Kind) (most : ℕ) (front : List (List ℕ)) (pairs : List (Name × Number)) → IsQuiet (pairs_behind kind most front pairs)
 pairs_behind-quiet kind most front [] = tt
 pairs_behind-quiet kind most front (p ∷ pairs) = (tt, (tt, pairs_behind-quiet kind most (front ++ p.0.text ∷ []) pairs))
 
@@ -64,7 +60,7 @@ mutual
   primary-quiet (Identity n) = (tt, tt)
   primary-quiet (Bracket s) = sum-quiet s
 
-pub sides-quiet : (left right : Sum) → IsQuiet (sides_occurrences left right)
+sides-quiet : (left right : Sum) → IsQuiet (sides_occurrences left right)
 sides-quiet left right = Each-append IsUse (sum_occurrences left) (sum_occurrences right) (sum-quiet left) (sum-quiet right)
 
 -- which adds to no count and declares nothing
@@ -86,30 +82,64 @@ declares_nothing (declares_object n) h = absurd h
 declares_nothing (declares_map n u v selfmade) h = absurd h
 declares_nothing o h = refl
 
-pub declared-quiet : (os : List Occurrence) → IsQuiet os → declared_in os ≡ []
+declared-quiet : (os : List Occurrence) → IsQuiet os → declared_in os ≡ []
 declared-quiet [] h = refl
 declared-quiet (o ∷ os) h = ap₂ (λ xs ys. xs ++ ys) (declares_nothing o h.0) (declared-quiet os h.1)
 
--- what a statement declares
+-- what names that are declared as one kind declare
 declared-made : (kind : Kind) (make : Name → Occurrence) → ((n : Name) → declared_by (make n) ≡ (n.text, kind) ∷ []) → (names : List Name)
     → declared_in (map make names) ≡ kinded kind names
 declared-made kind make each [] = refl
 declared-made kind make each (n ∷ names) = ap₂ (λ xs ys. xs ++ ys) (each n) (declared-made kind make each names)
 
-pub declared-statement : (at : Spot) (kind : StatementKind) → declared_in (kind_occurrences at kind) ≡ kinds_by kind
-declared-statement at (statement.Objects names) = declared-made Object (λ n. declares_object n) (λ n. refl) names
-declared-statement at (statement.Maps names source target selfmade) =
-    let made = map (λ n. declares_map n source.text target.text selfmade) names in
-    flat_map-append declared_by made _ ∙ append-nil (declared_in made)
-    ∙ declared-made Map (λ n. declares_map n source.text target.text selfmade) (λ n. refl) names
-declared-statement at (statement.Assume left right) = declared-quiet (sides_occurrences left right) (sides-quiet left right)
-declared-statement at (statement.Claim left right) = declared-quiet (sides_occurrences left right) (sides-quiet left right)
-declared-statement at (statement.Weight pairs) = declared-quiet (pairs_behind Map weight_limit [] pairs) (pairs_behind-quiet Map weight_limit [] pairs)
-declared-statement at (statement.Solve names) = declared-quiet (names_behind Map [] names) (names_behind-quiet Map [] names)
-declared-statement at (statement.Eliminate names) = declared-quiet (names_behind Map [] names) (names_behind-quiet Map [] names)
-declared-statement at (statement.Shape m sides) =
-    declared-quiet (pairs_behind Object shape_side_limit [] sides) (pairs_behind-quiet Object shape_side_limit [] sides)
-declared-statement at kind = refl
+-- what a statement declares or begins, in front of what it only uses
+abbrev pub begun_by : Spot → StatementKind → List Occurrence
+begun_by at (statement.Objects names) = map (λ n. declares_object n) names
+begun_by at (statement.Maps names source target selfmade) = map (λ n. declares_map n source.text target.text selfmade) names
+begun_by at (statement.Assume left right) = begins_assumptions 1 at ∷ []
+begun_by at (statement.Claim left right) = begins_claim at ∷ []
+begun_by at (statement.Pinv a x) = begins_assumptions 4 at ∷ []
+begun_by at (statement.Inverse a x) = begins_assumptions 2 at ∷ []
+begun_by at (statement.Inner a x) = begins_assumptions 1 at ∷ []
+begun_by at (statement.Projection p) = begins_assumptions 2 at ∷ []
+begun_by at statement.Degree = begins_order at ∷ []
+begun_by at (statement.Weight pairs) = begins_order at ∷ []
+begun_by at (statement.Eliminate names) = begins_order at ∷ []
+begun_by at (statement.Shape m sides) = begins_shape at ∷ []
+begun_by at k = []
+
+pub record Parts (at : Spot) (k : StatementKind) : Type 0 where
+  pub rest : List Occurrence
+  pub whole : kind_occurrences at k ≡ begun_by at k ++ rest
+  pub quiet : IsQuiet rest
+
+pub parts_of : (at : Spot) (k : StatementKind) → Parts at k
+parts_of at (statement.Objects names) = record { rest = []; whole = sym (append-nil (map (λ n. declares_object n) names)); quiet = tt }
+parts_of at (statement.Maps names source target selfmade) =
+    record { rest = uses (object_use source) ∷ uses (object_use target) ∷ []; whole = refl; quiet = (tt, (tt, tt)) }
+parts_of at (statement.Assume left right) = record { rest = sides_occurrences left right; whole = refl; quiet = sides-quiet left right }
+parts_of at (statement.Claim left right) = record { rest = sides_occurrences left right; whole = refl; quiet = sides-quiet left right }
+parts_of at (statement.Pinv a x) = record { rest = uses (map_use a) ∷ uses (map_use x) ∷ []; whole = refl; quiet = (tt, (tt, tt)) }
+parts_of at (statement.Inverse a x) = record { rest = uses (map_use a) ∷ uses (map_use x) ∷ []; whole = refl; quiet = (tt, (tt, tt)) }
+parts_of at (statement.Inner a x) = record { rest = uses (map_use a) ∷ uses (map_use x) ∷ []; whole = refl; quiet = (tt, (tt, tt)) }
+parts_of at (statement.Projection p) = record { rest = uses (map_use p) ∷ []; whole = refl; quiet = (tt, tt) }
+parts_of at (statement.Weight pairs) = record { rest = pairs_behind Map weight_limit [] pairs; whole = refl; quiet = pairs_behind-quiet Map weight_limit [] pairs }
+parts_of at (statement.Solve names) = record { rest = names_behind Map [] names; whole = refl; quiet = names_behind-quiet Map [] names }
+parts_of at (statement.Eliminate names) = record { rest = names_behind Map [] names; whole = refl; quiet = names_behind-quiet Map [] names }
+parts_of at (statement.Shape m sides) =
+    record { rest = modulus m ∷ pairs_behind Object shape_side_limit [] sides; whole = refl; quiet = (tt, pairs_behind-quiet Object shape_side_limit [] sides) }
+parts_of at k = record { rest = []; whole = refl; quiet = tt }
+
+declared-begun : (at : Spot) (k : StatementKind) → declared_in (begun_by at k) ≡ kinds_by k
+declared-begun at (statement.Objects names) = declared-made Object (λ n. declares_object n) (λ n. refl) names
+declared-begun at (statement.Maps names source target selfmade) = declared-made Map (λ n. declares_map n source.text target.text selfmade) (λ n. refl) names
+declared-begun at k = refl
+
+declared-statement : (at : Spot) (k : StatementKind) → declared_in (kind_occurrences at k) ≡ kinds_by k
+declared-statement at k =
+    let parts = parts_of at k in
+    ap declared_in parts.whole ∙ flat_map-append declared_by (begun_by at k) parts.rest
+    ∙ ap₂ (λ xs ys. xs ++ ys) (declared-begun at k) (declared-quiet parts.rest parts.quiet) ∙ append-nil (kinds_by k)
 
 pub declared-statements : (statements : List Statement) → declared_in (occurrences_of statements) ≡ flat_map (λ s. kinds_by s.kind) statements
 declared-statements [] = refl

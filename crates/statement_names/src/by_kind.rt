@@ -3,7 +3,7 @@
 ghost use Rattle.std.specs.Prelude.{◌≡◌, ◌∷◌, [], ◌++◌, map, Some, Ok, OnOk, IfErr};
 ghost use Rattle.statement_names.specs.Faults.{Explains};
 ghost use Rattle.statement_names.specs.Occurrences.{IsListless, declares_map, begins_assumptions, used_names, kind_occurrences, statement_occurrences};
-ghost use Rattle.statement_names.specs.Survey.{run, fault_in};
+ghost use Rattle.statement_names.specs.Survey.{run, outcome, Ends};
 ghost use Rattle.statement_names.specs.Uses.{use_of};
 
 use crate::fault::{NameFault, NameStop};
@@ -19,8 +19,7 @@ use word_orders::WEIGHT_LIMIT;
 impl Survey {
     // All names, literals and first words of a statement.
     pub(crate) fn statement(&mut self, alloc: Global, statement: &Statement) -> Result<(), NameStop>
-        ensures ok { OnOk result (run self.old (statement_occurrences statement.now) ≡ Ok self.new) }
-        ensures err { IfErr result (Explains (fault_in (run self.old (statement_occurrences statement.now)))) }
+        ensures { Ends (run self.old (statement_occurrences statement.now)) self.new result }
     {
         let at = statement.at;
         match &statement.kind {
@@ -47,8 +46,7 @@ impl Survey {
     // A statement with no list.
     fn listless(&mut self, at: Spot, kind: &StatementKind) -> Result<(), NameFault>
         requires { IsListless kind.now }
-        ensures ok { OnOk result (run self.old (kind_occurrences at kind.now) ≡ Ok self.new) }
-        ensures err { IfErr result (λ e. fault_in (run self.old (kind_occurrences at kind.now)) ≡ Some e) }
+        ensures { run self.old (kind_occurrences at kind.now) ≡ outcome self.new result }
     {
         match kind {
             StatementKind::Language => Ok(()),
@@ -63,6 +61,7 @@ impl Survey {
     }
 
     // Maps that are declared, and their two ends.
+    #[tactic(auto, using(crate::proofs::Runs::run_on))]
     fn maps_between(
         &mut self,
         names: &[Name],
@@ -70,11 +69,8 @@ impl Survey {
         target: &Name,
         selfmade: bool,
     ) -> Result<(), NameFault>
-        ensures ok { OnOk result (run self.old (map (λ name. declares_map name source.now.text target.now.text selfmade) names.now
-            ++ used_names (use_of Kind.Object source.now ∷ use_of Kind.Object target.now ∷ [])) ≡ Ok self.new) }
-        ensures err { IfErr result (λ e.
-            fault_in (run self.old (map (λ name. declares_map name source.now.text target.now.text selfmade) names.now
-            ++ used_names (use_of Kind.Object source.now ∷ use_of Kind.Object target.now ∷ []))) ≡ Some e) }
+        ensures { run self.old (map (λ name. declares_map name source.now.text target.now.text selfmade) names.now ++ used_names (use_of Kind.Object source.now ∷ use_of Kind.Object target.now ∷ []))
+            ≡ outcome self.new result }
     {
         self.maps(names, source, target, selfmade)?;
         self.two(source, target, Kind::Object)
@@ -82,8 +78,7 @@ impl Survey {
 
     // An assumption.
     fn assumption(&mut self, at: Spot, left: &Sum, right: &Sum) -> Result<(), NameFault>
-        ensures ok { OnOk result (run self.old (kind_occurrences at (StatementKind.Assume left.now right.now)) ≡ Ok self.new) }
-        ensures err { IfErr result (λ e. fault_in (run self.old (kind_occurrences at (StatementKind.Assume left.now right.now))) ≡ Some e) }
+        ensures { run self.old (kind_occurrences at (StatementKind.Assume left.now right.now)) ≡ outcome self.new result }
     {
         self.assumptions(1, at)?;
         self.sides(left, right)
@@ -91,8 +86,7 @@ impl Survey {
 
     // A claim.
     fn claimed(&mut self, at: Spot, left: &Sum, right: &Sum) -> Result<(), NameFault>
-        ensures ok { OnOk result (run self.old (kind_occurrences at (StatementKind.Claim left.now right.now)) ≡ Ok self.new) }
-        ensures err { IfErr result (λ e. fault_in (run self.old (kind_occurrences at (StatementKind.Claim left.now right.now))) ≡ Some e) }
+        ensures { run self.old (kind_occurrences at (StatementKind.Claim left.now right.now)) ≡ outcome self.new result }
     {
         self.claim(at)?;
         self.sides(left, right)
@@ -106,11 +100,8 @@ impl Survey {
         first: &Name,
         second: &Name,
     ) -> Result<(), NameFault>
-        ensures ok { OnOk result (run self.old
-            (begins_assumptions count at ∷ used_names (use_of Kind.Map first.now ∷ use_of Kind.Map second.now ∷ [])) ≡ Ok self.new) }
-        ensures err { IfErr result (λ e.
-            fault_in (run self.old (begins_assumptions count at ∷ used_names
-            (use_of Kind.Map first.now ∷ use_of Kind.Map second.now ∷ []))) ≡ Some e) }
+        ensures { run self.old (begins_assumptions count at ∷ used_names (use_of Kind.Map first.now ∷ use_of Kind.Map second.now ∷ []))
+            ≡ outcome self.new result }
     {
         self.assumptions(count, at)?;
         self.two(first, second, Kind::Map)
@@ -118,8 +109,7 @@ impl Survey {
 
     // A projection.
     fn projection(&mut self, at: Spot, name: &Name) -> Result<(), NameFault>
-        ensures ok { OnOk result (run self.old (kind_occurrences at (StatementKind.Projection name.now)) ≡ Ok self.new) }
-        ensures err { IfErr result (λ e. fault_in (run self.old (kind_occurrences at (StatementKind.Projection name.now))) ≡ Some e) }
+        ensures { run self.old (kind_occurrences at (StatementKind.Projection name.now)) ≡ outcome self.new result }
     {
         self.assumptions(2, at)?;
         self.name(name, Kind::Map)
@@ -132,8 +122,7 @@ impl Survey {
         at: Spot,
         weights: &[(Name, Number)],
     ) -> Result<(), NameStop>
-        ensures ok { OnOk result (run self.old (kind_occurrences at (StatementKind.Weight weights.now)) ≡ Ok self.new) }
-        ensures err { IfErr result (Explains (fault_in (run self.old (kind_occurrences at (StatementKind.Weight weights.now))))) }
+        ensures { Ends (run self.old (kind_occurrences at (StatementKind.Weight weights.now))) self.new result }
     {
         self.order(at)?;
         self.pairs(alloc, weights, Kind::Map, WEIGHT_LIMIT)
@@ -141,8 +130,7 @@ impl Survey {
 
     // An order by the maps that are eliminated.
     fn eliminated(&mut self, alloc: Global, at: Spot, names: &[Name]) -> Result<(), NameStop>
-        ensures ok { OnOk result (run self.old (kind_occurrences at (StatementKind.Eliminate names.now)) ≡ Ok self.new) }
-        ensures err { IfErr result (Explains (fault_in (run self.old (kind_occurrences at (StatementKind.Eliminate names.now))))) }
+        ensures { Ends (run self.old (kind_occurrences at (StatementKind.Eliminate names.now))) self.new result }
     {
         self.order(at)?;
         self.names(alloc, names)
@@ -156,8 +144,7 @@ impl Survey {
         modulus: &Number,
         sides: &[(Name, Number)],
     ) -> Result<(), NameStop>
-        ensures ok { OnOk result (run self.old (kind_occurrences at (StatementKind.Shape modulus.now sides.now)) ≡ Ok self.new) }
-        ensures err { IfErr result (Explains (fault_in (run self.old (kind_occurrences at (StatementKind.Shape modulus.now sides.now))))) }
+        ensures { Ends (run self.old (kind_occurrences at (StatementKind.Shape modulus.now sides.now))) self.new result }
     {
         self.shape(at)?;
         check_modulus(modulus)?;

@@ -3,7 +3,7 @@
 ghost use Rattle.std.specs.Prelude.{◌≡◌, map, is_some, None, Some, Ok, OnOk, IfErr};
 ghost use Rattle.statement_names.specs.Faults.{kind_in, are_two_objects};
 ghost use Rattle.statement_names.specs.Occurrences.{declares_object, declares_map};
-ghost use Rattle.statement_names.specs.Survey.{fault_at, behind, run, fault_in, declared_before, declared_count};
+ghost use Rattle.statement_names.specs.Survey.{fault_at, behind, run, outcome, Ends, declared_before, declared_count};
 
 use crate::fault::NameFault;
 use crate::kinds::Kind;
@@ -14,8 +14,7 @@ use statement_syntax::Name;
 impl Survey {
     // Objects that are declared.
     pub(crate) fn objects(&mut self, names: &[Name]) -> Result<(), NameFault>
-        ensures ok { OnOk result (run self.old (map (λ name. declares_object name) names.now) ≡ Ok self.new) }
-        ensures err { IfErr result (λ e. fault_in (run self.old (map (λ name. declares_object name) names.now)) ≡ Some e) }
+        ensures { run self.old (map (λ name. declares_object name) names.now) ≡ outcome self.new result }
     {
         for name in names {
             self.object(name)?;
@@ -31,9 +30,7 @@ impl Survey {
         target: &Name,
         selfmade: bool,
     ) -> Result<(), NameFault>
-        ensures ok { OnOk result (run self.old (map (λ name. declares_map name source.now.text target.now.text selfmade) names.now) ≡ Ok self.new) }
-        ensures err { IfErr result (λ e.
-            fault_in (run self.old (map (λ name. declares_map name source.now.text target.now.text selfmade) names.now)) ≡ Some e) }
+        ensures { run self.old (map (λ name. declares_map name source.now.text target.now.text selfmade) names.now) ≡ outcome self.new result }
     {
         for name in names {
             self.map(name, source, target, selfmade)?;

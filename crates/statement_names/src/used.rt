@@ -5,7 +5,7 @@ ghost use Rattle.std.specs.List.{flat_map};
 ghost use Rattle.statement_names.specs.Faults.{Explains, kind_in, is_kind, used_fault};
 ghost use Rattle.statement_names.specs.Occurrences.{lists, names_behind, pairs_behind, used_names, mark_occurrences, primary_occurrences};
 ghost use Rattle.statement_names.specs.Occurrences.{factor_occurrences, term_occurrences, sum_occurrences, sides_occurrences};
-ghost use Rattle.statement_names.specs.Survey.{fault_at, run, fault_in, names_in};
+ghost use Rattle.statement_names.specs.Survey.{fault_at, run, outcome, Ends, names_in};
 ghost use Rattle.statement_names.specs.Uses.{use_of};
 
 use crate::fault::{NameFault, NameStop};
@@ -54,8 +54,7 @@ impl Survey {
 
     // A list of names of maps.
     pub(crate) fn names(&self, alloc: Global, names: &[Name]) -> Result<(), NameStop>
-        ensures ok { OnOk result (run self.now (names_behind Kind.Map [] names.now) ≡ Ok self.now) }
-        ensures err { IfErr result (Explains (fault_in (run self.now (names_behind Kind.Map [] names.now)))) }
+        ensures { Ends (run self.now (names_behind Kind.Map [] names.now)) self.now result }
     {
         let mut listed = Kinds::new(alloc);
         for name in names {
@@ -72,8 +71,7 @@ impl Survey {
         kind: Kind,
         most: u32,
     ) -> Result<(), NameStop>
-        ensures ok { OnOk result (run self.now (pairs_behind kind most [] pairs.now) ≡ Ok self.now) }
-        ensures err { IfErr result (Explains (fault_in (run self.now (pairs_behind kind most [] pairs.now)))) }
+        ensures { Ends (run self.now (pairs_behind kind most [] pairs.now)) self.now result }
     {
         let mut listed = Kinds::new(alloc);
         for pair in pairs {
@@ -92,9 +90,9 @@ impl Survey {
 
     // The names and the exponents in an expression.
     #[cycle(expressions)]
+    #[tactic(auto, using(std::proofs::lemmas::Grind::common_steps, crate::proofs::Runs::run_on, crate::proofs::Flat::sum_flat))]
     pub(crate) fn sum(&self, sum: &Sum) -> Result<(), NameFault>
-        ensures ok { OnOk result (run self.now (sum_occurrences sum.now) ≡ Ok self.now) }
-        ensures err { IfErr result (λ e. fault_in (run self.now (sum_occurrences sum.now)) ≡ Some e) }
+        ensures { run self.now (sum_occurrences sum.now) ≡ outcome self.now result }
     {
         for term in sum.terms.as_slice() {
             self.term(term)?;
@@ -103,9 +101,9 @@ impl Survey {
     }
 
     #[cycle(expressions)]
+    #[tactic(auto, using(std::proofs::lemmas::Grind::common_steps, crate::proofs::Runs::run_on, crate::proofs::Flat::term_flat))]
     fn term(&self, term: &Term) -> Result<(), NameFault>
-        ensures ok { OnOk result (run self.now (term_occurrences term.now) ≡ Ok self.now) }
-        ensures err { IfErr result (λ e. fault_in (run self.now (term_occurrences term.now)) ≡ Some e) }
+        ensures { run self.now (term_occurrences term.now) ≡ outcome self.now result }
     {
         for factor in term.factors.as_slice() {
             self.factor(factor)?;
@@ -114,9 +112,9 @@ impl Survey {
     }
 
     #[cycle(expressions)]
+    #[tactic(auto, using(crate::proofs::Runs::run_on))]
     fn factor(&self, factor: &Factor) -> Result<(), NameFault>
-        ensures ok { OnOk result (run self.now (factor_occurrences factor.now) ≡ Ok self.now) }
-        ensures err { IfErr result (λ e. fault_in (run self.now (factor_occurrences factor.now)) ≡ Some e) }
+        ensures { run self.now (factor_occurrences factor.now) ≡ outcome self.now result }
     {
         self.primary(&factor.primary)?;
         self.exponents(factor.marks.as_slice())
@@ -124,8 +122,7 @@ impl Survey {
 
     #[cycle(expressions)]
     fn primary(&self, primary: &Primary) -> Result<(), NameFault>
-        ensures ok { OnOk result (run self.now (primary_occurrences primary.now) ≡ Ok self.now) }
-        ensures err { IfErr result (λ e. fault_in (run self.now (primary_occurrences primary.now)) ≡ Some e) }
+        ensures { run self.now (primary_occurrences primary.now) ≡ outcome self.now result }
     {
         match primary {
             Primary::Letter(name) => self.name(name, Kind::Map),
@@ -136,8 +133,7 @@ impl Survey {
 
     // The exponents behind a primary.
     fn exponents(&self, marks: &[Mark]) -> Result<(), NameFault>
-        ensures ok { OnOk result (run self.now (flat_map mark_occurrences marks.now) ≡ Ok self.now) }
-        ensures err { IfErr result (λ e. fault_in (run self.now (flat_map mark_occurrences marks.now)) ≡ Some e) }
+        ensures { run self.now (flat_map mark_occurrences marks.now) ≡ outcome self.now result }
     {
         for mark in marks {
             self.exponent(mark)?;
@@ -147,8 +143,7 @@ impl Survey {
 
     // The exponent of a mark that is a power.
     fn exponent(&self, mark: &Mark) -> Result<(), NameFault>
-        ensures ok { OnOk result (run self.now (mark_occurrences mark.now) ≡ Ok self.now) }
-        ensures err { IfErr result (λ e. fault_in (run self.now (mark_occurrences mark.now)) ≡ Some e) }
+        ensures { run self.now (mark_occurrences mark.now) ≡ outcome self.now result }
     {
         match mark {
             Mark::Adjoint => Ok(()),
@@ -157,9 +152,9 @@ impl Survey {
     }
 
     // Both sides of an equation.
+    #[tactic(auto, using(crate::proofs::Runs::run_on))]
     pub(crate) fn sides(&self, left: &Sum, right: &Sum) -> Result<(), NameFault>
-        ensures ok { OnOk result (run self.now (sides_occurrences left.now right.now) ≡ Ok self.now) }
-        ensures err { IfErr result (λ e. fault_in (run self.now (sides_occurrences left.now right.now)) ≡ Some e) }
+        ensures { run self.now (sides_occurrences left.now right.now) ≡ outcome self.now result }
     {
         self.sum(left)?;
         self.sum(right)
@@ -167,8 +162,7 @@ impl Survey {
 
     // Two names that are used.
     pub(crate) fn two(&self, first: &Name, second: &Name, kind: Kind) -> Result<(), NameFault>
-        ensures ok { OnOk result (run self.now (used_names (use_of kind first.now ∷ use_of kind second.now ∷ [])) ≡ Ok self.now) }
-        ensures err { IfErr result (λ e. fault_in (run self.now (used_names (use_of kind first.now ∷ use_of kind second.now ∷ []))) ≡ Some e) }
+        ensures { run self.now (used_names (use_of kind first.now ∷ use_of kind second.now ∷ [])) ≡ outcome self.now result }
     {
         self.name(first, kind)?;
         self.name(second, kind)

@@ -1,10 +1,9 @@
 use Rattle.std.proofs.Common.{◌≡◌, ◌++◌, ◌∷◌, map, drop, None, ap, sym, subst, ◌∙◌, ◌+◌}
-use Rattle.std.proofs.lemmas.List.{take_all}
 use Rattle.quiver.specs.Declarations.{Declaration, object}
 use Rattle.quiver.specs.Refusals.{object_fault}
 use Rattle.statement_names.specs.Types.{Name}
 use Rattle.statement_names.specs.Numbered.{objects_in, AreFirst}
-use Rattle.statement_names.proofs.Items.{map_split}
+use Rattle.statement_names.proofs.Items.{rest_is}
 use Rattle.statement_names.proofs.Fresh.{no_object_fault}
 use Rattle.statement_names.proofs.declarations.add_objects.Goals as goal
 
@@ -16,15 +15,8 @@ declare_object-requires c =
     let names = c.as_slice-name-items.result.now in
     let whole : c.args.quiver.now ++ objects_in c.args.statement.now ≡ c.loop-name.quiver ++ object c.name-item.result.text ∷ map declaration (drop (c.loop-name.name-index + 1) names) =
     ap (λ k. c.args.quiver.now ++ objects_in k) c.in-Objects.is ∙ ap (λ ns. c.args.quiver.now ++ map declaration ns) (sym c.as_slice-name-items.ensures)
-    ∙ map_split names c.loop-name.name-index c.name-item.result c.loop-name-test.true c.name-item.is declaration c.args.quiver.now
-    ∙ ap (λ q. q ++ object c.name-item.result.text ∷ map declaration (drop (c.loop-name.name-index + 1) names)) (sym c.loop-name.invariant) in
+    ∙ sym c.loop-name.invariant
+    ∙ ap (λ ns. c.loop-name.quiver ++ map declaration ns) (rest_is names c.loop-name.name-index c.name-item.result c.loop-name-test.true c.name-item.is) in
     subst (λ t. object_fault c.loop-name.quiver t ≡ None) (sym c.as_str.ensures)
     (no_object_fault c.loop-name.quiver c.name-item.result.text (map declaration (drop (c.loop-name.name-index + 1) names))
     (subst AreFirst whole c.requires))
-
-pub returns-after-loop-name : goal.returns-after-loop-name
-returns-after-loop-name c =
-    let names = c.as_slice-name-items.result.now in
-    c.loop-name.invariant
-    ∙ ap (λ ns. c.args.quiver.now ++ map declaration ns) (take_all c.loop-name.name-index names c.loop-name-test.false ∙ c.as_slice-name-items.ensures)
-    ∙ ap (λ k. c.args.quiver.now ++ objects_in k) (sym c.in-Objects.is)
