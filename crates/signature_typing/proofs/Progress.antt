@@ -1,13 +1,14 @@
 -- How far the lists of a stage are, before an element of a list.
 use Rattle.std.proofs.Common.{◌≡◌, ℕ, ◌+◌, ◌<◌, ◌≤◌, List, [], ◌∷◌, ◌++◌, length, get_or, take, Option, None, refl, sym, ◌∙◌, ap, append_assoc}
 use Rattle.std.specs.List.{flat_map}
+use Rattle.std.proofs.lemmas.Result.{err_from_is_err_and}
 use Rattle.std.proofs.lemmas.List.{take_all, map-append}
 use Rattle.std.proofs.lemmas.List.Concat.{flat_map-append}
 use Rattle.nc_polynomial.specs.declared.poly.Poly.{Poly}
 use Rattle.adjoint_rules.specs.Problem.{polynomials}
 use Rattle.statement_names.proofs.Items.{flat_next}
 use Rattle.signature_typing.specs.First.{first_among}
-use Rattle.signature_typing.proofs.FirstFound.{first_among_none_more}
+use Rattle.signature_typing.proofs.FirstFound.{first_among_none_more, explained_at}
 
 -- What the elements so far give stands behind what was there, and nothing is wrong with them.
 pub record IsSoFar {A B X : Type 0} (gives : A → List X) (wrong : A → Option B) (xs : List A) (i : ℕ) (before now : List X) : Type 0 where
@@ -48,3 +49,6 @@ one_more_statement assumed claimed wrong xs i assumptions claims more_assumption
 -- one more polynomial
 pub polynomials_push : (ps : List Poly) (p : Poly) → polynomials (ps ++ p ∷ []) ≡ polynomials ps ++ p.terms ∷ []
 polynomials_push ps p = map-append (λ r. r.terms) ps (p ∷ [])
+
+-- what a stage gives at its end, and what its first fault explains
+pub ruleset progress = (all_listed, explained_at, err_from_is_err_and)

@@ -50,6 +50,7 @@ fn polynomial_of(
 }
 
 // Adds the polynomials of the equations, whose statement begins at this place.
+#[tactic(auto, using(crate::proofs::Progress::progress))]
 fn push_equations(
     alloc: Global,
     quiver: &Quiver,
@@ -109,6 +110,7 @@ impl Polynomials {
 }
 
 /// The polynomials of the equations of a file, each left minus right, or the first fault of the arithmetic of one.
+#[tactic(auto, using(crate::proofs::Progress::progress))]
 pub(crate) fn polynomials_of(
     alloc: Global,
     quiver: &Quiver,

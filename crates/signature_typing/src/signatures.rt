@@ -81,6 +81,7 @@ fn signature_fault(
     }
 }
 
+#[tactic(auto, using(crate::proofs::Ends::fault_has_objects))]
 fn signature_of(alloc: Global, quiver: &Quiver, left: &Sum, right: &Sum) -> Result<Sig, TypeFault>
     requires left_names { AreNames quiver.now left.now }
     requires right_names { AreNames quiver.now right.now }
@@ -95,6 +96,7 @@ fn signature_of(alloc: Global, quiver: &Quiver, left: &Sum, right: &Sum) -> Resu
 }
 
 // Adds the signatures of the equations.
+#[tactic(auto, using(crate::proofs::Progress::progress))]
 fn push_equations(
     alloc: Global,
     quiver: &Quiver,
@@ -146,6 +148,7 @@ impl Signatures {
 }
 
 /// The signatures of the equations of a file, or the first fault of one.
+#[tactic(auto, using(crate::proofs::Progress::progress))]
 pub(crate) fn signatures_of(
     alloc: Global,
     quiver: &Quiver,

@@ -58,6 +58,7 @@ fn parts_of(alloc: Global, tree: &Tree) -> Result<Parts, TypeFault>
 }
 
 // The signatures and the polynomials of all equations, of which one at least is a claim.
+#[tactic(auto, using(crate::proofs::Posed::ends))]
 fn typed(
     alloc: Global,
     quiver: &Quiver,

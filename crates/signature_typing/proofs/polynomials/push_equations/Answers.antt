@@ -1,15 +1,8 @@
 use Rattle.std.proofs.Common.{◌≡◌, ◌∷◌, [], ap, ◌++◌, ◌∙◌, None, refl, arith}
-use Rattle.std.proofs.lemmas.Result.{err_from_is_err_and}
 use Rattle.adjoint_rules.specs.Problem.{polynomials}
 use Rattle.signature_typing.specs.Typing.{polynomial_in, value_in, polynomial_fault}
-use Rattle.signature_typing.proofs.FirstFound.{explained_at}
 use Rattle.signature_typing.proofs.Progress.{one_more, polynomials_push}
 use Rattle.signature_typing.proofs.polynomials.push_equations.Goals as goal
-
-pub returns-in_err-poly-clause-err : goal.returns-in_err-poly-clause-err
-returns-in_err-poly-clause-err c =
-    let exit = err_from_is_err_and c.from_residual.result c.from_residual.ensures.1 in
-    rw (exit.1, exit.2) (explained_at (polynomial_fault c.args.quiver.now c.args.at) c.args.equations.now c.loop-equation.equation-index c.equation-item.result _ (omega arith) c.equation-item.is c.loop-equation.invariant.fits c.in_err-poly.ensures.err)
 
 pub loop-equation-preserved : goal.loop-equation-preserved
 loop-equation-preserved c =
