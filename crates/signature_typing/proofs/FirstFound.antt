@@ -24,15 +24,13 @@ pub first_among_none_more : {A B : Type 0} (f : A → Option B) (xs : List A) (i
 first_among_none_more f xs i x lt is none here =
     ap (first_among f) (take_next xs i x lt is) ∙ first_among_behind f (take i xs) (x ∷ []) none ∙ option_or-nothing (f x) ∙ here
 
--- what is found from an element on is found in the list
-pub first_among_from : {A B : Type 0} (f : A → Option B) (xs : List A) (i : ℕ) (x : A) → i < length xs → x ≡ get_or xs i x → first_among f (take i xs) ≡ None → first_among f xs ≡ option_or (f x) (first_among f (drop (i + 1) xs))
-first_among_from f xs i x lt is none = ap (first_among f) (items_split xs i x lt is) ∙ first_among_behind f (take i xs) (x ∷ drop (i + 1) xs) none
-
 explained_before : (o p : Option TypeFault) (e : TypeFault) → Explains o e → Explains (option_or o p) e
 explained_before o p (Fault code line column left right limit) is = ap (λ q. option_or q p) is
 explained_before o p (Memory e) is = tt
 
 -- the first fault in a list, where none was found before an element
-pub explained_at : {A : Type 0} (f : A → Option TypeFault) (xs : List A) (i : ℕ) (x : A) (e : TypeFault) → i < length xs → x ≡ get_or xs i x → first_among f (take i xs) ≡ None → Explains (f x) e → Explains (first_among f xs) e
+pub explained_at : {A : Type 0} (f : A → Option TypeFault) (xs : List A) (i : ℕ) (x : A) (e : TypeFault)
+    → i < length xs → x ≡ get_or xs i x → first_among f (take i xs) ≡ None → Explains (f x) e → Explains (first_among f xs) e
 explained_at f xs i x e lt is none found =
-    subst (λ o. Explains o e) (sym (first_among_from f xs i x lt is none)) (explained_before (f x) (first_among f (drop (i + 1) xs)) e found)
+    let behind = ap (first_among f) (items_split xs i x lt is) ∙ first_among_behind f (take i xs) (x ∷ drop (i + 1) xs) none in
+    subst (λ o. Explains o e) (sym behind) (explained_before (f x) (first_among f (drop (i + 1) xs)) e found)
