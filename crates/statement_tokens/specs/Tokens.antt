@@ -37,12 +37,10 @@ end_of line (suc n) = record { at = record { line = line; column = suc n }; kind
 abbrev pub tokens_with : Piece → Spot → ℕ → List Token
 tokens_with line_feed at past = end_of at.line past
 tokens_with return_and_line_feed at past = end_of at.line past
-tokens_with blank at past = []
-tokens_with tab at past = []
-tokens_with (comment cs) at past = []
 tokens_with (name cs) at past = record { at = at; kind = kind.Name (encode_utf8_all cs) } ∷ []
 tokens_with (literal cs) at past = record { at = at; kind = kind.Literal (pos (value_from 0 cs)) } ∷ []
 tokens_with (sign k) at past = record { at = at; kind = k } ∷ []
+tokens_with piece at past = []
 
 -- the column past the last token of the line, behind a piece
 abbrev pub past_behind : Piece → Spot → ℕ → ℕ
