@@ -55,10 +55,6 @@ abbrev pub tokens_at : List Piece → Spot → ℕ → List Token
 tokens_at [] at past = []
 tokens_at (piece ∷ pieces) at past = tokens_with piece at past ++ tokens_at pieces (behind piece at) (past_behind piece at past)
 
--- the tokens of the pieces that a text begins with
-abbrev pub tokens_in : List Piece → List Token
-tokens_in pieces = tokens_at pieces (record { line = 1; column = 1 }) 0
-
 abbrev pub sign_fault : TokenKind → Language → Option ScanFault
 sign_fault kind.Caret First = Some BadToken
 sign_fault k language = None
