@@ -1,5 +1,5 @@
 -- Each statement has a problem or a fault.
-use Rattle.std.proofs.Common.{◌≡◌, ◌⊎◌, inl, inr, List, [], ◌∷◌, length, Option, Some, None, Result, Ok, Err, refl, ap}
+use Rattle.std.proofs.Common.{◌≡◌, ◌⊎◌, inl, inr, List, [], ◌∷◌, length, Option, Some, None, Result, Ok, Err, refl, rules}
 use Rattle.std.specs.Prelude.{⊤}
 use Rattle.std.specs.List.{AllByRecursion}
 use Rattle.std.specs.Option.{option_or, option_map}
@@ -50,16 +50,12 @@ told-first f h (x ∷ xs) = told-or (f x) (first_among f xs) (h x) (told-first f
 -- of names
 told-name : (f : NameFault) → IsMemory (told_name f) → ⊥
 told-name (name.Unknown at) = λ m. m
-told-name (name.Double at) = λ m. m
-told-name (name.TooMany at limit) = λ m. m
-told-name (name.NotSquare at) = λ m. m
-told-name (name.BadNumber at) = λ m. m
+told-name f = λ m. m
 
 -- of signatures
 told-signature : (ds : List Declaration) (f : SignatureFault) → IsMemory (told_signature ds f) → ⊥
-told-signature ds (signature.NotComposable at left right) = λ m. m
-told-signature ds (signature.SumMismatch at left right) = λ m. m
 told-signature ds (signature.OpenZero at) = λ m. m
+told-signature ds f = λ m. m
 
 told-signatures : (ds : List Declaration) (e : Equation) → IsTold (signature_fault ds e)
 told-signatures ds e = go (signature_in ds e)
@@ -95,26 +91,27 @@ module _ (statements : List Statement) (clean : name_fault_of statements ≡ Non
   abbrev ds : List Declaration
   ds = declarations_of statements
 
-  ready : IsReady (declarations_of statements) statements
+  ready : IsReady ds statements
   ready = file_ready statements clean
 
-  quiver : IsQuiver (quiver_of (declarations_of statements))
-  quiver = is_quiver (declarations_of statements) ready.declared ready.objects_first
+  quiver : IsQuiver (quiver_of ds)
+  quiver = is_quiver ds ready.declared ready.objects_first
 
-  told : (o : Option NameFault) → o ≡ None
-      → IsTold (option_or (option_map told_name o) (option_or (first_among (wrong_signature (declarations_of statements)) statements) (option_or (first_among (wrong_polynomial (declarations_of statements)) statements) (wrong_claims (claims_of statements)))))
-  told None is =
-      told-or (first_among (wrong_signature ds) statements) _ (told-first (wrong_signature ds) (λ s. told-first (signature_fault ds) (told-signatures ds) (equations_in ds s)) statements)
-      (told-or (first_among (wrong_polynomial ds) statements) _ (told-first (wrong_polynomial ds) (λ s. told-first (polynomial_fault ds s.at) (told-polynomials ds quiver s.at) (equations_in ds s)) statements) (claims (claims_of statements)))
+  told : IsTold (equation_fault ds statements)
+  told =
+      told-or (first_among (wrong_signature ds) statements) _
+      (told-first (wrong_signature ds) (λ s. told-first (signature_fault ds) (told-signatures ds) (equations_in ds s)) statements)
+      (told-or (first_among (wrong_polynomial ds) statements) _
+      (told-first (wrong_polynomial ds) (λ s. told-first (polynomial_fault ds s.at) (told-polynomials ds quiver s.at) (equations_in ds s)) statements)
+      (claims (claims_of statements)))
     where
       claims : (es : List Equation) → IsTold (wrong_claims es)
       claims [] = λ m. m
       claims (e ∷ es) = tt
-  told (Some f) is = absurd (cc)
 
   -- where nothing else is wrong either
   module _ (fine : fault_of statements ≡ None) where
-    none_wrong : (first_among (wrong_signature (declarations_of statements)) statements ≡ None) × (first_among (wrong_polynomial (declarations_of statements)) statements ≡ None)
+    none_wrong : (first_among (wrong_signature ds) statements ≡ None) × (first_among (wrong_polynomial ds) statements ≡ None)
     none_wrong =
         let behind = both_none (option_map told_name (name_fault_of statements)) (equation_fault ds statements) fine in
         let polys = first_among (wrong_polynomial ds) statements in
@@ -122,40 +119,26 @@ module _ (statements : List Statement) (clean : name_fault_of statements ≡ Non
         let later = both_none (first_among (wrong_signature ds) statements) (option_or polys claims) behind.1 in
         (later.0, (both_none polys claims later.1).0)
 
-    assumed : Made (polynomials_of (declarations_of statements) (assumptions_of (declarations_of statements) statements))
-    assumed = make _ (values-canonical (declarations_of statements) quiver (assumptions_of (declarations_of statements) statements))
-
-    claimed : Made (polynomials_of (declarations_of statements) (claims_of statements))
-    claimed = make _ (values-canonical (declarations_of statements) quiver (claims_of statements))
+    made : (es : List Equation) → Made (polynomials_of ds es)
+    made es = make _ (values-canonical ds quiver es)
 
     parts : Parts
     parts = record {
-      quiver = declarations_of statements;
-      order = order_of (declarations_of statements) statements;
+      quiver = ds;
+      order = order_of ds statements;
       starred = is_starred statements;
-      marked = marked_of (declarations_of statements) statements;
-      assumptions = assumed.polys;
-      sigs = signatures_of (declarations_of statements) (assumptions_of (declarations_of statements) statements);
-      claims = claimed.polys;
-      claim_sigs = signatures_of (declarations_of statements) (claims_of statements);
-      shapes = shapes_of (declarations_of statements) statements;
-      solved = solved_of (declarations_of statements) statements;
+      marked = marked_of ds statements;
+      assumptions = (made (assumptions_of ds statements)).polys;
+      sigs = signatures_of ds (assumptions_of ds statements);
+      claims = (made (claims_of statements)).polys;
+      claim_sigs = signatures_of ds (claims_of statements);
+      shapes = shapes_of ds statements;
+      solved = solved_of ds statements;
     }
 
     are_parts : ArePartsOf statements parts
     unfolding parts
-    are_parts = record {
-      quiver = refl;
-      order = refl;
-      starred = refl;
-      marked = refl;
-      assumptions = assumed.are;
-      signatures = refl;
-      claims = claimed.are;
-      claim_signatures = refl;
-      shapes = refl;
-      solved = refl;
-    }
+    are_parts = search (rules, (made (assumptions_of ds statements)).are, (made (claims_of statements)).are)
 
     problem : (p : Problem) × IsProblemOf statements p
     unfolding parts
@@ -174,14 +157,20 @@ module _ (statements : List Statement) (clean : name_fault_of statements ≡ Non
           record { no_fault = fine; parts = are_parts },
         )
 
-  by_fault : (o : Option TypeFault) → fault_of statements ≡ o → IsTold o → ((fault : TypeFault) × (fault_of statements ≡ Some fault) × (IsMemory fault → ⊥)) ⊎ ((p : Problem) × IsProblemOf statements p)
-  by_fault None fine h = inr (problem fine)
-  by_fault (Some f) is h = inl (f, is, h)
+-- no fault of a file is want of memory
+file_told : (statements : List Statement) (o : Option NameFault) → name_fault_of statements ≡ o
+    → IsTold (option_or (option_map told_name o) (equation_fault (declarations_of statements) statements))
+file_told statements None clean = told statements clean
+file_told statements (Some f) is = told-name f
+
+no_name_fault : (o : Option NameFault) (p : Option TypeFault) → option_or (option_map told_name o) p ≡ None → o ≡ None
+no_name_fault None p fine = refl
+no_name_fault (Some f) p fine = absurd cc
 
 pub each_statement_has_a_problem_or_a_fault : EachStatementHasAProblemOrAFault
-each_statement_has_a_problem_or_a_fault statements = by (name_fault_of statements) refl
+each_statement_has_a_problem_or_a_fault statements = by (fault_of statements) refl (file_told statements (name_fault_of statements) refl)
   where
-    by : (o : Option NameFault) → name_fault_of statements ≡ o → ((fault : TypeFault) × (fault_of statements ≡ Some fault) × (IsMemory fault → ⊥)) ⊎ ((p : Problem) × IsProblemOf statements p)
-    by None clean = by_fault statements clean (fault_of statements) refl (told statements clean (name_fault_of statements) clean)
-    by (Some f) is =
-        inl (told_name f, ap (λ o. option_or (option_map told_name o) (option_or (first_among (wrong_signature (declarations_of statements)) statements) (option_or (first_among (wrong_polynomial (declarations_of statements)) statements) (wrong_claims (claims_of statements))))) is, told-name f)
+    by : (o : Option TypeFault) → fault_of statements ≡ o → IsTold o
+        → ((fault : TypeFault) × (fault_of statements ≡ Some fault) × (IsMemory fault → ⊥)) ⊎ ((p : Problem) × IsProblemOf statements p)
+    by None fine h = inr (problem statements (no_name_fault (name_fault_of statements) (equation_fault (declarations_of statements) statements) fine) fine)
+    by (Some f) is h = inl (f, is, h)

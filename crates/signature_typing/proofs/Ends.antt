@@ -1,9 +1,9 @@
 -- The signature of an equation is between objects, and so is each that its fault tells.
-use Rattle.std.proofs.Common.{◌≡◌, ℕ, Bool, true, false, cond, nat_eq, List, [], ◌∷◌, Option, Some, None, Result, Ok, Err, refl, subst, MatchResult}
+use Rattle.std.proofs.Common.{◌≡◌, ℕ, true, nat_eq, List, [], ◌∷◌, Option, Some, None, Result, Ok, Err, refl, subst, MatchResult}
 use Rattle.std.specs.Option.{IfSome}
-use Rattle.std.proofs.lemmas.Bool.{and_parts}
+use Rattle.std.proofs.lemmas.Bool.{and_parts, cond_both}
 use Rattle.signature_typing.specs.Types.{Named, named, Sig, Spot, Mark, Adjoint, Power, Primary, Identity, Bracket, Term, Term', Row_of-Factor, end_of-Factor}
-use Rattle.signature_typing.specs.Types.{more_of-Factor, Sum, Sum', Row_of-Term, end_of-Term, more_of-Term, SignatureFault, NotComposable, SumMismatch}
+use Rattle.signature_typing.specs.Types.{more_of-Factor, Sum, Sum', Row_of-Term, end_of-Term, more_of-Term, SignatureFault}
 use Rattle.quiver.specs.Declarations.{Declaration, IsDeclared, named_in, quiver_of}
 use Rattle.quiver.proofs.Found.{is_named}
 use Rattle.quiver.proofs.Letters.{letter_is, source-quiver_of, target-quiver_of}
@@ -33,20 +33,13 @@ module _ (ds : List Declaration) (declared : IsDeclared ds) where
   -- marks
   repeated_fine : (first caret : Spot) (s : Option Sig) → IsBetween s → IsFine IsBetween (repeated first caret s)
   repeated_fine first caret None between = tt
-  repeated_fine first caret (Some s) between = go (nat_eq s.source.0 s.target.0)
-    where
-      go : (fits : Bool) → IsFine IsBetween (cond fits (Ok (Some s)) (Err (NotComposable caret s s)))
-      go true = between
-      go false = (between, between)
+  repeated_fine first caret (Some s) between = cond_both (nat_eq s.source.0 s.target.0) _ _ (IsFine IsBetween) (λ _. between) (λ _. (between, between))
 
   mark_fine : (first : Spot) (m : Mark) (s : Option Sig) → IsBetween s → IsFine IsBetween (mark_signature first m s)
   mark_fine first Adjoint None between = tt
   mark_fine first Adjoint (Some s) between = record { source = between.target; target = between.source }
-  mark_fine first (Power caret exponent) s between = go (is_repeated exponent.value)
-    where
-      go : (repeats : Bool) → IsFine IsBetween (cond repeats (repeated first caret s) (Ok s))
-      go true = repeated_fine first caret s between
-      go false = between
+  mark_fine first (Power caret exponent) s between =
+      cond_both (is_repeated exponent.value) _ _ (IsFine IsBetween) (λ _. repeated_fine first caret s between) (λ _. between)
 
   marked_fine : (first : Spot) (marks : List Mark) (s : Option Sig) → IsBetween s → IsFine IsBetween (marked_signature first marks s)
   marked_fine first [] s between = between
@@ -58,11 +51,8 @@ module _ (ds : List Declaration) (declared : IsDeclared ds) where
   product_step_fine (Err fault) at next fine between = fine
   product_step_fine (Ok so_far) at None fine between = tt
   product_step_fine (Ok None) at (Some s) fine between = between
-  product_step_fine (Ok (Some left)) at (Some right) fine between = go (nat_eq left.source.0 right.target.0)
-    where
-      go : (fits : Bool) → IsFine IsBetween (cond fits (Ok (Some (from_to right.source.0 left.target.0))) (Err (NotComposable at left right)))
-      go true = record { source = between.source; target = fine.target }
-      go false = (fine, between)
+  product_step_fine (Ok (Some left)) at (Some right) fine between =
+      cond_both (nat_eq left.source.0 right.target.0) _ _ (IsFine IsBetween) (λ _. record { source = between.source; target = fine.target }) (λ _. (fine, between))
 
   product_from_fine : (so_far : Result (Option Sig) SignatureFault) (parts : List Part) → IsFine IsBetween so_far → AreBetween parts → IsFine IsBetween (product_from so_far parts)
   product_from_fine so_far [] fine between = fine
@@ -78,11 +68,7 @@ module _ (ds : List Declaration) (declared : IsDeclared ds) where
   sum_step_fine (Err fault) at next fine between = fine
   sum_step_fine (Ok so_far) at None fine between = fine
   sum_step_fine (Ok None) at (Some s) fine between = between
-  sum_step_fine (Ok (Some before)) at (Some s) fine between = go (same_ends before s)
-    where
-      go : (fits : Bool) → IsFine IsBetween (cond fits (Ok (Some before)) (Err (SumMismatch at before s)))
-      go true = fine
-      go false = (fine, between)
+  sum_step_fine (Ok (Some before)) at (Some s) fine between = cond_both (same_ends before s) _ _ (IsFine IsBetween) (λ _. fine) (λ _. (fine, between))
 
   sum_from_fine : (so_far : Result (Option Sig) SignatureFault) (parts : List Part) → IsFine IsBetween so_far → AreBetween parts → IsFine IsBetween (sum_from so_far parts)
   sum_from_fine so_far [] fine between = fine
@@ -92,11 +78,7 @@ module _ (ds : List Declaration) (declared : IsDeclared ds) where
   sides_fine at_left at_right None None left right = tt
   sides_fine at_left at_right None (Some t) left right = right
   sides_fine at_left at_right (Some s) None left right = left
-  sides_fine at_left at_right (Some s) (Some t) left right = go (same_ends s t)
-    where
-      go : (fits : Bool) → IsFine (HasObjects ds) (cond fits (Ok s) (Err (SumMismatch at_right s t)))
-      go true = left
-      go false = (left, right)
+  sides_fine at_left at_right (Some s) (Some t) left right = cond_both (same_ends s t) _ _ (IsFine (HasObjects ds)) (λ _. left) (λ _. (left, right))
 
   -- names
   letter_between : (name : List ℕ) (found : Option Named) → named_in ds name ≡ found → is_map found ≡ true → HasObjects ds (letter_signature (quiver_of ds) (letter_number found))

@@ -1,38 +1,32 @@
 -- The first thing that is found in a list, step by step.
-use Rattle.std.proofs.Common.{◌≡◌, ℕ, ◌+◌, ◌<◌, List, [], ◌∷◌, ◌++◌, length, get_or, take, drop, Option, Some, None, refl, sym, ◌∙◌, ap, subst}
+use Rattle.std.proofs.Common.{◌≡◌, ℕ, ◌+◌, ◌<◌, List, [], ◌∷◌, ◌++◌, length, get_or, take, drop, Option, None, refl, sym, ◌∙◌, ap, subst}
 use Rattle.std.specs.Option.{option_or}
 use Rattle.statement_names.proofs.Items.{take_next, items_split}
 use Rattle.statement_names.proofs.KindsFound.{option_or-nothing}
 use Rattle.signature_typing.specs.Types.{TypeFault, Fault, Memory}
 use Rattle.signature_typing.specs.First.{first_among}
 use Rattle.signature_typing.specs.Fault.{Explains}
-
-pub option_or_assoc : {B : Type 0} (o p r : Option B) → option_or (option_or o p) r ≡ option_or o (option_or p r)
-option_or_assoc None p r = refl
-option_or_assoc (Some x) p r = refl
-
-pub first_among-append : {A B : Type 0} (f : A → Option B) (xs ys : List A) → first_among f (xs ++ ys) ≡ option_or (first_among f xs) (first_among f ys)
-first_among-append f [] ys = refl
-first_among-append f (x ∷ xs) ys = ap (option_or (f x)) (first_among-append f xs ys) ∙ sym (option_or_assoc (f x) (first_among f xs) (first_among f ys))
+use Rattle.signature_typing.proofs.Values.{both_none}
 
 -- nothing is found before an element, so what is found in the list is found from the element on
-pub first_among_behind : {A B : Type 0} (f : A → Option B) (xs ys : List A) → first_among f xs ≡ None → first_among f (xs ++ ys) ≡ first_among f ys
-first_among_behind f xs ys none = first_among-append f xs ys ∙ ap (λ o. option_or o (first_among f ys)) none
+first_among_behind : {A B : Type 0} (f : A → Option B) (xs ys : List A) → first_among f xs ≡ None → first_among f (xs ++ ys) ≡ first_among f ys
+first_among_behind f [] ys none = refl
+first_among_behind f (x ∷ xs) ys none =
+    let both = both_none (f x) (first_among f xs) none in
+    rw (both.0) (first_among_behind f xs ys both.1)
 
 -- one more element in which nothing is found
 pub first_among_none_more : {A B : Type 0} (f : A → Option B) (xs : List A) (i : ℕ) (x : A) → i < length xs → x ≡ get_or xs i x → first_among f (take i xs) ≡ None → f x ≡ None → first_among f (take (i + 1) xs) ≡ None
 first_among_none_more f xs i x lt is none here =
     ap (first_among f) (take_next xs i x lt is) ∙ first_among_behind f (take i xs) (x ∷ []) none ∙ option_or-nothing (f x) ∙ here
 
--- what is found from an element on is found in the list
-pub first_among_from : {A B : Type 0} (f : A → Option B) (xs : List A) (i : ℕ) (x : A) → i < length xs → x ≡ get_or xs i x → first_among f (take i xs) ≡ None → first_among f xs ≡ option_or (f x) (first_among f (drop (i + 1) xs))
-first_among_from f xs i x lt is none = ap (first_among f) (items_split xs i x lt is) ∙ first_among_behind f (take i xs) (x ∷ drop (i + 1) xs) none
-
 explained_before : (o p : Option TypeFault) (e : TypeFault) → Explains o e → Explains (option_or o p) e
 explained_before o p (Fault code line column left right limit) is = ap (λ q. option_or q p) is
 explained_before o p (Memory e) is = tt
 
 -- the first fault in a list, where none was found before an element
-pub explained_at : {A : Type 0} (f : A → Option TypeFault) (xs : List A) (i : ℕ) (x : A) (e : TypeFault) → i < length xs → x ≡ get_or xs i x → first_among f (take i xs) ≡ None → Explains (f x) e → Explains (first_among f xs) e
+pub explained_at : {A : Type 0} (f : A → Option TypeFault) (xs : List A) (i : ℕ) (x : A) (e : TypeFault)
+    → i < length xs → x ≡ get_or xs i x → first_among f (take i xs) ≡ None → Explains (f x) e → Explains (first_among f xs) e
 explained_at f xs i x e lt is none found =
-    subst (λ o. Explains o e) (sym (first_among_from f xs i x lt is none)) (explained_before (f x) (first_among f (drop (i + 1) xs)) e found)
+    let behind = ap (first_among f) (items_split xs i x lt is) ∙ first_among_behind f (take i xs) (x ∷ drop (i + 1) xs) none in
+    subst (λ o. Explains o e) (sym behind) (explained_before (f x) (first_among f (drop (i + 1) xs)) e found)

@@ -1,11 +1,12 @@
 -- What is asked of the parts of a statement has generators.
-use Rattle.std.proofs.Common.{◌≡◌, ℕ, pos, negsuc, Bool, true, false, cond, ◌||◌, eqb, leb, List, [], ◌∷◌, ◌++◌, length, refl, sym, ap, subst, arith}
+use Rattle.std.proofs.Common.{◌≡◌, ℕ, pos, negsuc, Bool, ◌||◌, eqb, leb, List, [], ◌∷◌, ◌++◌, length, refl, sym, ap, subst, arith}
+use Rattle.std.proofs.lemmas.Bool.{cond_both}
 use Rattle.std.specs.List.{AllByRecursion, AllZip, flat_map, range_with_len}
 use Rattle.std.specs.declared.cmp.Ordering.TheVariants.{Greater}
 use Rattle.word_core.specs.Canonical.{word_cmp}
 use Rattle.definitions.specs.Poly.{Poly, SamePolynomial, poly_eq, poly_multiple}
 use Rattle.definitions.specs.Quiver.{Quiver, IsQuiver, source, target, star}
-use Rattle.definitions.specs.Generators.{adjoint_poly, new_adjoint, left_unit, right_unit, letter_units, units, generators_of}
+use Rattle.definitions.specs.Generators.{adjoint_poly, new_adjoint, left_unit, letter_units, units, generators_of}
 use Rattle.definitions.proofs.Adjoints.{adjoint_word-adjoint_word}
 use Rattle.definitions.proofs.UnitSound.{all-append, all-flat_map}
 use Rattle.nc_polynomial.specs.declared.poly.Poly as made
@@ -42,23 +43,11 @@ canonical-unit u a two above =
 canonical-left : (v a : ℕ) → IsCanonical (left_unit v a)
 canonical-left v a = canonical-unit (v ∷ a ∷ []) a refl refl
 
-canonical-right : (v a : ℕ) → IsCanonical (right_unit v a)
-canonical-right v a = canonical-unit (a ∷ v ∷ []) a refl refl
-
 canonical-letter_units : (q : Quiver) (starred : Bool) (v a : ℕ) → AllByRecursion IsCanonical (letter_units q starred v a)
-canonical-letter_units q starred v a = outer (starred || leb a (star q a))
-  where
-    left : (b : Bool) → AllByRecursion IsCanonical (cond b (left_unit v a ∷ []) [])
-    left true = (canonical-left v a, tt)
-    left false = tt
-
-    right : (b : Bool) → AllByRecursion IsCanonical (cond b (right_unit v a ∷ []) [])
-    right true = (canonical-right v a, tt)
-    right false = tt
-
-    outer : (b : Bool) → AllByRecursion IsCanonical (cond b ((cond (eqb (target q a) v) (left_unit v a ∷ []) []) ++ (cond (eqb (source q a) v) (right_unit v a ∷ []) [])) [])
-    outer true = all-append IsCanonical _ _ (left (eqb (target q a) v)) (right (eqb (source q a) v))
-    outer false = tt
+canonical-letter_units q starred v a =
+    cond_both (starred || leb a (star q a)) _ [] (AllByRecursion IsCanonical)
+    (λ _. all-append IsCanonical _ _ (cond_both (eqb (target q a) v) _ [] (AllByRecursion IsCanonical) (λ _. (canonical-left v a, tt)) (λ _. tt))
+    (cond_both (eqb (source q a) v) _ [] (AllByRecursion IsCanonical) (λ _. (canonical-unit (a ∷ v ∷ []) a refl refl, tt)) (λ _. tt))) (λ _. tt)
 
 canonical-units : (q : Quiver) (starred : Bool) (v : ℕ) → AllByRecursion IsCanonical (units q starred v)
 canonical-units q starred v = (canonical-left v v, all-flat_map IsCanonical (letter_units q starred v) (λ a. canonical-letter_units q starred v a) (range_with_len q.objects _))
@@ -77,15 +66,12 @@ closed-append ps qs c d = record { list = c.list ++ d.list; canonical = all-appe
 
 module _ (q : Quiver) (quiver : IsQuiver q) where
   closed-adjoint : (p : Poly) → IsCanonical p → Closed (new_adjoint q p)
-  closed-adjoint p h = go (poly_eq (adjoint_poly q p) p || poly_eq (adjoint_poly q p) (poly_multiple (negsuc 0) p))
-    where
-      go : (b : Bool) → Closed (cond b [] (adjoint_poly q p ∷ []))
-      go true = record { list = []; canonical = tt; same = tt }
-      go false = record {
+  closed-adjoint p h =
+      cond_both (poly_eq (adjoint_poly q p) p || poly_eq (adjoint_poly q p) (poly_multiple (negsuc 0) p)) [] _ Closed (λ _. closed-itself [] tt) (λ _. record {
         list = collected (adjoint_poly q p) ∷ [];
         canonical = (canonical-adjoint q (adjoint_word-adjoint_word q quiver) p h, tt);
         same = (record { at = coefficient_of-collected (adjoint_poly q p) }, tt);
-      }
+      })
 
   closed-adjoints : (ps : List Poly) → AllByRecursion IsCanonical ps → Closed (flat_map (new_adjoint q) ps)
   closed-adjoints [] h = closed-itself [] tt
@@ -93,11 +79,9 @@ module _ (q : Quiver) (quiver : IsQuiver q) where
 
   closed-generators : (starred : Bool) (marked : List ℕ) (ps : List Poly) → AllByRecursion IsCanonical ps → Closed (generators_of q starred marked ps)
   closed-generators starred marked ps h =
-      closed-append ps _ (closed-itself ps h) (closed-append _ (flat_map (units q starred) marked) (adjoints starred) (closed-itself (flat_map (units q starred) marked) (all-flat_map IsCanonical (units q starred) (canonical-units q starred) marked)))
-    where
-      adjoints : (b : Bool) → Closed (cond b (flat_map (new_adjoint q) ps) [])
-      adjoints true = closed-adjoints ps h
-      adjoints false = closed-itself [] tt
+      closed-append ps _ (closed-itself ps h) (closed-append _ (flat_map (units q starred) marked)
+      (cond_both starred (flat_map (new_adjoint q) ps) [] Closed (λ _. closed-adjoints ps h) (λ _. closed-itself [] tt))
+      (closed-itself (flat_map (units q starred) marked) (all-flat_map IsCanonical (units q starred) (canonical-units q starred) marked)))
 
 pub record Generators (p : Parts) : Type 0 where
   pub list : List made.Poly

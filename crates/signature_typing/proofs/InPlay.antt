@@ -60,62 +60,43 @@ claims_starred : (kind : StatementKind) → AreStarred kind (claims_in kind)
 claims_starred (statement.Claim left right) = (λ is. is, tt)
 claims_starred kind = tt
 
--- those of all statements
-all_starred : (part : Statement → List Equation) → ((s : Statement) → AreStarred s.kind (part s)) → (xs : List Statement)
-    → AllByRecursion (λ e. is_starred_equation e ≡ true → is_starred xs ≡ true) (flat_map part xs)
-all_starred part each [] = tt
-all_starred part each (x ∷ xs) =
-    Each-append (λ e. is_starred_equation e ≡ true → is_starred (x ∷ xs) ≡ true) (part x) (flat_map part xs)
-    (Each-weaker (λ e. is_starred_equation e ≡ true → is_starred_in x.kind ≡ true) (λ e. is_starred_equation e ≡ true → is_starred (x ∷ xs) ≡ true) (part x)
-    (λ e here mark. or_left (is_starred_in x.kind) (is_starred xs) (here mark)) (each x))
-    (Each-weaker (λ e. is_starred_equation e ≡ true → is_starred xs ≡ true) (λ e. is_starred_equation e ≡ true → is_starred (x ∷ xs) ≡ true) (flat_map part xs)
-    (λ e later mark. or_right (is_starred_in x.kind) (is_starred xs) (later mark)) (all_starred part each xs))
+module _ (ds : List Declaration) where
+  -- what a statement counts of an equation
+  record IsCountedIn (s : Statement) (e : Equation) : Type 0 where
+    starred : is_starred_equation e ≡ true → is_starred_in s.kind ≡ true
+    marked : (v : ℕ) → writes_identity ds v e ≡ true → list_any (writes_identity ds v) (stated_by ds s) ≡ true
 
--- a test of an element is a test of some element of the list
-each_found : {V A : Type 0} (test : V → A → Bool) (xs : List A) → AllByRecursion (λ x. (v : V) → test v x ≡ true → list_any (test v) xs ≡ true) xs
-each_found test [] = tt
-each_found test (x ∷ xs) = (
-  λ v is. or_left (test v x) (list_any (test v) xs) is,
-  Each-weaker (λ y. (v : _) → test v y ≡ true → list_any (test v) xs ≡ true) (λ y. (v : _) → test v y ≡ true → list_any (test v) (x ∷ xs) ≡ true) xs
-      (λ y later v is. or_right (test v x) (list_any (test v) xs) (later v is)) (each_found test xs),
-)
+  counted_in : (s : Statement) (es : List Equation) → AreStarred s.kind es
+      → ((v : ℕ) → list_any (writes_identity ds v) es ≡ true → list_any (writes_identity ds v) (stated_by ds s) ≡ true) → AllByRecursion (IsCountedIn s) es
+  counted_in s [] starred marked = tt
+  counted_in s (e ∷ es) starred marked = (
+    record { starred = starred.0; marked = λ v is. marked v (or_left _ _ is) },
+    counted_in s es starred.1 (λ v is. marked v (or_right (writes_identity ds v e) _ is)),
+  )
+
+  -- what each statement counts of a part of it is counted by the file
+  all_counted : (part : Statement → List Equation) → ((s : Statement) → AllByRecursion (IsCountedIn s) (part s)) → (xs : List Statement)
+      → AllByRecursion (IsCounted ds xs) (flat_map part xs)
+  all_counted part each [] = tt
+  all_counted part each (x ∷ xs) =
+      Each-append (IsCounted ds (x ∷ xs)) (part x) (flat_map part xs)
+      (Each-weaker (IsCountedIn x) (IsCounted ds (x ∷ xs)) (part x) (λ e here. record {
+        starred = λ mark. or_left (is_starred_in x.kind) (is_starred xs) (here.starred mark);
+        marked = λ v is. list_any-append (writes_identity ds v) (stated_by ds x) (all_equations ds xs) ∙ or_left _ _ (here.marked v is);
+      }) (each x))
+      (Each-weaker (IsCounted ds xs) (IsCounted ds (x ∷ xs)) (flat_map part xs) (λ e later. record {
+        starred = λ mark. or_right (is_starred_in x.kind) (is_starred xs) (later.starred mark);
+        marked = λ v is. list_any-append (writes_identity ds v) (stated_by ds x) (all_equations ds xs) ∙ or_right _ _ (later.marked v is);
+      }) (all_counted part each xs))
 
 module _ (ds : List Declaration) (statements : List Statement) where
-  -- an identity that the equation writes is written in some of these
-  abbrev Writes : List Equation → Equation → Type 0
-  Writes es e = (v : ℕ) → writes_identity ds v e ≡ true → list_any (writes_identity ds v) es ≡ true
-
-  -- what part of each statement writes is written by the file
-  all_identified : (part : Statement → List Equation) → ((s : Statement) → AllByRecursion (Writes (stated_by ds s)) (part s))
-      → (xs : List Statement) → AllByRecursion (Writes (all_equations ds xs)) (flat_map part xs)
-  all_identified part each [] = tt
-  all_identified part each (x ∷ xs) =
-      Each-append (Writes (all_equations ds (x ∷ xs))) (part x) (flat_map part xs)
-      (Each-weaker (Writes (stated_by ds x)) (Writes (all_equations ds (x ∷ xs))) (part x)
-      (λ e here v is. list_any-append (writes_identity ds v) (stated_by ds x) (all_equations ds xs) ∙ or_left _ _ (here v is)) (each x))
-      (Each-weaker (Writes (all_equations ds xs)) (Writes (all_equations ds (x ∷ xs))) (flat_map part xs)
-      (λ e later v is. list_any-append (writes_identity ds v) (stated_by ds x) (all_equations ds xs) ∙ or_right _ _ (later v is)) (all_identified part each xs))
-
-  assumptions_identified : AllByRecursion (Writes (all_equations ds statements)) (assumptions_of ds statements)
-  assumptions_identified = all_identified (equations_of ds)
-      (λ s. Each-weaker (Writes (equations_of ds s)) (Writes (stated_by ds s)) (equations_of ds s)
-      (λ e found v is. list_any-append (writes_identity ds v) (equations_of ds s) (claims_in s.kind) ∙ or_left _ _ (found v is)) (each_found (writes_identity ds) (equations_of ds s))) statements
-
-  claims_identified : AllByRecursion (Writes (all_equations ds statements)) (claims_of statements)
-  claims_identified = all_identified (λ s. claims_in s.kind)
-      (λ s. Each-weaker (Writes (claims_in s.kind)) (Writes (stated_by ds s)) (claims_in s.kind)
-      (λ e found v is. list_any-append (writes_identity ds v) (equations_of ds s) (claims_in s.kind) ∙ or_right _ _ (found v is)) (each_found (writes_identity ds) (claims_in s.kind))) statements
-
-  counted : (es : List Equation) → AllByRecursion (λ e. is_starred_equation e ≡ true → is_starred statements ≡ true) es
-      → AllByRecursion (Writes (all_equations ds statements)) es → AllByRecursion (IsCounted ds statements) es
-  counted [] starred identified = tt
-  counted (e ∷ es) starred identified = (record { starred = starred.0; marked = identified.0 }, counted es starred.1 identified.1)
-
   pub assumptions_counted : AllByRecursion (IsCounted ds statements) (assumptions_of ds statements)
-  assumptions_counted = counted (assumptions_of ds statements) (all_starred (equations_of ds) (λ s. equations_starred ds s.at s.kind) statements) assumptions_identified
+  assumptions_counted = all_counted ds (equations_of ds) (λ s. counted_in ds s (equations_of ds s) (equations_starred ds s.at s.kind)
+      (λ v is. list_any-append (writes_identity ds v) (equations_of ds s) (claims_in s.kind) ∙ or_left _ _ is)) statements
 
   pub claims_counted : AllByRecursion (IsCounted ds statements) (claims_of statements)
-  claims_counted = counted (claims_of statements) (all_starred (λ s. claims_in s.kind) (λ s. claims_starred s.kind) statements) claims_identified
+  claims_counted = all_counted ds (λ s. claims_in s.kind) (λ s. counted_in ds s (claims_in s.kind) (claims_starred s.kind)
+      (λ v is. list_any-append (writes_identity ds v) (equations_of ds s) (claims_in s.kind) ∙ or_right _ _ is)) statements
 
   -- letters
   numbers_of_objects : (xs : List ℕ) → numbers (map an_object xs) ≡ xs

@@ -1,23 +1,20 @@
 -- What a file says, where nothing is wrong with it, can be made a problem.
-use Rattle.std.proofs.Common.{◌≡◌, ◌≢◌, List, [], ◌∷◌, length, Option, Some, None, refl, sym, ap, subst, ◌∙◌, arith}
+use Rattle.std.proofs.Common.{◌≡◌, ◌≢◌, List, [], ◌∷◌, length, Some, None, refl, sym, ap, subst, ◌∙◌, arith, map-id}
 use Rattle.std.specs.List.{All, AllByRecursion, AllZip}
-use Rattle.std.specs.Option.{option_or, option_map}
 use Rattle.std.proofs.lemmas.List.{length-map}
 use Rattle.std.proofs.lemmas.List.Elements.{All-from_recursion, recursion_from_All, All-weaker, All-head}
 use Rattle.definitions.specs.Poly.{Poly}
 use Rattle.nc_polynomial.specs.declared.poly.Poly as made
 use Rattle.quiver.specs.Declarations.{Declaration}
-use Rattle.signature_typing.specs.Types.{Statement, Equation, NameFault, Parts, TypeFault, StatementKind}
-use Rattle.statement_names.specs.Faults.{name_fault_of}
+use Rattle.signature_typing.specs.Types.{Statement, Equation, Parts, StatementKind}
 use Rattle.statement_names.specs.Marked.{is_starred, marked_of}
-use Rattle.statement_names.specs.Numbered.{declarations_of}
 use Rattle.statement_names.specs.Ready.{HasNames, IsReady}
 use Rattle.abbreviations.specs.Written.{equations_of, assumptions_of, claims_in, claims_of}
 use Rattle.expressions.specs.Laws.{EquationsAreTyped, LettersAreWritten, IsWritten}
 use Rattle.adjoint_rules.specs.Problem.{polynomials, numbers, IsInPlay, HasLettersInPlay, HasObjects, IsTypedOf, IsPosed}
 use Rattle.signature_typing.specs.First.{first_among}
-use Rattle.signature_typing.specs.Fault.{told_name, told_signature, told_polynomial, no_claim}
-use Rattle.signature_typing.specs.Typing.{signature_in, polynomial_in, signatures_of, polynomials_of, equations_in, wrong_signature, wrong_polynomial, wrong_claims, equation_fault, fault_of, ArePartsOf}
+use Rattle.signature_typing.specs.Fault.{told_signature, told_polynomial, no_claim}
+use Rattle.signature_typing.specs.Typing.{signature_in, polynomial_in, signatures_of, polynomials_of, equations_in, wrong_signature, wrong_polynomial, wrong_claims, ArePartsOf}
 use Rattle.signature_typing.specs.Named.{AreNamed}
 use Rattle.statement_names.proofs.Each.{Each-unmap}
 use Rattle.signature_typing.proofs.Each.{each_part, each_with_both}
@@ -115,23 +112,6 @@ posed typed written statements p parts ready no_signature no_polynomial =
       solved_ascending = rw parts.solved ready.solved_ascending;
     }
 
--- its first fault
-last_fault : (signatures polys claims : Option TypeFault) → signatures ≡ None → polys ≡ None → option_or signatures (option_or polys claims) ≡ claims
-last_fault signatures polys claims no_signature no_polynomial = rw (no_signature, no_polynomial) refl
-
-behind_names : (names : Option NameFault) (later : Option TypeFault) → names ≡ None → option_or (option_map told_name names) later ≡ later
-behind_names names later no_name = rw no_name refl
-
--- where all stages but the last have none
-pub equation_fault_of_claims : (statements : List Statement) (ds : List Declaration)
-    → first_among (wrong_signature ds) statements ≡ None → first_among (wrong_polynomial ds) statements ≡ None → equation_fault ds statements ≡ wrong_claims (claims_of statements)
-equation_fault_of_claims statements ds = last_fault (first_among (wrong_signature ds) statements) (first_among (wrong_polynomial ds) statements) (wrong_claims (claims_of statements))
-
--- where names have none
-pub fault_of_equations : (statements : List Statement) (ds : List Declaration) → ds ≡ declarations_of statements → name_fault_of statements ≡ None → fault_of statements ≡ equation_fault ds statements
-fault_of_equations statements ds is no_name =
-    behind_names (name_fault_of statements) (equation_fault (declarations_of statements) statements) no_name ∙ ap (λ es. equation_fault es statements) (sym is)
-
 pub some_claims : (es : List Equation) → length es ≢ 0 → wrong_claims es ≡ None
 some_claims [] some = absurd (some refl)
 some_claims (e ∷ es) some = refl
@@ -139,3 +119,6 @@ some_claims (e ∷ es) some = refl
 pub no_claims : (es : List Equation) → length es ≡ 0 → wrong_claims es ≡ Some no_claim
 no_claims [] none = refl
 no_claims (e ∷ es) none = absurd (omega arith)
+
+-- what is known of a file by whether it has claims
+pub ruleset ends = (claim_count, some_claims, no_claims, map-id)

@@ -1,11 +1,12 @@
 -- How far the lists of a stage are, before an element of a list.
 use Rattle.std.proofs.Common.{◌≡◌, ℕ, ◌+◌, ◌<◌, ◌≤◌, List, [], ◌∷◌, ◌++◌, map, length, get_or, take, Option, None, refl, sym, ◌∙◌, ap, append_assoc}
 use Rattle.std.specs.List.{flat_map}
+use Rattle.std.proofs.lemmas.Result.{err_from_is_err_and}
 use Rattle.std.proofs.lemmas.List.{take_all, map-append}
 use Rattle.std.proofs.lemmas.List.Concat.{flat_map-append}
 use Rattle.statement_names.proofs.Items.{flat_next}
 use Rattle.signature_typing.specs.First.{first_among}
-use Rattle.signature_typing.proofs.FirstFound.{first_among_none_more}
+use Rattle.signature_typing.proofs.FirstFound.{first_among_none_more, explained_at}
 
 -- What the elements so far give stands behind what was there, and nothing is wrong with them.
 pub record IsSoFar {A B X : Type 0} (gives : A → List X) (wrong : A → Option B) (xs : List A) (i : ℕ) (before now : List X) : Type 0 where
@@ -46,3 +47,6 @@ one_more_statement assumed claimed wrong xs i assumptions claims more_assumption
 -- what is said of one more
 pub said_push : {V X : Type 0} (said : V → X) (vs : List V) (v : V) → map said (vs ++ v ∷ []) ≡ map said vs ++ said v ∷ []
 said_push said vs v = map-append said vs (v ∷ [])
+
+-- what a stage gives at its end, and what its first fault explains
+pub ruleset progress = (all_listed, explained_at, err_from_is_err_and)

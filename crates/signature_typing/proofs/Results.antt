@@ -39,10 +39,6 @@ pub gives-bind : {A B : Type 0} (P : A → Type 0) (Q : B → Type 0) (r : Resul
 gives-bind P Q (Ok x) f h k = k x h
 gives-bind P Q (Err e) f h k = h
 
-gives-then : (P : Poly → Type 0) (r : Result Poly PolyFault) (f : Poly → Result Poly PolyFault) → Gives P r → ((p : Poly) → P p → Gives P (f p)) → Gives P (and_then r f)
-gives-then P (Ok p) f h k = k p h
-gives-then P (Err e) f h k = h
-
 -- within the limits, by recursion on the terms
 pub canonical_by : (p : Poly) → Descends p → AllByRecursion (λ (t : term). t.0 ≢ pos 0) p → AllByRecursion (λ (t : term). IsCoefficient t.0) p
     → AllByRecursion (λ (t : term). length t.1 ≤ 500) p → length p ≤ 20000 → IsCanonical p
@@ -98,12 +94,12 @@ combined-gives a p b q h k =
 -- products
 step-gives : (sum : Poly) (t : term) (q : Poly) → IsCanonical sum → IsCanonical q → Gives IsCanonical (product_step sum t q)
 step-gives sum t q h k =
-    gives-then IsCanonical (sized (poly_between t.1 q [])) (λ moved. combined (pos 1) sum t.0 moved) (sized-gives (poly_between t.1 q []) (shaped-between t.1 [] q k.shaped))
+    gives-bind IsCanonical IsCanonical (sized (poly_between t.1 q [])) (λ moved. combined (pos 1) sum t.0 moved) (sized-gives (poly_between t.1 q []) (shaped-between t.1 [] q k.shaped))
     (λ moved m. combined-gives (pos 1) sum t.0 moved h.shaped m.shaped)
 
 steps-give : (sum p q : Poly) → IsCanonical sum → IsCanonical q → Gives IsCanonical (product.product_from sum p q)
 steps-give sum [] q h k = h
-steps-give sum (t ∷ p) q h k = gives-then IsCanonical (product_step sum t q) (λ next. product.product_from next p q) (step-gives sum t q h k) (λ next m. steps-give next p q m k)
+steps-give sum (t ∷ p) q h k = gives-bind IsCanonical IsCanonical (product_step sum t q) (λ next. product.product_from next p q) (step-gives sum t q h k) (λ next m. steps-give next p q m k)
 
 product-gives : (p q : Poly) → IsCanonical q → Gives IsCanonical (product_result p q)
 product-gives p q k = steps-give [] p q canonical_none k

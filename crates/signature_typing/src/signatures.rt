@@ -80,6 +80,7 @@ impl Stage for Signatures {
 
     ghost said = { λ _ signature. signature };
 
+    #[tactic(auto, using(crate::proofs::Ends::fault_has_objects))]
     fn value_of(
         &self,
         alloc: Global,

@@ -51,6 +51,7 @@ pub(crate) struct Stated<V: Drop> {
 }
 
 // Adds what is made of the equations, whose statement begins at this place.
+#[tactic(auto, using(crate::proofs::Progress::progress))]
 fn push_equations<S: Stage>(
     alloc: Global,
     stage: &S,
@@ -112,6 +113,7 @@ fn push_statement<S: Stage>(
 }
 
 /// What the stage makes of the equations of a file, or the first fault that it finds.
+#[tactic(auto, using(crate::proofs::Progress::progress))]
 pub(crate) fn all_stated<S: Stage>(
     alloc: Global,
     stage: &S,

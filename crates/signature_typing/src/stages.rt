@@ -39,27 +39,23 @@ fn parts_of(alloc: Global, tree: &Tree) -> Result<Parts, TypeFault>
     ensures refused { IfErr result (Explains (fault_of tree.now.statements)) }
 {
     let names = read_names(alloc, tree)?;
-    match typed(alloc, &names.quiver, tree.statements.as_slice()) {
-        Ok((signatures, polynomials)) => Ok(Parts {
-            quiver: names.quiver,
-            order: names.order,
-            starred: names.starred,
-            marked: names.marked,
-            assumptions: polynomials.assumptions,
-            sigs: signatures.assumptions,
-            claims: polynomials.claims,
-            claim_sigs: signatures.claims,
-            shapes: names.shapes,
-            solved: names.solved,
-        }),
-        Err(fault) => {
-            drop(names);
-            Err(fault)
-        }
-    }
+    let (signatures, polynomials) = typed(alloc, &names.quiver, tree.statements.as_slice())?;
+    Ok(Parts {
+        quiver: names.quiver,
+        order: names.order,
+        starred: names.starred,
+        marked: names.marked,
+        assumptions: polynomials.assumptions,
+        sigs: signatures.assumptions,
+        claims: polynomials.claims,
+        claim_sigs: signatures.claims,
+        shapes: names.shapes,
+        solved: names.solved,
+    })
 }
 
 // The signatures and the polynomials of all equations, of which one at least is a claim.
+#[tactic(auto, using(crate::proofs::Posed::ends))]
 fn typed(
     alloc: Global,
     quiver: &Quiver,

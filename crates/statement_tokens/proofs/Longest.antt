@@ -165,8 +165,8 @@ module _ (c : ℕ) (rest : List ℕ) where
       subst Longest found.1 (longest_by _ return_and_line_feed found.0 refl refl (omega arith))) (λ not_return.
       test (c == 35) (λ is. running (comment (take_while is_inside_line rest)) is_inside_line (run_is is_inside_line)
       (ap (λ x. x ∷ take_while is_inside_line rest) (sym (eqb-true c 35 is))) (ap (λ x. goes_on (x ∷ rest)) (eqb-true c 35 is))) (λ not_comment.
-      test (starts_name c) (λ is. running (name (c ∷ take_while is_xid_continue rest)) is_xid_continue (rw is (run_is is_xid_continue)) refl (named_on c rest is))
-      (λ not_name.
+      test (starts_name c) (λ is. running (name (c ∷ take_while is_xid_continue rest)) is_xid_continue (rw is (run_is is_xid_continue)) refl
+      (named_on c rest is)) (λ not_name.
       test (is_digit c) (λ is. running (literal (c ∷ take_while is_digit rest)) is_digit (rw is (run_is is_digit)) refl (counted_on c rest is)) (λ not_digit.
       inr (record { not_single = not_single; not_return = not_return; not_comment = not_comment; not_name = not_name; not_digit = not_digit })))))))
     where

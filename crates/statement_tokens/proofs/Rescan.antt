@@ -1,10 +1,10 @@
 -- A token's text is read as that token, where what follows it begins no longer one.
 use Rattle.std.proofs.Common.{◌≡◌, ℕ, ◌+◌, ◌<◌, ◌==◌, ◌||◌, eqb, get_or, Bool, true, false, List}
-use Rattle.std.proofs.Common.{cond, [], ◌∷◌, ◌++◌, length, Ok, refl, sym, ap, subst, ◌∙◌, length-append, arith, ◌⊎◌, inl, inr}
+use Rattle.std.proofs.Common.{cond, [], ◌∷◌, ◌++◌, length, Ok, refl, sym, ap, ◌∙◌, length-append, arith, ◌⊎◌, inl, inr}
 use Rattle.std.specs.List.{prefix_len}
 use Rattle.std.specs.Str.{encode_utf8_all}
 use Rattle.std.proofs.lemmas.List.{drop_at, take_at}
-use Rattle.std.specs.Char.{is_ascii_alphabetic}
+use Rattle.std.specs.Char.{is_ascii_alphabetic, is_ascii_alphanumeric}
 use Rattle.unicode_ident.specs.Ident.{is_xid_continue}
 use Rattle.unicode_ident.proofs.IdentLemmas.{is_xid_start-ascii, is_xid_continue-ascii}
 use Rattle.statement_tokens.specs.Types.{Token, TokenKind, TokenKind as kind, Item as item, Second}
@@ -70,36 +70,26 @@ abbrev pub EndsBefore : List ℕ → Type 0
 EndsBefore [] = Unit {0}
 EndsBefore (c ∷ rest) = Ender c
 
--- what holds at these characters holds at whatever may stand there
-ender_by : (P : ℕ → Type 0) → P 32 → P 10 → P 41 → P 93 → P 39 → P 94 → (c : ℕ) → Ender c → P c
-ender_by P a b d e f g c (inl given) = subst P (sym given) a
-ender_by P a b d e f g c (inr (inl given)) = subst P (sym given) b
-ender_by P a b d e f g c (inr (inr (inl given))) = subst P (sym given) d
-ender_by P a b d e f g c (inr (inr (inr (inl given)))) = subst P (sym given) e
-ender_by P a b d e f g c (inr (inr (inr (inr (inl given))))) = subst P (sym given) f
-ender_by P a b d e f g c (inr (inr (inr (inr (inr given))))) = subst P (sym given) g
-
-stops_by : (p : ℕ → Bool) → p 32 ≡ false → p 10 ≡ false → p 41 ≡ false → p 93 ≡ false → p 39 ≡ false → p 94 ≡ false → (rest : List ℕ) → EndsBefore rest → StopsAt p rest
-stops_by p a b c d e f [] given = tt
-stops_by p a b c d e f (x ∷ rest) given = ender_by (λ x. p x ≡ false) a b c d e f x given
+plain_ender : (c : ℕ) → Ender c → (c < 128) × ((is_ascii_alphanumeric c || (c == 95)) ≡ false) × (is_digit c ≡ false) × ((c == 62) ≡ false)
+plain_ender c (inl is) = rw is (omega arith, refl, refl, refl)
+plain_ender c (inr (inl is)) = rw is (omega arith, refl, refl, refl)
+plain_ender c (inr (inr (inl is))) = rw is (omega arith, refl, refl, refl)
+plain_ender c (inr (inr (inr (inl is)))) = rw is (omega arith, refl, refl, refl)
+plain_ender c (inr (inr (inr (inr (inl is))))) = rw is (omega arith, refl, refl, refl)
+plain_ender c (inr (inr (inr (inr (inr is))))) = rw is (omega arith, refl, refl, refl)
 
 -- no name and no literal goes on with it, and no sign
 pub stops_name : (rest : List ℕ) → EndsBefore rest → StopsAt is_xid_continue rest
-stops_name =
-    stops_by is_xid_continue
-    (rw (is_xid_continue-ascii 32 (omega arith)) refl)
-    (rw (is_xid_continue-ascii 10 (omega arith)) refl)
-    (rw (is_xid_continue-ascii 41 (omega arith)) refl)
-    (rw (is_xid_continue-ascii 93 (omega arith)) refl)
-    (rw (is_xid_continue-ascii 39 (omega arith)) refl)
-    (rw (is_xid_continue-ascii 94 (omega arith)) refl)
+stops_name [] given = tt
+stops_name (c ∷ rest) given = let plain = plain_ender c given in rw (is_xid_continue-ascii c plain.0) plain.1
 
 pub stops_digits : (rest : List ℕ) → EndsBefore rest → StopsAt is_digit rest
-stops_digits = stops_by is_digit refl refl refl refl refl refl
+stops_digits [] given = tt
+stops_digits (c ∷ rest) given = (plain_ender c given).2
 
 no_arrow : (rest : List ℕ) → EndsBefore rest → begins_with 62 rest ≡ false
 no_arrow [] given = refl
-no_arrow (c ∷ rest) given = ender_by (λ c. (c == 62) ≡ false) refl refl refl refl refl refl c given
+no_arrow (c ∷ rest) given = (plain_ender c given).3
 
 -- a sign of one character that is of both languages, and begins no longer one
 abbrev pub is_plain_sign : TokenKind → Bool

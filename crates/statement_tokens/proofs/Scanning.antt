@@ -46,7 +46,8 @@ module _ (before : List Token) (c : ℕ) (rest left : List ℕ) (more size : ℕ
   turn_token k is =
       let longer : List Token = before ++ record { at = at; kind = k } ∷ [] in
       turn before c rest at past (Ok (item.Token k more)) is
-      ∙ ap (with_front (record { at = at; kind = k } ∷ [])) (over longer (at.column + 1 + more) ∙ ap (tokens_from longer left 0 (right_of at size)) (omega arith))
+      ∙ ap (with_front (record { at = at; kind = k } ∷ [])) (over longer (at.column + 1 + more)
+      ∙ ap (tokens_from longer left 0 (right_of at size)) (omega arith))
 
 -- what is left behind so many characters, as the code slices it
 abbrev pub cut : ℕ → List ℕ → List ℕ
@@ -102,10 +103,6 @@ turn_end before old here new (Some token) same none more past is =
     ∙ ap (λ cs. tokens_from before cs 0 here.at here.past) none
     ∙ ap (λ (ts : List Token). Ok ts) is
     ∙ sym (ap₂ (λ cs p. with_front (token ∷ []) (tokens_from (before ++ token ∷ []) cs 0 new.at p)) more past)
-
-pub none_left : (text : List ℕ) → length text < 1 → text ≡ []
-none_left [] short = refl
-none_left (c ∷ cs) short = absurd (omega (arith, short))
 
 -- a line that has an end has a token
 has_token : (line past : ℕ) (token : Token) → end_of line past ≡ token ∷ [] → one_if_some past ≡ 1

@@ -65,7 +65,8 @@ reads before more (piece ∷ pieces) rest at past good =
     let same = subst (λ ts. AreGood (language_of ts) (piece ∷ pieces) rest) one good in
     ap (λ text. tokens_from before text 0 at past) (append_assoc (piece_text piece) (pieces_text pieces) rest)
     ∙ reads_piece before piece (pieces_text pieces ++ rest) at past same.0
-    ∙ ap (outcome at (with_front here (tokens_from (before ++ here) (pieces_text pieces ++ rest) 0 to end))) (sym (same_fault before (later ++ more) piece at past) ∙ same.1)
+    ∙ ap (outcome at (with_front here (tokens_from (before ++ here) (pieces_text pieces ++ rest) 0 to end)))
+    (sym (same_fault before (later ++ more) piece at past) ∙ same.1)
     ∙ ap (with_front here) (reads (before ++ here) more pieces rest to end same.2)
     ∙ fronts here later (tokens_from ((before ++ here) ++ later) rest 0 (place_behind pieces to) (past_after pieces to end))
     ∙ ap (λ front. with_front (here ++ later) (tokens_from front rest 0 (place_behind pieces to) (past_after pieces to end))) (append_assoc before here later)

@@ -26,8 +26,6 @@ pub data Piece : Type 0 where
 
 -- the characters of a sign; a name, a literal and the end of a line are none
 abbrev pub sign_text : TokenKind → List ℕ
-sign_text (kind.Name text) = []
-sign_text (kind.Literal value) = []
 sign_text kind.Colon = codes ":"
 sign_text kind.Arrow = codes "->"
 sign_text kind.Equals = codes "="
@@ -39,7 +37,7 @@ sign_text kind.OpenSquare = codes "["
 sign_text kind.CloseSquare = codes "]"
 sign_text kind.Quote = codes "'"
 sign_text kind.Caret = codes "^"
-sign_text kind.End = []
+sign_text k = []
 
 abbrev pub piece_text : Piece → List ℕ
 piece_text line_feed = 10 ∷ []

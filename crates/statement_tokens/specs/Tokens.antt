@@ -37,12 +37,10 @@ end_of line (suc n) = record { at = record { line = line; column = suc n }; kind
 abbrev pub tokens_with : Piece → Spot → ℕ → List Token
 tokens_with line_feed at past = end_of at.line past
 tokens_with return_and_line_feed at past = end_of at.line past
-tokens_with blank at past = []
-tokens_with tab at past = []
-tokens_with (comment cs) at past = []
 tokens_with (name cs) at past = record { at = at; kind = kind.Name (encode_utf8_all cs) } ∷ []
 tokens_with (literal cs) at past = record { at = at; kind = kind.Literal (pos (value_from 0 cs)) } ∷ []
 tokens_with (sign k) at past = record { at = at; kind = k } ∷ []
+tokens_with piece at past = []
 
 -- the column past the last token of the line, behind a piece
 abbrev pub past_behind : Piece → Spot → ℕ → ℕ
@@ -56,10 +54,6 @@ past_behind piece at past = at.column + length (piece_text piece)
 abbrev pub tokens_at : List Piece → Spot → ℕ → List Token
 tokens_at [] at past = []
 tokens_at (piece ∷ pieces) at past = tokens_with piece at past ++ tokens_at pieces (behind piece at) (past_behind piece at past)
-
--- the tokens of the pieces that a text begins with
-abbrev pub tokens_in : List Piece → List Token
-tokens_in pieces = tokens_at pieces (record { line = 1; column = 1 }) 0
 
 abbrev pub sign_fault : TokenKind → Language → Option ScanFault
 sign_fault kind.Caret First = Some BadToken

@@ -1,14 +1,6 @@
 use Rattle.std.proofs.Common.{map, ap, ◌++◌, ◌∙◌, arith}
-use Rattle.std.proofs.lemmas.Result.{err_from_is_err_and}
-use Rattle.signature_typing.proofs.FirstFound.{explained_at}
 use Rattle.signature_typing.proofs.Progress.{one_more, said_push}
 use Rattle.signature_typing.proofs.stage.push_equations.Goals as goal
-
-pub returns-in_err-value-clause-err : goal.returns-in_err-value-clause-err
-returns-in_err-value-clause-err g c =
-    let exit = err_from_is_err_and c.from_residual.result c.from_residual.ensures.1 in
-    rw (exit.1, exit.2) (explained_at ((g.S.Stage.made c.args.stage.now).fault c.args.quiver.now c.args.at) c.args.equations.now c.loop-equation.equation-index
-    c.equation-item.result _ (omega arith) c.equation-item.is c.loop-equation.invariant.fits c.in_err-value.ensures.err)
 
 pub loop-equation-preserved : goal.loop-equation-preserved
 loop-equation-preserved g c =

@@ -1,17 +1,19 @@
 use Rattle.std.proofs.Common.{◌∷◌, [], Ok, Err, ap, subst, ◌∙◌, append-nil, refl, arith, length, ◌≤◌}
-use Rattle.statement_tokens.specs.Items.{FailsItem, item_in, more_of}
+use Rattle.std.proofs.lemmas.List.{nil_from_length}
+use Rattle.statement_tokens.specs.Items.{more_of}
 use Rattle.statement_tokens.specs.Tokens.{below}
 use Rattle.statement_tokens.proofs.Reading.{tokens_from}
 use Rattle.statement_tokens.proofs.TokenLaws.{hands, token_hands, leaves}
 use Rattle.statement_tokens.proofs.Pieces.{front_none}
-use Rattle.statement_tokens.proofs.Scanning.{cut, cut_length, scans_fault, scans_new_line, scans_gap, scans_token, turn_end, none_left}
+use Rattle.statement_tokens.proofs.Scanning.{cut, cut_length, scans_fault, scans_new_line, scans_gap, scans_token, turn_end}
 use Rattle.statement_tokens.proofs.scanner.Scanner.next.Goals as goal
 
 pub returns-in-Err-Fault-clause-hands : goal.returns-in-Err-Fault-clause-hands
 returns-in-Err-Fault-clause-hands c before same =
-    let fails = subst (λ e. FailsItem e (item_in c.args.language c.first-item.result (cut 1 c.loop-self.self.text.now))) c.in-Err-Fault.field-0-is c.in-Err-Fault.ensures.exact in
+    let fails = rw c.in-Err-Fault.field-0-is at c.in-Err-Fault.ensures.exact in
     leaves before c.args.self.now (Err _) (c.loop-self.invariant.same before same
-    ∙ rw c.in-Err-Fault.fault-is (scans_fault before c.loop-self.self c.first-item.result c.args.language (omega arith) c.first-item.is same c.in-Err-Fault.fault fails))
+    ∙ rw c.in-Err-Fault.fault-is
+    (scans_fault before c.loop-self.self c.first-item.result c.args.language (omega arith) c.first-item.is same c.in-Err-Fault.fault fails))
 
 pub returns-in-Some-clause-hands : goal.returns-in-Some-clause-hands
 returns-in-Some-clause-hands c before same =
@@ -51,6 +53,6 @@ returns-in-Token-clause-hands c before same =
 
 pub returns-clause-hands : goal.returns-clause-hands
 returns-clause-hands c before same =
-    let none = none_left c.loop-self.self.text.now c.in_default.len_below in
+    let none = nil_from_length c.loop-self.self.text.now (omega arith) in
     hands before c.args.self.now (Ok c.line_end-end-2.result) _
     (turn_end before c.args.self.now c.loop-self.self _ c.line_end-end-2.result (c.loop-self.invariant.same before same) none none refl c.line_end-end-2.ensures)
