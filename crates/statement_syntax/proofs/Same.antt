@@ -9,7 +9,7 @@ use Rattle.statement_syntax.specs.Tree.{prime_at, prime_tree, product_at, produc
 use Rattle.statement_syntax.specs.Tree.{front_trees, last_tree}
 use Rattle.statement_syntax.proofs.Machine.{Head, led, after, Part, nothing, scaled, product, Focus, outside, square, named, behind_caret, Level, State}
 use Rattle.statement_syntax.proofs.Machine.{at_outside, add, with_mark, with_power, lone_literal, whole_term, with_term, end_by, whole}
-use Rattle.statement_syntax.proofs.Seen.{head_of, part_of, focus_of, levels_of, reading_of, tree_or}
+use Rattle.statement_syntax.proofs.Seen.{head_of, product_of, part_of, focus_of, levels_of, reading_of, tree_or}
 
 pub add-seen : (part : Part) (p : Prime) → steps.part_with (part_of part) (prime_tree p) (prime_at p) ≡ part_of (add part p)
 add-seen nothing p = refl
@@ -45,13 +45,12 @@ sum-seen head t = ap₂ steps.sum_of (place-seen head t) (terms-seen head t)
 
 -- what the steps make
 pub marked-seen : (l : Option Number) (fs : Factors) (at : Spot)
-    → part.Product (literal_or l (factors_at fs)) l (front_trees fs) (steps.marked_factor (last_tree fs) Adjoint) ≡ part_of (product l (with_mark fs at))
+    → part.Product (record (product_of l fs) { last = steps.marked_factor (last_tree fs) Adjoint }) ≡ part_of (product l (with_mark fs at))
 marked-seen l (one f) at = refl
 marked-seen l (beside fs f) at = refl
 
 pub raised-seen : (l : Option Number) (fs : Factors) (at : Spot) (n : Number)
-    → part.Product (literal_or l (factors_at fs)) l (front_trees fs) (steps.marked_factor (last_tree fs) (Power at n))
-    ≡ part_of (product l (with_power fs at n))
+    → part.Product (record (product_of l fs) { last = steps.marked_factor (last_tree fs) (Power at n) }) ≡ part_of (product l (with_power fs at n))
 raised-seen l (one f) at n = refl
 raised-seen l (beside fs f) at n = refl
 

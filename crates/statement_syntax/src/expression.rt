@@ -27,17 +27,21 @@ pub struct Head {
     pub negative: bool,
 }
 
+/// A product of which the last factor may get marks, and more factors may come.
+#[derive(Drop)]
+pub struct OpenProduct {
+    pub at: Spot,
+    pub literal: Option<Number>,
+    pub factors: Listing<Factor>,
+    pub last: Factor,
+}
+
 /// What has been read of the term.
 #[derive(Drop)]
 pub enum Part {
     Nothing,
     Scaled(Number),
-    Product {
-        at: Spot,
-        literal: Option<Number>,
-        factors: Listing<Factor>,
-        last: Factor,
-    },
+    Product(OpenProduct),
 }
 
 /// Inside square brackets, behind a caret, or neither.
@@ -46,14 +50,8 @@ pub enum Focus {
     Outside,
     Square(Spot),
     Named(Spot, Name),
-    /// Behind a caret, of which the literal is next, with the product before it.
-    Raised {
-        at: Spot,
-        literal: Option<Number>,
-        factors: Listing<Factor>,
-        last: Factor,
-        caret: Spot,
-    },
+    /// Behind a caret at this place, of which the literal is next, with the product before it.
+    Raised(OpenProduct, Spot),
 }
 
 /// A round bracket that is open, with what stands before it.
@@ -219,20 +217,8 @@ fn caret_step(reading: &mut Reading, caret: Spot) -> Result<(), Misfit>
         (λ misfit. caret_step reading.old.levels reading.old.head reading.old.part caret ≡ Err misfit) }
 {
     match mem::replace(&mut reading.part, Part::Nothing) {
-        Part::Product {
-            at,
-            literal,
-            factors,
-            last,
-        } => {
-            let raised = Focus::Raised {
-                at,
-                literal,
-                factors,
-                last,
-                caret,
-            };
-            drop(mem::replace(&mut reading.focus, raised));
+        Part::Product(product) => {
+            drop(mem::replace(&mut reading.focus, Focus::Raised(product, caret)));
             Ok(())
         }
         _ => Err(Misfit::Expected),
@@ -260,20 +246,8 @@ pub fn token_step(alloc: Global, reading: &mut Reading, token: Token) -> Result<
                 Err(ReadError::Misfit(Misfit::Expected))
             }
         },
-        Focus::Raised {
-            at,
-            literal,
-            factors,
-            last,
-            caret,
-        } => {
-            let product = Part::Product {
-                at,
-                literal,
-                factors,
-                last,
-            };
-            drop(mem::replace(&mut reading.part, product));
+        Focus::Raised(product, caret) => {
+            drop(mem::replace(&mut reading.part, Part::Product(product)));
             let exponent = number_in(&token);
             drop(token);
             let power = Mark::Power {
