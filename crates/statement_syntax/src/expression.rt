@@ -272,13 +272,10 @@ pub fn whole_sum(alloc: Global, reading: Reading) -> Result<Sum, ReadError>
     let open = levels.len() > 0;
     drop(levels);
     match focus {
-        Focus::Outside if !open => match ended_part(alloc, part, head.negative) {
-            Ok(term) => Ok(sum_with(head, term)?),
-            Err(error) => {
-                drop(head);
-                Err(error)
-            }
-        },
+        Focus::Outside if !open => {
+            let term = ended_part(alloc, part, head.negative)?;
+            Ok(sum_with(head, term)?)
+        }
         focus => {
             drop((head, part, focus));
             Err(ReadError::Misfit(Misfit::Expected))

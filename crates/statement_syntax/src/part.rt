@@ -90,10 +90,7 @@ fn factors_with(factors: Listing<Factor>, last: Factor) -> Result<Listing<Factor
 pub fn sum_with(head: Head, term: Term) -> Result<Sum, AllocError>
     ensures { IfOk result (λ s. s ≡ sum_with head term) }
 {
-    let at = match head.at {
-        Some(at) => at,
-        None => term.at,
-    };
+    let at = head.at.unwrap_or(term.at);
     let mut terms = head.terms;
     terms.push(term)?;
     Ok(Sum { at, terms })

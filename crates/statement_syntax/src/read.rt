@@ -100,7 +100,6 @@ fn opened(alloc: Global, language: Language, tokens: Vec<Token>) -> Result<Progr
     for token in tokens {
         let at = token.at;
         if let Err(error) = file_step(alloc, language, &mut progress, token) {
-            drop(progress);
             return Err(refusal(error, at));
         }
     }
@@ -147,10 +146,7 @@ fn statements(alloc: Global, text: &[char]) -> Result<Listing<Statement>, Syntax
         match scanner.next(alloc, language) {
             Ok(Some(token)) => go_on(alloc, language, &mut read, token),
             Ok(None) => return statements_of(read),
-            Err(error) => {
-                drop(read);
-                return Err(SyntaxFault::from(error));
-            }
+            Err(error) => return Err(SyntaxFault::from(error)),
         }
     }
 }
@@ -168,10 +164,7 @@ fn characters_of(alloc: Global, bytes: &[u8]) -> Result<Vec<char>, SyntaxFault>
     ensures { CharactersRead bytes.now result }
 {
     match std::str::from_utf8(bytes) {
-        Ok(text) => match characters(alloc, text) {
-            Ok(text) => Ok(text),
-            Err(failed) => Err(SyntaxFault::Memory(failed)),
-        },
+        Ok(text) => characters(alloc, text).map_err(SyntaxFault::Memory),
         Err(error) => {
             let at = Spot {
                 line: 0,
