@@ -4,10 +4,10 @@ use Rattle.std.proofs.lemmas.List.{append-nil, map-append}
 use Rattle.std.specs.Str.{IsUtf8, chars}
 use Rattle.statement_syntax.specs.Types.{Spot, Token, Language, TokenKind as kind, Statement, Misfit, Expected, TooDeep, Line as line, Progress, Fault}
 use Rattle.statement_syntax.specs.Types.{Fault as fault, SyntaxFault, SyntaxFault as refusal, ReadError, ReadError as error, ScanFault, ScanFault as scan}
-use Rattle.statement_syntax.specs.Steps.{◌>>=◌, run, Fails}
+use Rattle.statement_syntax.specs.Steps.{run, Fails}
 use Rattle.statement_tokens.specs.Language.{language_of}
 use Rattle.statement_tokens.specs.Tokens.{AreTokens, IsFirstScanFault}
-use Rattle.statement_syntax.specs.Grammar.{sign_token, StatedLine, AreLinesOf, IsFileOf, file_tokens, FileFits}
+use Rattle.statement_syntax.specs.Grammar.{sign_token, StatedLine, IsFileOf, file_tokens, FileFits}
 use Rattle.statement_syntax.specs.Tree.{stated_tree, file_tree}
 use Rattle.statement_syntax.specs.Lines.{line_end, ended, file_step}
 use Rattle.statement_syntax.specs.Fault.{IsStatements, IsTreeOf, GoesOn, GoesOnWithin, IsMisfit, IsFirstFault, TellsFirstFault, IsWantOfMemory, fault_at, scan_fault, misfit_fault}

@@ -1,7 +1,7 @@
 -- The steps of the reader of expressions, one token after another.
 use Rattle.std.specs.Prelude.{◌≡◌, ℤ, zero, Bool, true, false, List, [], ◌∷◌, ◌++◌, length, Option, Some, None, Result, Ok, Err, pos, nat_lt, if◌then◌else◌}
 use Rattle.statement_syntax.specs.Types.{Spot, Token, TokenKind, TokenKind as kind, Name, Number, Mark, Adjoint, Power, Primary, Letter, Identity, Bracket}
-use Rattle.statement_syntax.specs.Types.{Factor, Term, out-Term, Head, Level, Reading, Focus, Focus as focus, Misfit, Expected, TooDeep, ReadError}
+use Rattle.statement_syntax.specs.Types.{Term, out-Term, Head, Level, Reading, Focus, Focus as focus, Misfit, Expected, TooDeep, ReadError}
 use Rattle.statement_syntax.specs.Types.{ReadError as error, Sum, Part, Nothing, Scaled, Product}
 use Rattle.statement_syntax.specs.Limits.{bracket_limit}
 pub use Rattle.statement_syntax.specs.Nodes.{name_with, factor_of, term_of, sum_of, marked_factor}

@@ -148,11 +148,7 @@ fn plain_line(
         Line::Shape(at, modulus, pairs) => {
             Ok(Line::Shape(at, modulus, pairs_step(pairs, token)?))
         }
-        line => {
-            let next = bare_line(alloc, language, &line, token);
-            drop(line);
-            Ok(next?)
-        }
+        line => Ok(bare_line(alloc, language, &line, token)?),
     }
 }
 

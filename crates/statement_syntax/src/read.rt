@@ -73,7 +73,6 @@ fn first_statements(
     if let Language::Second = language {
         if let Some(word) = tokens.next() {
             let at = word.at;
-            drop(word);
             let kind = StatementKind::Language;
             statements.push(Statement { at, kind })?;
         }
@@ -154,9 +153,7 @@ fn statements(alloc: Global, text: &[char]) -> Result<Listing<Statement>, Syntax
 fn statements_of(read: Result<Progress, SyntaxFault>) -> Result<Listing<Statement>, SyntaxFault>
     ensures { MatchResult read (λ p. result ≡ Ok p.statements) (λ e. result ≡ Err e) }
 {
-    let Progress { statements, line } = read?;
-    drop(line);
-    Ok(statements)
+    Ok(read?.statements)
 }
 
 fn characters_of(alloc: Global, bytes: &[u8]) -> Result<Vec<char>, SyntaxFault>
