@@ -5,10 +5,9 @@ use Rattle.statement_syntax.specs.Types.{Spot, Adjoint, Power, Bracket, Number, 
 use Rattle.statement_syntax.specs.Grammar.{no_sign, Sign, Product, zero_alone, factors, Factors, one, beside, Prime, bracket}
 use Rattle.statement_syntax.specs.Steps as steps
 use Rattle.statement_syntax.specs.Steps.{◌>>=◌}
-use Rattle.statement_syntax.specs.Tree.{prime_at, prime_tree, product_at, product_tree, expr_at, expr_terms, expr_tree, is_minus}
-use Rattle.statement_syntax.specs.Tree.{last_tree}
-use Rattle.statement_syntax.proofs.Machine.{Head, led, after, Part, nothing, scaled, product, Focus, outside, Level, State}
-use Rattle.statement_syntax.proofs.Machine.{at_outside, add, with_mark, with_power, lone_literal, whole_term, with_term, end_by, whole}
+use Rattle.statement_syntax.specs.Tree.{prime_at, prime_tree, product_at, product_tree, expr_at, expr_terms, expr_tree, is_minus, last_tree}
+use Rattle.statement_syntax.proofs.Machine.{Head, led, after, Part, nothing, scaled, product, Focus, outside, Level, State, at_outside, add, with_mark}
+use Rattle.statement_syntax.proofs.Machine.{with_power, lone_literal, whole_term, with_term, end_by, whole}
 use Rattle.statement_syntax.proofs.Seen.{head_of, product_of, part_of, focus_of, levels_of, reading_of, tree_or}
 
 pub add-seen : (part : Part) (p : Prime) → steps.part_with (part_of part) (prime_tree p) (prime_at p) ≡ part_of (add part p)

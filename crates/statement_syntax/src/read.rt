@@ -5,7 +5,7 @@ ghost use Rattle.statement_syntax.specs.Grammar.{StatedLine};
 ghost use Rattle.statement_syntax.specs.Tree.{file_tree};
 ghost use Rattle.statement_syntax.specs.Fault.{IsStatements, IsTreeOf, TellsFirstFault, IsWantOfMemory};
 ghost use Rattle.statement_syntax.specs.Steps.{Turns};
-ghost use Rattle.statement_syntax.specs.Lines.{ended, file_step};
+ghost use Rattle.statement_syntax.specs.Lines.{file_step};
 ghost use Rattle.statement_syntax.specs.Stages.{CharactersRead, TextRead, IsReadSoFar, Goes, IsFront, LeavesFault, IsRefusal, first_statements, behind_first};
 ghost use Rattle.statement_tokens.specs.Language.{language_of};
 ghost use Rattle.std.specs.Vec.Iter.{into_iter_items, into_iter_len};
@@ -36,17 +36,12 @@ fn file_step(
     ensures { Turns result progress.new (file_step language progress.old token) }
 {
     match &token.kind {
-        TokenKind::End => end_line(alloc, progress),
+        TokenKind::End => {
+            let line = mem::replace(&mut progress.line, Line::Start);
+            Ok(progress.statements.push(line_end(alloc, line)?)?)
+        }
         _ => line_step(alloc, language, &mut progress.line, token),
     }
-}
-
-fn end_line(alloc: Global, progress: &mut Progress) -> Result<(), ReadError>
-    ensures { Turns result progress.new (ended progress.old) }
-{
-    let line = mem::replace(&mut progress.line, Line::Start);
-    progress.statements.push(line_end(alloc, line)?)?;
-    Ok(())
 }
 
 fn refusal(error: ReadError, at: Spot) -> SyntaxFault
