@@ -1,5 +1,5 @@
 -- Carets are tokens of the second language alone, which the tokens of a file's first line tell.
-use Rattle.std.proofs.Common.{◌≡◌, ◌&&◌, List, [], ◌∷◌, ◌++◌, refl, ap, ◌∙◌}
+use Rattle.std.proofs.Common.{◌≡◌, ◌&&◌, List, ◌∷◌, ◌++◌, refl, ap, ◌∙◌}
 use Rattle.std.specs.Prelude.{if◌then◌else◌}
 use Rattle.statement_syntax.specs.Types.{Token, TokenKind, Language, First, Second}
 use Rattle.statement_tokens.specs.Language.{is_language_word, is_two, is_end, language_of}

@@ -3,11 +3,11 @@ use Rattle.std.proofs.Common.{◌≡◌, ◌⊎◌, inl, inr, ℕ, Bool, true, f
 use Rattle.std.specs.Str.{IsUtf8, is_utf8, chars}
 use Rattle.std.specs.Str.Lossy.{utf8_valid_len}
 use Rattle.std.proofs.lemmas.Str.{IsUtf8-from_is_utf8, is_utf8-from_IsUtf8}
-use Rattle.statement_syntax.specs.Types.{Spot, Token, Statement, Misfit, Progress, ScanFault, ScanFault as scan, Fault, Fault as fault}
+use Rattle.statement_syntax.specs.Types.{Spot, Token, Statement, Misfit, Progress, Fault, Fault as fault}
 use Rattle.statement_syntax.specs.Steps.{run}
 use Rattle.statement_syntax.specs.Lines.{file_step}
 use Rattle.statement_tokens.specs.Language.{language_of}
-use Rattle.statement_tokens.specs.Tokens.{AreTokens, IsFirstScanFault}
+use Rattle.statement_tokens.specs.Tokens.{AreTokens}
 use Rattle.statement_tokens.specs.Laws.{HasTokensOrFault}
 use Rattle.statement_tokens.proofs.TokenLaws.{each_text_has_tokens_or_fault}
 use Rattle.statement_syntax.specs.Fault.{IsTreeOf, IsFirstFault, TellsFirstFault, fault_at, scan_fault, misfit_fault}

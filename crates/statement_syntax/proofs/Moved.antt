@@ -1,11 +1,11 @@
 -- Tokens of the same kinds as those of statements without their places are the tokens of the same statements at other places.
-use Rattle.std.proofs.Common.{◌≡◌, ℕ, zero, suc, List, [], ◌∷◌, ◌++◌, map, Option, Some, None, refl, sym, ap, ap₂, ◌∙◌, append_assoc}
+use Rattle.std.proofs.Common.{◌≡◌, ℕ, suc, List, [], ◌∷◌, ◌++◌, map, Option, Some, None, refl, sym, ap, ap₂, ◌∙◌, append_assoc}
 use Rattle.std.specs.Prelude.{codes, pos}
 use Rattle.std.proofs.lemmas.List.{append-nil, map-append}
 use Rattle.std.proofs.Math.Path.{transport}
 use Rattle.statement_syntax.specs.Types.{Spot, Token, Language, First, Second, TokenKind, TokenKind as kind, Name, Number, Eliminate}
 use Rattle.statement_syntax.specs.Limits.{bracket_limit}
-use Rattle.statement_syntax.specs.Grammar.{Lead, no_sign, lead_plus, lead_minus, Sign, plus, minus, Expr, first, joined, Product, zero_alone, factors, Factors}
+use Rattle.statement_syntax.specs.Grammar.{Lead, no_sign, lead_minus, Sign, plus, minus, Expr, first, joined, Product, zero_alone, factors, Factors}
 use Rattle.statement_syntax.specs.Grammar.{one, beside, Marked, plain, marked, raised, Prime, name, identity, bracket, sign_token, name_token, number_token}
 use Rattle.statement_syntax.specs.Grammar.{lead_tokens, signed_token, literal_tokens, expr_tokens, product_tokens, factors_tokens, marked_tokens, prime_tokens}
 use Rattle.statement_syntax.specs.Grammar.{ExprFits, ProductFits, FactorsFit, MarkedFits, PrimeFits, list_text, sides_text, pair_text, Ending, no_word}

@@ -1,15 +1,14 @@
 -- What the program's steps make of a state, seen without the places of signs.
-use Rattle.std.proofs.Common.{◌≡◌, zero, suc, Bool, false, List, [], ◌∷◌, ◌++◌, Option, Some, None, Result, Ok, Err, refl, ap, ap₂, ◌∙◌}
-use Rattle.std.specs.Prelude.{ℤ, pos, negsuc}
+use Rattle.std.proofs.Common.{◌≡◌, zero, Bool, false, List, [], ◌∷◌, ◌++◌, Option, Some, None, Result, Ok, Err, refl, ap, ap₂, ◌∙◌}
+use Rattle.std.specs.Prelude.{ℤ, pos}
 use Rattle.statement_syntax.specs.Types.{Spot, Adjoint, Power, Bracket, Number, Term, out-Term, out-roll-Term, Part as part, Misfit, Expected}
-use Rattle.statement_syntax.specs.Grammar.{no_sign, lead_plus, lead_minus, Sign, Product, zero_alone, factors, Factors, one, beside, Prime, bracket}
+use Rattle.statement_syntax.specs.Grammar.{no_sign, Sign, Product, zero_alone, factors, Factors, one, beside, Prime, bracket}
 use Rattle.statement_syntax.specs.Steps as steps
 use Rattle.statement_syntax.specs.Steps.{◌>>=◌}
-use Rattle.statement_syntax.specs.Tree.{prime_at, prime_tree, product_at, product_tree, expr_at, expr_terms, expr_tree, is_minus, literal_or, factors_at}
-use Rattle.statement_syntax.specs.Tree.{front_trees, last_tree}
-use Rattle.statement_syntax.proofs.Machine.{Head, led, after, Part, nothing, scaled, product, Focus, outside, square, named, behind_caret, Level, State}
-use Rattle.statement_syntax.proofs.Machine.{at_outside, add, with_mark, with_power, lone_literal, whole_term, with_term, end_by, whole}
-use Rattle.statement_syntax.proofs.Seen.{head_of, part_of, focus_of, levels_of, reading_of, tree_or}
+use Rattle.statement_syntax.specs.Tree.{prime_at, prime_tree, product_at, product_tree, expr_at, expr_terms, expr_tree, is_minus, last_tree}
+use Rattle.statement_syntax.proofs.Machine.{Head, led, after, Part, nothing, scaled, product, Focus, outside, Level, State, at_outside, add, with_mark}
+use Rattle.statement_syntax.proofs.Machine.{with_power, lone_literal, whole_term, with_term, end_by, whole}
+use Rattle.statement_syntax.proofs.Seen.{head_of, product_of, part_of, focus_of, levels_of, reading_of, tree_or}
 
 pub add-seen : (part : Part) (p : Prime) → steps.part_with (part_of part) (prime_tree p) (prime_at p) ≡ part_of (add part p)
 add-seen nothing p = refl
@@ -45,13 +44,12 @@ sum-seen head t = ap₂ steps.sum_of (place-seen head t) (terms-seen head t)
 
 -- what the steps make
 pub marked-seen : (l : Option Number) (fs : Factors) (at : Spot)
-    → part.Product (literal_or l (factors_at fs)) l (front_trees fs) (steps.marked_factor (last_tree fs) Adjoint) ≡ part_of (product l (with_mark fs at))
+    → part.Product (record (product_of l fs) { last = steps.marked_factor (last_tree fs) Adjoint }) ≡ part_of (product l (with_mark fs at))
 marked-seen l (one f) at = refl
 marked-seen l (beside fs f) at = refl
 
 pub raised-seen : (l : Option Number) (fs : Factors) (at : Spot) (n : Number)
-    → part.Product (literal_or l (factors_at fs)) l (front_trees fs) (steps.marked_factor (last_tree fs) (Power at n))
-    ≡ part_of (product l (with_power fs at n))
+    → part.Product (record (product_of l fs) { last = steps.marked_factor (last_tree fs) (Power at n) }) ≡ part_of (product l (with_power fs at n))
 raised-seen l (one f) at n = refl
 raised-seen l (beside fs f) at n = refl
 

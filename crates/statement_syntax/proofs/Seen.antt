@@ -1,7 +1,7 @@
 -- What the program keeps of a state, which is all but the places of signs.
 use Rattle.std.specs.Prelude.{true, false, List, [], ◌∷◌, Option, Some, None, Result, Ok, Err}
-use Rattle.statement_syntax.specs.Types.{Sum, Misfit, Part, Part as part, Head, Level, Reading, Focus, Focus as focus}
-use Rattle.statement_syntax.specs.Grammar.{no_sign, lead_plus, lead_minus, Expr}
+use Rattle.statement_syntax.specs.Types.{Number, Sum, Misfit, OpenProduct, Part, Part as part, Head, Level, Reading, Focus, Focus as focus}
+use Rattle.statement_syntax.specs.Grammar.{no_sign, lead_plus, lead_minus, Expr, Factors}
 use Rattle.statement_syntax.specs.Tree.{expr_at, expr_terms, expr_tree, is_minus, literal_or, factors_at, front_trees, last_tree}
 use Rattle.statement_syntax.proofs.Machine as machine
 
@@ -11,16 +11,19 @@ head_of (machine.led (lead_plus at)) = record { at = Some at; terms = []; negati
 head_of (machine.led (lead_minus at)) = record { at = Some at; terms = []; negative = true }
 head_of (machine.after e s) = record { at = Some (expr_at e); terms = expr_terms e; negative = is_minus s }
 
+abbrev pub product_of : Option Number → Factors → OpenProduct
+product_of l fs = record { at = literal_or l (factors_at fs); literal = l; factors = front_trees fs; last = last_tree fs }
+
 abbrev pub part_of : machine.Part → Part
 part_of machine.nothing = part.Nothing
 part_of (machine.scaled n) = part.Scaled n
-part_of (machine.product l fs) = part.Product (literal_or l (factors_at fs)) l (front_trees fs) (last_tree fs)
+part_of (machine.product l fs) = part.Product (product_of l fs)
 
 abbrev pub focus_of : machine.Focus → Focus
 focus_of machine.outside = focus.Outside
 focus_of (machine.square left) = focus.Square left
 focus_of (machine.named left n) = focus.Named left n
-focus_of (machine.behind_caret l fs caret) = focus.Raised (literal_or l (factors_at fs)) l (front_trees fs) (last_tree fs) caret
+focus_of (machine.behind_caret l fs caret) = focus.Raised (product_of l fs) caret
 
 abbrev pub levels_of : List machine.Level → List Level
 levels_of [] = []

@@ -4,10 +4,10 @@ use Rattle.std.proofs.lemmas.List.{append-nil, map-append}
 use Rattle.std.specs.Str.{IsUtf8, chars}
 use Rattle.statement_syntax.specs.Types.{Spot, Token, Language, TokenKind as kind, Statement, Misfit, Expected, TooDeep, Line as line, Progress, Fault}
 use Rattle.statement_syntax.specs.Types.{Fault as fault, SyntaxFault, SyntaxFault as refusal, ReadError, ReadError as error, ScanFault, ScanFault as scan}
-use Rattle.statement_syntax.specs.Steps.{◌>>=◌, run, Fails}
+use Rattle.statement_syntax.specs.Steps.{run, Fails}
 use Rattle.statement_tokens.specs.Language.{language_of}
 use Rattle.statement_tokens.specs.Tokens.{AreTokens, IsFirstScanFault}
-use Rattle.statement_syntax.specs.Grammar.{sign_token, StatedLine, AreLinesOf, IsFileOf, file_tokens, FileFits}
+use Rattle.statement_syntax.specs.Grammar.{sign_token, StatedLine, IsFileOf, file_tokens, FileFits}
 use Rattle.statement_syntax.specs.Tree.{stated_tree, file_tree}
 use Rattle.statement_syntax.specs.Lines.{line_end, ended, file_step}
 use Rattle.statement_syntax.specs.Fault.{IsStatements, IsTreeOf, GoesOn, GoesOnWithin, IsMisfit, IsFirstFault, TellsFirstFault, IsWantOfMemory, fault_at, scan_fault, misfit_fault}
@@ -65,25 +65,6 @@ module _ (language : Language) where
       (sym (ap (run (file_step language) start) loop.2 ∙ run-append (file_step language) start loop.0 end) ∙ ran) in
       end_starts parts.0 p loop.1 parts.2
 
--- the clauses
-pub record Closed (language : Language) (before : List Statement) (p : Progress) (ts : List Token) : Type 0 where
-  pub lines : List StatedLine
-  pub speak : AreLinesOf language lines
-  pub fits : FileFits lines
-  pub trees : p.statements ≡ before ++ file_tree lines
-  pub are : ts ≡ file_tokens lines
-
-closed : (language : Language) (before : List Statement) (p : Progress) (ts : List Token) → p.line ≡ line.Start → FileReads language before p ts → Closed language before p ts
-closed language before p ts start loop =
-    let none : loop.now ≡ [] = subst (λ x. LineReads language x loop.now) start loop.reads in
-    record {
-      lines = loop.lines;
-      speak = loop.speak;
-      fits = loop.fits;
-      trees = loop.trees;
-      are = loop.are ∙ ap (λ x. file_tokens loop.lines ++ x) none ∙ append-nil (file_tokens loop.lines);
-    }
-
 -- the tokens, of which the line that names the language is taken off
 own : (ts : List Token) → Divided (language_of ts) ts
 own ts = divided (language_of ts) ts refl
@@ -100,11 +81,13 @@ is_found bytes ts statements utf8 read loop =
     let first = own ts in
     let well = ends_from [] (chars bytes) 0 (record { line = 1; column = 1 }) 0 ts (read_are (chars bytes) ts read) in
     let start = closed_by language before (left ts) loop.0 (rest_ends (file_tokens first.lines) (left ts) (subst (EndsWell 0) first.are well)) loop.1 in
-    let all = closed language before loop.0 (left ts) start (run_reads language before loop.0 (left ts) loop.1) in (
+    let all = run_reads language before loop.0 (left ts) loop.1 in
+    let none : all.now ≡ [] = subst (λ line. LineReads language line all.now) start all.reads in
+    let are : left ts ≡ file_tokens all.lines = all.are ∙ ap (λ x. file_tokens all.lines ++ x) none ∙ append-nil (file_tokens all.lines) in (
       first.lines ++ all.lines,
       record {
         utf8 = utf8;
-        tokens = subst (AreTokens (chars bytes)) (first.are ∙ ap (λ x. file_tokens first.lines ++ x) all.are ∙ sym (file_tokens-append first.lines all.lines)) read;
+        tokens = subst (AreTokens (chars bytes)) (first.are ∙ ap (λ x. file_tokens first.lines ++ x) are ∙ sym (file_tokens-append first.lines all.lines)) read;
         language = language;
         speaks = first.joins all.lines all.speak;
         fits = FileFits-append first.lines all.lines first.fits all.fits;

@@ -129,26 +129,19 @@ goes_further text old new language t read next is hands goes = by is.settled
     }
     by (inr all) = absurd (no_token t (unread (is.front ++ t ∷ []) new) (sym one ∙ all))
 
--- the tokens are those of the text
-pub record AllTokens (text : List ℕ) (read : Result Progress SyntaxFault) : Type 0 where
-  pub tokens : List Token
-  pub are : AreTokens text tokens
-  pub so_far : IsReadSoFar tokens read
-
-pub ends : (text : List ℕ) (old new : Scanner) (language : Language) (read : Result Progress SyntaxFault) → FrontRead text old language read
-    → ((before : List Token) → language_of before ≡ language → Hands before old (Ok None) new) → AllTokens text read
-ends text old new language read is hands = record {
-  tokens = is.front;
-  are =
-      let none = handed is.front old (Ok None) new (hands is.front is.speaks) in
-      subst (AreTokens text) (append-nil is.front) (subst (λ rest. Tells text (with_front is.front rest)) none.0 is.tells);
-  so_far = is.so_far;
-}
-
-pub all_read : (text : List ℕ) (read : Result Progress SyntaxFault) (r : Result (List Statement) SyntaxFault) → AllTokens text read
+pub ends : (text : List ℕ) (old new : Scanner) (language : Language) (read : Result Progress SyntaxFault) (r : Result (List Statement) SyntaxFault)
+    → FrontRead text old language read → ((before : List Token) → language_of before ≡ language → Hands before old (Ok None) new)
     → MatchResult read (λ p. r ≡ Ok p.statements) (λ e. r ≡ Err e) → TextRead text r
-all_read text (Ok p) r all is = subst (TextRead text) (sym is) (all.tokens, all.are, (p, all.so_far, refl))
-all_read text (Err e) r all is = subst (TextRead text) (sym is) (inr (all.tokens, all.are, all.so_far))
+ends text old new language read r is hands told = by read is.so_far told
+  where
+    are : AreTokens text is.front
+    are =
+        let none = handed is.front old (Ok None) new (hands is.front is.speaks) in
+        subst (AreTokens text) (append-nil is.front) (subst (λ rest. Tells text (with_front is.front rest)) none.0 is.tells)
+
+    by : (read : Result Progress SyntaxFault) → IsReadSoFar is.front read → MatchResult read (λ p. r ≡ Ok p.statements) (λ e. r ≡ Err e) → TextRead text r
+    by (Ok p) so_far told = subst (TextRead text) (sym told) (is.front, are, (p, so_far, refl))
+    by (Err e) so_far told = subst (TextRead text) (sym told) (inr (is.front, are, so_far))
 
 -- the fault that a scanner comes to is told
 pub is_fault : (whole : Result (List Token) Placed) (front : List Token) (old new : Scanner) (error : ScanError) (e : SyntaxFault)

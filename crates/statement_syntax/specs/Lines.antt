@@ -99,13 +99,9 @@ map_step at names (rest.Target s e) k t = if is_word k (codes "self") then Ok (w
 abbrev pub left_end : SidesWord → Spot → Reading → Lined
 left_end w at r = whole_sum r >>= λ left. Ok (line.Sides w at (Some left) start_reading)
 
-abbrev pub left_step : SidesWord → Spot → Reading → TokenKind → Spot → Lined
-left_step w at r k t =
-    on_equals (left_end w at r) (token_step r k t >>= λ x. Ok (line.Sides w at None x)) k
-
 abbrev pub sides_step : SidesWord → Spot → Option Sum → Reading → TokenKind → Spot → Lined
 sides_step w at (Some left) r k t = token_step r k t >>= λ x. Ok (line.Sides w at (Some left) x)
-sides_step w at None r k t = left_step w at r k t
+sides_step w at None r k t = on_equals (left_end w at r) (token_step r k t >>= λ x. Ok (line.Sides w at None x)) k
 
 abbrev pub pair_with : PairWord → Spot → Option Name → Name → Line
 pair_with w at None n = line.Pair w at (Some n)
@@ -136,16 +132,6 @@ projection_step at k t = name_in k t >>= λ n. Ok (whole at (statement.Projectio
 abbrev pub IsPlain : Line → Type 0
 IsPlain (line.Sides w at left r) = ⊥
 IsPlain l = Unit {0}
-
--- nothing that it holds goes on into the next one
-abbrev pub IsBare : Line → Type 0
-IsBare (line.List w at names) = ⊥
-IsBare (line.Map at names r) = ⊥
-IsBare (line.Sides w at left r) = ⊥
-IsBare (line.Pair w at first) = ⊥
-IsBare (line.Weights at ps) = ⊥
-IsBare (line.Shape at m ps) = ⊥
-IsBare l = Unit {0}
 
 abbrev pub line_step : Language → Line → TokenKind → Spot → Lined
 line_step language line.Start k t = start_step language k t

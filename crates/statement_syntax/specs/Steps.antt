@@ -1,15 +1,15 @@
 -- The steps of the reader of expressions, one token after another.
 use Rattle.std.specs.Prelude.{◌≡◌, ℤ, zero, Bool, true, false, List, [], ◌∷◌, ◌++◌, length, Option, Some, None, Result, Ok, Err, pos, nat_lt, if◌then◌else◌}
 use Rattle.statement_syntax.specs.Types.{Spot, Token, TokenKind, TokenKind as kind, Name, Number, Mark, Adjoint, Power, Primary, Letter, Identity, Bracket}
-use Rattle.statement_syntax.specs.Types.{Factor, Term, out-Term, Head, Level, Reading, Focus, Focus as focus, Misfit, Expected, TooDeep, ReadError}
+use Rattle.statement_syntax.specs.Types.{Term, out-Term, Head, Level, Reading, Focus, Focus as focus, Misfit, Expected, TooDeep, ReadError}
 use Rattle.statement_syntax.specs.Types.{ReadError as error, Sum, Part, Nothing, Scaled, Product}
 use Rattle.statement_syntax.specs.Limits.{bracket_limit}
 pub use Rattle.statement_syntax.specs.Nodes.{name_with, factor_of, term_of, sum_of, marked_factor}
 
 abbrev pub part_with : Part → Primary → Spot → Part
-part_with Nothing p at = Product at None [] (factor_of at p [])
-part_with (Scaled n) p at = Product n.at (Some n) [] (factor_of at p [])
-part_with (Product first l fs last) p at = Product first l (fs ++ last ∷ []) (factor_of at p [])
+part_with Nothing p at = Product (record { at = at; literal = None; factors = []; last = factor_of at p [] })
+part_with (Scaled n) p at = Product (record { at = n.at; literal = Some n; factors = []; last = factor_of at p [] })
+part_with (Product q) p at = Product (record q { factors = q.factors ++ q.last ∷ []; last = factor_of at p [] })
 
 infixl 10 ◌>>=◌
 abbrev pub ◌>>=◌ : {A B : Type 0} → Result A Misfit → (A → Result B Misfit) → Result B Misfit
@@ -42,7 +42,7 @@ lone_term z n negative = Err Expected
 abbrev pub ended_part : Part → Bool → Result Term Misfit
 ended_part Nothing negative = Err Expected
 ended_part (Scaled n) negative = lone_term n.value n negative
-ended_part (Product at l fs last) negative = Ok (term_of at negative l (fs ++ last ∷ []))
+ended_part (Product q) negative = Ok (term_of q.at negative q.literal (q.factors ++ q.last ∷ []))
 
 abbrev pub at_or : Option Spot → Spot → Spot
 at_or None at = at
@@ -55,7 +55,7 @@ abbrev pub sum_with : Head → Term → Sum
 sum_with head t = sum_of (sum_at head t) (head.terms ++ t ∷ [])
 
 abbrev pub mark_step : Part → Mark → Result Part Misfit
-mark_step (Product at l fs last) mark = Ok (Product at l fs (marked_factor last mark))
+mark_step (Product q) mark = Ok (Product (record q { last = marked_factor q.last mark }))
 mark_step part mark = Err Expected
 
 abbrev pub sign_by : Head → Result Term Misfit → Bool → Result Head Misfit
@@ -68,8 +68,7 @@ lead_by head (Some first) at negative = Err Expected
 
 abbrev pub sign_step : Head → Part → Spot → Bool → Result Head Misfit
 sign_step head Nothing at negative = lead_by head head.at at negative
-sign_step head (Scaled n) at negative = sign_by head (ended_part (Scaled n) head.negative) negative
-sign_step head (Product p l fs last) at negative = sign_by head (ended_part (Product p l fs last) head.negative) negative
+sign_step head part at negative = sign_by head (ended_part part head.negative) negative
 
 abbrev pub outside : List Level → Head → Part → Reading
 outside levels head part = record { levels = levels; head = head; part = part; focus = focus.Outside }
@@ -99,7 +98,7 @@ literal_step levels head part n = Err Expected
 
 -- the literal is next
 abbrev pub caret_step : List Level → Head → Part → Spot → Result Reading Misfit
-caret_step levels head (Product first l fs last) at = Ok (record { levels = levels; head = head; part = Nothing; focus = focus.Raised first l fs last at })
+caret_step levels head (Product q) at = Ok (record { levels = levels; head = head; part = Nothing; focus = focus.Raised q at })
 caret_step levels head part at = Err Expected
 
 abbrev pub outside_step : List Level → Head → Part → TokenKind → Spot → Result Reading Misfit
@@ -129,15 +128,12 @@ abbrev pub named_step : List Level → Head → Part → Spot → Name → Token
 named_step levels head part left n kind.CloseSquare = Ok (outside levels head (part_with part (Identity n) left))
 named_step levels head part left n k = Err Expected
 
-abbrev pub raised_step : List Level → Head → Spot → Option Number → List Factor → Factor → Spot → TokenKind → Spot → Result Reading Misfit
-raised_step levels head first l fs last caret k at =
-    number_in k at >>= λ n. Ok (outside levels head (Product first l fs (marked_factor last (Power caret n))))
-
 abbrev pub focus_step : List Level → Head → Part → Focus → TokenKind → Spot → Result Reading Misfit
 focus_step levels head part focus.Outside k at = outside_step levels head part k at
 focus_step levels head part (focus.Square left) k at = square_step levels head part left k at
 focus_step levels head part (focus.Named left n) k at = named_step levels head part left n k
-focus_step levels head part (focus.Raised first l fs last caret) k at = raised_step levels head first l fs last caret k at
+focus_step levels head part (focus.Raised q caret) k at =
+    number_in k at >>= λ n. Ok (outside levels head (Product (record q { last = marked_factor q.last (Power caret n) })))
 
 abbrev pub token_step : Reading → TokenKind → Spot → Result Reading Misfit
 token_step r k at = focus_step r.levels r.head r.part r.focus k at

@@ -21,6 +21,7 @@ pub use Rattle.statement_syntax.specs.declared.tree.Primary.{Primary, Letter, Id
 pub use Rattle.statement_syntax.specs.declared.tree.Statement.{Statement}
 pub use Rattle.statement_syntax.specs.declared.tree.StatementKind.{StatementKind}
 pub use Rattle.statement_syntax.specs.declared.expression.Head.{Head}
+pub use Rattle.statement_syntax.specs.declared.expression.OpenProduct.{OpenProduct}
 pub use Rattle.statement_syntax.specs.declared.expression.Part.{Part}
 pub use Rattle.statement_syntax.specs.declared.expression.Part.TheVariants.{Nothing, Scaled, Product}
 pub use Rattle.statement_syntax.specs.declared.expression.Focus.{Focus}

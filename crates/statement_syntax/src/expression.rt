@@ -27,17 +27,21 @@ pub struct Head {
     pub negative: bool,
 }
 
+/// A product of which the last factor may get marks, and more factors may come.
+#[derive(Drop)]
+pub struct OpenProduct {
+    pub at: Spot,
+    pub literal: Option<Number>,
+    pub factors: Listing<Factor>,
+    pub last: Factor,
+}
+
 /// What has been read of the term.
 #[derive(Drop)]
 pub enum Part {
     Nothing,
     Scaled(Number),
-    Product {
-        at: Spot,
-        literal: Option<Number>,
-        factors: Listing<Factor>,
-        last: Factor,
-    },
+    Product(OpenProduct),
 }
 
 /// Inside square brackets, behind a caret, or neither.
@@ -46,14 +50,8 @@ pub enum Focus {
     Outside,
     Square(Spot),
     Named(Spot, Name),
-    /// Behind a caret, of which the literal is next, with the product before it.
-    Raised {
-        at: Spot,
-        literal: Option<Number>,
-        factors: Listing<Factor>,
-        last: Factor,
-        caret: Spot,
-    },
+    /// Behind a caret at this place, of which the literal is next, with the product before it.
+    Raised(OpenProduct, Spot),
 }
 
 /// A round bracket that is open, with what stands before it.
@@ -133,10 +131,7 @@ fn close_step(alloc: Global, reading: &mut Reading) -> Result<(), ReadError>
     let part = mem::replace(&mut reading.part, Part::Nothing);
     let term = ended_part(alloc, part, reading.head.negative)?;
     match reading.levels.pop() {
-        None => {
-            drop(term);
-            Err(ReadError::Misfit(Misfit::Expected))
-        }
+        None => Err(ReadError::Misfit(Misfit::Expected)),
         Some(Level { head, part, at }) => {
             drop(mem::replace(&mut reading.part, part));
             let sum = sum_with(mem::replace(&mut reading.head, head), term)?;
@@ -219,20 +214,8 @@ fn caret_step(reading: &mut Reading, caret: Spot) -> Result<(), Misfit>
         (λ misfit. caret_step reading.old.levels reading.old.head reading.old.part caret ≡ Err misfit) }
 {
     match mem::replace(&mut reading.part, Part::Nothing) {
-        Part::Product {
-            at,
-            literal,
-            factors,
-            last,
-        } => {
-            let raised = Focus::Raised {
-                at,
-                literal,
-                factors,
-                last,
-                caret,
-            };
-            drop(mem::replace(&mut reading.focus, raised));
+        Part::Product(product) => {
+            drop(mem::replace(&mut reading.focus, Focus::Raised(product, caret)));
             Ok(())
         }
         _ => Err(Misfit::Expected),
@@ -251,34 +234,19 @@ pub fn token_step(alloc: Global, reading: &mut Reading, token: Token) -> Result<
             Ok(())
         }
         Focus::Named(left, name) => match token.kind {
-            TokenKind::CloseSquare => {
-                drop(token);
-                Ok(part_with(alloc, &mut reading.part, Primary::Identity(name), left)?)
-            }
-            _ => {
-                drop((name, token));
-                Err(ReadError::Misfit(Misfit::Expected))
-            }
+            TokenKind::CloseSquare => Ok(part_with(
+                alloc,
+                &mut reading.part,
+                Primary::Identity(name),
+                left,
+            )?),
+            _ => Err(ReadError::Misfit(Misfit::Expected)),
         },
-        Focus::Raised {
-            at,
-            literal,
-            factors,
-            last,
-            caret,
-        } => {
-            let product = Part::Product {
-                at,
-                literal,
-                factors,
-                last,
-            };
-            drop(mem::replace(&mut reading.part, product));
-            let exponent = number_in(&token);
-            drop(token);
+        Focus::Raised(product, caret) => {
+            drop(mem::replace(&mut reading.part, Part::Product(product)));
             let power = Mark::Power {
                 at: caret,
-                exponent: exponent?,
+                exponent: number_in(&token)?,
             };
             mark_step(&mut reading.part, power)
         }
@@ -296,18 +264,11 @@ pub fn whole_sum(alloc: Global, reading: Reading) -> Result<Sum, ReadError>
         focus,
     } = reading;
     let open = levels.len() > 0;
-    drop(levels);
     match focus {
-        Focus::Outside if !open => match ended_part(alloc, part, head.negative) {
-            Ok(term) => Ok(sum_with(head, term)?),
-            Err(error) => {
-                drop(head);
-                Err(error)
-            }
-        },
-        focus => {
-            drop((head, part, focus));
-            Err(ReadError::Misfit(Misfit::Expected))
+        Focus::Outside if !open => {
+            let term = ended_part(alloc, part, head.negative)?;
+            Ok(sum_with(head, term)?)
         }
+        _ => Err(ReadError::Misfit(Misfit::Expected)),
     }
 }

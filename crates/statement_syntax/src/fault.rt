@@ -1,7 +1,7 @@
 //! What can be wrong with a text, with its place.
 
 ghost use Rattle.std.specs.Prelude.{◌≡◌};
-ghost use Rattle.statement_syntax.specs.Fault.{code_of, fault_at, scan_fault, misfit_fault, TellsScan, IsWantOfMemory};
+ghost use Rattle.statement_syntax.specs.Fault.{fault_at, scan_fault, misfit_fault, TellsScan, IsWantOfMemory};
 
 use crate::expression::Misfit;
 use statement_tokens::{ScanError, ScanFault, Spot};
@@ -55,24 +55,19 @@ impl<T: Drop> From<AllocFailed<T>> for SyntaxFault {
     }
 }
 
-fn code_of(fault: Fault) -> u32
-    ensures { result ≡ code_of fault }
+/// The refusal for a fault at a place.
+pub fn fault_at(fault: Fault, at: Spot) -> SyntaxFault
+    ensures { result ≡ fault_at fault at }
 {
-    match fault {
+    let code = match fault {
         Fault::NotUtf8 => 1,
         Fault::BadToken => 2,
         Fault::Expected => 3,
         Fault::LiteralTooLarge => 4,
         Fault::TooDeep => 5,
-    }
-}
-
-/// The refusal for a fault at a place.
-pub fn fault_at(fault: Fault, at: Spot) -> SyntaxFault
-    ensures { result ≡ fault_at fault at }
-{
+    };
     SyntaxFault::Fault {
-        code: code_of(fault),
+        code,
         line: at.line,
         column: at.column,
     }

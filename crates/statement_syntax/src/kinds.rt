@@ -106,15 +106,6 @@ fn put_word(alloc: Global, word: &str, out: &mut Listing<TokenKind>) -> Result<(
     Ok(out.push(TokenKind::Name(Text::from_str(alloc, word)?))?)
 }
 
-fn put_names(names: &Listing<Name>, out: &mut Listing<TokenKind>) -> Result<(), AllocError>
-    ensures { OnOk result (out.new ≡ out.old ++ flat_map name_kinds names.now) }
-{
-    for name in names.as_slice() {
-        put_name(name, out)?;
-    }
-    Ok(())
-}
-
 fn put_pairs(
     pairs: &Listing<(Name, Number)>,
     out: &mut Listing<TokenKind>,
@@ -137,7 +128,10 @@ fn put_list(
     ensures { OnOk result (out.new ≡ out.old ++ list_kinds word.now names.now) }
 {
     put_word(alloc, word, out)?;
-    put_names(names, out)
+    for name in names.as_slice() {
+        put_name(name, out)?;
+    }
+    Ok(())
 }
 
 fn put_map(

@@ -3,7 +3,6 @@
 ghost use Rattle.std.specs.Prelude.{◌≡◌};
 ghost use Rattle.statement_syntax.specs.Steps.{Gives};
 ghost use Rattle.statement_syntax.specs.Lines.{list_step, list_end, map_names_step, map_step, map_end, pair_step, projection_step};
-ghost use Rattle.statement_syntax.specs.Tree.{pair_kind};
 
 use crate::expected::{is_word, name_in};
 use crate::expression::{Misfit, ReadError};
@@ -108,16 +107,6 @@ pub fn map_end(names: Listing<Name>, rest: MapRest) -> Result<StatementKind, Mis
     }
 }
 
-fn pair_kind(word: PairWord, first: Name, second: Name) -> StatementKind
-    ensures { result ≡ pair_kind word first second }
-{
-    match word {
-        PairWord::Pinv => StatementKind::Pinv(first, second),
-        PairWord::Inverse => StatementKind::Inverse(first, second),
-        PairWord::Inner => StatementKind::Inner(first, second),
-    }
-}
-
 /// One of the two names of `pinv`, `inverse` or `inner`.
 pub fn pair_step(
     word: PairWord,
@@ -135,7 +124,11 @@ pub fn pair_step(
             first: Some(name),
         }),
         Some(first) => {
-            let kind = pair_kind(word, first, name);
+            let kind = match word {
+                PairWord::Pinv => StatementKind::Pinv(first, name),
+                PairWord::Inverse => StatementKind::Inverse(first, name),
+                PairWord::Inner => StatementKind::Inner(first, name),
+            };
             Ok(Line::Whole(Statement { at, kind }))
         }
     }

@@ -4,7 +4,7 @@ ghost use Rattle.std.specs.Prelude.{◌≡◌, [], ◌∷◌, ◌++◌, IfOk, On
 ghost use Rattle.statement_syntax.specs.Steps.{part_with, Gives, Turns, ended_part, sum_with, mark_step, sign_step};
 ghost use Rattle.statement_syntax.specs.declared.expression.Part.TheVariants.{Product};
 
-use crate::expression::{Head, Misfit, Part, ReadError};
+use crate::expression::{Head, Misfit, OpenProduct, Part, ReadError};
 use crate::tree::{Factor, Mark, Number, Primary, Sum, Term};
 use lists::Listing;
 use statement_tokens::Spot;
@@ -32,20 +32,22 @@ pub fn part_with(
             let scaled = first_factor(alloc, number.at, Some(number), factor);
             drop(mem::replace(part, scaled));
         }
-        Part::Product { factors, last, .. } => factors.push(mem::replace(last, factor))?,
+        Part::Product(product) => product
+            .factors
+            .push(mem::replace(&mut product.last, factor))?,
     }
     Ok(())
 }
 
 fn first_factor(alloc: Global, at: Spot, literal: Option<Number>, last: Factor) -> Part
-    ensures { result ≡ Product at literal [] last }
+    ensures { result ≡ Product (record { at = at; literal = literal; factors = []; last = last }) }
 {
-    Part::Product {
+    Part::Product(OpenProduct {
         at,
         literal,
         factors: Listing::new(alloc),
         last,
-    }
+    })
 }
 
 /// The term, where it may end here. A literal alone is one only where its value is 0.
@@ -65,16 +67,11 @@ pub fn ended_part(alloc: Global, part: Part, negative: bool) -> Result<Term, Rea
                 factors: Listing::new(alloc),
             })
         }
-        Part::Product {
-            at,
-            literal,
-            factors,
-            last,
-        } => Ok(Term {
-            at,
+        Part::Product(product) => Ok(Term {
+            at: product.at,
             negative,
-            literal,
-            factors: factors_with(factors, last)?,
+            literal: product.literal,
+            factors: factors_with(product.factors, product.last)?,
         }),
     }
 }
@@ -93,10 +90,7 @@ fn factors_with(factors: Listing<Factor>, last: Factor) -> Result<Listing<Factor
 pub fn sum_with(head: Head, term: Term) -> Result<Sum, AllocError>
     ensures { IfOk result (λ s. s ≡ sum_with head term) }
 {
-    let at = match head.at {
-        Some(at) => at,
-        None => term.at,
-    };
+    let at = head.at.unwrap_or(term.at);
     let mut terms = head.terms;
     terms.push(term)?;
     Ok(Sum { at, terms })
@@ -107,7 +101,7 @@ pub fn mark_step(part: &mut Part, mark: Mark) -> Result<(), ReadError>
     ensures { Turns result part.new (mark_step part.old mark) }
 {
     match part {
-        Part::Product { last, .. } => Ok(last.marks.push(mark)?),
+        Part::Product(product) => Ok(product.last.marks.push(mark)?),
         _ => Err(ReadError::Misfit(Misfit::Expected)),
     }
 }

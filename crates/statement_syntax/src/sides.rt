@@ -61,17 +61,12 @@ pub fn sides_end(
 ) -> Result<StatementKind, ReadError>
     ensures { Gives result (sides_end word left reading) }
 {
-    match left {
-        None => {
-            drop(reading);
-            Err(ReadError::Misfit(Misfit::Expected))
-        }
-        Some(left) => {
-            let right = whole_sum(alloc, reading)?;
-            match word {
-                SidesWord::Assume => Ok(StatementKind::Assume(left, right)),
-                SidesWord::Claim => Ok(StatementKind::Claim(left, right)),
-            }
-        }
+    let Some(left) = left else {
+        return Err(ReadError::Misfit(Misfit::Expected));
+    };
+    let right = whole_sum(alloc, reading)?;
+    match word {
+        SidesWord::Assume => Ok(StatementKind::Assume(left, right)),
+        SidesWord::Claim => Ok(StatementKind::Claim(left, right)),
     }
 }

@@ -1,7 +1,7 @@
 use Rattle.std.proofs.Common.{Ok, subst, sym, ap, ◌∙◌}
 use Rattle.statement_tokens.specs.Language.{language_of}
 use Rattle.statement_tokens.specs.Scanned.{Hands}
-use Rattle.statement_syntax.proofs.Streamed.{FrontRead, begins, goes_further, ends, all_read, faulted}
+use Rattle.statement_syntax.proofs.Streamed.{FrontRead, begins, goes_further, ends, faulted}
 use Rattle.statement_syntax.proofs.read.statements.Goals as goal
 
 pub loop-token-init : goal.loop-token-init
@@ -25,7 +25,6 @@ returns-in-Err c =
 
 pub returns-in-Ok-None : goal.returns-in-Ok-None
 returns-in-Ok-None c =
-    all_read c.args.text.now c.loop-token.read c.statements_of.result
-    (ends c.args.text.now c.loop-token.scanner c.next.new.self c.language_of-language.result c.loop-token.read c.loop-token.invariant
-    (λ before same. subst (λ o. Hands before c.loop-token.scanner (Ok o) c.next.new.self) c.in-Ok-None.field-0-is (c.in-Ok-None.ensures.hands before same)))
+    ends c.args.text.now c.loop-token.scanner c.next.new.self c.language_of-language.result c.loop-token.read c.statements_of.result c.loop-token.invariant
+    (λ before same. subst (λ o. Hands before c.loop-token.scanner (Ok o) c.next.new.self) c.in-Ok-None.field-0-is (c.in-Ok-None.ensures.hands before same))
     c.statements_of.ensures

@@ -1,7 +1,7 @@
 use Rattle.std.proofs.Common.{◌≡◌, ◌++◌, take}
 use Rattle.std.specs.List.{flat_map}
 use Rattle.statement_syntax.specs.Written.{name_kinds}
-use Rattle.statement_syntax.proofs.kinds.put_names.Given as goal
+use Rattle.statement_syntax.proofs.kinds.put_list.Given as goal
 
 abbrev pub invariant-loop-name : goal.invariant-loop-name
 invariant-loop-name l = l.out ≡ l.initial.out ++ flat_map name_kinds (take l.name-index l.name-items)
