@@ -5,15 +5,15 @@ use Rattle.std.specs.Str.{IsUtf8, chars, encode_utf8_all}
 use Rattle.std.proofs.Math.Utf8.{scalars}
 use Rattle.std.proofs.lemmas.List.{map-append}
 use Rattle.std.proofs.lemmas.Str.{encode_ascii, chars_from_encodes, scalars-chars}
-use Rattle.statement_syntax.specs.Types.{Spot, Token, TokenKind, TokenKind as kind, Language, First, Second, Statement, Item as item, Placed}
+use Rattle.statement_syntax.specs.Types.{Spot, Token, TokenKind as kind, Language, First, Second, Statement, Placed}
 use Rattle.statement_tokens.specs.Tokens.{end_of}
-use Rattle.statement_tokens.specs.Items.{item_at, item_in}
-use Rattle.statement_tokens.proofs.Reading.{◌>>=◌, tokens_from, tokens_of, placed, with_front}
-use Rattle.statement_syntax.specs.Grammar.{sign_token, Stated, listed, mapped, sides, paired, projected, by_degree, by_weight, modelled, second_language, stated_tokens, StatedLine, NamesLanguage, IsFileOf, file_tokens, FileFits}
-use Rattle.statement_syntax.specs.Tree.{stated_kind, file_tree}
+use Rattle.statement_tokens.specs.Items.{item_in}
+use Rattle.statement_tokens.proofs.Reading.{◌>>=◌, tokens_from, tokens_of, with_front}
+use Rattle.statement_syntax.specs.Grammar.{Stated, listed, second_language, stated_tokens, StatedLine, NamesLanguage, IsFileOf, file_tokens, FileFits}
+use Rattle.statement_syntax.specs.Tree.{file_tree}
 use Rattle.statement_syntax.specs.Fault.{HasText}
-use Rattle.statement_syntax.specs.Places.{somewhere, bare_stated, bare_file, ReadsBackAs}
-use Rattle.statement_syntax.specs.Written.{text_from, statement_kinds, tree_text}
+use Rattle.statement_syntax.specs.Places.{bare_stated, bare_file, ReadsBackAs}
+use Rattle.statement_syntax.specs.Written.{tree_text}
 use Rattle.statement_tokens.proofs.Scanning.{spot}
 use Rattle.statement_tokens.proofs.TokenLaws.{read_are, are_read}
 use Rattle.statement_syntax.proofs.Moved.{kinds, file_moved}
@@ -43,14 +43,11 @@ file-scalars language (l ∷ ls) all =
     characters-scalars language (kinds (stated_tokens (bare_stated l.stated))) all.0 true (10 ∷ file_characters language ls all.1) (file-scalars language ls all.1)
 
 -- the tokens
-new_line : (before : List Token) (rest : List ℕ) → item_at before 10 rest ≡ Ok item.NewLine
-unfolding item_in
-new_line before rest = refl
-
 line_step : (before : List Token) (rest : List ℕ) (line column past : ℕ)
-    → tokens_from before (10 ∷ rest) 0 (spot line column) past ≡ (tokens_from (before ++ end_of line past) rest 0 (spot (line + 1) 1) 0 >>= λ ts. Ok (end_of line past ++ ts))
-unfolding tokens_from
-line_step before rest line column past = ap (λ i. placed before i (spot line column) past (λ front skip to end. tokens_from front rest skip to end)) (new_line before rest)
+    → tokens_from before (10 ∷ rest) 0 (spot line column) past
+    ≡ (tokens_from (before ++ end_of line past) rest 0 (spot (line + 1) 1) 0 >>= λ ts. Ok (end_of line past ++ ts))
+unfolding tokens_from item_in
+line_step before rest line column past = refl
 
 end-kinds : (line past : ℕ) → 1 ≤ past → kinds (end_of line past) ≡ kind.End ∷ []
 end-kinds line zero some = absurd (omega (arith, some))
