@@ -6,11 +6,11 @@ use Rattle.statement_syntax.specs.Types.{MapRest as rest, Line, Line as line, Pr
 use Rattle.statement_syntax.specs.Steps.{◌>>=◌, run}
 use Rattle.statement_syntax.specs.Grammar.{sign_token, Stated, stated_tokens, StatedLine, AreLinesOf, file_tokens, FileFits}
 use Rattle.statement_syntax.specs.Tree.{stated_tree, file_tree}
-use Rattle.statement_syntax.specs.Lines.{Lined, pairs_by, line_step, line_end, ended, within_line, file_step}
+use Rattle.statement_syntax.specs.Lines.{Lined, pairs_by, line_step, ended, within_line, file_step}
 use Rattle.statement_syntax.proofs.Run.{Upto, then_on, before_it, after_it, run_upto, inside_upto, one_step, failing, run_front, bind_ok, ok_is}
 use Rattle.statement_syntax.proofs.Viable.{somewhere}
 use Rattle.statement_syntax.proofs.Choices.{by_end, not_end}
-use Rattle.statement_syntax.proofs.LineReads.{LineReads, line_step_reads, line_step_deep}
+use Rattle.statement_syntax.proofs.LineReads.{LineReads, Grows, line_grows}
 use Rattle.statement_syntax.proofs.LineEnds.{EndsAs, line_ends, line_on}
 use Rattle.statement_syntax.proofs.LineRuns.{by_token, no_line_sign, end_line, stated_run, stated_end}
 
@@ -88,48 +88,44 @@ module _ (language : Language) (before : List Statement) where
   Goes ts at k (Err TooDeep) =
       (more : List Token) × (lines : List StatedLine) × AreLinesOf language lines × ((ts ++ sign_token k at ∷ []) ++ more ≡ file_tokens lines)
 
-  end_goes : (p : Progress) (ts : List Token) (t : Spot) (r : Result Statement Misfit) → line_end p.line ≡ r → FileReads language before p ts
+  end_goes : (p : Progress) (ts : List Token) (t : Spot) (read : FileReads language before p ts) (r : Result Statement Misfit) → EndsAs language read.now r
       → Goes ts t kind.End (r >>= λ s. Ok (record { statements = p.statements ++ s ∷ []; line = line.Start }))
-  end_goes p ts t (Err Expected) is read = tt
-  end_goes p ts t (Err TooDeep) is read = absurd (subst (EndsAs language read.now) is (line_ends language p.line read.now read.reads))
-  end_goes p ts t (Ok s) is read =
-      let w = subst (EndsAs language read.now) is (line_ends language p.line read.now read.reads) in
-      record {
-        lines = read.lines ++ record { stated = w.stated; end = t } ∷ [];
-        speak = AreLinesOf-append language read.lines _ read.speak (w.speaks, tt);
-        fits = FileFits-append read.lines _ read.fits (w.fits, tt);
-        trees = rw (read.trees, map-append) (ap (λ x. (before ++ file_tree read.lines) ++ x ∷ []) w.tree ∙ append_assoc before (file_tree read.lines) _);
-        now = [];
-        reads = refl;
-        are = rw (read.are, file_tokens-append)
-            (simp (append-nil, append_assoc) (ap (λ x. file_tokens read.lines ++ (x ++ sign_token kind.End t ∷ [])) w.are));
-      }
+  end_goes p ts t read (Err Expected) ends = tt
+  end_goes p ts t read (Err TooDeep) ends = absurd ends
+  end_goes p ts t read (Ok s) ends = record {
+    lines = read.lines ++ record { stated = ends.stated; end = t } ∷ [];
+    speak = AreLinesOf-append language read.lines _ read.speak (ends.speaks, tt);
+    fits = FileFits-append read.lines _ read.fits (ends.fits, tt);
+    trees = rw (read.trees, ends.tree, map-append) (simp append_assoc);
+    now = [];
+    reads = refl;
+    are = rw (read.are, ends.are, file_tokens-append) (simp (append-nil, append_assoc));
+  }
 
-  within_goes : (p : Progress) (ts : List Token) (t : Spot) (k : TokenKind) (r : Lined) → line_step language p.line k t ≡ r → FileReads language before p ts
+  within_goes : (p : Progress) (ts : List Token) (t : Spot) (k : TokenKind) (read : FileReads language before p ts) (r : Lined) → Grows language read.now t k r
       → Goes ts t k (r >>= λ l. Ok (record { statements = p.statements; line = l }))
-  within_goes p ts t k (Err Expected) is read = tt
-  within_goes p ts t k (Err TooDeep) is read =
-      let on = line_step_deep language p.line (sign_token k t) read.now is read.reads in
-      let last : StatedLine = record { stated = on.1; end = somewhere } in (
-        on.0 ++ sign_token kind.End somewhere ∷ [],
+  within_goes p ts t k read (Err Expected) grows = tt
+  within_goes p ts t k read (Err TooDeep) grows =
+      let last : StatedLine = record { stated = grows.1; end = somewhere } in (
+        grows.0 ++ sign_token kind.End somewhere ∷ [],
         read.lines ++ last ∷ [],
-        AreLinesOf-append language read.lines (last ∷ []) read.speak (on.2, tt),
-        rw (read.are, file_tokens-append, ← on.3) (simp (append-nil, append_assoc)),
+        AreLinesOf-append language read.lines (last ∷ []) read.speak (grows.2, tt),
+        rw (read.are, file_tokens-append, ← grows.3) (simp (append-nil, append_assoc)),
       )
-  within_goes p ts t k (Ok l) is read = record {
+  within_goes p ts t k read (Ok l) grows = record {
     lines = read.lines;
     speak = read.speak;
     fits = read.fits;
     trees = read.trees;
     now = read.now ++ sign_token k t ∷ [];
-    reads = line_step_reads language p.line l (sign_token k t) read.now is read.reads;
+    reads = grows;
     are = rw read.are (simp append_assoc);
   }
 
   file_goes : (p : Progress) (ts : List Token) (t : Token) → FileReads language before p ts → Goes ts t.at t.kind (file_step language p t)
   file_goes p ts t read =
-      by_end (Goes ts t.at) (ended p) (λ k. within_line language p k t.at) (end_goes p ts t.at (line_end p.line) refl read)
-      (λ k differs. within_goes p ts t.at k (line_step language p.line k t.at) refl read) t.kind
+      by_end (Goes ts t.at) (ended p) (λ k. within_line language p k t.at) (end_goes p ts t.at read _ (line_ends language p.line read.now read.reads))
+      (λ k differs. within_goes p ts t.at k read _ (line_grows language p.line read.now t.at k read.reads)) t.kind
 
   -- with a bracket that is too deep it can go on to a file that is not within the limit
   pub file_deeper : (p : Progress) (ts : List Token) (t : Token) → FileReads language before p ts → file_step language p t ≡ Err TooDeep

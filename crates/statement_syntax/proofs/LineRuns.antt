@@ -1,13 +1,13 @@
 -- Each statement is read as itself where it is within the limit, and else stops at a bracket that is too deep.
 use Rattle.std.proofs.Common.{◌≡◌, List, [], ◌∷◌, ◌++◌, inl, Some, None, Result, Ok, Err, refl, sym, ap, ◌∙◌, append_assoc}
-use Rattle.std.specs.Prelude.{codes}
+use Rattle.std.specs.Prelude.{ℕ, codes}
 use Rattle.std.proofs.lemmas.List.{append-nil}
 use Rattle.statement_syntax.specs.Types.{Spot, Token, Language, First, Second, TokenKind as kind, Name, Number, Sum, Misfit}
 use Rattle.statement_syntax.specs.Types.{Expected, ListWord, Eliminate, SidesWord, Assume, Pinv}
 use Rattle.statement_syntax.specs.Types.{Reading, Focus, Focus as focus, Opening, Opening as opening, MapRest as rest, Pairs, Line, Line as line}
 use Rattle.statement_syntax.specs.Limits.{bracket_limit}
 use Rattle.statement_syntax.specs.Steps.{◌>>=◌, run, focus_step, token_step, whole_sum}
-use Rattle.statement_syntax.specs.Grammar.{Expr, expr_tokens, ExprFits, sign_token, name_token, number_token, word_token, names_tokens, pairs_tokens, Ending, no_word, self_word, ending_tokens, Stated, listed, mapped, sides, paired, projected, by_degree, by_weight, modelled, second_language, stated_tokens, StatedFits, IsOf}
+use Rattle.statement_syntax.specs.Grammar.{Expr, expr_tokens, ExprFits, sign_token, name_token, number_token, word_token, names_tokens, pairs_tokens, list_text, sides_text, pair_text, Ending, no_word, self_word, ending_tokens, Stated, listed, mapped, sides, paired, projected, by_degree, by_weight, modelled, second_language, stated_tokens, StatedFits, IsOf}
 use Rattle.statement_syntax.specs.Tree.{expr_tree, stated_tree, sides_kind}
 use Rattle.statement_syntax.specs.Lines.{Lined, opened, start_reading, line_step, line_end, statement_by}
 use Rattle.statement_syntax.proofs.Seen.{reading_of, tree_or}
@@ -16,7 +16,7 @@ use Rattle.statement_syntax.proofs.Run.{Upto, then_on, before_it, run_upto, insi
 use Rattle.statement_syntax.proofs.Runs.{end_state, end-whole}
 use Rattle.statement_syntax.proofs.Same.{whole-seen}
 use Rattle.statement_syntax.proofs.Viable.{only}
-use Rattle.statement_syntax.proofs.LineReads.{IsListOf, opening_text}
+use Rattle.statement_syntax.proofs.LineReads.{IsListOf}
 use Rattle.statement_syntax.proofs.Choices.{not_equals}
 
 -- a step of a line by a token
@@ -36,6 +36,16 @@ list_is language w at n ns speaks = tt
 abbrev IsOpeningOf : Language → Opening → Type 0
 IsOpeningOf language (opening.List w) = IsListOf w language
 IsOpeningOf language o = Unit {0}
+
+-- the text of the word that begins a statement
+abbrev pub opening_text : Opening → List ℕ
+opening_text (opening.List w) = list_text w
+opening_text opening.Map = codes "map"
+opening_text (opening.Sides w) = sides_text w
+opening_text (opening.Pair w) = pair_text w
+opening_text opening.Projection = codes "projection"
+opening_text opening.Order = codes "order"
+opening_text opening.Model = codes "model"
 
 -- a statement's first word
 opens : (language : Language) (o : Opening) (at : Spot) (rest : List Token) → IsOpeningOf language o
