@@ -6,10 +6,9 @@ use Rattle.statement_syntax.specs.Types.{MapRest as rest, Line, Line as line, Pr
 use Rattle.statement_syntax.specs.Steps.{◌>>=◌, run}
 use Rattle.statement_syntax.specs.Grammar.{sign_token, Stated, stated_tokens, StatedLine, AreLinesOf, file_tokens, FileFits}
 use Rattle.statement_syntax.specs.Tree.{stated_tree, file_tree}
-use Rattle.statement_syntax.specs.Lines.{Lined, pairs_by, line_step, ended, within_line, file_step}
+use Rattle.statement_syntax.specs.Lines.{Lined, on_end, pairs_by, line_step, ended, within_line, file_step}
 use Rattle.statement_syntax.proofs.Run.{Upto, then_on, before_it, after_it, run_upto, inside_upto, one_step, failing, run_front, bind_ok, ok_is}
 use Rattle.statement_syntax.proofs.Viable.{somewhere}
-use Rattle.statement_syntax.proofs.Choices.{by_end, not_end}
 use Rattle.statement_syntax.proofs.LineReads.{LineReads, Grows, line_grows}
 use Rattle.statement_syntax.proofs.LineEnds.{EndsAs, line_ends, line_on}
 use Rattle.statement_syntax.proofs.LineRuns.{by_token, no_line_sign, end_line, stated_run, stated_end}
@@ -30,6 +29,11 @@ line_no_end language l t = refl
 -- a line inside a file
 abbrev pub in_file : List Statement → Line → Progress
 in_file statements l = record { statements = statements; line = l }
+
+-- at another token than the end of a line
+not_end : (found other : Result Progress Misfit) (k : TokenKind) → (k ≡ kind.End → ⊥) → on_end found other k ≡ other
+not_end found other kind.End differs = absurd (differs refl)
+not_end found other k differs = refl
 
 file_by : (language : Language) (statements : List Statement) (l : Line) (t : Token) (read : Lined) → by_token language l t ≡ read → (read ≡ Err Expected → ⊥)
     → file_step language (in_file statements l) t ≡ (read >>= λ x. Ok (in_file statements x))
@@ -122,15 +126,14 @@ module _ (language : Language) (before : List Statement) where
     are = rw read.are (simp append_assoc);
   }
 
-  file_goes : (p : Progress) (ts : List Token) (t : Token) → FileReads language before p ts → Goes ts t.at t.kind (file_step language p t)
-  file_goes p ts t read =
-      by_end (Goes ts t.at) (ended p) (λ k. within_line language p k t.at) (end_goes p ts t.at read _ (line_ends language p.line read.now read.reads))
-      (λ k differs. within_goes p ts t.at k read _ (line_grows language p.line read.now t.at k read.reads)) t.kind
+  file_goes : (p : Progress) (ts : List Token) (t : Spot) (k : TokenKind) → FileReads language before p ts → Goes ts t k (file_step language p (sign_token k t))
+  file_goes p ts t kind.End read = end_goes p ts t read _ (line_ends language p.line read.now read.reads)
+  file_goes p ts t k read = within_goes p ts t k read _ (line_grows language p.line read.now t k read.reads)
 
   -- with a bracket that is too deep it can go on to a file that is not within the limit
   pub file_deeper : (p : Progress) (ts : List Token) (t : Token) → FileReads language before p ts → file_step language p t ≡ Err TooDeep
       → (more : List Token) × (lines : List StatedLine) × AreLinesOf language lines × ((ts ++ t ∷ []) ++ more ≡ file_tokens lines)
-  file_deeper p ts t read fails = subst (Goes ts t.at t.kind) fails (file_goes p ts t read)
+  file_deeper p ts t read fails = subst (Goes ts t.at t.kind) fails (file_goes p ts t.at t.kind read)
 
   run_reads_from : (p next : Progress) (ts us : List Token) → run (file_step language) p us ≡ Ok next → FileReads language before p ts → FileReads language before next (ts ++ us)
   unfolding run
@@ -138,7 +141,7 @@ module _ (language : Language) (before : List Statement) where
   run_reads_from p next ts (t ∷ us) ran read =
       let one = bind_ok (file_step language p t) (λ x. run (file_step language) x us) next ran in
       subst (FileReads language before next) (append_assoc ts (t ∷ []) us)
-      (run_reads_from one.0 next (ts ++ t ∷ []) us one.2 (subst (Goes ts t.at t.kind) one.1 (file_goes p ts t read)))
+      (run_reads_from one.0 next (ts ++ t ∷ []) us one.2 (subst (Goes ts t.at t.kind) one.1 (file_goes p ts t.at t.kind read)))
 
   -- a run reads what it was given
   pub run_reads : (p : Progress) (ts : List Token) → run (file_step language) (in_file before line.Start) ts ≡ Ok p → FileReads language before p ts

@@ -1,22 +1,18 @@
 -- The tokens that bring a line to what has been read of it; with each step there is one more, and where the line may end they are a statement's.
-use Rattle.std.proofs.Common.{◌≡◌, ℕ, Bool, true, false, cond, List, [], ◌∷◌, ◌++◌, Option, Some, None, Result, Ok, Err, refl, ap, ◌∙◌}
-use Rattle.std.proofs.Common.{append_assoc}
+use Rattle.std.proofs.Common.{◌≡◌, ℕ, Bool, true, false, cond, List, [], ◌∷◌, ◌++◌, Option, Some, None, Result, Ok, Err, refl, ap, ◌∙◌, append_assoc}
 use Rattle.std.specs.Prelude.{bytes_eq, codes}
 use Rattle.std.proofs.lemmas.List.{append-nil, map-append}
 use Rattle.std.proofs.lemmas.Grind.{flat_map-append}
 use Rattle.std.proofs.lemmas.Slice.Eq.{bytes_eq-Decides}
-use Rattle.statement_syntax.specs.Types.{Spot, Token, Language, First, Second, TokenKind, TokenKind as kind, Name, Number, Sum, Statement}
-use Rattle.statement_syntax.specs.Types.{Misfit, Expected, TooDeep, Reading, ListWord, Eliminate, SidesWord}
-use Rattle.statement_syntax.specs.Types.{Opening, MapRest, MapRest as rest, Pairs, Line, Line as line}
+use Rattle.statement_syntax.specs.Types.{Spot, Token, Language, First, Second, TokenKind, TokenKind as kind, Name, Number, Sum, Statement, Misfit, Expected}
+use Rattle.statement_syntax.specs.Types.{TooDeep, Reading, ListWord, Eliminate, SidesWord, Opening, MapRest, MapRest as rest, Pairs, Line, Line as line}
 use Rattle.statement_syntax.specs.Limits.{bracket_limit}
 use Rattle.statement_syntax.specs.Steps.{◌>>=◌, run, token_step, whole_sum}
 use Rattle.statement_syntax.specs.Grammar.{Expr, expr_tokens, ExprFits, sign_token, name_token, number_token, word_token, names_tokens, pairs_tokens, list_text}
 use Rattle.statement_syntax.specs.Grammar.{sides_text, pair_text, self_word, Stated, listed, mapped, sides, paired, projected, by_degree, stated_tokens}
 use Rattle.statement_syntax.specs.Grammar.{StatedFits, IsOf}
 use Rattle.statement_syntax.specs.Tree.{expr_tree, stated_tree}
-use Rattle.statement_syntax.specs.Lines.{Lined, named, common_opening, opening_in, colon_after, start_reading, begun}
-use Rattle.statement_syntax.specs.Lines.{sides_step, pairs_by}
-use Rattle.statement_syntax.specs.Lines.{line_step}
+use Rattle.statement_syntax.specs.Lines.{Lined, named, common_opening, opening_in, colon_after, start_reading, begun, sides_step, pairs_by, line_step}
 use Rattle.statement_syntax.proofs.Run.{run_front}
 use Rattle.statement_syntax.proofs.StateReads.{reading_step}
 use Rattle.statement_syntax.proofs.Viable.{ExprReads, reading_ends, reading_lacks, deep, somewhere, some_name, some_expr}
@@ -146,7 +142,8 @@ colon_grows language at [] ts t read = tt
 colon_grows language at (n ∷ ns) ts t read = (t, record { has_first = record { first = n; more = ns; is = refl }; are = rw read refl })
 
 -- a map's names and what stands behind them, with one token more
-map_more : {at : Spot} {names : List Name} {ts behind : List Token} (t : Token) → MapReads at names ts behind → MapReads at names (ts ++ t ∷ []) (behind ++ t ∷ [])
+map_more : {at : Spot} {names : List Name} {ts behind : List Token} (t : Token) → MapReads at names ts behind
+    → MapReads at names (ts ++ t ∷ []) (behind ++ t ∷ [])
 map_more t read = record { has_first = read.has_first; are = rw read.are (simp append_assoc) }
 
 -- expressions
@@ -166,8 +163,8 @@ first_grows language w at r ts t k (Err TooDeep) is read =
 first_grows language w at r ts t k (Ok next) is read =
     record { side = read.side ++ sign_token k t ∷ []; reads = reading_grows r next read.side k t read.reads is; are = rw read.are refl }
 
-second_grows : (language : Language) (w : SidesWord) (at : Spot) (left : Sum) (r : Reading) (ts : List Token) (t : Spot) (k : TokenKind) (res : Result Reading Misfit)
-    → token_step r k t ≡ res → SecondSide w at left r ts → Grows language ts t k (res >>= λ x. Ok (line.Sides w at (Some left) x))
+second_grows : (language : Language) (w : SidesWord) (at : Spot) (left : Sum) (r : Reading) (ts : List Token) (t : Spot) (k : TokenKind)
+    (res : Result Reading Misfit) → token_step r k t ≡ res → SecondSide w at left r ts → Grows language ts t k (res >>= λ x. Ok (line.Sides w at (Some left) x))
 second_grows language w at left r ts t k (Err Expected) is read = tt
 second_grows language w at left r ts t k (Err TooDeep) is read =
     let on = deep read.side r (sign_token k t) read.reads is in
@@ -209,9 +206,10 @@ pub pairs_more : (ps : List (Name × Number)) (n : Name) (m : Number) → pairs_
 pairs_more ps n m = flat_map-append (λ p. name_token p.0 ∷ number_token p.1 ∷ []) ps ((n, m) ∷ [])
 
 -- behind these tokens
-pairs_grow : (language : Language) (wrap : Pairs → Line) (front : List Token) → ((p : Pairs) (us : List Token) → us ≡ front ++ read_pairs p → LineReads language (wrap p) us)
-    → (ps : List (Name × Number)) (half : Option Name) (ts : List Token) (t : Spot) (k : TokenKind) → ts ≡ front ++ read_pairs (record { whole = ps; half = half })
-    → Grows language ts t k (pairs_by ps half k t >>= λ p. Ok (wrap p))
+pairs_grow : (language : Language) (wrap : Pairs → Line) (front : List Token)
+    → ((p : Pairs) (us : List Token) → us ≡ front ++ read_pairs p → LineReads language (wrap p) us)
+    → (ps : List (Name × Number)) (half : Option Name) (ts : List Token) (t : Spot) (k : TokenKind)
+    → ts ≡ front ++ read_pairs (record { whole = ps; half = half }) → Grows language ts t k (pairs_by ps half k t >>= λ p. Ok (wrap p))
 pairs_grow language wrap front are ps None ts t (kind.Name x) read = are _ _ (rw read (simp (append-nil, append_assoc)))
 pairs_grow language wrap front are ps (Some n) ts t (kind.Literal v) read = are _ _ (rw (read, pairs_more) (simp (append-nil, append_assoc)))
 pairs_grow language wrap front are ps None ts t k read = tt

@@ -2,14 +2,16 @@
 use Rattle.std.proofs.Common.{◌≡◌, List, [], ◌∷◌, ◌++◌, inl, Some, None, Result, Ok, Err, refl, sym, ap, ◌∙◌, append_assoc}
 use Rattle.std.specs.Prelude.{ℕ, codes}
 use Rattle.std.proofs.lemmas.List.{append-nil}
-use Rattle.statement_syntax.specs.Types.{Spot, Token, Language, First, Second, TokenKind as kind, Name, Number, Sum, Misfit}
-use Rattle.statement_syntax.specs.Types.{Expected, ListWord, Eliminate, SidesWord, Assume, Pinv}
-use Rattle.statement_syntax.specs.Types.{Reading, Focus, Focus as focus, Opening, Opening as opening, MapRest as rest, Pairs, Line, Line as line}
+use Rattle.statement_syntax.specs.Types.{Spot, Token, Language, First, Second, TokenKind, TokenKind as kind, Name, Number, Sum, Misfit, Expected, ListWord, Eliminate}
+use Rattle.statement_syntax.specs.Types.{SidesWord, Assume, Pinv, Reading, Focus, Focus as focus, Opening, Opening as opening, MapRest as rest, Pairs, Line}
+use Rattle.statement_syntax.specs.Types.{Line as line}
 use Rattle.statement_syntax.specs.Limits.{bracket_limit}
 use Rattle.statement_syntax.specs.Steps.{◌>>=◌, run, focus_step, token_step, whole_sum}
-use Rattle.statement_syntax.specs.Grammar.{Expr, expr_tokens, ExprFits, sign_token, name_token, number_token, word_token, names_tokens, pairs_tokens, list_text, sides_text, pair_text, Ending, no_word, self_word, ending_tokens, Stated, listed, mapped, sides, paired, projected, by_degree, by_weight, modelled, second_language, stated_tokens, StatedFits, IsOf}
+use Rattle.statement_syntax.specs.Grammar.{Expr, expr_tokens, ExprFits, sign_token, name_token, number_token, word_token, names_tokens, pairs_tokens, list_text}
+use Rattle.statement_syntax.specs.Grammar.{sides_text, pair_text, Ending, no_word, self_word, ending_tokens, Stated, listed, mapped, sides, paired, projected}
+use Rattle.statement_syntax.specs.Grammar.{by_degree, by_weight, modelled, second_language, stated_tokens, StatedFits, IsOf}
 use Rattle.statement_syntax.specs.Tree.{expr_tree, stated_tree, sides_kind}
-use Rattle.statement_syntax.specs.Lines.{Lined, opened, start_reading, line_step, line_end, statement_by}
+use Rattle.statement_syntax.specs.Lines.{Lined, on_equals, opened, start_reading, line_step, line_end, statement_by}
 use Rattle.statement_syntax.proofs.Seen.{reading_of, tree_or}
 use Rattle.statement_syntax.proofs.StateReads.{reading_step}
 use Rattle.statement_syntax.proofs.Run.{Upto, then_on, before_it, run_upto, inside_upto, one_step}
@@ -17,7 +19,6 @@ use Rattle.statement_syntax.proofs.Runs.{end_state, end-whole}
 use Rattle.statement_syntax.proofs.Same.{whole-seen}
 use Rattle.statement_syntax.proofs.Viable.{only}
 use Rattle.statement_syntax.proofs.LineReads.{IsListOf}
-use Rattle.statement_syntax.proofs.Choices.{not_equals}
 
 -- a step of a line by a token
 abbrev pub by_token : Language → Line → Token → Lined
@@ -63,6 +64,11 @@ pub no_line_sign : (r : Reading) (f : Focus) (at : Spot)
 no_line_sign r focus.Outside at = (refl, refl)
 no_line_sign r f at = (refl, refl)
 
+-- at another token than an equals sign
+not_equals : (found other : Lined) (k : TokenKind) → (k ≡ kind.Equals → ⊥) → on_equals found other k ≡ other
+not_equals found other kind.Equals differs = absurd (differs refl)
+not_equals found other k differs = refl
+
 first_step : (language : Language) (w : SidesWord) (at : Spot) (r : Reading) (t : Token) (read : Result Reading Misfit) → reading_step r t ≡ read
     → (read ≡ Err Expected → ⊥) → by_token language (line.Sides w at None r) t ≡ (read >>= λ x. Ok (line.Sides w at None x))
 first_step language w at r t read goes other =
@@ -95,7 +101,8 @@ sides_run language w at d equals e =
     (expr_tokens e) start_reading _ (only e))))
 
 -- names and pairs, one after another
-names_run : (language : Language) (wrap : List Name → Line) → ((ns : List Name) (n : Name) → by_token language (wrap ns) (name_token n) ≡ Ok (wrap (ns ++ n ∷ [])))
+names_run : (language : Language) (wrap : List Name → Line)
+    → ((ns : List Name) (n : Name) → by_token language (wrap ns) (name_token n) ≡ Ok (wrap (ns ++ n ∷ [])))
     → (front ns : List Name) (behind : List Token) → goes language (wrap front) (names_tokens ns ++ behind) ≡ goes language (wrap (front ++ ns)) behind
 names_run language wrap one front [] behind = rw append-nil refl
 names_run language wrap one front (n ∷ ns) behind =

@@ -1,6 +1,6 @@
 -- A written text is read as tokens of the kinds that it was written from.
-use Rattle.std.proofs.Common.{◌≡◌, ℕ, ◌+◌, ◌≤◌, ◌||◌, ◌&&◌, Bool, true, false, cond, List, [], ◌∷◌, ◌++◌, inl, inr, length, get_or, drop, Result, Ok}
-use Rattle.std.proofs.Common.{Err, refl, sym, ap, ap₂, subst, ◌∙◌, append_assoc, arith}
+use Rattle.std.proofs.Common.{◌≡◌, ℕ, ◌+◌, ◌≤◌, ◌||◌, ◌&&◌, Bool, true, false, cond, List, [], ◌∷◌, ◌++◌, inl, inr, length, get_or, drop, Result, Ok, Err, refl}
+use Rattle.std.proofs.Common.{sym, ap, ap₂, subst, ◌∙◌, append_assoc, arith}
 use Rattle.std.specs.Prelude.{ℤ, decimal, nat_lt}
 use Rattle.std.specs.Fmt.{signed_decimal}
 use Rattle.std.specs.Str.{encode_utf8_all}
@@ -21,7 +21,8 @@ use Rattle.statement_syntax.proofs.Moved.{kinds}
 use Rattle.statement_syntax.proofs.Carets.{Allows, carets_stay, carets_second}
 use Rattle.statement_tokens.proofs.EachCharacter.{and_first, and_second, EachIs}
 use Rattle.statement_syntax.proofs.Spelled.{SpellsName, SpellsNumber, IsToken, AllKinds}
-use Rattle.statement_tokens.proofs.Rescan.{EndsBefore, Ender, one_token, blank_back, name_back, stops_name, stops_digits, colon_back, equals_back, plus_back, minus_back, arrow_back, open_back, close_back, open_square_back, close_square_back, quote_back, caret_back}
+use Rattle.statement_tokens.proofs.Rescan.{EndsBefore, Ender, one_token, blank_back, name_back, stops_name, stops_digits, colon_back, equals_back, plus_back}
+use Rattle.statement_tokens.proofs.Rescan.{minus_back, arrow_back, open_back, close_back, open_square_back, close_square_back, quote_back, caret_back}
 use Rattle.statement_tokens.proofs.Literals.{Digits, decimal_digits, plain_digit, literal_back}
 
 -- the characters of a token
@@ -204,7 +205,7 @@ module _ (language : Language) where
         are = refl;
         column' = column;
         past' = past;
-        reads = sym (front_nil (tokens_from before rest 0 (spot line column) past)) ∙ ap (λ front. with_front [] (tokens_from front rest 0 (spot line column) past)) (sym (append-nil before));
+        reads = rw append-nil (sym (front_nil _));
         kept = λ some. omega (arith, some);
       }
   line_read (k ∷ ks) all glued rest before line column past allowed given =
@@ -219,8 +220,6 @@ module _ (language : Language) where
         column' = r.column';
         past' = r.past';
         reads = one_token before (first_of k all.0) (more_of k all.0) more k line col past (read_back before allowed k all.0 more (behind_is k ks all.1 rest given))
-            ∙ ap (λ (x : Result (List Token) Placed). x >>= λ ts. Ok (here ∷ ts)) r.reads
-            ∙ front_more here r.tokens (tokens_from ((before ++ here ∷ []) ++ r.tokens) rest 0 (spot line r.column') r.past')
-            ∙ ap (λ front. with_front (here ∷ r.tokens) (tokens_from front rest 0 (spot line r.column') r.past')) (append_assoc before (here ∷ []) r.tokens);
+            ∙ rw (r.reads, append_assoc) (front_more here r.tokens _);
         kept = λ some. r.kept (omega arith);
       }) column

@@ -7,10 +7,10 @@ use Rattle.statement_syntax.specs.Limits.{bracket_limit}
 use Rattle.statement_syntax.specs.Steps as steps
 use Rattle.statement_syntax.specs.Steps.{◌>>=◌, run}
 use Rattle.statement_syntax.proofs.Run.{Upto, then_on, before_it, after_it, one_step}
-use Rattle.statement_syntax.specs.Grammar.{Lead, no_sign, Sign, plus, Expr, first, joined, Product, zero_alone, factors, Factors}
-use Rattle.statement_syntax.specs.Grammar.{one, beside, Marked, plain, marked, raised, Prime, name, identity, bracket, sign_token, name_token, number_token}
-use Rattle.statement_syntax.specs.Grammar.{lead_tokens, signed_token, literal_tokens, zero_at, expr_tokens, product_tokens, factors_tokens, marked_tokens}
-use Rattle.statement_syntax.specs.Grammar.{prime_tokens, ExprFits, ProductFits, FactorsFit, MarkedFits, PrimeFits}
+use Rattle.statement_syntax.specs.Grammar.{Lead, no_sign, Sign, plus, Expr, first, joined, Product, zero_alone, factors, Factors, one, beside, Marked, plain}
+use Rattle.statement_syntax.specs.Grammar.{marked, raised, Prime, name, identity, bracket, sign_token, name_token, number_token, lead_tokens, signed_token}
+use Rattle.statement_syntax.specs.Grammar.{literal_tokens, zero_at, expr_tokens, product_tokens, factors_tokens, marked_tokens, prime_tokens, ExprFits}
+use Rattle.statement_syntax.specs.Grammar.{ProductFits, FactorsFit, MarkedFits, PrimeFits}
 use Rattle.statement_syntax.proofs.Machine.{Head, led, after, Part, nothing, scaled, product, Level, State, at_outside, fresh, add, whole_term, with_term}
 use Rattle.statement_syntax.proofs.Machine.{whole}
 use Rattle.statement_syntax.proofs.Seen.{head_of, levels_of, reading_of}
@@ -69,22 +69,6 @@ open_step levels head part left room =
     ap (λ b. cond b (Ok (reading_of (fresh (record { head = head; part = part; at = left } ∷ levels)))) (Err TooDeep))
     (lt-ltb (length (levels_of levels)) bracket_limit room)
 
-quote_step : (levels : List Level) (head : Head) (part : Part) (f : Marked) (at : Spot)
-    → goes (at_outside levels head (add_marked part f)) (sign_token kind.Quote at) ≡ Ok (reading_of (at_outside levels head (add_marked part (marked f at))))
-quote_step levels head nothing f at = refl
-quote_step levels head part f at = refl
-
-power_run : (levels : List Level) (head : Head) (part : Part) (f : Marked) (at : Spot) (n : Number) (rest : List Token)
-    → runs (at_outside levels head (add_marked part f)) (sign_token kind.Caret at ∷ number_token n ∷ rest)
-    ≡ runs (at_outside levels head (add_marked part (raised f at n))) rest
-unfolding run
-power_run levels head nothing f at n rest = refl
-power_run levels head part f at n rest = refl
-
-plain_is : (part : Part) (p : Prime) → add part p ≡ add_marked part (plain p)
-plain_is nothing p = refl
-plain_is part p = refl
-
 -- whole parts
 open_fails : (levels : List Level) (head : Head) (part : Part) (left : Spot) (rest : List Token) → length (levels_of levels) + 0 ≡ bracket_limit
     → runs (at_outside levels head part) (sign_token kind.Open left ∷ rest) ≡ Err TooDeep
@@ -93,6 +77,7 @@ open_fails levels head part left rest room =
     ap (λ b. cond b (Ok (reading_of (fresh (record { head = head; part = part; at = left } ∷ levels)))) (Err TooDeep) >>= λ r. run reading_step r rest)
     (le-ltb (length (levels_of levels)) bracket_limit (omega (arith, room)))
 
+-- (where the right side computes only once a case is known, the first case stands by itself)
 mutual
   unfolding run
 
@@ -121,14 +106,14 @@ mutual
 
   marked_run : (levels : List Level) (head : Head) (part : Part) (f : Marked) (d : ℕ) (rest : List Token) → length (levels_of levels) + d ≡ bracket_limit
       → Upto (MarkedFits f d) (runs (at_outside levels head part) (marked_tokens f ++ rest)) (runs (at_outside levels head (add_marked part f)) rest)
-  marked_run levels head part (plain p) d rest room =
-      after_it (prime_run levels head part p d rest room) (ap (λ q. runs (at_outside levels head q) rest) (plain_is part p))
-  marked_run levels head part (marked f at) d rest room =
-      rw append_assoc (after_it (marked_run levels head part f d (sign_token kind.Quote at ∷ rest) room)
-      (one_step reading_step (reading_of (at_outside levels head (add_marked part f))) _ (sign_token kind.Quote at) rest (quote_step levels head part f at)))
+  marked_run levels head nothing (plain p) d rest room = prime_run levels head nothing p d rest room
+  marked_run levels head part (plain p) d rest room = prime_run levels head part p d rest room
+  marked_run levels head nothing (marked f at) d rest room = rw append_assoc (marked_run levels head nothing f d (sign_token kind.Quote at ∷ rest) room)
+  marked_run levels head part (marked f at) d rest room = rw append_assoc (marked_run levels head part f d (sign_token kind.Quote at ∷ rest) room)
+  marked_run levels head nothing (raised f at n) d rest room =
+      rw append_assoc (marked_run levels head nothing f d (sign_token kind.Caret at ∷ number_token n ∷ rest) room)
   marked_run levels head part (raised f at n) d rest room =
-      rw append_assoc (after_it (marked_run levels head part f d (sign_token kind.Caret at ∷ number_token n ∷ rest) room)
-      (power_run levels head part f at n rest))
+      rw append_assoc (marked_run levels head part f d (sign_token kind.Caret at ∷ number_token n ∷ rest) room)
 
   prime_run : (levels : List Level) (head : Head) (part : Part) (p : Prime) (d : ℕ) (rest : List Token) → length (levels_of levels) + d ≡ bracket_limit
       → Upto (PrimeFits p d) (runs (at_outside levels head part) (prime_tokens p ++ rest)) (runs (at_outside levels head (add part p)) rest)

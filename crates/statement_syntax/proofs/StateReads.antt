@@ -8,14 +8,13 @@ use Rattle.statement_syntax.specs.Limits.{bracket_limit}
 use Rattle.statement_syntax.specs.Steps as steps
 use Rattle.statement_syntax.specs.Steps.{◌>>=◌, run}
 use Rattle.statement_syntax.specs.Grammar.{no_sign, lead_plus, lead_minus, Sign, plus, minus, Product, zero_alone, factors, Factors, one, beside, Prime, name}
-use Rattle.statement_syntax.specs.Grammar.{identity, bracket, sign_token, name_token, number_token, signed_token, expr_tokens}
-use Rattle.statement_syntax.specs.Grammar.{product_tokens, factors_tokens, prime_tokens}
+use Rattle.statement_syntax.specs.Grammar.{identity, bracket, sign_token, name_token, number_token, signed_token, expr_tokens, product_tokens, factors_tokens}
+use Rattle.statement_syntax.specs.Grammar.{prime_tokens}
 use Rattle.statement_syntax.specs.Tree.{is_minus}
 use Rattle.statement_syntax.proofs.Run.{bind_ok}
 use Rattle.statement_syntax.proofs.Machine.{Head, led, after, Part, nothing, scaled, product, Focus, outside, square, named, behind_caret, Level, State}
-use Rattle.statement_syntax.proofs.Machine.{at_outside}
-use Rattle.statement_syntax.proofs.Machine.{fresh, add, with_mark, with_power, lone_literal, whole_term, with_term, head_tokens, part_tokens, kept_tokens}
-use Rattle.statement_syntax.proofs.Machine.{focus_tokens, level_tokens, state_tokens}
+use Rattle.statement_syntax.proofs.Machine.{at_outside, fresh, add, with_mark, with_power, lone_literal, whole_term, with_term, head_tokens, part_tokens}
+use Rattle.statement_syntax.proofs.Machine.{kept_tokens, focus_tokens, level_tokens, state_tokens}
 use Rattle.statement_syntax.proofs.Seen.{head_of, part_of, focus_of, levels_of, reading_of}
 use Rattle.statement_syntax.proofs.Same.{add-seen, product_or, ended-seen, marked-seen, raised-seen, signed-seen, bracket-seen}
 

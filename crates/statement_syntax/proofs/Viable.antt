@@ -11,8 +11,7 @@ use Rattle.statement_syntax.specs.Grammar.{number_token, expr_tokens, ExprFits}
 use Rattle.statement_syntax.specs.Tree.{expr_tree, prime_tree, prime_at}
 pub use Rattle.statement_syntax.specs.Places.{somewhere}
 use Rattle.statement_syntax.proofs.Machine.{Head, Part, nothing, scaled, product, Focus, outside, square, named, behind_caret, Level, State, at_outside, fresh}
-use Rattle.statement_syntax.proofs.Machine.{add}
-use Rattle.statement_syntax.proofs.Machine.{with_power, whole_term, with_term, whole, end_by, state_tokens}
+use Rattle.statement_syntax.proofs.Machine.{add, with_power, whole_term, with_term, whole, end_by, state_tokens}
 use Rattle.statement_syntax.proofs.Seen.{head_of, part_of, levels_of, reading_of, tree_or}
 use Rattle.statement_syntax.proofs.Same.{add-seen, raised-seen, closed-seen, whole-seen}
 use Rattle.statement_syntax.proofs.StateReads.{reading_step, with_term-tokens, whole_term-tokens, run_reads, deep_reads}
