@@ -1,5 +1,4 @@
 pub mod Branches
-pub mod Choices
 pub mod Machine
 pub mod Seen
 pub mod Run

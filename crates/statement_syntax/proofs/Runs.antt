@@ -2,14 +2,14 @@
 use Rattle.std.proofs.Common.{◌≡◌, ℕ, zero, suc, ◌+◌, ◌<◌, cond, List, [], ◌∷◌, ◌++◌, length, inl, inr, Option, Some, None, Result, Ok, Err, refl, ap}
 use Rattle.std.proofs.Common.{append_assoc, arith}
 use Rattle.std.proofs.lemmas.Bool.{lt-ltb, le-ltb}
-use Rattle.statement_syntax.specs.Types.{Spot, Token, TokenKind as kind, Name, Number, Reading, Misfit, TooDeep}
+use Rattle.statement_syntax.specs.Types.{Spot, Token, TokenKind as kind, Number, Reading, Misfit, TooDeep}
 use Rattle.statement_syntax.specs.Limits.{bracket_limit}
 use Rattle.statement_syntax.specs.Steps as steps
 use Rattle.statement_syntax.specs.Steps.{◌>>=◌, run}
 use Rattle.statement_syntax.proofs.Run.{Upto, then_on, before_it, after_it, one_step}
-use Rattle.statement_syntax.specs.Grammar.{Lead, no_sign, Sign, plus, Expr, first, joined, Product, zero_alone, factors, Factors, one, beside, Marked, plain}
-use Rattle.statement_syntax.specs.Grammar.{marked, raised, Prime, name, identity, bracket, sign_token, name_token, number_token, lead_tokens, signed_token}
-use Rattle.statement_syntax.specs.Grammar.{literal_tokens, zero_at, expr_tokens, product_tokens, factors_tokens, marked_tokens, prime_tokens, ExprFits}
+use Rattle.statement_syntax.specs.Grammar.{no_sign, Sign, plus, Expr, first, joined, Product, zero_alone, factors, Factors, one, beside, Marked, plain}
+use Rattle.statement_syntax.specs.Grammar.{marked, raised, Prime, name, identity, bracket, sign_token, number_token, signed_token}
+use Rattle.statement_syntax.specs.Grammar.{zero_at, expr_tokens, product_tokens, factors_tokens, marked_tokens, prime_tokens, ExprFits}
 use Rattle.statement_syntax.specs.Grammar.{ProductFits, FactorsFit, MarkedFits, PrimeFits}
 use Rattle.statement_syntax.proofs.Machine.{Head, led, after, Part, nothing, scaled, product, Level, State, at_outside, fresh, add, whole_term, with_term}
 use Rattle.statement_syntax.proofs.Machine.{whole}
