@@ -44,12 +44,6 @@ file-scalars language (l ∷ ls) all =
     characters-scalars language (kinds (stated_tokens (bare_stated l.stated))) all.0 true (10 ∷ file_characters language ls all.1) (file-scalars language ls all.1)
 
 -- the tokens
-line_step : (before : List Token) (rest : List ℕ) (line column past : ℕ)
-    → tokens_from before (10 ∷ rest) 0 (spot line column) past
-    ≡ (tokens_from (before ++ end_of line past) rest 0 (spot (line + 1) 1) 0 >>= λ ts. Ok (end_of line past ++ ts))
-unfolding tokens_from item_in
-line_step before rest line column past = refl
-
 end-kinds : (line past : ℕ) → 1 ≤ past → kinds (end_of line past) ≡ kind.End ∷ []
 end-kinds line zero some = absurd (omega (arith, some))
 end-kinds line (suc past) some = refl
@@ -65,10 +59,6 @@ record FileRead (before : List Token) (ls : List StatedLine) (text : List ℕ) (
   pub read : tokens_from before text 0 (spot line 1) 0 ≡ Ok tokens
   pub are : kinds tokens ≡ kinds (file_tokens (bare_file ls))
 
-nothing_read : (before : List Token) (line : ℕ) → FileRead before [] [] line
-unfolding tokens_from
-nothing_read before line = record { tokens = []; read = refl; are = refl }
-
 -- a line whose statement has been read
 module _ (before : List Token) (s : Stated) (text rest : List ℕ) (line : ℕ) (r : ReadAs before text (kinds (stated_tokens (bare_stated s))) (10 ∷ rest) line 1 0) where
   -- it has a token
@@ -80,15 +70,17 @@ module _ (before : List Token) (s : Stated) (text rest : List ℕ) (line : ℕ) 
   behind = (before ++ r.tokens) ++ end_of line r.past'
 
   line_and_more : (end : Spot) (ls : List StatedLine) → FileRead behind ls rest (line + 1) → FileRead before (record { stated = s; end = end } ∷ ls) text line
+  unfolding tokens_from item_in
   line_and_more end ls more = record {
     tokens = r.tokens ++ (end_of line r.past' ++ more.tokens);
-    read = r.reads ∙ ap (with_front r.tokens) (line_step (before ++ r.tokens) rest line r.column' r.past' ∙ ap (λ (x : Result (List Token) Placed). x >>= λ ts. Ok (end_of line r.past' ++ ts)) more.read);
+    read = r.reads ∙ ap (with_front r.tokens) (ap (λ (x : Result (List Token) Placed). x >>= λ ts. Ok (end_of line r.past' ++ ts)) more.read);
     are = simp (map-append, r.are, end-kinds line r.past' some_read, more.are, append_assoc);
   }
 
 -- lines of a language, behind tokens that tell it
 lines_read : (language : Language) (ls : List StatedLine) (all : AllSpelled language ls) (before : List Token) (line : ℕ) → Allows language before → FileRead before ls (file_characters language ls all) line
-lines_read language [] all before line allowed = nothing_read before line
+unfolding tokens_from
+lines_read language [] all before line allowed = record { tokens = []; read = refl; are = refl }
 lines_read language (l ∷ ls) all before line allowed =
     let rest = file_characters language ls all.1 in
     let r = line_read language (kinds (stated_tokens (bare_stated l.stated))) all.0 true (10 ∷ rest) before line 1 0 allowed (inr (inl refl)) in

@@ -12,7 +12,7 @@ use Rattle.statement_syntax.specs.Types.{Token, TokenKind, TokenKind as kind, It
 use Rattle.statement_tokens.specs.Language.{language_of}
 use Rattle.statement_tokens.specs.Pieces.{is_digit}
 use Rattle.statement_tokens.specs.Tokens.{value_from}
-use Rattle.statement_tokens.specs.Items.{item_at, name_of}
+use Rattle.statement_tokens.specs.Items.{item_at, item_in, name_of}
 use Rattle.statement_tokens.proofs.Reading.{◌>>=◌, tokens_from, placed, with_front}
 use Rattle.statement_tokens.specs.Limits.{name_limit}
 use Rattle.statement_syntax.specs.Written.{opens, closes, kind_text, gap, text_from}
@@ -100,15 +100,12 @@ front_more : (t : Token) (ts : List Token) (r : Result (List Token) Placed) → 
 front_more t ts (Ok x) = refl
 front_more t ts (Err e) = refl
 
-blank_step : (before : List Token) (text : List ℕ) (line column past : ℕ) → tokens_from before (32 ∷ text) 0 (spot line column) past ≡ tokens_from before text 0 (spot line (column + 1)) past
-unfolding tokens_from
-blank_step before text line column past = ap (λ i. placed before i (spot line column) past (λ front skip to end. tokens_from front text skip to end)) (blank_back before text)
-
 glued_reads : (before : List Token) (b : Bool) (text : List ℕ) (ks : List TokenKind) (rest : List ℕ) (line past : ℕ) → ((column : ℕ) → ReadAs before text ks rest line column past) → (column : ℕ) → ReadAs before (glue b text) ks rest line column past
+unfolding tokens_from item_in
 glued_reads before true text ks rest line past given column = given column
 glued_reads before false text ks rest line past given column =
     let r = given (column + 1) in
-    record { tokens = r.tokens; are = r.are; column' = r.column'; past' = r.past'; reads = blank_step before text line column past ∙ r.reads; kept = r.kept }
+    record { tokens = r.tokens; are = r.are; column' = r.column'; past' = r.past'; reads = r.reads; kept = r.kept }
 
 -- what holds of the tokens of a language
 

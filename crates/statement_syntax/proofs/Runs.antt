@@ -63,20 +63,7 @@ close_step : (levels : List Level) (head : Head) (part : Part) (left : Spot) (e 
 close_step levels head part left (first l t) right = closed-seen _ levels (led l) (whole_part t) t right (whole_is t)
 close_step levels head part left (joined e s t) right = closed-seen _ levels (after e s) (whole_part t) t right (whole_is t)
 
-open_step : (levels : List Level) (head : Head) (part : Part) (left : Spot) → length (levels_of levels) < bracket_limit
-    → goes (at_outside levels head part) (sign_token kind.Open left) ≡ Ok (reading_of (fresh (record { head = head; part = part; at = left } ∷ levels)))
-open_step levels head part left room =
-    ap (λ b. cond b (Ok (reading_of (fresh (record { head = head; part = part; at = left } ∷ levels)))) (Err TooDeep))
-    (lt-ltb (length (levels_of levels)) bracket_limit room)
-
 -- whole parts
-open_fails : (levels : List Level) (head : Head) (part : Part) (left : Spot) (rest : List Token) → length (levels_of levels) + 0 ≡ bracket_limit
-    → runs (at_outside levels head part) (sign_token kind.Open left ∷ rest) ≡ Err TooDeep
-unfolding run
-open_fails levels head part left rest room =
-    ap (λ b. cond b (Ok (reading_of (fresh (record { head = head; part = part; at = left } ∷ levels)))) (Err TooDeep) >>= λ r. run reading_step r rest)
-    (le-ltb (length (levels_of levels)) bracket_limit (omega (arith, room)))
-
 -- (where the right side computes only once a case is known, the first case stands by itself)
 mutual
   unfolding run
@@ -121,13 +108,13 @@ mutual
       inl (tt, ap (λ p. run reading_step (steps.outside (levels_of levels) (head_of head) p) rest) (add-seen part (name n)))
   prime_run levels head part (identity left n right) d rest room =
       inl (tt, ap (λ p. run reading_step (steps.outside (levels_of levels) (head_of head) p) rest) (add-seen part (identity left n right)))
-  prime_run levels head part (bracket left e right) zero rest room = inr (λ x. x, open_fails levels head part left _ room)
+  prime_run levels head part (bracket left e right) zero rest room =
+      inr (λ x. x, rw (le-ltb (length (levels_of levels)) bracket_limit (omega (arith, room))) refl)
   prime_run levels head part (bracket left e right) (suc d) rest room =
       let inner = record { head = head; part = part; at = left } ∷ levels in
-      before_it (one_step reading_step (reading_of (at_outside levels head part)) _ (sign_token kind.Open left)
-      ((expr_tokens e ++ sign_token kind.Close right ∷ []) ++ rest) (open_step levels head part left (omega (arith, room))))
-      (rw append_assoc (after_it (expr_run inner e d (sign_token kind.Close right ∷ rest) (omega (arith, room)))
-      (one_step reading_step (reading_of (end_state inner e)) _ (sign_token kind.Close right) rest (close_step levels head part left e right))))
+      rw (lt-ltb (length (levels_of levels)) bracket_limit (omega (arith, room)), append_assoc (expr_tokens e) (sign_token kind.Close right ∷ []) rest)
+      (after_it (expr_run inner e d (sign_token kind.Close right ∷ rest) (omega (arith, room)))
+      (one_step reading_step (reading_of (end_state inner e)) _ (sign_token kind.Close right) rest (close_step levels head part left e right)))
 
 -- an expression ends where its tokens do
 pub end-whole : (e : Expr) → whole (end_state [] e) ≡ Some e
