@@ -30,16 +30,10 @@ line_no_end language l t = refl
 abbrev pub in_file : List Statement → Line → Progress
 in_file statements l = record { statements = statements; line = l }
 
--- at another token than the end of a line
-not_end : (found other : Result Progress Misfit) (k : TokenKind) → (k ≡ kind.End → ⊥) → on_end found other k ≡ other
-not_end found other kind.End differs = absurd (differs refl)
-not_end found other k differs = refl
-
-file_by : (language : Language) (statements : List Statement) (l : Line) (t : Token) (read : Lined) → by_token language l t ≡ read → (read ≡ Err Expected → ⊥)
-    → file_step language (in_file statements l) t ≡ (read >>= λ x. Ok (in_file statements x))
-file_by language statements l t read is other =
-    not_end _ _ t.kind (λ k. other (sym is ∙ ap (λ x. line_step language l x t.at) k ∙ line_no_end language l t.at))
-    ∙ ap (λ r. r >>= λ x. Ok (in_file statements x)) is
+file_by : (language : Language) (statements : List Statement) (l : Line) (k : TokenKind) (t : Spot) (read : Lined) → line_step language l k t ≡ read
+    → (read ≡ Err Expected → ⊥) → file_step language (in_file statements l) (sign_token k t) ≡ (read >>= λ x. Ok (in_file statements x))
+file_by language statements l kind.End t read is other = absurd (other (sym is ∙ line_no_end language l t))
+file_by language statements l k t read is other = ap (λ r. r >>= λ x. Ok (in_file statements x)) is
 
 line_ended : (language : Language) (statements : List Statement) (s : Stated) (at : Spot)
     → file_step language (in_file statements (end_line s)) (sign_token kind.End at) ≡ Ok (in_file (statements ++ stated_tree s ∷ []) line.Start)
@@ -56,7 +50,7 @@ lines_run language statements (l ∷ lines) speak =
     (then_on
     (run_upto (file_step language) (in_file statements line.Start) (stated_tokens l.stated) (in_file statements (end_line l.stated))
     (sign_token kind.End l.end ∷ file_tokens lines)
-    (inside_upto (by_token language) (file_step language) (in_file statements) (file_by language statements) (stated_tokens l.stated)
+    (inside_upto (by_token language) (file_step language) (in_file statements) (λ l t. file_by language statements l t.kind t.at) (stated_tokens l.stated)
     line.Start (end_line l.stated) (stated_run language l.stated speak.0)))
     (before_it (one_step (file_step language) (in_file statements (end_line l.stated)) (in_file more line.Start) (sign_token kind.End l.end)
     (file_tokens lines) (line_ended language statements l.stated l.end))

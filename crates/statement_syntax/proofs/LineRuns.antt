@@ -64,16 +64,10 @@ pub no_line_sign : (r : Reading) (f : Focus) (at : Spot)
 no_line_sign r focus.Outside at = (refl, refl)
 no_line_sign r f at = (refl, refl)
 
--- at another token than an equals sign
-not_equals : (found other : Lined) (k : TokenKind) → (k ≡ kind.Equals → ⊥) → on_equals found other k ≡ other
-not_equals found other kind.Equals differs = absurd (differs refl)
-not_equals found other k differs = refl
-
-first_step : (language : Language) (w : SidesWord) (at : Spot) (r : Reading) (t : Token) (read : Result Reading Misfit) → reading_step r t ≡ read
-    → (read ≡ Err Expected → ⊥) → by_token language (line.Sides w at None r) t ≡ (read >>= λ x. Ok (line.Sides w at None x))
-first_step language w at r t read goes other =
-    not_equals _ _ t.kind (λ k. other (sym goes ∙ ap (λ x. token_step r x t.at) k ∙ (no_line_sign r r.focus t.at).0))
-    ∙ ap (λ x. x >>= λ r. Ok (line.Sides w at None r)) goes
+first_step : (language : Language) (w : SidesWord) (at : Spot) (r : Reading) (k : TokenKind) (t : Spot) (read : Result Reading Misfit) → token_step r k t ≡ read
+    → (read ≡ Err Expected → ⊥) → line_step language (line.Sides w at None r) k t ≡ (read >>= λ x. Ok (line.Sides w at None x))
+first_step language w at r kind.Equals t read goes other = absurd (other (sym goes ∙ (no_line_sign r r.focus t).0))
+first_step language w at r k t read goes other = ap (λ x. x >>= λ r. Ok (line.Sides w at None r)) goes
 
 second_step : (language : Language) (w : SidesWord) (at : Spot) (left : Sum) (r : Reading) (t : Token) (read : Result Reading Misfit) → reading_step r t ≡ read
     → (read ≡ Err Expected → ⊥) → by_token language (line.Sides w at (Some left) r) t ≡ (read >>= λ x. Ok (line.Sides w at (Some left) x))
@@ -82,22 +76,17 @@ second_step language w at left r t read goes other = ap (λ x. x >>= λ r. Ok (l
 sum_seen : (e : Expr) → whole_sum (reading_of (end_state [] e)) ≡ Ok (expr_tree e)
 sum_seen e = whole-seen (end_state [] e) ∙ ap (λ o. tree_or o Expected) (end-whole e)
 
-equals_step : (language : Language) (w : SidesWord) (at : Spot) (d : Expr) (equals : Spot)
-    → by_token language (line.Sides w at None (reading_of (end_state [] d))) (sign_token kind.Equals equals)
-    ≡ Ok (line.Sides w at (Some (expr_tree d)) start_reading)
-equals_step language w at d equals = ap (λ x. x >>= λ left. Ok (line.Sides w at (Some left) start_reading)) (sum_seen d)
-
 sides_run : (language : Language) (w : SidesWord) (at : Spot) (d : Expr) (equals : Spot) (e : Expr)
     → Upto (ExprFits d bracket_limit × ExprFits e bracket_limit) (goes language line.Start (stated_tokens (sides w at d equals e)))
     (Ok (line.Sides w at (Some (expr_tree d)) (reading_of (end_state [] e))))
+unfolding run
 sides_run language w at d equals e =
     before_it (opens language (opening.Sides w) at (expr_tokens d ++ sign_token kind.Equals equals ∷ expr_tokens e) tt)
     (then_on
     (run_upto (by_token language) (line.Sides w at None start_reading) (expr_tokens d) (line.Sides w at None (reading_of (end_state [] d)))
     (sign_token kind.Equals equals ∷ expr_tokens e)
-    (inside_upto reading_step (by_token language) (line.Sides w at None) (first_step language w at) (expr_tokens d) start_reading _ (only d)))
-    (before_it (one_step (by_token language) _ _ (sign_token kind.Equals equals) (expr_tokens e) (equals_step language w at d equals))
-    (inside_upto reading_step (by_token language) (line.Sides w at (Some (expr_tree d))) (second_step language w at (expr_tree d))
+    (inside_upto reading_step (by_token language) (line.Sides w at None) (λ r t. first_step language w at r t.kind t.at) (expr_tokens d) start_reading _ (only d)))
+    (rw (sum_seen d) (inside_upto reading_step (by_token language) (line.Sides w at (Some (expr_tree d))) (second_step language w at (expr_tree d))
     (expr_tokens e) start_reading _ (only e))))
 
 -- names and pairs, one after another
