@@ -45,13 +45,6 @@ scalars_low : (cs : List ℕ) → AreLow cs → scalars cs ≡ true
 scalars_low [] given = refl
 scalars_low (c ∷ cs) given = rw (lt-ltb c 55296 (omega (arith, ltb-true c 128 given.0)), scalars_low cs given.1) refl
 
--- what may stand behind a token
-abbrev Behind : TokenKind → List ℕ → Type 0
-Behind kind.Open rest = Unit {0}
-Behind kind.OpenSquare rest = Unit {0}
-Behind kind.Caret rest = Unit {0}
-Behind k rest = EndsBefore rest
-
 number_back : (before : List Token) (v : ℤ) (t : SpellsNumber v) (rest : List ℕ) → EndsBefore rest → item_at before (digits_of v t).first ((digits_of v t).more ++ rest) ≡ Ok (item.Token (kind.Literal v) (length (digits_of v t).more))
 number_back before v t rest given =
     let d = digits_of v t in
@@ -136,15 +129,16 @@ module _ (language : Language) where
   scalar_is kind.End t = absurd t
   scalar_is k t = refl
 
-  -- a token's characters are read as it, where carets are tokens if they are ones of the language
-  read_back : (before : List Token) → Allows language before → (k : TokenKind) (t : IsToken language k) (rest : List ℕ) → Behind k rest → item_at before (first_of k t) (more_of k t ++ rest) ≡ Ok (item.Token k (length (more_of k t)))
-  read_back before allowed (kind.Name x) t rest given = word_back before x t rest given
-  read_back before allowed (kind.Literal v) t rest given = number_back before v t rest given
+  -- a token's characters are read as it, where carets are tokens if they are ones of the language and it ends before what stands behind it
+  read_back : (before : List Token) → Allows language before → (k : TokenKind) (t : IsToken language k) (rest : List ℕ) → (opens k ≡ false → EndsBefore rest)
+      → item_at before (first_of k t) (more_of k t ++ rest) ≡ Ok (item.Token k (length (more_of k t)))
+  read_back before allowed (kind.Name x) t rest given = word_back before x t rest (given refl)
+  read_back before allowed (kind.Literal v) t rest given = number_back before v t rest (given refl)
   read_back before allowed kind.Colon t rest given = colon_back before rest
   read_back before allowed kind.Arrow t rest given = arrow_back before rest
   read_back before allowed kind.Equals t rest given = equals_back before rest
   read_back before allowed kind.Plus t rest given = plus_back before rest
-  read_back before allowed kind.Minus t rest given = minus_back before rest given
+  read_back before allowed kind.Minus t rest given = minus_back before rest (given refl)
   read_back before allowed kind.Open t rest given = open_back before rest
   read_back before allowed kind.Close t rest given = close_back before rest
   read_back before allowed kind.OpenSquare t rest given = open_square_back before rest
@@ -188,12 +182,6 @@ module _ (language : Language) where
   unglued [] all rest given = given
   unglued (k ∷ ks) all rest given = behind_gap k all.0 (more_of k all.0 ++ characters ks all.1 (opens k) rest) (closes k) refl
 
-  behind_is : (k : TokenKind) (ks : List TokenKind) (all : AllKinds (IsToken language) ks) (rest : List ℕ) → EndsBefore rest → Behind k (characters ks all (opens k) rest)
-  behind_is kind.Open ks all rest given = tt
-  behind_is kind.OpenSquare ks all rest given = tt
-  behind_is kind.Caret ks all rest given = tt
-  behind_is k ks all rest given = unglued ks all rest given
-
   -- the characters of tokens are read as them
   pub line_read : (ks : List TokenKind) (all : AllKinds (IsToken language) ks) (glued : Bool) (rest : List ℕ) (before : List Token) (line column past : ℕ) → Allows language before → EndsBefore rest → ReadAs before (characters ks all glued rest) ks rest line column past
   line_read [] all glued rest before line column past allowed given =
@@ -216,7 +204,7 @@ module _ (language : Language) where
         are = ap (λ x. k ∷ x) r.are;
         column' = r.column';
         past' = r.past';
-        reads = one_token before (first_of k all.0) (more_of k all.0) more k line col past (read_back before allowed k all.0 more (behind_is k ks all.1 rest given))
+        reads = one_token before (first_of k all.0) (more_of k all.0) more k line col past (read_back before allowed k all.0 more (λ closed. rw closed (unglued ks all.1 rest given)))
             ∙ rw (r.reads, append_assoc) (front_more here r.tokens _);
         kept = λ some. r.kept (omega arith);
       }) column
