@@ -1,19 +1,20 @@
 -- What is written of a tree is in the language, and its tree is the same but for its places.
-use Rattle.std.proofs.Common.{◌≡◌, ℕ, zero, suc, ◌+◌, ◌≤◌, true, List, [], ◌∷◌, ◌++◌, inl, inr, length, Result, Ok, refl, sym, ap, ap₂, subst, ◌∙◌, append_assoc, arith}
+use Rattle.std.proofs.Common.{◌≡◌, ℕ, zero, suc, ◌+◌, ◌≤◌, true, List, [], ◌∷◌, ◌++◌, inl, inr, length, Result, Ok, refl, sym, ap, ap₂, subst, ◌∙◌}
+use Rattle.std.proofs.Common.{append_assoc, arith}
 use Rattle.std.specs.Prelude.{pos, codes}
 use Rattle.std.specs.Str.{IsUtf8, chars, encode_utf8_all}
 use Rattle.std.proofs.Math.Utf8.{scalars}
 use Rattle.std.proofs.lemmas.List.{map-append}
 use Rattle.std.proofs.lemmas.Str.{encode_ascii, chars_from_encodes, scalars-chars}
-use Rattle.statement_syntax.specs.Types.{Spot, Token, TokenKind, TokenKind as kind, Language, First, Second, Statement, Item as item, Placed}
+use Rattle.statement_syntax.specs.Types.{Spot, Token, TokenKind as kind, Language, First, Second, Statement, Placed}
 use Rattle.statement_tokens.specs.Tokens.{end_of}
-use Rattle.statement_tokens.specs.Items.{item_at, item_in}
-use Rattle.statement_tokens.proofs.Reading.{◌>>=◌, tokens_from, tokens_of, placed, with_front}
-use Rattle.statement_syntax.specs.Grammar.{sign_token, Stated, listed, mapped, sides, paired, projected, by_degree, by_weight, modelled, second_language, stated_tokens, StatedLine, NamesLanguage, IsFileOf, file_tokens, FileFits}
-use Rattle.statement_syntax.specs.Tree.{stated_kind, file_tree}
+use Rattle.statement_tokens.specs.Items.{item_in}
+use Rattle.statement_tokens.proofs.Reading.{◌>>=◌, tokens_from, tokens_of, with_front}
+use Rattle.statement_syntax.specs.Grammar.{Stated, listed, second_language, stated_tokens, StatedLine, NamesLanguage, IsFileOf, file_tokens, FileFits}
+use Rattle.statement_syntax.specs.Tree.{file_tree}
 use Rattle.statement_syntax.specs.Fault.{HasText}
-use Rattle.statement_syntax.specs.Places.{somewhere, bare_stated, bare_file, ReadsBackAs}
-use Rattle.statement_syntax.specs.Written.{text_from, statement_kinds, tree_text}
+use Rattle.statement_syntax.specs.Places.{bare_stated, bare_file, ReadsBackAs}
+use Rattle.statement_syntax.specs.Written.{tree_text}
 use Rattle.statement_tokens.proofs.Scanning.{spot}
 use Rattle.statement_tokens.proofs.TokenLaws.{read_are, are_read}
 use Rattle.statement_syntax.proofs.Moved.{kinds, file_moved}
@@ -43,15 +44,6 @@ file-scalars language (l ∷ ls) all =
     characters-scalars language (kinds (stated_tokens (bare_stated l.stated))) all.0 true (10 ∷ file_characters language ls all.1) (file-scalars language ls all.1)
 
 -- the tokens
-new_line : (before : List Token) (rest : List ℕ) → item_at before 10 rest ≡ Ok item.NewLine
-unfolding item_in
-new_line before rest = refl
-
-line_step : (before : List Token) (rest : List ℕ) (line column past : ℕ)
-    → tokens_from before (10 ∷ rest) 0 (spot line column) past ≡ (tokens_from (before ++ end_of line past) rest 0 (spot (line + 1) 1) 0 >>= λ ts. Ok (end_of line past ++ ts))
-unfolding tokens_from
-line_step before rest line column past = ap (λ i. placed before i (spot line column) past (λ front skip to end. tokens_from front rest skip to end)) (new_line before rest)
-
 end-kinds : (line past : ℕ) → 1 ≤ past → kinds (end_of line past) ≡ kind.End ∷ []
 end-kinds line zero some = absurd (omega (arith, some))
 end-kinds line (suc past) some = refl
@@ -67,10 +59,6 @@ record FileRead (before : List Token) (ls : List StatedLine) (text : List ℕ) (
   pub read : tokens_from before text 0 (spot line 1) 0 ≡ Ok tokens
   pub are : kinds tokens ≡ kinds (file_tokens (bare_file ls))
 
-nothing_read : (before : List Token) (line : ℕ) → FileRead before [] [] line
-unfolding tokens_from
-nothing_read before line = record { tokens = []; read = refl; are = refl }
-
 -- a line whose statement has been read
 module _ (before : List Token) (s : Stated) (text rest : List ℕ) (line : ℕ) (r : ReadAs before text (kinds (stated_tokens (bare_stated s))) (10 ∷ rest) line 1 0) where
   -- it has a token
@@ -82,15 +70,17 @@ module _ (before : List Token) (s : Stated) (text rest : List ℕ) (line : ℕ) 
   behind = (before ++ r.tokens) ++ end_of line r.past'
 
   line_and_more : (end : Spot) (ls : List StatedLine) → FileRead behind ls rest (line + 1) → FileRead before (record { stated = s; end = end } ∷ ls) text line
+  unfolding tokens_from item_in
   line_and_more end ls more = record {
     tokens = r.tokens ++ (end_of line r.past' ++ more.tokens);
-    read = r.reads ∙ ap (with_front r.tokens) (line_step (before ++ r.tokens) rest line r.column' r.past' ∙ ap (λ (x : Result (List Token) Placed). x >>= λ ts. Ok (end_of line r.past' ++ ts)) more.read);
+    read = r.reads ∙ ap (with_front r.tokens) (ap (λ (x : Result (List Token) Placed). x >>= λ ts. Ok (end_of line r.past' ++ ts)) more.read);
     are = simp (map-append, r.are, end-kinds line r.past' some_read, more.are, append_assoc);
   }
 
 -- lines of a language, behind tokens that tell it
 lines_read : (language : Language) (ls : List StatedLine) (all : AllSpelled language ls) (before : List Token) (line : ℕ) → Allows language before → FileRead before ls (file_characters language ls all) line
-lines_read language [] all before line allowed = nothing_read before line
+unfolding tokens_from
+lines_read language [] all before line allowed = record { tokens = []; read = refl; are = refl }
 lines_read language (l ∷ ls) all before line allowed =
     let rest = file_characters language ls all.1 in
     let r = line_read language (kinds (stated_tokens (bare_stated l.stated))) all.0 true (10 ∷ rest) before line 1 0 allowed (inr (inl refl)) in

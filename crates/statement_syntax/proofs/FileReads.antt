@@ -1,16 +1,15 @@
 -- Lines are read one by one: what was read is written so, can go on, and where a token is a misfit nothing goes on with it.
-use Rattle.std.proofs.Common.{◌≡◌, List, [], ◌∷◌, ◌++◌, inl, inr, Option, Some, None, Result, Ok, Err, refl, sym, ap, ap₂, subst, ◌∙◌, append_assoc}
+use Rattle.std.proofs.Common.{◌≡◌, List, [], ◌∷◌, ◌++◌, inl, inr, Option, Some, None, Result, Ok, Err, refl, sym, ap, subst, ◌∙◌, append_assoc}
 use Rattle.std.proofs.lemmas.List.{append-nil, map-append}
-use Rattle.statement_syntax.specs.Types.{Spot, Token, Language, TokenKind, TokenKind as kind, Name, Number, Sum, Statement, Misfit, Expected, TooDeep, Reading}
-use Rattle.statement_syntax.specs.Types.{Focus, Focus as focus, SidesWord, MapRest, MapRest as rest, Line, Line as line, Progress}
-use Rattle.statement_syntax.specs.Steps.{◌>>=◌, run, focus_step}
-use Rattle.statement_syntax.specs.Grammar.{sign_token, Stated, stated_tokens, StatedLine, AreLinesOf, line_tokens, file_tokens, FileFits}
+use Rattle.statement_syntax.specs.Types.{Spot, Token, Language, TokenKind, TokenKind as kind, Name, Number, Statement, Misfit, Expected, TooDeep}
+use Rattle.statement_syntax.specs.Types.{MapRest as rest, Line, Line as line, Progress}
+use Rattle.statement_syntax.specs.Steps.{◌>>=◌, run}
+use Rattle.statement_syntax.specs.Grammar.{sign_token, Stated, stated_tokens, StatedLine, AreLinesOf, file_tokens, FileFits}
 use Rattle.statement_syntax.specs.Tree.{stated_tree, file_tree}
-use Rattle.statement_syntax.specs.Lines.{Lined, map_step, sides_step, pairs_by, line_step, line_end, ended, within_line, file_step}
-use Rattle.statement_syntax.proofs.Run.{Upto, then_on, before_it, after_it, run_upto, inside_upto, one_step, failing, run_front, bind_ok, ok_is, ok_differs}
+use Rattle.statement_syntax.specs.Lines.{Lined, on_end, pairs_by, line_step, file_step}
+use Rattle.statement_syntax.proofs.Run.{Upto, then_on, before_it, after_it, run_upto, inside_upto, one_step, failing, run_front, bind_ok, ok_is}
 use Rattle.statement_syntax.proofs.Viable.{somewhere}
-use Rattle.statement_syntax.proofs.Choices.{by_end, not_end}
-use Rattle.statement_syntax.proofs.LineReads.{LineReads, line_step_reads, line_step_deep}
+use Rattle.statement_syntax.proofs.LineReads.{LineReads, Grows, line_grows}
 use Rattle.statement_syntax.proofs.LineEnds.{EndsAs, line_ends, line_on}
 use Rattle.statement_syntax.proofs.LineRuns.{by_token, no_line_sign, end_line, stated_run, stated_end}
 
@@ -31,11 +30,10 @@ line_no_end language l t = refl
 abbrev pub in_file : List Statement → Line → Progress
 in_file statements l = record { statements = statements; line = l }
 
-file_by : (language : Language) (statements : List Statement) (l : Line) (t : Token) (read : Lined) → by_token language l t ≡ read → (read ≡ Err Expected → ⊥)
-    → file_step language (in_file statements l) t ≡ (read >>= λ x. Ok (in_file statements x))
-file_by language statements l t read is other =
-    not_end _ _ t.kind (λ k. other (sym is ∙ ap (λ x. line_step language l x t.at) k ∙ line_no_end language l t.at))
-    ∙ ap (λ r. r >>= λ x. Ok (in_file statements x)) is
+file_by : (language : Language) (statements : List Statement) (l : Line) (k : TokenKind) (t : Spot) (read : Lined) → line_step language l k t ≡ read
+    → (read ≡ Err Expected → ⊥) → file_step language (in_file statements l) (sign_token k t) ≡ (read >>= λ x. Ok (in_file statements x))
+file_by language statements l kind.End t read is other = absurd (other (sym is ∙ line_no_end language l t))
+file_by language statements l k t read is other = ap (λ r. r >>= λ x. Ok (in_file statements x)) is
 
 line_ended : (language : Language) (statements : List Statement) (s : Stated) (at : Spot)
     → file_step language (in_file statements (end_line s)) (sign_token kind.End at) ≡ Ok (in_file (statements ++ stated_tree s ∷ []) line.Start)
@@ -52,7 +50,7 @@ lines_run language statements (l ∷ lines) speak =
     (then_on
     (run_upto (file_step language) (in_file statements line.Start) (stated_tokens l.stated) (in_file statements (end_line l.stated))
     (sign_token kind.End l.end ∷ file_tokens lines)
-    (inside_upto (by_token language) (file_step language) (in_file statements) (file_by language statements) (stated_tokens l.stated)
+    (inside_upto (by_token language) (file_step language) (in_file statements) (λ l t. file_by language statements l t.kind t.at) (stated_tokens l.stated)
     line.Start (end_line l.stated) (stated_run language l.stated speak.0)))
     (before_it (one_step (file_step language) (in_file statements (end_line l.stated)) (in_file more line.Start) (sign_token kind.End l.end)
     (file_tokens lines) (line_ended language statements l.stated l.end))
@@ -88,53 +86,48 @@ module _ (language : Language) (before : List Statement) where
   Goes ts at k (Err TooDeep) =
       (more : List Token) × (lines : List StatedLine) × AreLinesOf language lines × ((ts ++ sign_token k at ∷ []) ++ more ≡ file_tokens lines)
 
-  end_goes : (p : Progress) (ts : List Token) (t : Spot) (r : Result Statement Misfit) → line_end p.line ≡ r → FileReads language before p ts
+  end_goes : (p : Progress) (ts : List Token) (t : Spot) (read : FileReads language before p ts) (r : Result Statement Misfit) → EndsAs language read.now r
       → Goes ts t kind.End (r >>= λ s. Ok (record { statements = p.statements ++ s ∷ []; line = line.Start }))
-  end_goes p ts t (Err Expected) is read = tt
-  end_goes p ts t (Err TooDeep) is read = absurd (subst (EndsAs language read.now) is (line_ends language p.line read.now read.reads))
-  end_goes p ts t (Ok s) is read =
-      let w = subst (EndsAs language read.now) is (line_ends language p.line read.now read.reads) in
-      record {
-        lines = read.lines ++ record { stated = w.stated; end = t } ∷ [];
-        speak = AreLinesOf-append language read.lines _ read.speak (w.speaks, tt);
-        fits = FileFits-append read.lines _ read.fits (w.fits, tt);
-        trees = rw (read.trees, map-append) (ap (λ x. (before ++ file_tree read.lines) ++ x ∷ []) w.tree ∙ append_assoc before (file_tree read.lines) _);
-        now = [];
-        reads = refl;
-        are = rw (read.are, file_tokens-append)
-            (simp (append-nil, append_assoc) (ap (λ x. file_tokens read.lines ++ (x ++ sign_token kind.End t ∷ [])) w.are));
-      }
+  end_goes p ts t read (Err Expected) ends = tt
+  end_goes p ts t read (Err TooDeep) ends = absurd ends
+  end_goes p ts t read (Ok s) ends = record {
+    lines = read.lines ++ record { stated = ends.stated; end = t } ∷ [];
+    speak = AreLinesOf-append language read.lines _ read.speak (ends.speaks, tt);
+    fits = FileFits-append read.lines _ read.fits (ends.fits, tt);
+    trees = rw (read.trees, ends.tree, map-append) (simp append_assoc);
+    now = [];
+    reads = refl;
+    are = rw (read.are, ends.are, file_tokens-append) (simp (append-nil, append_assoc));
+  }
 
-  within_goes : (p : Progress) (ts : List Token) (t : Spot) (k : TokenKind) (r : Lined) → line_step language p.line k t ≡ r → FileReads language before p ts
+  within_goes : (p : Progress) (ts : List Token) (t : Spot) (k : TokenKind) (read : FileReads language before p ts) (r : Lined) → Grows language read.now t k r
       → Goes ts t k (r >>= λ l. Ok (record { statements = p.statements; line = l }))
-  within_goes p ts t k (Err Expected) is read = tt
-  within_goes p ts t k (Err TooDeep) is read =
-      let on = line_step_deep language p.line (sign_token k t) read.now is read.reads in
-      let last : StatedLine = record { stated = on.1; end = somewhere } in (
-        on.0 ++ sign_token kind.End somewhere ∷ [],
+  within_goes p ts t k read (Err Expected) grows = tt
+  within_goes p ts t k read (Err TooDeep) grows =
+      let last : StatedLine = record { stated = grows.1; end = somewhere } in (
+        grows.0 ++ sign_token kind.End somewhere ∷ [],
         read.lines ++ last ∷ [],
-        AreLinesOf-append language read.lines (last ∷ []) read.speak (on.2, tt),
-        rw (read.are, file_tokens-append, ← on.3) (simp (append-nil, append_assoc)),
+        AreLinesOf-append language read.lines (last ∷ []) read.speak (grows.2, tt),
+        rw (read.are, file_tokens-append, ← grows.3) (simp (append-nil, append_assoc)),
       )
-  within_goes p ts t k (Ok l) is read = record {
+  within_goes p ts t k read (Ok l) grows = record {
     lines = read.lines;
     speak = read.speak;
     fits = read.fits;
     trees = read.trees;
     now = read.now ++ sign_token k t ∷ [];
-    reads = line_step_reads language p.line l (sign_token k t) read.now is read.reads;
+    reads = grows;
     are = rw read.are (simp append_assoc);
   }
 
-  file_goes : (p : Progress) (ts : List Token) (t : Token) → FileReads language before p ts → Goes ts t.at t.kind (file_step language p t)
-  file_goes p ts t read =
-      by_end (Goes ts t.at) (ended p) (λ k. within_line language p k t.at) (end_goes p ts t.at (line_end p.line) refl read)
-      (λ k differs. within_goes p ts t.at k (line_step language p.line k t.at) refl read) t.kind
+  file_goes : (p : Progress) (ts : List Token) (t : Spot) (k : TokenKind) → FileReads language before p ts → Goes ts t k (file_step language p (sign_token k t))
+  file_goes p ts t kind.End read = end_goes p ts t read _ (line_ends language p.line read.now read.reads)
+  file_goes p ts t k read = within_goes p ts t k read _ (line_grows language p.line read.now t k read.reads)
 
   -- with a bracket that is too deep it can go on to a file that is not within the limit
   pub file_deeper : (p : Progress) (ts : List Token) (t : Token) → FileReads language before p ts → file_step language p t ≡ Err TooDeep
       → (more : List Token) × (lines : List StatedLine) × AreLinesOf language lines × ((ts ++ t ∷ []) ++ more ≡ file_tokens lines)
-  file_deeper p ts t read fails = subst (Goes ts t.at t.kind) fails (file_goes p ts t read)
+  file_deeper p ts t read fails = subst (Goes ts t.at t.kind) fails (file_goes p ts t.at t.kind read)
 
   run_reads_from : (p next : Progress) (ts us : List Token) → run (file_step language) p us ≡ Ok next → FileReads language before p ts → FileReads language before next (ts ++ us)
   unfolding run
@@ -142,7 +135,7 @@ module _ (language : Language) (before : List Statement) where
   run_reads_from p next ts (t ∷ us) ran read =
       let one = bind_ok (file_step language p t) (λ x. run (file_step language) x us) next ran in
       subst (FileReads language before next) (append_assoc ts (t ∷ []) us)
-      (run_reads_from one.0 next (ts ++ t ∷ []) us one.2 (subst (Goes ts t.at t.kind) one.1 (file_goes p ts t read)))
+      (run_reads_from one.0 next (ts ++ t ∷ []) us one.2 (subst (Goes ts t.at t.kind) one.1 (file_goes p ts t.at t.kind read)))
 
   -- a run reads what it was given
   pub run_reads : (p : Progress) (ts : List Token) → run (file_step language) (in_file before line.Start) ts ≡ Ok p → FileReads language before p ts

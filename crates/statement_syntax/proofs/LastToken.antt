@@ -54,10 +54,7 @@ ends_from before (c ∷ cs) zero at past ts known =
 
 -- so do those behind others
 one_less : (t : Token) (ts : List Token) → EndsWell 0 (t ∷ ts) → EndsWell 0 ts
-one_less t ts (inl known) = absurd (nothing known.1)
-  where
-    nothing : t ∷ ts ≡ [] → ⊥
-    nothing e = absurd cc
+one_less t ts (inl known) = absurd cc
 one_less t ts (inr known) = by known.0 known.2
   where
     by : (front : List Token) → t ∷ ts ≡ front ++ sign_token kind.End known.1 ∷ [] → EndsWell 0 ts

@@ -1,4 +1,3 @@
-pub mod Choices
 pub mod Machine
 pub mod Seen
 pub mod Run

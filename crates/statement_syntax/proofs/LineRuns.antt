@@ -1,23 +1,24 @@
 -- Each statement is read as itself where it is within the limit, and else stops at a bracket that is too deep.
 use Rattle.std.proofs.Common.{◌≡◌, List, [], ◌∷◌, ◌++◌, inl, Some, None, Result, Ok, Err, refl, sym, ap, ◌∙◌, append_assoc}
-use Rattle.std.specs.Prelude.{codes}
+use Rattle.std.specs.Prelude.{ℕ, codes}
 use Rattle.std.proofs.lemmas.List.{append-nil}
-use Rattle.statement_syntax.specs.Types.{Spot, Token, Language, First, Second, TokenKind as kind, Name, Number, Sum, Misfit}
-use Rattle.statement_syntax.specs.Types.{Expected, ListWord, Eliminate, SidesWord, Assume, Pinv}
-use Rattle.statement_syntax.specs.Types.{Reading, Focus, Focus as focus, Opening, Opening as opening, MapRest as rest, Pairs, Line, Line as line}
+use Rattle.statement_syntax.specs.Types.{Spot, Token, Language, First, Second, TokenKind, TokenKind as kind, Name, Number, Sum, Misfit, Expected, ListWord, Eliminate}
+use Rattle.statement_syntax.specs.Types.{SidesWord, Assume, Pinv, Reading, Focus, Focus as focus, Opening, Opening as opening, MapRest as rest, Pairs, Line}
+use Rattle.statement_syntax.specs.Types.{Line as line}
 use Rattle.statement_syntax.specs.Limits.{bracket_limit}
 use Rattle.statement_syntax.specs.Steps.{◌>>=◌, run, focus_step, token_step, whole_sum}
-use Rattle.statement_syntax.specs.Grammar.{Expr, expr_tokens, ExprFits, sign_token, name_token, number_token, word_token, names_tokens, pairs_tokens, Ending, no_word, self_word, ending_tokens, Stated, listed, mapped, sides, paired, projected, by_degree, by_weight, modelled, second_language, stated_tokens, StatedFits, IsOf}
+use Rattle.statement_syntax.specs.Grammar.{Expr, expr_tokens, ExprFits, sign_token, name_token, number_token, word_token, names_tokens, pairs_tokens, list_text}
+use Rattle.statement_syntax.specs.Grammar.{sides_text, pair_text, Ending, no_word, self_word, ending_tokens, Stated, listed, mapped, sides, paired, projected}
+use Rattle.statement_syntax.specs.Grammar.{by_degree, by_weight, modelled, second_language, stated_tokens, StatedFits, IsOf}
 use Rattle.statement_syntax.specs.Tree.{expr_tree, stated_tree, sides_kind}
-use Rattle.statement_syntax.specs.Lines.{Lined, opened, start_reading, line_step, line_end, statement_by}
+use Rattle.statement_syntax.specs.Lines.{Lined, on_equals, opened, start_reading, line_step, line_end, statement_by}
 use Rattle.statement_syntax.proofs.Seen.{reading_of, tree_or}
 use Rattle.statement_syntax.proofs.StateReads.{reading_step}
 use Rattle.statement_syntax.proofs.Run.{Upto, then_on, before_it, run_upto, inside_upto, one_step}
 use Rattle.statement_syntax.proofs.Runs.{end_state, end-whole}
 use Rattle.statement_syntax.proofs.Same.{whole-seen}
 use Rattle.statement_syntax.proofs.Viable.{only}
-use Rattle.statement_syntax.proofs.LineReads.{IsListOf, opening_text}
-use Rattle.statement_syntax.proofs.Choices.{not_equals}
+use Rattle.statement_syntax.proofs.LineReads.{IsListOf}
 
 -- a step of a line by a token
 abbrev pub by_token : Language → Line → Token → Lined
@@ -37,6 +38,16 @@ abbrev IsOpeningOf : Language → Opening → Type 0
 IsOpeningOf language (opening.List w) = IsListOf w language
 IsOpeningOf language o = Unit {0}
 
+-- the text of the word that begins a statement
+abbrev pub opening_text : Opening → List ℕ
+opening_text (opening.List w) = list_text w
+opening_text opening.Map = codes "map"
+opening_text (opening.Sides w) = sides_text w
+opening_text (opening.Pair w) = pair_text w
+opening_text opening.Projection = codes "projection"
+opening_text opening.Order = codes "order"
+opening_text opening.Model = codes "model"
+
 -- a statement's first word
 opens : (language : Language) (o : Opening) (at : Spot) (rest : List Token) → IsOpeningOf language o
     → goes language line.Start (word_token (opening_text o) at ∷ rest) ≡ goes language (opened o at) rest
@@ -53,11 +64,10 @@ pub no_line_sign : (r : Reading) (f : Focus) (at : Spot)
 no_line_sign r focus.Outside at = (refl, refl)
 no_line_sign r f at = (refl, refl)
 
-first_step : (language : Language) (w : SidesWord) (at : Spot) (r : Reading) (t : Token) (read : Result Reading Misfit) → reading_step r t ≡ read
-    → (read ≡ Err Expected → ⊥) → by_token language (line.Sides w at None r) t ≡ (read >>= λ x. Ok (line.Sides w at None x))
-first_step language w at r t read goes other =
-    not_equals _ _ t.kind (λ k. other (sym goes ∙ ap (λ x. token_step r x t.at) k ∙ (no_line_sign r r.focus t.at).0))
-    ∙ ap (λ x. x >>= λ r. Ok (line.Sides w at None r)) goes
+first_step : (language : Language) (w : SidesWord) (at : Spot) (r : Reading) (k : TokenKind) (t : Spot) (read : Result Reading Misfit) → token_step r k t ≡ read
+    → (read ≡ Err Expected → ⊥) → line_step language (line.Sides w at None r) k t ≡ (read >>= λ x. Ok (line.Sides w at None x))
+first_step language w at r kind.Equals t read goes other = absurd (other (sym goes ∙ (no_line_sign r r.focus t).0))
+first_step language w at r k t read goes other = ap (λ x. x >>= λ r. Ok (line.Sides w at None r)) goes
 
 second_step : (language : Language) (w : SidesWord) (at : Spot) (left : Sum) (r : Reading) (t : Token) (read : Result Reading Misfit) → reading_step r t ≡ read
     → (read ≡ Err Expected → ⊥) → by_token language (line.Sides w at (Some left) r) t ≡ (read >>= λ x. Ok (line.Sides w at (Some left) x))
@@ -66,26 +76,22 @@ second_step language w at left r t read goes other = ap (λ x. x >>= λ r. Ok (l
 sum_seen : (e : Expr) → whole_sum (reading_of (end_state [] e)) ≡ Ok (expr_tree e)
 sum_seen e = whole-seen (end_state [] e) ∙ ap (λ o. tree_or o Expected) (end-whole e)
 
-equals_step : (language : Language) (w : SidesWord) (at : Spot) (d : Expr) (equals : Spot)
-    → by_token language (line.Sides w at None (reading_of (end_state [] d))) (sign_token kind.Equals equals)
-    ≡ Ok (line.Sides w at (Some (expr_tree d)) start_reading)
-equals_step language w at d equals = ap (λ x. x >>= λ left. Ok (line.Sides w at (Some left) start_reading)) (sum_seen d)
-
 sides_run : (language : Language) (w : SidesWord) (at : Spot) (d : Expr) (equals : Spot) (e : Expr)
     → Upto (ExprFits d bracket_limit × ExprFits e bracket_limit) (goes language line.Start (stated_tokens (sides w at d equals e)))
     (Ok (line.Sides w at (Some (expr_tree d)) (reading_of (end_state [] e))))
+unfolding run
 sides_run language w at d equals e =
     before_it (opens language (opening.Sides w) at (expr_tokens d ++ sign_token kind.Equals equals ∷ expr_tokens e) tt)
     (then_on
     (run_upto (by_token language) (line.Sides w at None start_reading) (expr_tokens d) (line.Sides w at None (reading_of (end_state [] d)))
     (sign_token kind.Equals equals ∷ expr_tokens e)
-    (inside_upto reading_step (by_token language) (line.Sides w at None) (first_step language w at) (expr_tokens d) start_reading _ (only d)))
-    (before_it (one_step (by_token language) _ _ (sign_token kind.Equals equals) (expr_tokens e) (equals_step language w at d equals))
-    (inside_upto reading_step (by_token language) (line.Sides w at (Some (expr_tree d))) (second_step language w at (expr_tree d))
+    (inside_upto reading_step (by_token language) (line.Sides w at None) (λ r t. first_step language w at r t.kind t.at) (expr_tokens d) start_reading _ (only d)))
+    (rw (sum_seen d) (inside_upto reading_step (by_token language) (line.Sides w at (Some (expr_tree d))) (second_step language w at (expr_tree d))
     (expr_tokens e) start_reading _ (only e))))
 
 -- names and pairs, one after another
-names_run : (language : Language) (wrap : List Name → Line) → ((ns : List Name) (n : Name) → by_token language (wrap ns) (name_token n) ≡ Ok (wrap (ns ++ n ∷ [])))
+names_run : (language : Language) (wrap : List Name → Line)
+    → ((ns : List Name) (n : Name) → by_token language (wrap ns) (name_token n) ≡ Ok (wrap (ns ++ n ∷ [])))
     → (front ns : List Name) (behind : List Token) → goes language (wrap front) (names_tokens ns ++ behind) ≡ goes language (wrap (front ++ ns)) behind
 names_run language wrap one front [] behind = rw append-nil refl
 names_run language wrap one front (n ∷ ns) behind =

@@ -1,6 +1,6 @@
 -- A written text is read as tokens of the kinds that it was written from.
-use Rattle.std.proofs.Common.{◌≡◌, ℕ, ◌+◌, ◌≤◌, ◌<◌, ◌||◌, ◌&&◌, Bool, true, false, cond, List, [], ◌∷◌, ◌++◌, inl, inr, length, get_or, drop, Result, Ok}
-use Rattle.std.proofs.Common.{Err, refl, sym, ap, ap₂, subst, ◌∙◌, append_assoc, arith}
+use Rattle.std.proofs.Common.{◌≡◌, ℕ, ◌+◌, ◌≤◌, ◌||◌, ◌&&◌, Bool, true, false, cond, List, [], ◌∷◌, ◌++◌, inl, inr, length, get_or, drop, Result, Ok, Err, refl}
+use Rattle.std.proofs.Common.{sym, ap, ap₂, subst, ◌∙◌, append_assoc, arith}
 use Rattle.std.specs.Prelude.{ℤ, decimal, nat_lt}
 use Rattle.std.specs.Fmt.{signed_decimal}
 use Rattle.std.specs.Str.{encode_utf8_all}
@@ -12,7 +12,7 @@ use Rattle.statement_syntax.specs.Types.{Token, TokenKind, TokenKind as kind, It
 use Rattle.statement_tokens.specs.Language.{language_of}
 use Rattle.statement_tokens.specs.Pieces.{is_digit}
 use Rattle.statement_tokens.specs.Tokens.{value_from}
-use Rattle.statement_tokens.specs.Items.{item_at, name_of}
+use Rattle.statement_tokens.specs.Items.{item_at, item_in, name_of}
 use Rattle.statement_tokens.proofs.Reading.{◌>>=◌, tokens_from, placed, with_front}
 use Rattle.statement_tokens.specs.Limits.{name_limit}
 use Rattle.statement_syntax.specs.Written.{opens, closes, kind_text, gap, text_from}
@@ -21,7 +21,8 @@ use Rattle.statement_syntax.proofs.Moved.{kinds}
 use Rattle.statement_syntax.proofs.Carets.{Allows, carets_stay, carets_second}
 use Rattle.statement_tokens.proofs.EachCharacter.{and_first, and_second, EachIs}
 use Rattle.statement_syntax.proofs.Spelled.{SpellsName, SpellsNumber, IsToken, AllKinds}
-use Rattle.statement_tokens.proofs.Rescan.{EndsBefore, Ender, one_token, blank_back, name_back, stops_name, stops_digits, colon_back, equals_back, plus_back, minus_back, arrow_back, open_back, close_back, open_square_back, close_square_back, quote_back, caret_back}
+use Rattle.statement_tokens.proofs.Rescan.{EndsBefore, Ender, one_token, blank_back, name_back, stops_name, stops_digits, colon_back, equals_back, plus_back}
+use Rattle.statement_tokens.proofs.Rescan.{minus_back, arrow_back, open_back, close_back, open_square_back, close_square_back, quote_back, caret_back}
 use Rattle.statement_tokens.proofs.Literals.{Digits, decimal_digits, plain_digit, literal_back}
 
 -- the characters of a token
@@ -43,13 +44,6 @@ digits_low (d ∷ ds) given = (lt-ltb d 128 (plain_digit d given.0).low, digits_
 scalars_low : (cs : List ℕ) → AreLow cs → scalars cs ≡ true
 scalars_low [] given = refl
 scalars_low (c ∷ cs) given = rw (lt-ltb c 55296 (omega (arith, ltb-true c 128 given.0)), scalars_low cs given.1) refl
-
--- what may stand behind a token
-abbrev Behind : TokenKind → List ℕ → Type 0
-Behind kind.Open rest = Unit {0}
-Behind kind.OpenSquare rest = Unit {0}
-Behind kind.Caret rest = Unit {0}
-Behind k rest = EndsBefore rest
 
 number_back : (before : List Token) (v : ℤ) (t : SpellsNumber v) (rest : List ℕ) → EndsBefore rest → item_at before (digits_of v t).first ((digits_of v t).more ++ rest) ≡ Ok (item.Token (kind.Literal v) (length (digits_of v t).more))
 number_back before v t rest given =
@@ -99,15 +93,12 @@ front_more : (t : Token) (ts : List Token) (r : Result (List Token) Placed) → 
 front_more t ts (Ok x) = refl
 front_more t ts (Err e) = refl
 
-blank_step : (before : List Token) (text : List ℕ) (line column past : ℕ) → tokens_from before (32 ∷ text) 0 (spot line column) past ≡ tokens_from before text 0 (spot line (column + 1)) past
-unfolding tokens_from
-blank_step before text line column past = ap (λ i. placed before i (spot line column) past (λ front skip to end. tokens_from front text skip to end)) (blank_back before text)
-
 glued_reads : (before : List Token) (b : Bool) (text : List ℕ) (ks : List TokenKind) (rest : List ℕ) (line past : ℕ) → ((column : ℕ) → ReadAs before text ks rest line column past) → (column : ℕ) → ReadAs before (glue b text) ks rest line column past
+unfolding tokens_from item_in
 glued_reads before true text ks rest line past given column = given column
 glued_reads before false text ks rest line past given column =
     let r = given (column + 1) in
-    record { tokens = r.tokens; are = r.are; column' = r.column'; past' = r.past'; reads = blank_step before text line column past ∙ r.reads; kept = r.kept }
+    record { tokens = r.tokens; are = r.are; column' = r.column'; past' = r.past'; reads = r.reads; kept = r.kept }
 
 -- what holds of the tokens of a language
 
@@ -138,15 +129,16 @@ module _ (language : Language) where
   scalar_is kind.End t = absurd t
   scalar_is k t = refl
 
-  -- a token's characters are read as it, where carets are tokens if they are ones of the language
-  read_back : (before : List Token) → Allows language before → (k : TokenKind) (t : IsToken language k) (rest : List ℕ) → Behind k rest → item_at before (first_of k t) (more_of k t ++ rest) ≡ Ok (item.Token k (length (more_of k t)))
-  read_back before allowed (kind.Name x) t rest given = word_back before x t rest given
-  read_back before allowed (kind.Literal v) t rest given = number_back before v t rest given
+  -- a token's characters are read as it, where carets are tokens if they are ones of the language and it ends before what stands behind it
+  read_back : (before : List Token) → Allows language before → (k : TokenKind) (t : IsToken language k) (rest : List ℕ) → (opens k ≡ false → EndsBefore rest)
+      → item_at before (first_of k t) (more_of k t ++ rest) ≡ Ok (item.Token k (length (more_of k t)))
+  read_back before allowed (kind.Name x) t rest given = word_back before x t rest (given refl)
+  read_back before allowed (kind.Literal v) t rest given = number_back before v t rest (given refl)
   read_back before allowed kind.Colon t rest given = colon_back before rest
   read_back before allowed kind.Arrow t rest given = arrow_back before rest
   read_back before allowed kind.Equals t rest given = equals_back before rest
   read_back before allowed kind.Plus t rest given = plus_back before rest
-  read_back before allowed kind.Minus t rest given = minus_back before rest given
+  read_back before allowed kind.Minus t rest given = minus_back before rest (given refl)
   read_back before allowed kind.Open t rest given = open_back before rest
   read_back before allowed kind.Close t rest given = close_back before rest
   read_back before allowed kind.OpenSquare t rest given = open_square_back before rest
@@ -190,12 +182,6 @@ module _ (language : Language) where
   unglued [] all rest given = given
   unglued (k ∷ ks) all rest given = behind_gap k all.0 (more_of k all.0 ++ characters ks all.1 (opens k) rest) (closes k) refl
 
-  behind_is : (k : TokenKind) (ks : List TokenKind) (all : AllKinds (IsToken language) ks) (rest : List ℕ) → EndsBefore rest → Behind k (characters ks all (opens k) rest)
-  behind_is kind.Open ks all rest given = tt
-  behind_is kind.OpenSquare ks all rest given = tt
-  behind_is kind.Caret ks all rest given = tt
-  behind_is k ks all rest given = unglued ks all rest given
-
   -- the characters of tokens are read as them
   pub line_read : (ks : List TokenKind) (all : AllKinds (IsToken language) ks) (glued : Bool) (rest : List ℕ) (before : List Token) (line column past : ℕ) → Allows language before → EndsBefore rest → ReadAs before (characters ks all glued rest) ks rest line column past
   line_read [] all glued rest before line column past allowed given =
@@ -204,7 +190,7 @@ module _ (language : Language) where
         are = refl;
         column' = column;
         past' = past;
-        reads = sym (front_nil (tokens_from before rest 0 (spot line column) past)) ∙ ap (λ front. with_front [] (tokens_from front rest 0 (spot line column) past)) (sym (append-nil before));
+        reads = rw append-nil (sym (front_nil _));
         kept = λ some. omega (arith, some);
       }
   line_read (k ∷ ks) all glued rest before line column past allowed given =
@@ -218,9 +204,7 @@ module _ (language : Language) where
         are = ap (λ x. k ∷ x) r.are;
         column' = r.column';
         past' = r.past';
-        reads = one_token before (first_of k all.0) (more_of k all.0) more k line col past (read_back before allowed k all.0 more (behind_is k ks all.1 rest given))
-            ∙ ap (λ (x : Result (List Token) Placed). x >>= λ ts. Ok (here ∷ ts)) r.reads
-            ∙ front_more here r.tokens (tokens_from ((before ++ here ∷ []) ++ r.tokens) rest 0 (spot line r.column') r.past')
-            ∙ ap (λ front. with_front (here ∷ r.tokens) (tokens_from front rest 0 (spot line r.column') r.past')) (append_assoc before (here ∷ []) r.tokens);
+        reads = one_token before (first_of k all.0) (more_of k all.0) more k line col past (read_back before allowed k all.0 more (λ closed. rw closed (unglued ks all.1 rest given)))
+            ∙ rw (r.reads, append_assoc) (front_more here r.tokens _);
         kept = λ some. r.kept (omega arith);
       }) column

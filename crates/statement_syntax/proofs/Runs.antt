@@ -1,16 +1,16 @@
 -- Each expression is read: after its tokens stands the state that it ends in.
-use Rattle.std.proofs.Common.{◌≡◌, ℕ, zero, suc, ◌+◌, ◌<◌, cond, List, [], ◌∷◌, ◌++◌, length, inl, inr, Option, Some, None, Result, Ok, Err, refl, ap, ◌∙◌}
+use Rattle.std.proofs.Common.{◌≡◌, ℕ, zero, suc, ◌+◌, ◌<◌, cond, List, [], ◌∷◌, ◌++◌, length, inl, inr, Option, Some, None, Result, Ok, Err, refl, ap}
 use Rattle.std.proofs.Common.{append_assoc, arith}
 use Rattle.std.proofs.lemmas.Bool.{lt-ltb, le-ltb}
-use Rattle.statement_syntax.specs.Types.{Spot, Token, TokenKind as kind, Name, Number, Reading, Misfit, TooDeep}
+use Rattle.statement_syntax.specs.Types.{Spot, Token, TokenKind as kind, Number, Reading, Misfit, TooDeep}
 use Rattle.statement_syntax.specs.Limits.{bracket_limit}
 use Rattle.statement_syntax.specs.Steps as steps
 use Rattle.statement_syntax.specs.Steps.{◌>>=◌, run}
 use Rattle.statement_syntax.proofs.Run.{Upto, then_on, before_it, after_it, one_step}
-use Rattle.statement_syntax.specs.Grammar.{Lead, no_sign, lead_plus, lead_minus, Sign, plus, minus, Expr, first, joined, Product, zero_alone, factors, Factors}
-use Rattle.statement_syntax.specs.Grammar.{one, beside, Marked, plain, marked, raised, Prime, name, identity, bracket, sign_token, name_token, number_token}
-use Rattle.statement_syntax.specs.Grammar.{lead_tokens, signed_token, literal_tokens, zero_at, expr_tokens, product_tokens, factors_tokens, marked_tokens}
-use Rattle.statement_syntax.specs.Grammar.{prime_tokens, ExprFits, ProductFits, FactorsFit, MarkedFits, PrimeFits}
+use Rattle.statement_syntax.specs.Grammar.{no_sign, Sign, plus, Expr, first, joined, Product, zero_alone, factors, Factors, one, beside, Marked, plain}
+use Rattle.statement_syntax.specs.Grammar.{marked, raised, Prime, name, identity, bracket, sign_token, number_token, signed_token}
+use Rattle.statement_syntax.specs.Grammar.{zero_at, expr_tokens, product_tokens, factors_tokens, marked_tokens, prime_tokens, ExprFits}
+use Rattle.statement_syntax.specs.Grammar.{ProductFits, FactorsFit, MarkedFits, PrimeFits}
 use Rattle.statement_syntax.proofs.Machine.{Head, led, after, Part, nothing, scaled, product, Level, State, at_outside, fresh, add, whole_term, with_term}
 use Rattle.statement_syntax.proofs.Machine.{whole}
 use Rattle.statement_syntax.proofs.Seen.{head_of, levels_of, reading_of}
@@ -63,65 +63,15 @@ close_step : (levels : List Level) (head : Head) (part : Part) (left : Spot) (e 
 close_step levels head part left (first l t) right = closed-seen _ levels (led l) (whole_part t) t right (whole_is t)
 close_step levels head part left (joined e s t) right = closed-seen _ levels (after e s) (whole_part t) t right (whole_is t)
 
-open_step : (levels : List Level) (head : Head) (part : Part) (left : Spot) → length (levels_of levels) < bracket_limit
-    → goes (at_outside levels head part) (sign_token kind.Open left) ≡ Ok (reading_of (fresh (record { head = head; part = part; at = left } ∷ levels)))
-open_step levels head part left room =
-    ap (λ b. cond b (Ok (reading_of (fresh (record { head = head; part = part; at = left } ∷ levels)))) (Err TooDeep))
-    (lt-ltb (length (levels_of levels)) bracket_limit room)
-
-quote_step : (levels : List Level) (head : Head) (part : Part) (f : Marked) (at : Spot)
-    → goes (at_outside levels head (add_marked part f)) (sign_token kind.Quote at) ≡ Ok (reading_of (at_outside levels head (add_marked part (marked f at))))
-quote_step levels head nothing f at = refl
-quote_step levels head part f at = refl
-
-power_run : (levels : List Level) (head : Head) (part : Part) (f : Marked) (at : Spot) (n : Number) (rest : List Token)
-    → runs (at_outside levels head (add_marked part f)) (sign_token kind.Caret at ∷ number_token n ∷ rest)
-    ≡ runs (at_outside levels head (add_marked part (raised f at n))) rest
-unfolding run
-power_run levels head nothing f at n rest = refl
-power_run levels head part f at n rest = refl
-
-literal_run : (levels : List Level) (head : Head) (l : Option Number) (rest : List Token)
-    → runs (at_outside levels head nothing) (literal_tokens l ++ rest) ≡ runs (at_outside levels head (after_literal l)) rest
-unfolding run
-literal_run levels head None rest = refl
-literal_run levels head (Some n) rest = refl
-
-lead_run : (levels : List Level) (l : Lead) (rest : List Token) → runs (fresh levels) (lead_tokens l ++ rest) ≡ runs (at_outside levels (led l) nothing) rest
-unfolding run
-lead_run levels no_sign rest = refl
-lead_run levels l rest = refl
-
-plain_is : (part : Part) (p : Prime) → add part p ≡ add_marked part (plain p)
-plain_is nothing p = refl
-plain_is part p = refl
-
-name_run : (levels : List Level) (head : Head) (part : Part) (n : Name) (rest : List Token)
-    → runs (at_outside levels head part) (name_token n ∷ rest) ≡ runs (at_outside levels head (add part (name n))) rest
-unfolding run
-name_run levels head part n rest =
-    ap (λ p. run reading_step (steps.outside (levels_of levels) (head_of head) p) rest) (add-seen part (name n))
-
-identity_run : (levels : List Level) (head : Head) (part : Part) (left : Spot) (n : Name) (right : Spot) (rest : List Token)
-    → runs (at_outside levels head part) (sign_token kind.OpenSquare left ∷ name_token n ∷ sign_token kind.CloseSquare right ∷ rest)
-    ≡ runs (at_outside levels head (add part (identity left n right))) rest
-unfolding run
-identity_run levels head part left n right rest =
-    ap (λ p. run reading_step (steps.outside (levels_of levels) (head_of head) p) rest) (add-seen part (identity left n right))
-
 -- whole parts
-open_fails : (levels : List Level) (head : Head) (part : Part) (left : Spot) (rest : List Token) → length (levels_of levels) + 0 ≡ bracket_limit
-    → runs (at_outside levels head part) (sign_token kind.Open left ∷ rest) ≡ Err TooDeep
-unfolding run
-open_fails levels head part left rest room =
-    ap (λ b. cond b (Ok (reading_of (fresh (record { head = head; part = part; at = left } ∷ levels)))) (Err TooDeep) >>= λ r. run reading_step r rest)
-    (le-ltb (length (levels_of levels)) bracket_limit (omega (arith, room)))
-
+-- (where the right side computes only once a case is known, the first case stands by itself)
 mutual
+  unfolding run
+
   pub expr_run : (levels : List Level) (e : Expr) (d : ℕ) (rest : List Token) → length (levels_of levels) + d ≡ bracket_limit
       → Upto (ExprFits e d) (runs (fresh levels) (expr_tokens e ++ rest)) (runs (end_state levels e) rest)
-  expr_run levels (first l t) d rest room =
-      rw append_assoc (before_it (lead_run levels l (product_tokens t ++ rest)) (product_run levels (led l) t d rest room))
+  expr_run levels (first no_sign t) d rest room = product_run levels (led no_sign) t d rest room
+  expr_run levels (first l t) d rest room = product_run levels (led l) t d rest room
   expr_run levels (joined e s t) d rest room =
       rw append_assoc (then_on (expr_run levels e d (signed_token s ∷ (product_tokens t ++ rest)) room)
       (before_it (one_step reading_step _ _ (signed_token s) (product_tokens t ++ rest) (sign_step levels e s))
@@ -129,9 +79,9 @@ mutual
 
   product_run : (levels : List Level) (head : Head) (t : Product) (d : ℕ) (rest : List Token) → length (levels_of levels) + d ≡ bracket_limit
       → Upto (ProductFits t d) (runs (at_outside levels head nothing) (product_tokens t ++ rest)) (runs (at_outside levels head (whole_part t)) rest)
-  product_run levels head (zero_alone at) d rest room = inl (tt, literal_run levels head (Some (zero_at at)) rest)
-  product_run levels head (factors l fs) d rest room =
-      rw append_assoc (before_it (literal_run levels head l (factors_tokens fs ++ rest)) (factors_run levels head l fs d rest room))
+  product_run levels head (zero_alone at) d rest room = inl (tt, refl)
+  product_run levels head (factors None fs) d rest room = factors_run levels head None fs d rest room
+  product_run levels head (factors l fs) d rest room = factors_run levels head l fs d rest room
 
   factors_run : (levels : List Level) (head : Head) (l : Option Number) (fs : Factors) (d : ℕ) (rest : List Token)
       → length (levels_of levels) + d ≡ bracket_limit
@@ -143,26 +93,28 @@ mutual
 
   marked_run : (levels : List Level) (head : Head) (part : Part) (f : Marked) (d : ℕ) (rest : List Token) → length (levels_of levels) + d ≡ bracket_limit
       → Upto (MarkedFits f d) (runs (at_outside levels head part) (marked_tokens f ++ rest)) (runs (at_outside levels head (add_marked part f)) rest)
-  marked_run levels head part (plain p) d rest room =
-      after_it (prime_run levels head part p d rest room) (ap (λ q. runs (at_outside levels head q) rest) (plain_is part p))
-  marked_run levels head part (marked f at) d rest room =
-      rw append_assoc (after_it (marked_run levels head part f d (sign_token kind.Quote at ∷ rest) room)
-      (one_step reading_step _ _ (sign_token kind.Quote at) rest (quote_step levels head part f at)))
+  marked_run levels head nothing (plain p) d rest room = prime_run levels head nothing p d rest room
+  marked_run levels head part (plain p) d rest room = prime_run levels head part p d rest room
+  marked_run levels head nothing (marked f at) d rest room = rw append_assoc (marked_run levels head nothing f d (sign_token kind.Quote at ∷ rest) room)
+  marked_run levels head part (marked f at) d rest room = rw append_assoc (marked_run levels head part f d (sign_token kind.Quote at ∷ rest) room)
+  marked_run levels head nothing (raised f at n) d rest room =
+      rw append_assoc (marked_run levels head nothing f d (sign_token kind.Caret at ∷ number_token n ∷ rest) room)
   marked_run levels head part (raised f at n) d rest room =
-      rw append_assoc (after_it (marked_run levels head part f d (sign_token kind.Caret at ∷ number_token n ∷ rest) room)
-      (power_run levels head part f at n rest))
+      rw append_assoc (marked_run levels head part f d (sign_token kind.Caret at ∷ number_token n ∷ rest) room)
 
   prime_run : (levels : List Level) (head : Head) (part : Part) (p : Prime) (d : ℕ) (rest : List Token) → length (levels_of levels) + d ≡ bracket_limit
       → Upto (PrimeFits p d) (runs (at_outside levels head part) (prime_tokens p ++ rest)) (runs (at_outside levels head (add part p)) rest)
-  prime_run levels head part (name n) d rest room = inl (tt, name_run levels head part n rest)
-  prime_run levels head part (identity left n right) d rest room = inl (tt, identity_run levels head part left n right rest)
-  prime_run levels head part (bracket left e right) zero rest room = inr (λ x. x, open_fails levels head part left _ room)
+  prime_run levels head part (name n) d rest room =
+      inl (tt, ap (λ p. run reading_step (steps.outside (levels_of levels) (head_of head) p) rest) (add-seen part (name n)))
+  prime_run levels head part (identity left n right) d rest room =
+      inl (tt, ap (λ p. run reading_step (steps.outside (levels_of levels) (head_of head) p) rest) (add-seen part (identity left n right)))
+  prime_run levels head part (bracket left e right) zero rest room =
+      inr (λ x. x, rw (le-ltb (length (levels_of levels)) bracket_limit (omega (arith, room))) refl)
   prime_run levels head part (bracket left e right) (suc d) rest room =
       let inner = record { head = head; part = part; at = left } ∷ levels in
-      rw append_assoc
-      (before_it (one_step reading_step _ _ (sign_token kind.Open left) _ (open_step levels head part left (omega (arith, room))))
+      rw (lt-ltb (length (levels_of levels)) bracket_limit (omega (arith, room)), append_assoc (expr_tokens e) (sign_token kind.Close right ∷ []) rest)
       (after_it (expr_run inner e d (sign_token kind.Close right ∷ rest) (omega (arith, room)))
-      (one_step reading_step _ _ (sign_token kind.Close right) rest (close_step levels head part left e right))))
+      (one_step reading_step (reading_of (end_state inner e)) _ (sign_token kind.Close right) rest (close_step levels head part left e right)))
 
 -- an expression ends where its tokens do
 pub end-whole : (e : Expr) → whole (end_state [] e) ≡ Some e

@@ -1,13 +1,13 @@
 -- What is read as a name or a literal is spelled as one.
-use Rattle.std.proofs.Common.{◌≡◌, ℕ, zero, suc, ◌+◌, ◌≤◌, ◌<◌, ◌^◌, ◌==◌, ◌&&◌, ◌||◌, Bool, true, false, cond, List, [], ◌∷◌, ◌++◌, length, take, Result, Ok, Err, refl, ap, subst, ◌∙◌, append_assoc}
+use Rattle.std.proofs.Common.{◌≡◌, ℕ, zero, suc, ◌+◌, ◌≤◌, ◌<◌, ◌^◌, ◌==◌, ◌&&◌, ◌||◌, Bool, true, false, cond, List, [], ◌∷◌, ◌++◌, length, take, Result, Ok}
+use Rattle.std.proofs.Common.{Err, refl, ap, subst, ◌∙◌, append_assoc}
 use Rattle.std.specs.Prelude.{ℤ, pos, nat_le, nat_lt}
 use Rattle.std.specs.List.{prefix_len, take_while}
 use Rattle.std.specs.Str.{encode_utf8_all}
 use Rattle.std.proofs.Math.Utf8.{scalars}
 use Rattle.std.proofs.lemmas.Bool.{leb-true, ltb-true}
 use Rattle.unicode_ident.specs.Ident.{is_xid_continue}
-use Rattle.statement_syntax.specs.Types.{Spot, Token, TokenKind, TokenKind as kind, Item, Item as item, ScanFault, BadToken, LiteralTooLarge, Placed, Language}
-use Rattle.statement_syntax.specs.Types.{First, Second}
+use Rattle.statement_syntax.specs.Types.{Spot, Token, TokenKind, TokenKind as kind, Item, Item as item, ScanFault, Placed, Language, First, Second}
 use Rattle.statement_tokens.specs.Language.{language_of}
 use Rattle.statement_tokens.specs.Pieces.{starts_name, is_digit}
 use Rattle.statement_tokens.specs.Tokens.{end_of, right_of, below}
@@ -61,41 +61,25 @@ AllKinds-split P (x ∷ xs) ys given = let rest = AllKinds-split P xs ys given.1
 
 -- characters
 scalars-take : (n : ℕ) (cs : List ℕ) → scalars cs ≡ true → scalars (take n cs) ≡ true
-scalars-take zero [] given = refl
-scalars-take zero (c ∷ cs) given = refl
-scalars-take (suc n) [] given = refl
 scalars-take (suc n) (c ∷ cs) given = ap (λ b. b && scalars (take n cs)) (and_first _ _ given) ∙ scalars-take n cs (and_second _ _ given)
+scalars-take n cs given = refl
 
 -- one token
-caret_makes : (language : Language) (k : TokenKind) (more : ℕ) → caret_in language ≡ Ok (item.Token k more) → IsToken language k
-caret_makes First k more given = absurd cc
-caret_makes Second k more given = let same : kind.Caret ≡ k = cc in subst (IsToken Second) same tt
-
-module _ (before : List Token) where
-  -- what is read behind these tokens is such a token
+module _ (language : Language) where
+  -- if it is a token, then such a one
   abbrev Makes : Result Item ScanFault → Type 0
-  Makes r = (k : TokenKind) (more : ℕ) → r ≡ Ok (item.Token k more) → IsToken (language_of before) k
+  Makes (Ok (item.Token k more)) = IsToken language k
+  Makes r = Unit {0}
 
   by_test : (b : Bool) (x y : Result Item ScanFault) → (b ≡ true → Makes x) → Makes y → Makes (cond b x y)
   by_test true x y here there = here refl
   by_test false x y here there = there
 
-  no_token : Makes (Ok item.NewLine)
-  no_token k more given = absurd cc
-
-  no_gap : (n : ℕ) → Makes (Ok (item.Gap n))
-  no_gap n k more given = absurd cc
-
-  no_fault : (f : ScanFault) → Makes (Err f)
-  no_fault f k more given = absurd cc
-
-  this_token : (k : TokenKind) (n : ℕ) → IsToken (language_of before) k → Makes (Ok (item.Token k n))
-  this_token k n t l more given = let same : k ≡ l = cc in subst (IsToken (language_of before)) same t
-
-  name_makes : (c : ℕ) (rest : List ℕ) → scalars (c ∷ rest) ≡ true → starts_name c ≡ true → Makes (name_of (encode_utf8_all (c ∷ take_while is_xid_continue rest)) (prefix_len is_xid_continue rest))
+  name_makes : (c : ℕ) (rest : List ℕ) → scalars (c ∷ rest) ≡ true → starts_name c ≡ true
+      → Makes (name_of (encode_utf8_all (c ∷ take_while is_xid_continue rest)) (prefix_len is_xid_continue rest))
   name_makes c rest scalar starts =
       by_test (nat_le (length (encode_utf8_all (c ∷ take_while is_xid_continue rest))) name_limit) _ _
-      (λ short. this_token _ _ (record {
+      (λ short. record {
         first = c;
         more = take_while is_xid_continue rest;
         is = refl;
@@ -103,34 +87,37 @@ module _ (before : List Token) where
         goes_on = EachIs-take_while is_xid_continue rest;
         scalar = scalars-take (suc (prefix_len is_xid_continue rest)) (c ∷ rest) scalar;
         short = leb-true _ _ short;
-      }))
-      (no_fault BadToken)
+      })
+      tt
 
   literal_makes : (value more : ℕ) → Makes (literal_of value more)
-  literal_makes value more =
-      by_test (nat_lt value (2 ^ 127)) _ _ (λ below. this_token _ _ (record { size = value; is = refl; below = ltb-true _ _ below })) (no_fault LiteralTooLarge)
+  literal_makes value more = by_test (nat_lt value (2 ^ 127)) _ _ (λ below. record { size = value; is = refl; below = ltb-true _ _ below }) tt
 
-  sign_makes : (c : ℕ) → Makes (sign_in (language_of before) c)
-  sign_makes c =
-      by_test (c == 58) _ _ (λ e. this_token _ _ tt) (
-      by_test (c == 61) _ _ (λ e. this_token _ _ tt) (
-      by_test (c == 43) _ _ (λ e. this_token _ _ tt) (
-      by_test (c == 40) _ _ (λ e. this_token _ _ tt) (
-      by_test (c == 41) _ _ (λ e. this_token _ _ tt) (
-      by_test (c == 91) _ _ (λ e. this_token _ _ tt) (
-      by_test (c == 93) _ _ (λ e. this_token _ _ tt) (
-      by_test (c == 39) _ _ (λ e. this_token _ _ tt) (
-      by_test (c == 94) _ _ (λ e. caret_makes (language_of before)) (no_fault BadToken)))))))))
+caret_makes : (language : Language) → Makes language (caret_in language)
+caret_makes First = tt
+caret_makes Second = tt
 
-  item_makes : (c : ℕ) (rest : List ℕ) → scalars (c ∷ rest) ≡ true → Makes (item_at before c rest)
-  unfolding item_in
-  item_makes c rest scalar =
-      by_test (c == 10) _ _ (λ e. no_token) (
-      by_test ((c == 32) || (c == 9) || ((c == 13) && begins_with 10 rest)) _ _ (λ e. no_gap 0) (
-      by_test (c == 35) _ _ (λ e. no_gap _) (
-      by_test (starts_name c) _ _ (λ starts. name_makes c rest scalar starts) (
-      by_test (is_digit c) _ _ (λ e. literal_makes _ _) (
-      by_test (c == 45) _ _ (λ e. by_test (begins_with 62 rest) _ _ (λ e. this_token kind.Arrow 1 tt) (this_token kind.Minus 0 tt)) (sign_makes c))))))
+sign_makes : (language : Language) (c : ℕ) → Makes language (sign_in language c)
+sign_makes language c =
+    by_test language (c == 58) _ _ (λ e. tt) (
+    by_test language (c == 61) _ _ (λ e. tt) (
+    by_test language (c == 43) _ _ (λ e. tt) (
+    by_test language (c == 40) _ _ (λ e. tt) (
+    by_test language (c == 41) _ _ (λ e. tt) (
+    by_test language (c == 91) _ _ (λ e. tt) (
+    by_test language (c == 93) _ _ (λ e. tt) (
+    by_test language (c == 39) _ _ (λ e. tt) (
+    by_test language (c == 94) _ _ (λ e. caret_makes language) tt))))))))
+
+item_makes : (language : Language) (c : ℕ) (rest : List ℕ) → scalars (c ∷ rest) ≡ true → Makes language (item_in language c rest)
+unfolding item_in
+item_makes language c rest scalar =
+    by_test language (c == 10) _ _ (λ e. tt) (
+    by_test language ((c == 32) || (c == 9) || ((c == 13) && begins_with 10 rest)) _ _ (λ e. tt) (
+    by_test language (c == 35) _ _ (λ e. tt) (
+    by_test language (starts_name c) _ _ (λ starts. name_makes language c rest scalar starts) (
+    by_test language (is_digit c) _ _ (λ e. literal_makes language _ _) (
+    by_test language (c == 45) _ _ (λ e. by_test language (begins_with 62 rest) _ _ (λ e. tt) tt) (sign_makes language c))))))
 
 -- all tokens
 file_token : (language : Language) (k : TokenKind) → IsToken language k → IsFileToken language k
@@ -154,8 +141,8 @@ end_are language line (suc n) us given = (tt, given)
 shifted : (before here us : List Token) → AreBehind (before ++ here) us → AllKinds (IsFileToken (language_of (before ++ (here ++ us)))) (kinds us)
 shifted before here us given = subst (λ ts. AllKinds (IsFileToken (language_of ts)) (kinds us)) (append_assoc before here us) given
 
-placed_are : (before : List Token) (r : Result Item ScanFault) (at : Spot) (past : ℕ) (next : List Token → ℕ → Spot → ℕ → Result (List Token) Placed) → Makes before r
-    → ((front : List Token) (skip : ℕ) (to : Spot) (end : ℕ) (us : List Token) → next front skip to end ≡ Ok us → AreBehind front us)
+placed_are : (before : List Token) (r : Result Item ScanFault) (at : Spot) (past : ℕ) (next : List Token → ℕ → Spot → ℕ → Result (List Token) Placed)
+    → Makes (language_of before) r → ((front : List Token) (skip : ℕ) (to : Spot) (end : ℕ) (us : List Token) → next front skip to end ≡ Ok us → AreBehind front us)
     → (ts : List Token) → placed before r at past next ≡ Ok ts → AreBehind before ts
 placed_are before (Err e) at past next makes go ts given = absurd cc
 placed_are before (Ok item.NewLine) at past next makes go ts given =
@@ -167,7 +154,7 @@ placed_are before (Ok (item.Token k more)) at past next makes go ts given =
     let here : List Token = record { at = at; kind = k } ∷ [] in
     let one = scan_ok (next (before ++ here) more (right_of at 1) (at.column + 1 + more)) (λ ts. Ok (record { at = at; kind = k } ∷ ts)) ts given in
     subst (AreBehind before) (tokens_is _ ts one.2) (
-      token_stays before (here ++ one.0) k (file_token (language_of before) k (makes k more refl)),
+      token_stays before (here ++ one.0) k (file_token (language_of before) k makes),
       shifted before here one.0 (go (before ++ here) more (right_of at 1) (at.column + 1 + more) one.0 one.1),
     )
 
@@ -178,5 +165,5 @@ tokens_are before [] skip at zero ts scalar given = subst (AreBehind before) (to
 tokens_are before [] skip at (suc past) ts scalar given = subst (AreBehind before) (tokens_is _ ts given) (tt, tt)
 tokens_are before (c ∷ cs) (suc skip) at past ts scalar given = tokens_are before cs skip (right_of at 1) past ts (and_second _ _ scalar) given
 tokens_are before (c ∷ cs) zero at past ts scalar given =
-    placed_are before (item_at before c cs) at past (λ front skip to end. tokens_from front cs skip to end) (item_makes before c cs scalar)
+    placed_are before (item_at before c cs) at past (λ front skip to end. tokens_from front cs skip to end) (item_makes (language_of before) c cs scalar)
     (λ front skip to end us e. tokens_are front cs skip to end us (and_second _ _ scalar) e) ts given

@@ -3,19 +3,18 @@ use Rattle.std.proofs.Common.{◌≡◌, zero, suc, Bool, true, false, cond, Lis
 use Rattle.std.proofs.Common.{◌∙◌, append_assoc}
 use Rattle.std.specs.Prelude.{ℤ, pos, negsuc, nat_lt}
 use Rattle.std.proofs.lemmas.List.{append-nil}
-use Rattle.statement_syntax.specs.Types.{Spot, Token, TokenKind, TokenKind as kind, Name, Number, Reading, Misfit, Expected, TooDeep, Adjoint}
+use Rattle.statement_syntax.specs.Types.{Spot, Token, TokenKind, TokenKind as kind, Name, Number, Reading, Misfit, Expected, TooDeep}
 use Rattle.statement_syntax.specs.Limits.{bracket_limit}
 use Rattle.statement_syntax.specs.Steps as steps
 use Rattle.statement_syntax.specs.Steps.{◌>>=◌, run}
 use Rattle.statement_syntax.specs.Grammar.{no_sign, lead_plus, lead_minus, Sign, plus, minus, Product, zero_alone, factors, Factors, one, beside, Prime, name}
-use Rattle.statement_syntax.specs.Grammar.{identity, bracket, sign_token, name_token, number_token, signed_token, expr_tokens}
-use Rattle.statement_syntax.specs.Grammar.{product_tokens, factors_tokens, prime_tokens}
+use Rattle.statement_syntax.specs.Grammar.{identity, bracket, sign_token, name_token, number_token, signed_token, expr_tokens, product_tokens, factors_tokens}
+use Rattle.statement_syntax.specs.Grammar.{prime_tokens}
 use Rattle.statement_syntax.specs.Tree.{is_minus}
 use Rattle.statement_syntax.proofs.Run.{bind_ok}
 use Rattle.statement_syntax.proofs.Machine.{Head, led, after, Part, nothing, scaled, product, Focus, outside, square, named, behind_caret, Level, State}
-use Rattle.statement_syntax.proofs.Machine.{at_outside}
-use Rattle.statement_syntax.proofs.Machine.{fresh, add, with_mark, with_power, lone_literal, whole_term, with_term, head_tokens, part_tokens, kept_tokens}
-use Rattle.statement_syntax.proofs.Machine.{focus_tokens, level_tokens, state_tokens}
+use Rattle.statement_syntax.proofs.Machine.{at_outside, fresh, add, with_mark, with_power, lone_literal, whole_term, with_term, head_tokens, part_tokens}
+use Rattle.statement_syntax.proofs.Machine.{kept_tokens, focus_tokens, level_tokens, state_tokens}
 use Rattle.statement_syntax.proofs.Seen.{head_of, part_of, focus_of, levels_of, reading_of}
 use Rattle.statement_syntax.proofs.Same.{add-seen, product_or, ended-seen, marked-seen, raised-seen, signed-seen, bracket-seen}
 
@@ -69,27 +68,6 @@ name_reads levels head part n = (
   simp (add-tokens, append-nil, append_assoc),
 )
 
-literal_reads : (levels : List Level) (head : Head) (part : Part) (n : Number)
-    → Reads levels head part outside (number_token n) (steps.literal_step (levels_of levels) (head_of head) (part_of part) n)
-literal_reads levels head nothing n = (at_outside levels head (scaled n), refl, simp append-nil)
-literal_reads levels head part n = tt
-
-quote_reads : (levels : List Level) (head : Head) (part : Part) (at : Spot)
-    → Reads levels head part outside (sign_token kind.Quote at)
-    (steps.mark_step (part_of part) Adjoint >>= λ p. Ok (steps.outside (levels_of levels) (head_of head) p))
-quote_reads levels head (product l fs) at = (
-  at_outside levels head (product l (with_mark fs at)),
-  ap (steps.outside (levels_of levels) (head_of head)) (marked-seen l fs at),
-  simp (mark-tokens, append-nil, append_assoc),
-)
-quote_reads levels head part at = tt
-
-caret_reads : (levels : List Level) (head : Head) (part : Part) (at : Spot)
-    → Reads levels head part outside (sign_token kind.Caret at) (steps.caret_step (levels_of levels) (head_of head) (part_of part) at)
-caret_reads levels head (product l fs) at =
-    (record { levels = levels; head = head; part = nothing; focus = behind_caret l fs at }, refl, simp (append-nil, append_assoc))
-caret_reads levels head part at = tt
-
 -- behind a term
 sign_after : (levels : List Level) (head : Head) (part : Part) (s : Sign) (t : Option Product) → whole_term part ≡ t
     → Reads levels head part outside (signed_token s)
@@ -134,15 +112,20 @@ open_reads levels head part at false = (fresh (record { head = head; part = part
 outside_reads : (levels : List Level) (head : Head) (part : Part) (k : TokenKind) (at : Spot)
     → Reads levels head part outside (sign_token k at) (steps.outside_step (levels_of levels) (head_of head) (part_of part) k at)
 outside_reads levels head part (kind.Name x) at = name_reads levels head part (record { text = x; at = at })
-outside_reads levels head part (kind.Literal n) at = literal_reads levels head part (record { value = n; at = at })
+outside_reads levels head nothing (kind.Literal n) at = (at_outside levels head (scaled (record { value = n; at = at })), refl, simp append-nil)
 outside_reads levels head part kind.Plus at = sign_reads levels head part (plus at)
 outside_reads levels head part kind.Minus at = sign_reads levels head part (minus at)
 outside_reads levels head part kind.Open at = open_reads levels head part at (nat_lt (length (levels_of levels)) bracket_limit)
 outside_reads levels head part kind.Close at = close_reads levels head part at
 outside_reads levels head part kind.OpenSquare at =
     (record { levels = levels; head = head; part = part; focus = square at }, refl, simp append-nil)
-outside_reads levels head part kind.Quote at = quote_reads levels head part at
-outside_reads levels head part kind.Caret at = caret_reads levels head part at
+outside_reads levels head (product l fs) kind.Quote at = (
+  at_outside levels head (product l (with_mark fs at)),
+  ap (steps.outside (levels_of levels) (head_of head)) (marked-seen l fs at),
+  simp (mark-tokens, append-nil, append_assoc),
+)
+outside_reads levels head (product l fs) kind.Caret at =
+    (record { levels = levels; head = head; part = nothing; focus = behind_caret l fs at }, refl, simp (append-nil, append_assoc))
 outside_reads levels head part k at = tt
 
 focus_reads : (levels : List Level) (head : Head) (part : Part) (focus : Focus) (k : TokenKind) (at : Spot)
@@ -163,11 +146,6 @@ focus_reads levels head part (behind_caret l fs caret) (kind.Literal n) at =
     )
 focus_reads levels head part focus k at = tt
 
--- one step reads one token
-step_reads : (st : State) (t : Token) (next : Reading) → reading_step (reading_of st) t ≡ Ok next
-    → (to : State) × (next ≡ reading_of to) × (state_tokens to ≡ state_tokens st ++ t ∷ [])
-step_reads st t next given = subst (Reads st.levels st.head st.part st.focus t) given (focus_reads st.levels st.head st.part st.focus t.kind t.at)
-
 -- with a bracket that is too deep there is a state too, whatever the limit says
 pub deep_reads : (st : State) (t : Token) → reading_step (reading_of st) t ≡ Err TooDeep → (to : State) × (state_tokens to ≡ state_tokens st ++ t ∷ [])
 deep_reads st t given = subst (Reads st.levels st.head st.part st.focus t) given (focus_reads st.levels st.head st.part st.focus t.kind t.at)
@@ -179,6 +157,6 @@ unfolding run
 run_reads st [] r given = let same : reading_of st ≡ r = cc in (st, sym same, sym (append-nil (state_tokens st)))
 run_reads st (t ∷ ts) r given =
     let one = bind_ok (reading_step (reading_of st) t) (λ s. run reading_step s ts) r given in
-    let to = step_reads st t one.0 one.1 in
+    let to = subst (Reads st.levels st.head st.part st.focus t) one.1 (focus_reads st.levels st.head st.part st.focus t.kind t.at) in
     let more = run_reads to.0 ts r (ap (λ s. run reading_step s ts) (sym to.1) ∙ one.2) in
-    (more.0, more.1, more.2 ∙ ap (λ (x : List Token). x ++ ts) to.2 ∙ append_assoc (state_tokens st) (t ∷ []) ts)
+    (more.0, more.1, rw (more.2, to.2) (append_assoc (state_tokens st) (t ∷ []) ts))

@@ -2,24 +2,21 @@
 use Rattle.std.proofs.Common.{◌≡◌, List, [], ◌∷◌, ◌++◌, Option, Some, None, Ok, Err, refl, sym, ap, ◌∙◌, append_assoc, arith}
 use Rattle.std.specs.Prelude.{pos}
 use Rattle.std.proofs.lemmas.List.{append-nil}
-use Rattle.statement_syntax.specs.Types.{Spot, Token, TokenKind as kind, Number, Name, Sum, Reading, Misfit, Expected, TooDeep}
+use Rattle.statement_syntax.specs.Types.{Token, TokenKind as kind, Number, Name, Sum, Reading, Misfit, Expected, TooDeep}
 use Rattle.statement_syntax.specs.Limits.{bracket_limit}
 use Rattle.statement_syntax.specs.Steps as steps
 use Rattle.statement_syntax.specs.Steps.{run, whole_sum}
 use Rattle.statement_syntax.specs.Grammar.{no_sign, Expr, first, Product, factors, one, beside, plain, Prime, name, identity, bracket, sign_token, name_token}
 use Rattle.statement_syntax.specs.Grammar.{number_token, expr_tokens, ExprFits}
 use Rattle.statement_syntax.specs.Tree.{expr_tree, prime_tree, prime_at}
+pub use Rattle.statement_syntax.specs.Places.{somewhere}
 use Rattle.statement_syntax.proofs.Machine.{Head, Part, nothing, scaled, product, Focus, outside, square, named, behind_caret, Level, State, at_outside, fresh}
-use Rattle.statement_syntax.proofs.Machine.{add}
-use Rattle.statement_syntax.proofs.Machine.{with_power, whole_term, with_term, whole, end_by, state_tokens, head_tokens, part_tokens}
+use Rattle.statement_syntax.proofs.Machine.{add, with_power, whole_term, with_term, whole, end_by, state_tokens}
 use Rattle.statement_syntax.proofs.Seen.{head_of, part_of, levels_of, reading_of, tree_or}
 use Rattle.statement_syntax.proofs.Same.{add-seen, raised-seen, closed-seen, whole-seen}
 use Rattle.statement_syntax.proofs.StateReads.{reading_step, with_term-tokens, whole_term-tokens, run_reads, deep_reads}
 use Rattle.statement_syntax.proofs.Run.{Upto, before_it, upto_ok, run_front, one_step}
 use Rattle.statement_syntax.proofs.Runs.{runs, end_state, expr_run}
-
-abbrev pub somewhere : Spot
-somewhere = record { line = 1; column = 1 }
 
 abbrev pub some_name : Name
 some_name = record { text = 120 ∷ []; at = somewhere }
@@ -86,11 +83,11 @@ ends levels head part (behind_caret l fs caret) =
     (closes levels head (product l power) (factors l power) refl)
 
 -- at the end
-end_tokens : (levels : List Level) (head : Head) (part : Part) (f : Focus) (t : Option Product) (e : Expr) → whole_term part ≡ t → end_by levels head f t ≡ Some e
-    → state_tokens (with_focus levels head part f) ≡ expr_tokens e
+end_tokens : (levels : List Level) (head : Head) (part : Part) (f : Focus) (t : Option Product) (e : Expr) → whole_term part ≡ t
+    → end_by levels head f t ≡ Some e → state_tokens (with_focus levels head part f) ≡ expr_tokens e
 end_tokens [] head part outside (Some t) e w given =
     let e-is : with_term head t ≡ e = cc in
-    append-nil (head_tokens head ++ part_tokens part) ∙ ap (λ (x : List Token). head_tokens head ++ x) (sym (whole_term-tokens part t w)) ∙ sym (with_term-tokens head t) ∙ ap expr_tokens e-is
+    rw (append-nil, ← e-is, with_term-tokens, whole_term-tokens part t w) refl
 end_tokens levels head part f t e w given = absurd cc
 
 -- what is read whole is the expression's tokens
