@@ -112,7 +112,9 @@ kinds-declarations_of statements =
 -- in a file in whose names nothing is wrong
 module _ (statements : List Statement) (clean : name_fault_of statements ≡ None) where
   pub apart_statements : Apart (statement_kinds statements)
-  apart_statements = subst Apart (declared-statements statements) (apart_declared (map_limit_of statements) (kind_within statements) [] (occurrences_of statements) Apart-none clean)
+  apart_statements =
+      subst Apart (declared-statements statements)
+      (apart_declared (map_limit_of statements) (kind_within statements) [] (occurrences_of statements) Apart-none clean)
 
   pub apart_declarations : Apart (kinds (declarations_of statements))
   apart_declarations = subst Apart (sym (kinds-declarations_of statements)) (Apart-sorted (statement_kinds statements) apart_statements)

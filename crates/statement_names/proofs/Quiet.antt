@@ -123,7 +123,8 @@ parts_of at (statement.Pinv a x) = record { rest = uses (map_use a) ∷ uses (ma
 parts_of at (statement.Inverse a x) = record { rest = uses (map_use a) ∷ uses (map_use x) ∷ []; whole = refl; quiet = (tt, (tt, tt)) }
 parts_of at (statement.Inner a x) = record { rest = uses (map_use a) ∷ uses (map_use x) ∷ []; whole = refl; quiet = (tt, (tt, tt)) }
 parts_of at (statement.Projection p) = record { rest = uses (map_use p) ∷ []; whole = refl; quiet = (tt, tt) }
-parts_of at (statement.Weight pairs) = record { rest = pairs_behind Map weight_limit [] pairs; whole = refl; quiet = pairs_behind-quiet Map weight_limit [] pairs }
+parts_of at (statement.Weight pairs) =
+    record { rest = pairs_behind Map weight_limit [] pairs; whole = refl; quiet = pairs_behind-quiet Map weight_limit [] pairs }
 parts_of at (statement.Solve names) = record { rest = names_behind Map [] names; whole = refl; quiet = names_behind-quiet Map [] names }
 parts_of at (statement.Eliminate names) = record { rest = names_behind Map [] names; whole = refl; quiet = names_behind-quiet Map [] names }
 parts_of at (statement.Shape m sides) =

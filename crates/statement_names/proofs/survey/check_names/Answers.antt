@@ -16,7 +16,8 @@ returns-in-Err-clause-err c =
     let first = begun c.map_limit_of-map_limit.result c.in_ok-kinds_of.field-0 in
     let os = occurrences_of c.args.statements.now in
     let agrees = begun_agrees c.map_limit_of-map_limit.result (map_limit_of c.args.statements.now) os c.in_ok-kinds_of.field-0 c.map_limit_of-map_limit.ensures c.in_ok-kinds_of.ensures in
-    let told : Ends {A = Unit {0}} (run c.loop-statement.survey (statement_occurrences c.statement-item.result)) c.statement.new.self (Err c.in-Err.stop) = search rules in
+    let told : Ends {A = Unit {0}} (run c.loop-statement.survey (statement_occurrences c.statement-item.result)) c.statement.new.self (Err c.in-Err.stop) =
+    search rules in
     let whole : Explains (name_fault_of c.args.statements.now) c.in-Err.stop =
     subst (λ found. Explains found c.in-Err.stop) (sym (first_same (map_limit_of c.args.statements.now) (kind_in (declared_in os)) [] first os agrees))
     (items_end statement_occurrences c.args.statements.now c.loop-statement.statement-index c.statement-item.result c.loop-statement-test.true c.statement-item.is
