@@ -27,7 +27,7 @@ use Rattle.statement_names.proofs.Bridge.{within_limits}
 use Rattle.statement_names.proofs.Clean.{IsGood, AreGood, each_good}
 use Rattle.statement_names.proofs.Each.{Each, Each-of_flat_map, Each-left, Each-right, Each-item}
 use Rattle.statement_names.proofs.Items.{flat_next}
-use Rattle.statement_names.proofs.Quiet.{declared-statements}
+use Rattle.statement_names.proofs.Quiet.{declared_statements}
 use Rattle.statement_names.proofs.Tally.{object_count-statements, map_count-statements}
 use Rattle.statement_names.proofs.SolvedMaps.{no_objects}
 use Rattle.statement_names.proofs.Fresh.{different_of_apart}
@@ -144,7 +144,7 @@ module _ (statements : List Statement) (clean : name_fault_of statements ≡ Non
       (ap (λ found. is_kind found Object)
       (kind-named_in objects q ∙ ap (λ ks. kind_in ks q) (kinds-declared_objects statements)
       ∙ kind_in-among Object (statement_kinds statements) (apart_statements statements clean) q)
-      ∙ objects_kept (kind_in (statement_kinds statements) q) ∙ ap (λ ks. is_kind (kind_in ks q) Object) (sym (declared-statements statements)) ∙ is)
+      ∙ objects_kept (kind_in (statement_kinds statements) q) ∙ ap (λ ks. is_kind (kind_in ks q) Object) (sym (declared_statements statements)) ∙ is)
 
   has_ends_here : (at : Spot) (k : StatementKind) → AreGood statements (kind_occurrences at k) → HasEnds objects k
   has_ends_here at (statement.Maps names source target selfmade) good =
@@ -249,6 +249,9 @@ module _ (statements : List Statement) (clean : name_fault_of statements ≡ Non
       let whole : declarations_of statements ≡ (file_objects ++ first) ++ later =
       ap (λ ms. file_objects ++ ms) (split (λ t. maps_in file_objects t.kind)) ∙ sym (append_assoc file_objects first later) in
       (later, subst (λ ds. IsDeclared (ds ++ later)) (sym maps_next) (subst IsDeclared whole (file_declared statements clean)))
+
+-- each statement fits behind those before it
+pub ruleset each_fits = (objects_fit, ends_fit, maps_fit, maps_next)
 
 -- all objects come first
 first_arrows : (ds : List Declaration) → list_all is_arrow ds ≡ true → objects_first ds ≡ true

@@ -142,7 +142,7 @@ declared-statement at k =
     ap declared_in parts.whole ∙ flat_map-append declared_by (begun_by at k) parts.rest
     ∙ ap₂ (λ xs ys. xs ++ ys) (declared-begun at k) (declared-quiet parts.rest parts.quiet) ∙ append-nil (kinds_by k)
 
-pub declared-statements : (statements : List Statement) → declared_in (occurrences_of statements) ≡ flat_map (λ s. kinds_by s.kind) statements
-declared-statements [] = refl
-declared-statements (s ∷ statements) =
-    flat_map-append declared_by (statement_occurrences s) (occurrences_of statements) ∙ ap₂ (λ xs ys. xs ++ ys) (declared-statement s.at s.kind) (declared-statements statements)
+pub declared_statements : (statements : List Statement) → declared_in (occurrences_of statements) ≡ flat_map (λ s. kinds_by s.kind) statements
+declared_statements [] = refl
+declared_statements (s ∷ statements) =
+    flat_map-append declared_by (statement_occurrences s) (occurrences_of statements) ∙ ap₂ (λ xs ys. xs ++ ys) (declared-statement s.at s.kind) (declared_statements statements)

@@ -5,11 +5,8 @@ use Rattle.statement_names.specs.Occurrences.{statement_occurrences, occurrences
 use Rattle.statement_names.specs.Faults.{Explains, kind_in, declared_in, name_fault_of}
 use Rattle.statement_names.specs.Survey.{run, fault_in, Ends}
 use Rattle.statement_names.proofs.Bridge.{begun, begun_agrees, first_same}
-use Rattle.statement_names.proofs.Runs.{run_on, items_end}
+use Rattle.statement_names.proofs.Runs.{items_end}
 use Rattle.statement_names.proofs.survey.check_names.Goals as goal
-
-pub loop-statement-preserved : goal.loop-statement-preserved
-loop-statement-preserved c = grind (arith, common_steps, run_on)
 
 pub returns-in-Err-clause-err : goal.returns-in-Err-clause-err
 returns-in-Err-clause-err c =
