@@ -71,11 +71,13 @@ abbrev pub sorted : List (List ℕ × Kind) → List (List ℕ × Kind)
 sorted ds = among Object ds ++ among Map ds
 
 -- the same is found there
-pub kind_in-among : (kind : Kind) (ds : List (List ℕ × Kind)) → Apart ds → (q : List ℕ) → kind_in (among kind ds) q ≡ option_filter (λ k. is_kind (Some k) kind) (kind_in ds q)
+pub kind_in-among : (kind : Kind) (ds : List (List ℕ × Kind)) → Apart ds → (q : List ℕ)
+    → kind_in (among kind ds) q ≡ option_filter (λ k. is_kind (Some k) kind) (kind_in ds q)
 kind_in-among kind ds apart q = lookup-filter-values bytes_equivalence (λ k. is_kind (Some k) kind) q ds apart
 
 pub kind_in-sorted : (ds : List (List ℕ × Kind)) → Apart ds → (q : List ℕ) → kind_in (sorted ds) q ≡ kind_in ds q
-kind_in-sorted ds apart q = kind_in-append (among Object ds) (among Map ds) q ∙ ap₂ option_or (kind_in-among Object ds apart q) (kind_in-among Map ds apart q) ∙ either (kind_in ds q)
+kind_in-sorted ds apart q =
+    kind_in-append (among Object ds) (among Map ds) q ∙ ap₂ option_or (kind_in-among Object ds apart q) (kind_in-among Map ds apart q) ∙ either (kind_in ds q)
   where
     either : (found : Option Kind) → option_or (option_filter (λ k. is_kind (Some k) Object) found) (option_filter (λ k. is_kind (Some k) Map) found) ≡ found
     either None = refl
@@ -84,8 +86,8 @@ kind_in-sorted ds apart q = kind_in-append (among Object ds) (among Map ds) q �
 
 pub Apart-sorted : (ds : List (List ℕ × Kind)) → Apart ds → Apart (sorted ds)
 Apart-sorted ds apart =
-    IsDistinct-IsPermutation bytes_eq bytes_turned (keys_of ds) (keys_of (sorted ds))
-    (IsPermutation-map (λ d. d.0) ds (sorted ds) (IsPermutation-filter_both (λ d. is_kind (Some d.1) Object) (λ d. is_kind (Some d.1) Map) (λ d. other d.1) ds)) apart
+    let both = IsPermutation-filter_both (λ d. is_kind (Some d.1) Object) (λ d. is_kind (Some d.1) Map) (λ d. other d.1) ds in
+    IsDistinct-IsPermutation bytes_eq bytes_turned (keys_of ds) (keys_of (sorted ds)) (IsPermutation-map (λ d. d.0) ds (sorted ds) both) apart
   where
     other : (kind : Kind) → is_kind (Some kind) Map ≡ not (is_kind (Some kind) Object)
     other Object = refl

@@ -58,7 +58,8 @@ pub record Agrees (most_maps : ℕ) (kind : List ℕ → Option Kind) (before af
 module _ (most_maps : ℕ) (kind : List ℕ → Option Kind) (before after : List Occurrence) (s : Survey) (agrees : Agrees most_maps kind before after s) where
   declared_same : declared_before s ≡ declared_in before
   declared_same =
-      let counted : declared_count s ≡ length (declared_in before) = omega (arith, agrees.room Objects, agrees.room Maps, agrees.map_limit, number_declared before) in
+      let counted : declared_count s ≡ length (declared_in before) =
+      omega (arith, agrees.room Objects, agrees.room Maps, agrees.map_limit, number_declared before) in
       ap₂ take counted agrees.declared ∙ take-with_kinds (declared_in before) (declared_in after)
 
   fault_same : (o : Occurrence) → fault_at s o ≡ fault_of (known_behind most_maps kind before) o
@@ -74,8 +75,10 @@ module _ (most_maps : ℕ) (kind : List ℕ → Option Kind) (before after : Lis
       ∙ fold-append (λ ks d. with_kind ks d.0 d.1) (declared_in before) (declared_by o) (declared_in os)
       ∙ ap (λ ks. with_kinds ks (declared_in os)) (new ∙ declared_push before o)
 
-  declared_new : (name : List ℕ) (k : Kind) → kind_in (declared_before s) name ≡ None → with_kinds (declared_in before) ((name, k) ∷ []) ≡ declared_in before ++ (name, k) ∷ []
-  declared_new name k new = ap (λ found. if is_some found then declared_in before else declared_in before ++ (name, k) ∷ []) (ap (λ ds. kind_in ds name) (sym declared_same) ∙ new)
+  declared_new : (name : List ℕ) (k : Kind) → kind_in (declared_before s) name ≡ None
+      → with_kinds (declared_in before) ((name, k) ∷ []) ≡ declared_in before ++ (name, k) ∷ []
+  declared_new name k new =
+      ap (λ found. if is_some found then declared_in before else declared_in before ++ (name, k) ∷ []) (ap (λ ds. kind_in ds name) (sym declared_same) ∙ new)
 
   declared_behind : (o : Occurrence) (os : List Occurrence) → after ≡ o ∷ os → fault_at s o ≡ None
       → s.kinds ≡ with_kinds (declared_in (before ++ o ∷ [])) (declared_in os)
@@ -148,7 +151,8 @@ agrees_behind most_maps kind before s (o ∷ os) agrees clean =
     (agrees_behind most_maps kind (before ++ o ∷ []) (behind s o) os next (tail_clean most_maps kind before o os clean))
 
 -- a file in whose names nothing is wrong keeps to the limits
-pub within_limits : (statements : List Statement) → name_fault_of statements ≡ None → (c : Counted) → sum_by (amount c) (occurrences_of statements) ≤ limit_of (map_limit_of statements) c
+pub within_limits : (statements : List Statement) → name_fault_of statements ≡ None → (c : Counted)
+    → sum_by (amount c) (occurrences_of statements) ≤ limit_of (map_limit_of statements) c
 within_limits statements clean c =
     let most_maps = map_limit_of statements in
     let os = occurrences_of statements in

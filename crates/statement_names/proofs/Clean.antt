@@ -42,7 +42,8 @@ pub declared_push : (before : List Occurrence) (o : Occurrence) → declared_in 
 declared_push before o = sym (flat_map-append declared_by before (o ∷ []) ∙ ap (λ ds. declared_in before ++ ds) (append-nil (declared_by o)))
 
 module _ (most_maps : ℕ) (kind : List ℕ → Option Kind) where
-  pub head_clean : (before : List Occurrence) (o : Occurrence) (os : List Occurrence) → first_fault most_maps kind before (o ∷ os) ≡ None → fault_of (known_behind most_maps kind before) o ≡ None
+  pub head_clean : (before : List Occurrence) (o : Occurrence) (os : List Occurrence) → first_fault most_maps kind before (o ∷ os) ≡ None
+      → fault_of (known_behind most_maps kind before) o ≡ None
   head_clean before o os clean = none_first (fault_of (known_behind most_maps kind before) o) (first_fault most_maps kind (before ++ o ∷ []) os) clean
 
   pub tail_clean : (before : List Occurrence) (o : Occurrence) (os : List Occurrence) → first_fault most_maps kind before (o ∷ os) ≡ None → first_fault most_maps kind (before ++ o ∷ []) os ≡ None
@@ -61,7 +62,8 @@ module _ (most_maps : ℕ) (kind : List ℕ → Option Kind) where
   each_good before (o ∷ os) clean = (good before o (head_clean before o os clean), each_good (before ++ o ∷ []) os (tail_clean before o os clean))
 
   -- different names
-  apart_next : (before : List Occurrence) (o : Occurrence) → fault_of (known_behind most_maps kind before) o ≡ None → Apart (declared_in before) → Apart (declared_in before ++ declared_by o)
+  apart_next : (before : List Occurrence) (o : Occurrence) → fault_of (known_behind most_maps kind before) o ≡ None → Apart (declared_in before)
+      → Apart (declared_in before ++ declared_by o)
   apart_next before (declares_object n) clean apart =
       Apart-push (declared_in before) (n.text, Object) apart (new_name _ _ _ clean)
   apart_next before (declares_map n u v selfmade) clean apart =

@@ -27,7 +27,7 @@ use Rattle.statement_names.proofs.Bridge.{within_limits}
 use Rattle.statement_names.proofs.Clean.{IsGood, AreGood, each_good}
 use Rattle.statement_names.proofs.Each.{Each, Each-of_flat_map, Each-left, Each-right, Each-item}
 use Rattle.statement_names.proofs.Items.{flat_next}
-use Rattle.statement_names.proofs.Quiet.{declared-statements}
+use Rattle.statement_names.proofs.Quiet.{declared_statements}
 use Rattle.statement_names.proofs.Tally.{object_count-statements, map_count-statements}
 use Rattle.statement_names.proofs.SolvedMaps.{no_objects}
 use Rattle.statement_names.proofs.Fresh.{different_of_apart}
@@ -66,11 +66,16 @@ objects_kept (Some Map) = refl
 all_append : {A : Type 0} (test : A → Bool) (xs ys : List A) → list_all test xs ≡ true → list_all test ys ≡ true → list_all test (xs ++ ys) ≡ true
 all_append test xs ys h k = rw (list_all-append test xs ys, h, k) refl
 
+zero_plus : (n : ℕ) → n ≡ 0 + n
+zero_plus n = omega arith
+
 -- what stays with an object in front of a list holds with the objects of statements in front of it
-in_front : (P : List Declaration → Type 0) → ((name : List ℕ) (ds : List Declaration) → P ds → P (object name ∷ ds)) → (statements : List Statement) (ds : List Declaration) → P ds → P (declared_objects statements ++ ds)
+in_front : (P : List Declaration → Type 0) → ((name : List ℕ) (ds : List Declaration) → P ds → P (object name ∷ ds))
+    → (statements : List Statement) (ds : List Declaration) → P ds → P (declared_objects statements ++ ds)
 in_front P step [] ds h = h
 in_front P step (s ∷ statements) ds h =
-    subst P (sym (append_assoc (objects_in s.kind) (declared_objects statements) ds)) (of_kind s.kind (declared_objects statements ++ ds) (in_front P step statements ds h))
+    subst P (sym (append_assoc (objects_in s.kind) (declared_objects statements) ds))
+    (of_kind s.kind (declared_objects statements ++ ds) (in_front P step statements ds h))
   where
     of_names : (names : List Name) (ds : List Declaration) → P ds → P (map (λ m. object m.text) names ++ ds)
     of_names [] ds h = h
@@ -126,7 +131,9 @@ maps_more ds more k ends = refl
 -- in a file in whose names nothing is wrong
 module _ (statements : List Statement) (clean : name_fault_of statements ≡ None) where
   pub statements_good : Each (λ s. AreGood statements (statement_occurrences s)) statements
-  statements_good = Each-of_flat_map (IsGood (kind_within statements)) statement_occurrences statements (each_good (map_limit_of statements) (kind_within statements) [] (occurrences_of statements) clean)
+  statements_good =
+      Each-of_flat_map (IsGood (kind_within statements)) statement_occurrences statements
+      (each_good (map_limit_of statements) (kind_within statements) [] (occurrences_of statements) clean)
 
   abbrev objects : List Declaration
   objects = declared_objects statements
@@ -135,16 +142,20 @@ module _ (statements : List Statement) (clean : name_fault_of statements ≡ Non
   object_here q is =
       object_from (named_in objects q)
       (ap (λ found. is_kind found Object)
-      (kind-named_in objects q ∙ ap (λ ks. kind_in ks q) (kinds-declared_objects statements) ∙ kind_in-among Object (statement_kinds statements) (apart_statements statements clean) q)
-      ∙ objects_kept (kind_in (statement_kinds statements) q) ∙ ap (λ ks. is_kind (kind_in ks q) Object) (sym (declared-statements statements)) ∙ is)
+      (kind-named_in objects q ∙ ap (λ ks. kind_in ks q) (kinds-declared_objects statements)
+      ∙ kind_in-among Object (statement_kinds statements) (apart_statements statements clean) q)
+      ∙ objects_kept (kind_in (statement_kinds statements) q) ∙ ap (λ ks. is_kind (kind_in ks q) Object) (sym (declared_statements statements)) ∙ is)
 
   has_ends_here : (at : Spot) (k : StatementKind) → AreGood statements (kind_occurrences at k) → HasEnds objects k
   has_ends_here at (statement.Maps names source target selfmade) good =
-      let ends = Each-right (IsGood (kind_within statements)) (map (λ m. declares_map m source.text target.text selfmade) names) (uses (object_use source) ∷ uses (object_use target) ∷ []) good in
+      let ends =
+      Each-right (IsGood (kind_within statements)) (map (λ m. declares_map m source.text target.text selfmade) names)
+      (uses (object_use source) ∷ uses (object_use target) ∷ []) good in
       (object_here source.text ends.0, object_here target.text ends.1.0)
   has_ends_here at k good = tt
 
-  maps_end : (at : Spot) (k : StatementKind) → AreGood statements (kind_occurrences at k) → HasEnds objects k → list_all (has_ends (object_count objects)) (maps_in objects k) ≡ true
+  maps_end : (at : Spot) (k : StatementKind) → AreGood statements (kind_occurrences at k) → HasEnds objects k
+      → list_all (has_ends (object_count objects)) (maps_in objects k) ≡ true
   maps_end at (statement.Maps names source target selfmade) good here =
       let made = map (λ m. declares_map m source.text target.text selfmade) names in
       let uses_of = uses (object_use source) ∷ uses (object_use target) ∷ [] in
@@ -152,14 +163,16 @@ module _ (statements : List Statement) (clean : name_fault_of statements ≡ Non
       go (square selfmade ends.0 ends.1.0) names (Each-left (IsGood (kind_within statements)) made uses_of good)
     where
       square : (own : Bool) → is_kind (kind_within statements source.text) Object ≡ true → is_kind (kind_within statements target.text) Object ≡ true
-          → (own && are_two_objects (kind_within statements) source.text target.text) ≡ false → (not own || nat_eq (object_of objects source) (object_of objects target)) ≡ true
+          → (own && are_two_objects (kind_within statements) source.text target.text) ≡ false
+          → (not own || nat_eq (object_of objects source) (object_of objects target)) ≡ true
       square false first second e = refl
       square true first second e =
           let same : source.text ≡ target.text = same_bytes source.text target.text (same_ends _ _ (bytes_eq source.text target.text) first second e) in
           ap (λ text. nat_eq (object_of objects source) (object_number (named_in objects text))) (sym same)
           ∙ (Decides-eqb (object_of objects source) (object_of objects source)).1 refl
 
-      go : ((selfmade && are_two_objects (kind_within statements) source.text target.text) ≡ false → (not selfmade || nat_eq (object_of objects source) (object_of objects target)) ≡ true)
+      go : ((selfmade && are_two_objects (kind_within statements) source.text target.text) ≡ false
+          → (not selfmade || nat_eq (object_of objects source) (object_of objects target)) ≡ true)
           → (names : List Name) → AreGood statements (map (λ m. declares_map m source.text target.text selfmade) names)
           → list_all (has_ends (object_count objects)) (map (λ m. arrow m.text (object_of objects source) (object_of objects target) selfmade) names) ≡ true
       go own [] each = refl
@@ -168,7 +181,8 @@ module _ (statements : List Statement) (clean : name_fault_of statements ≡ Non
           (arrow_ends _ _ _ m.text selfmade (object_in_range objects source here.0) (object_in_range objects target here.1) (own each.0)) (go own names each.1)
   maps_end at k good here = refl
 
-  all_maps_end : (ss : List Statement) → Each (λ s. AreGood statements (statement_occurrences s)) ss → list_all (has_ends (object_count objects)) (declared_maps objects ss) ≡ true
+  all_maps_end : (ss : List Statement) → Each (λ s. AreGood statements (statement_occurrences s)) ss
+      → list_all (has_ends (object_count objects)) (declared_maps objects ss) ≡ true
   all_maps_end [] good = refl
   all_maps_end (s ∷ ss) good =
       all_append (has_ends (object_count objects)) (maps_in objects s.kind) (declared_maps objects ss)
@@ -178,9 +192,10 @@ module _ (statements : List Statement) (clean : name_fault_of statements ≡ Non
   file_declared =
       let maps = declared_maps objects statements in
       -- maps are behind the objects, and add none
-      let no_more : object_count (objects ++ maps) ≡ object_count objects = omega (arith, object_count-append objects maps, object_count-maps objects statements) in
+      let no_more : object_count (objects ++ maps) ≡ object_count objects =
+      omega (arith, object_count-append objects maps, object_count-maps objects statements) in
       let no_fewer : map_count (objects ++ maps) ≡ map_count maps =
-      in_front (λ ds. map_count ds ≡ map_count maps) (λ name ds same. let still : 0 + map_count ds ≡ map_count maps = omega (arith, same) in still) statements maps refl in
+      in_front (λ ds. map_count ds ≡ map_count maps) (λ name ds same. sym (zero_plus (map_count ds)) ∙ same) statements maps refl in
       record {
         distinct = different_of_apart (declarations_of statements) (apart_declarations statements clean);
         few_objects = omega (arith, no_more, object_count-statements statements, within_limits statements clean Objects);
@@ -189,6 +204,10 @@ module _ (statements : List Statement) (clean : name_fault_of statements ≡ Non
             subst (λ n. list_all (has_ends n) (objects ++ maps) ≡ true) (sym no_more)
             (in_front (λ ds. list_all (has_ends (object_count objects)) ds ≡ true) (λ name ds h. h) statements maps (all_maps_end statements statements_good));
       }
+
+-- what stands before the maps of a statement
+abbrev pub declared_before : List Statement → ℕ → List Declaration
+declared_before statements i = declared_objects statements ++ declared_maps (declared_objects statements) (take i statements)
 
 -- the declarations of a statement behind those of the statements before it
 module _ (statements : List Statement) (clean : name_fault_of statements ≡ None) (i : ℕ) (s : Statement) (below : i < length statements) (at : s ≡ get_or statements i s) where
@@ -200,34 +219,39 @@ module _ (statements : List Statement) (clean : name_fault_of statements ≡ Non
       let first = declared_objects (take (i + 1) statements) in
       let later = declared_objects (drop (i + 1) statements) in
       let maps = declared_maps (declared_objects statements) statements in
-      let whole : declarations_of statements ≡ first ++ (later ++ maps) = ap (λ ds. ds ++ maps) (split (λ t. objects_in t.kind)) ∙ append_assoc first later maps in
-      (later ++ maps, subst (λ ds. IsDeclared (ds ++ (later ++ maps))) (flat_next statements i s below at (λ t. objects_in t.kind)) (subst IsDeclared whole (file_declared statements clean)))
+      let whole : declarations_of statements ≡ first ++ (later ++ maps) =
+      ap (λ ds. ds ++ maps) (split (λ t. objects_in t.kind)) ∙ append_assoc first later maps in
+      let declared = subst IsDeclared whole (file_declared statements clean) in
+      (later ++ maps, subst (λ ds. IsDeclared (ds ++ (later ++ maps))) (flat_next statements i s below at (λ t. objects_in t.kind)) declared)
 
   abbrev file_objects : List Declaration
   file_objects = declared_objects statements
 
-  abbrev so_far : List Declaration
-  so_far = declared_maps (declared_objects statements) (take i statements)
-
   ends_here : HasEnds (declared_objects statements) s.kind
-  ends_here = has_ends_here statements clean s.at s.kind (Each-item (λ t. AreGood statements (statement_occurrences t)) statements (statements_good statements clean) i s below at)
+  ends_here =
+      has_ends_here statements clean s.at s.kind
+      (Each-item (λ t. AreGood statements (statement_occurrences t)) statements (statements_good statements clean) i s below at)
 
-  pub ends_fit : HasEnds (declared_objects statements ++ declared_maps (declared_objects statements) (take i statements)) s.kind
-  ends_fit = ends_more file_objects so_far s.kind ends_here
+  pub ends_fit : HasEnds (declared_before statements i) s.kind
+  ends_fit = ends_more file_objects (declared_maps file_objects (take i statements)) s.kind ends_here
 
-  pub maps_next : (declared_objects statements ++ declared_maps (declared_objects statements) (take i statements)) ++ maps_in (declared_objects statements ++ declared_maps (declared_objects statements) (take i statements)) s.kind
-      ≡ declared_objects statements ++ declared_maps (declared_objects statements) (take (i + 1) statements)
+  pub maps_next : declared_before statements i ++ maps_in (declared_before statements i) s.kind ≡ declared_before statements (i + 1)
   maps_next =
+      let so_far = declared_maps file_objects (take i statements) in
       ap (λ ms. (file_objects ++ so_far) ++ ms) (maps_more file_objects so_far s.kind ends_here)
       ∙ append_assoc file_objects so_far (maps_in file_objects s.kind)
       ∙ ap (λ ms. file_objects ++ ms) (sym (flat_next statements i s below at (λ t. maps_in file_objects t.kind)))
 
-  pub maps_fit : AreFirst ((declared_objects statements ++ declared_maps (declared_objects statements) (take i statements)) ++ maps_in (declared_objects statements ++ declared_maps (declared_objects statements) (take i statements)) s.kind)
+  pub maps_fit : AreFirst (declared_before statements i ++ maps_in (declared_before statements i) s.kind)
   maps_fit =
       let first = declared_maps file_objects (take (i + 1) statements) in
       let later = declared_maps file_objects (drop (i + 1) statements) in
-      let whole : declarations_of statements ≡ (file_objects ++ first) ++ later = ap (λ ms. file_objects ++ ms) (split (λ t. maps_in file_objects t.kind)) ∙ sym (append_assoc file_objects first later) in
+      let whole : declarations_of statements ≡ (file_objects ++ first) ++ later =
+      ap (λ ms. file_objects ++ ms) (split (λ t. maps_in file_objects t.kind)) ∙ sym (append_assoc file_objects first later) in
       (later, subst (λ ds. IsDeclared (ds ++ later)) (sym maps_next) (subst IsDeclared whole (file_declared statements clean)))
+
+-- each statement fits behind those before it
+pub ruleset each_fits = (objects_fit, ends_fit, maps_fit, maps_next)
 
 -- all objects come first
 first_arrows : (ds : List Declaration) → list_all is_arrow ds ≡ true → objects_first ds ≡ true

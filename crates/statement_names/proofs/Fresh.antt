@@ -40,7 +40,8 @@ no_object_fault xs name ys first =
     let later = ys ++ first.0 in
     let declared = subst IsDeclared (append_assoc xs (object name ∷ ys) first.0) first.1 in
     let fresh : named_in xs name ≡ None = fresh_name xs (object name) later (apart_of (xs ++ object name ∷ later) declared.distinct) in
-    let room : object_count xs + (1 + object_count later) ≤ object_limit = subst (λ n. n ≤ object_limit) (object_count-append xs (object name ∷ later)) declared.few_objects in
+    let room : object_count xs + (1 + object_count later) ≤ object_limit =
+    subst (λ n. n ≤ object_limit) (object_count-append xs (object name ∷ later)) declared.few_objects in
     let free : nat_le object_limit (object_count xs) ≡ false = grind (arith, nat_tests) in
     ap₂ (λ b c. if b then Some DoubleName else if c then Some (TooMany object_limit) else None) (ap is_some fresh) free
 
@@ -50,15 +51,18 @@ all_right test xs ys h = (and_parts (list_all test xs) (list_all test ys) (sym (
 square_of : (selfmade same : Bool) → (not selfmade || same) ≡ true → (selfmade && not same) ≡ false
 square_of selfmade same e = grind arith
 
-pub no_map_fault : (xs : List Declaration) (name : List ℕ) (u v : ℕ) (selfmade : Bool) (ys : List Declaration) → AreFirst (xs ++ arrow name u v selfmade ∷ ys) → map_fault xs name u v selfmade ≡ None
+pub no_map_fault : (xs : List Declaration) (name : List ℕ) (u v : ℕ) (selfmade : Bool) (ys : List Declaration) → AreFirst (xs ++ arrow name u v selfmade ∷ ys)
+    → map_fault xs name u v selfmade ≡ None
 no_map_fault xs name u v selfmade ys first =
     let later = ys ++ first.0 in
     let declared = subst IsDeclared (append_assoc xs (arrow name u v selfmade ∷ ys) first.0) first.1 in
     let fresh : named_in xs name ≡ None = fresh_name xs (arrow name u v selfmade) later (apart_of (xs ++ arrow name u v selfmade ∷ later) declared.distinct) in
-    let room : map_count xs + (1 + map_count later) ≤ map_limit = subst (λ n. n ≤ map_limit) (map_count-append xs (arrow name u v selfmade ∷ later)) declared.few_maps in
+    let room : map_count xs + (1 + map_count later) ≤ map_limit =
+    subst (λ n. n ≤ map_limit) (map_count-append xs (arrow name u v selfmade ∷ later)) declared.few_maps in
     let free : nat_le map_limit (map_count xs) ≡ false = grind (arith, nat_tests) in
     let n = object_count (xs ++ arrow name u v selfmade ∷ later) in
     let ends = all_right (has_ends n) xs (arrow name u v selfmade ∷ later) declared.ends in
-    let square : (selfmade && not (nat_eq u v)) ≡ false = square_of selfmade (nat_eq u v) (ends_of n name u v selfmade (and_parts (has_ends n (arrow name u v selfmade)) (list_all (has_ends n) later) ends).0).square in
+    let own = (and_parts (has_ends n (arrow name u v selfmade)) (list_all (has_ends n) later) ends).0 in
+    let square : (selfmade && not (nat_eq u v)) ≡ false = square_of selfmade (nat_eq u v) (ends_of n name u v selfmade own).square in
     ap₂ (λ b c. if b then Some DoubleName else if c then Some (TooMany map_limit) else if selfmade && not (nat_eq u v) then Some NotSquare else None) (ap is_some fresh) free
     ∙ ap (λ b. if b then Some NotSquare else None) square

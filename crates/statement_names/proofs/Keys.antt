@@ -23,9 +23,9 @@ lookup-bytes name [] = refl
 lookup-bytes name (e ∷ entries) = ap (cond (bytes_eq name (string_bytes e.0)) (Some e.1)) (lookup-bytes name entries)
 
 -- a name that isn't there goes last
-pub bytes-inserted : (q : Inside) (new : List (String Global × Kind)) (kinds : List (List ℕ × Kind)) (key : String Global) (name : List ℕ) (kind : Kind) → string_bytes key ≡ name
+pub bytes_inserted : (q : Inside) (new : List (String Global × Kind)) (kinds : List (List ℕ × Kind)) (key : String Global) (name : List ℕ) (kind : Kind) → string_bytes key ≡ name
     → new ≡ insert_entry string_eq q.kinds.entries key kind → bytes_of q.kinds.entries ≡ kinds → is_some (kind_in kinds name) ≡ false → bytes_of new ≡ with_kind kinds name kind
-bytes-inserted q new kinds key name kind key_is new_is view_is fresh =
+bytes_inserted q new kinds key name kind key_is new_is view_is fresh =
     let absent : lookup (λ k. bytes_eq (string_bytes key) (string_bytes k)) q.kinds.entries ≡ None =
     lookup-bytes (string_bytes key) q.kinds.entries ∙ ap₂ (λ n ks. lookup (bytes_eq n) ks) key_is view_is ∙ absent_from (kind_in kinds name) fresh in
     ap bytes_of (new_is ∙ insert_entry-new string_eq q.kinds key kind absent)
@@ -50,9 +50,9 @@ module _ {K X : Type 0} (test : K → Bool) where
   first_place (e ∷ entries) (suc count) = grind (arith, nat_tests, first_place entries count)
 
 -- a name is among the first declarations where its place is below their number
-pub first-place : (name : List ℕ) (entries : List (String Global × Kind)) (count : ℕ)
+pub among_first : (name : List ℕ) (entries : List (String Global × Kind)) (count : ℕ)
     → is_some (kind_in (take count (bytes_of entries)) name) ≡ is_below (position (λ k. bytes_eq name (string_bytes k)) (keys_of entries)) count
-first-place name entries count =
+among_first name entries count =
     let test : String Global → Bool = λ k. bytes_eq name (string_bytes k) in
     let place = position_or_len test (keys_of entries) in
     ap (λ ks. is_some (kind_in ks name)) (take-map (λ e. (string_bytes e.0, e.1)) count entries)

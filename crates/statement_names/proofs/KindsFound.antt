@@ -24,9 +24,9 @@ pub kind_in-append : (xs ys : List (List ℕ × Kind)) (name : List ℕ) → kin
 kind_in-append xs ys name = lookup-append (bytes_eq name) xs ys
 
 -- a name is among those that are declared where a kind is found for it
-pub among-names_in : (declared : List (List ℕ × Kind)) (name : List ℕ) → is_among (names_in declared) name ≡ is_some (kind_in declared name)
-among-names_in [] name = refl
-among-names_in (d ∷ declared) name = grind (arith, among-names_in declared name)
+pub among_names_in : (declared : List (List ℕ × Kind)) (name : List ℕ) → is_among (names_in declared) name ≡ is_some (kind_in declared name)
+among_names_in [] name = refl
+among_names_in (d ∷ declared) name = grind (arith, among_names_in declared name)
 
 -- a second declaration of a name changes nothing
 pub kind_in-with_kind : (declared : List (List ℕ × Kind)) (name : List ℕ) (kind : Kind) (q : List ℕ)

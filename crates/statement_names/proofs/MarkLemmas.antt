@@ -1,7 +1,7 @@
 -- Tables of marks, and the numbers that are marked.
-use Rattle.std.proofs.Common.{◌≡◌, ℕ, zero, suc, ◌+◌, ◌<◌, ◌≤◌, Bool, true, false, cond, ◌||◌, List, [], ◌∷◌, ◌++◌, length, map, filter, get_or, replicate, refl, ap, ap₂, sym, subst, ◌∙◌, arith, add-one}
+use Rattle.std.proofs.Common.{◌≡◌, ℕ, zero, suc, ◌+◌, ◌<◌, ◌≤◌, Bool, false, cond, ◌||◌, List, [], ◌∷◌, ◌++◌, length, filter, get_or, replicate, refl, ap, ap₂, sym, subst, ◌∙◌, arith, add-one}
 use Rattle.std.specs.List.{range_with_len}
-use Rattle.std.proofs.lemmas.List.{length-replicate, map-append, append-nil}
+use Rattle.std.proofs.lemmas.List.{length-replicate}
 use Rattle.std.proofs.lemmas.List.Elements.{filter-append}
 use Rattle.word_orders.proofs.BlockReading.{get_or-replicate_default}
 use Rattle.statement_names.specs.Marks.{Marks}
@@ -36,16 +36,3 @@ marked_numbers n marks test len is =
     ap (λ m. numbers_that m (λ k. get_or marks k false)) len
     ∙ numbers_same n (λ k. get_or marks k false) test
     (λ k below. is k (subst (λ m. k < m) (sym (length-replicate n false)) below) ∙ ap (λ b. b || test k) (get_or-replicate_default n k false))
-
--- the marked numbers one after another
-module _ {A : Type 0} (make : ℕ → A) (items : List A) (n : ℕ) (test : ℕ → Bool) (so_far : items ≡ map make (numbers_that n test)) where
-  pub number_kept : (new : List A) → test n ≡ true → new ≡ items ++ make n ∷ [] → new ≡ map make (numbers_that (n + 1) test)
-  number_kept new passes is =
-      is ∙ ap (λ xs. xs ++ make n ∷ []) so_far
-      ∙ sym (ap (map make) (numbers_more n test) ∙ map-append make (numbers_that n test) (cond (test n) (n ∷ []) []) ∙ ap (λ b. map make (numbers_that n test) ++ map make (cond b (n ∷ []) [])) passes)
-
-  pub number_left : test n ≡ false → items ≡ map make (numbers_that (n + 1) test)
-  number_left fails =
-      so_far
-      ∙ sym (ap (map make) (numbers_more n test) ∙ map-append make (numbers_that n test) (cond (test n) (n ∷ []) [])
-      ∙ ap (λ b. map make (numbers_that n test) ++ map make (cond b (n ∷ []) [])) fails ∙ append-nil (map make (numbers_that n test)))

@@ -17,7 +17,7 @@ use Rattle.statement_names.specs.Numbered.{objects_in, maps_in, declared_objects
 use Rattle.statement_names.specs.Survey.{kinded, kinds_by}
 use Rattle.statement_names.proofs.Apart.{Apart, Apart-none, Apart-sorted, kind_in-sorted, among, sorted}
 use Rattle.statement_names.proofs.Clean.{apart_declared}
-use Rattle.statement_names.proofs.Quiet.{declared-statements}
+use Rattle.statement_names.proofs.Quiet.{declared_statements}
 
 -- the kinds of declarations
 abbrev pub kind_of : Declaration → List ℕ × Kind
@@ -112,7 +112,9 @@ kinds-declarations_of statements =
 -- in a file in whose names nothing is wrong
 module _ (statements : List Statement) (clean : name_fault_of statements ≡ None) where
   pub apart_statements : Apart (statement_kinds statements)
-  apart_statements = subst Apart (declared-statements statements) (apart_declared (map_limit_of statements) (kind_within statements) [] (occurrences_of statements) Apart-none clean)
+  apart_statements =
+      subst Apart (declared_statements statements)
+      (apart_declared (map_limit_of statements) (kind_within statements) [] (occurrences_of statements) Apart-none clean)
 
   pub apart_declarations : Apart (kinds (declarations_of statements))
   apart_declarations = subst Apart (sym (kinds-declarations_of statements)) (Apart-sorted (statement_kinds statements) apart_statements)
@@ -120,7 +122,7 @@ module _ (statements : List Statement) (clean : name_fault_of statements ≡ Non
   pub kind_declared : (q : List ℕ) → kind_in (kinds (declarations_of statements)) q ≡ kind_within statements q
   kind_declared q =
       ap (λ ks. kind_in ks q) (kinds-declarations_of statements) ∙ kind_in-sorted (statement_kinds statements) apart_statements q
-      ∙ ap (λ ks. kind_in ks q) (sym (declared-statements statements))
+      ∙ ap (λ ks. kind_in ks q) (sym (declared_statements statements))
 
   pub map_named : (q : List ℕ) → is_kind (kind_within statements q) Map ≡ true → IsTrue (is_map (named_in (declarations_of statements) q))
   map_named q is = map_from (named_in (declarations_of statements) q) (ap (λ found. is_kind found Map) (kind-named_in (declarations_of statements) q ∙ kind_declared q) ∙ is)

@@ -123,7 +123,8 @@ parts_of at (statement.Pinv a x) = record { rest = uses (map_use a) ∷ uses (ma
 parts_of at (statement.Inverse a x) = record { rest = uses (map_use a) ∷ uses (map_use x) ∷ []; whole = refl; quiet = (tt, (tt, tt)) }
 parts_of at (statement.Inner a x) = record { rest = uses (map_use a) ∷ uses (map_use x) ∷ []; whole = refl; quiet = (tt, (tt, tt)) }
 parts_of at (statement.Projection p) = record { rest = uses (map_use p) ∷ []; whole = refl; quiet = (tt, tt) }
-parts_of at (statement.Weight pairs) = record { rest = pairs_behind Map weight_limit [] pairs; whole = refl; quiet = pairs_behind-quiet Map weight_limit [] pairs }
+parts_of at (statement.Weight pairs) =
+    record { rest = pairs_behind Map weight_limit [] pairs; whole = refl; quiet = pairs_behind-quiet Map weight_limit [] pairs }
 parts_of at (statement.Solve names) = record { rest = names_behind Map [] names; whole = refl; quiet = names_behind-quiet Map [] names }
 parts_of at (statement.Eliminate names) = record { rest = names_behind Map [] names; whole = refl; quiet = names_behind-quiet Map [] names }
 parts_of at (statement.Shape m sides) =
@@ -141,7 +142,7 @@ declared-statement at k =
     ap declared_in parts.whole ∙ flat_map-append declared_by (begun_by at k) parts.rest
     ∙ ap₂ (λ xs ys. xs ++ ys) (declared-begun at k) (declared-quiet parts.rest parts.quiet) ∙ append-nil (kinds_by k)
 
-pub declared-statements : (statements : List Statement) → declared_in (occurrences_of statements) ≡ flat_map (λ s. kinds_by s.kind) statements
-declared-statements [] = refl
-declared-statements (s ∷ statements) =
-    flat_map-append declared_by (statement_occurrences s) (occurrences_of statements) ∙ ap₂ (λ xs ys. xs ++ ys) (declared-statement s.at s.kind) (declared-statements statements)
+pub declared_statements : (statements : List Statement) → declared_in (occurrences_of statements) ≡ flat_map (λ s. kinds_by s.kind) statements
+declared_statements [] = refl
+declared_statements (s ∷ statements) =
+    flat_map-append declared_by (statement_occurrences s) (occurrences_of statements) ∙ ap₂ (λ xs ys. xs ++ ys) (declared-statement s.at s.kind) (declared_statements statements)

@@ -26,12 +26,14 @@ run_on s xs ys found is = run-append s xs ys ∙ ap (λ r. then_run r ys) is
 
 -- the occurrences of items, one after another
 module _ {A : Type 0} (of : A → List Occurrence) (items : List A) (i : ℕ) (x : A) (below : i < length items) (at : x ≡ get_or items i x) where
-  pub items_on : (first s : Survey) (found : Result Survey NameFault) → run s (flat_map of (drop i items)) ≡ run first (flat_map of items) → run s (of x) ≡ found
+  pub items_on : (first s : Survey) (found : Result Survey NameFault) → run s (flat_map of (drop i items)) ≡ run first (flat_map of items)
+      → run s (of x) ≡ found
       → then_run found (flat_map of (drop (i + 1) items)) ≡ run first (flat_map of items)
   items_on first s found so_far is =
       sym (ap (λ xs. run s (flat_map of xs)) (rest_is items i x below at) ∙ run_on s (of x) (flat_map of (drop (i + 1) items)) found is) ∙ so_far
 
-  pub items_end : (first s t : Survey) (why : NameStop) → run s (flat_map of (drop i items)) ≡ run first (flat_map of items) → Ends {A = Unit {0}} (run s (of x)) t (Err why)
+  pub items_end : (first s t : Survey) (why : NameStop) → run s (flat_map of (drop i items)) ≡ run first (flat_map of items)
+      → Ends {A = Unit {0}} (run s (of x)) t (Err why)
       → Explains (fault_in (run first (flat_map of items))) why
   items_end first s t (stop.Fault fault) so_far is = ap fault_in (sym (items_on first s (Err fault) so_far is))
   items_end first s t (stop.Memory e) so_far is = tt

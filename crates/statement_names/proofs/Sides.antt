@@ -44,7 +44,9 @@ some_object v w e = ap object_number e
 module _ (ds : List Declaration) (declared : IsDeclared ds) (pairs : List (Name × Number)) (i : ℕ) (p : Name × Number) (below : i < length pairs) (at : p ≡ get_or pairs i p)
     (once : IsDistinct bytes_eq (map (λ q. q.0.text) pairs)) (is : IsTrue (is_object (named_in ds p.0.text))) where
   apart : IsDistinct bytes_eq (keys_of (map given_side (take i pairs) ++ given_side p ∷ map given_side (drop (i + 1) pairs)))
-  apart = subst (λ gs. IsDistinct bytes_eq (keys_of gs)) (map_split pairs i p below at given_side []) (subst (IsDistinct bytes_eq) (sym (map-map (λ g. g.0) given_side pairs)) once)
+  apart =
+      subst (λ gs. IsDistinct bytes_eq (keys_of gs)) (map_split pairs i p below at given_side [])
+      (subst (IsDistinct bytes_eq) (sym (map-map (λ g. g.0) given_side pairs)) once)
 
   -- the object that the pair names has the pair's name, and no other has
   own_name : object_name ds (object_of ds p.0) ≡ p.0.text
@@ -71,12 +73,16 @@ module _ (ds : List Declaration) (declared : IsDeclared ds) (pairs : List (Name 
           let here : v ≡ object_of ds p.0 = only_name v in_range text in
           let fits : object_of ds p.0 < length sides = subst (λ n. object_of ds p.0 < n) (sym size) (subst (λ n. n < object_count ds) here in_range) in
           let new : lookup (bytes_eq (object_name ds v)) (map given_side (take i pairs)) ≡ None =
-          ap (λ q. lookup (bytes_eq q) (map given_side (take i pairs))) text ∙ fresh_before (map given_side (take i pairs)) (map given_side (drop (i + 1) pairs)) (given_side p) apart in
+          ap (λ q. lookup (bytes_eq q) (map given_side (take i pairs))) text
+          ∙ fresh_before (map given_side (take i pairs)) (map given_side (drop (i + 1) pairs)) (given_side p) apart in
           ap (λ w. get_or (set sides (object_of ds p.0) (value_of p.1.value)) w 1) here
           ∙ get_or-set_same sides (object_of ds p.0) (value_of p.1.value) 1 fits
           ∙ sym (side_next (object_name ds v) ∙ ap₂ (λ found b. unwrap_or (option_or found (cond b (Some (value_of p.1.value)) None)) 1) new named)
       go false other =
-          let elsewhere : v ≢ object_of ds p.0 = λ here. let named : bytes_eq (object_name ds v) p.0.text ≡ true = ap (λ w. bytes_eq (object_name ds w) p.0.text) here ∙ ap (λ q. bytes_eq q p.0.text) own_name ∙ own_bytes p.0.text in cc in
+          let elsewhere : v ≢ object_of ds p.0 = λ here.
+          let named : bytes_eq (object_name ds v) p.0.text ≡ true =
+          ap (λ w. bytes_eq (object_name ds w) p.0.text) here ∙ ap (λ q. bytes_eq q p.0.text) own_name ∙ own_bytes p.0.text in
+          cc in
           get_or-set_other sides (object_of ds p.0) v (value_of p.1.value) 1 elsewhere
           ∙ given v in_range
           ∙ sym (side_next (object_name ds v) ∙ ap (λ b. unwrap_or (option_or (lookup (bytes_eq (object_name ds v)) (map given_side (take i pairs))) (cond b (Some (value_of p.1.value)) None)) 1) other

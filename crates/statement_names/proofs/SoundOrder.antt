@@ -97,7 +97,8 @@ module _ (ds : List Declaration) where
       (Each-weaker (λ l. IsLetterOf ds n.text l.0) (λ l. l.0 < letter_count ds) (letters_for ds n) (λ l is. is.in_range) (own_letters n maps.0))
       (letters_in_range names maps.1)
 
-  others_named : (q : List ℕ) (names : List Name) → Each IsMapName names → Each (λ p. q ≢ p) (map (λ m. m.text) names) → Each (λ l. q ≢ letter_name ds l.0) (flat_map (letters_for ds) names)
+  others_named : (q : List ℕ) (names : List Name) → Each IsMapName names → Each (λ p. q ≢ p) (map (λ m. m.text) names)
+      → Each (λ l. q ≢ letter_name ds l.0) (flat_map (letters_for ds) names)
   others_named q [] maps differ = tt
   others_named q (m ∷ names) maps differ =
       Each-append (λ l. q ≢ letter_name ds l.0) (letters_for ds m) (flat_map (letters_for ds) names)
@@ -108,8 +109,10 @@ module _ (ds : List Declaration) where
   letters_spread [] maps once = tt
   letters_spread (n ∷ names) maps once =
       let texts = map (λ m. m.text) names in
-      let differ = Each-weaker (λ q. bytes_eq n.text q ≡ false) (λ q. n.text ≢ q) texts (λ q other. differ_by n.text q other) (IsDistinct-head bytes_eq n.text texts once) in
-      Spread-append (letters_for ds n) (flat_map (letters_for ds) names) (own_spread n maps.0) (letters_spread names maps.1 (IsDistinct-tail bytes_eq n.text texts once))
+      let differ =
+      Each-weaker (λ q. bytes_eq n.text q ≡ false) (λ q. n.text ≢ q) texts (λ q other. differ_by n.text q other) (IsDistinct-head bytes_eq n.text texts once) in
+      Spread-append (letters_for ds n) (flat_map (letters_for ds) names) (own_spread n maps.0)
+      (letters_spread names maps.1 (IsDistinct-tail bytes_eq n.text texts once))
       (Each-weaker (λ l. IsLetterOf ds n.text l.0) (λ l. Each (λ m. l.0 ≢ m.0) (flat_map (letters_for ds) names)) (letters_for ds n)
       (λ l is. Each-weaker (λ m. n.text ≢ letter_name ds m.0) (λ m. l.0 ≢ m.0) (flat_map (letters_for ds) names)
       (λ m other. λ same. other (sym is.named ∙ ap (letter_name ds) same)) (others_named n.text names maps.1 differ))
@@ -117,7 +120,8 @@ module _ (ds : List Declaration) where
 
   -- the block of some maps
   block_sound : (names : List Name) → AreListed (IsMapIn ds) names → HasNoFault (block_fault (letter_count ds)) (flat_map (letters_for ds) names)
-  block_sound names listed = block_good (letter_count ds) (flat_map (letters_for ds) names) (letters_in_range names listed.named) (letters_spread names listed.named listed.once)
+  block_sound names listed =
+      block_good (letter_count ds) (flat_map (letters_for ds) names) (letters_in_range names listed.named) (letters_spread names listed.named listed.once)
 
   -- and their weights
   letters_weighed : (w : ℕ) (ls : List Letter) → letters_in (map (λ l. (l, w)) ls) ≡ ls
@@ -139,7 +143,8 @@ module _ (ds : List Declaration) where
   weights_between (p ∷ pairs) weights =
       Each-append IsWeighed (weights_of ds p) (flat_map (weights_of ds) pairs) (weight_each (value_of p.1.value) (letters_for ds p.0) weights.0) (weights_between pairs weights.1)
 
-  weights_sound : (pairs : List (Name × Number)) → AreListed (IsMapIn ds) (named_by pairs) → AreBetween weight_limit pairs → HasNoFault (entry_fault (letter_count ds)) (flat_map (weights_of ds) pairs)
+  weights_sound : (pairs : List (Name × Number)) → AreListed (IsMapIn ds) (named_by pairs) → AreBetween weight_limit pairs
+      → HasNoFault (entry_fault (letter_count ds)) (flat_map (weights_of ds) pairs)
   weights_sound pairs listed weights =
       entries_good (letter_count ds) (flat_map (weights_of ds) pairs)
       (subst (Each (λ l. l.0 < letter_count ds)) (sym (weighed_letters pairs)) (letters_in_range (named_by pairs) listed.named))
@@ -157,5 +162,6 @@ module _ (ds : List Declaration) where
   each_sound (s ∷ ss) stated = kind_sound s.kind (order_of ds ss) stated.0 (each_sound ss stated.1)
 
 -- in a file in whose names nothing is wrong
-pub order_sound : (statements : List Statement) → name_fault_of statements ≡ None → IsSound (letter_count (declarations_of statements)) (order_of (declarations_of statements) statements)
+pub order_sound : (statements : List Statement) → name_fault_of statements ≡ None
+    → IsSound (letter_count (declarations_of statements)) (order_of (declarations_of statements) statements)
 order_sound statements clean = each_sound (declarations_of statements) statements (all_stated statements clean)

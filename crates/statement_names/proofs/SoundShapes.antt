@@ -55,7 +55,8 @@ module _ (statements : List Statement) (clean : name_fault_of statements ≡ Non
   file_shapes : Each (IsShape (object_count all)) (flat_map (λ s. shapes_in all s.kind) statements)
   file_shapes =
       Each-flat_map (IsShape (object_count all)) (λ s. shapes_in all s.kind) statements
-      (Each-weaker (λ s. IsStated all s.kind) (λ s. Each (IsShape (object_count all)) (shapes_in all s.kind)) statements (λ s stated. kind_shapes s.kind stated) (all_stated statements clean))
+      (Each-weaker (λ s. IsStated all s.kind) (λ s. Each (IsShape (object_count all)) (shapes_in all s.kind)) statements
+      (λ s stated. kind_shapes s.kind stated) (all_stated statements clean))
 
   -- what holds of the shapes that are given and of the default ones
   pub record AreShapes (shapes : List Shape) : Type 0 where

@@ -68,7 +68,8 @@ module _ (kind : List ℕ → Option Kind) (k : Kind) (IsOne : List ℕ → Type
   names_stand front [] good = tt
   names_stand front (n ∷ names) good = (stands n.text good.0.0, names_stand (front ++ n.text ∷ []) names good.1)
 
-  distinct_behind : (front : List (List ℕ)) (names : List Name) → IsDistinct bytes_eq front → Each (IsGood kind) (names_behind k front names) → IsDistinct bytes_eq (front ++ map (λ n. n.text) names)
+  distinct_behind : (front : List (List ℕ)) (names : List Name) → IsDistinct bytes_eq front → Each (IsGood kind) (names_behind k front names)
+      → IsDistinct bytes_eq (front ++ map (λ n. n.text) names)
   distinct_behind front [] once good = subst (IsDistinct bytes_eq) (sym (append-nil front)) once
   distinct_behind front (n ∷ names) once good =
       subst (IsDistinct bytes_eq) (append_assoc front (n.text ∷ []) (map (λ m. m.text) names))
@@ -84,7 +85,8 @@ module _ (kind : List ℕ → Option Kind) (k : Kind) (IsOne : List ℕ → Type
         let parts = and_parts (nat_le 1 (value_of p.1.value)) (nat_le (value_of p.1.value) most) good.1.0 in
         ((leb-true 1 (value_of p.1.value) parts.0, leb-true (value_of p.1.value) most parts.1), literals_between (front ++ p.0.text ∷ []) pairs good.1.1)
 
-    names_good : (front : List (List ℕ)) (pairs : List (Name × Number)) → Each (IsGood kind) (pairs_behind k most front pairs) → Each (IsGood kind) (names_behind k front (named_by pairs))
+    names_good : (front : List (List ℕ)) (pairs : List (Name × Number)) → Each (IsGood kind) (pairs_behind k most front pairs)
+        → Each (IsGood kind) (names_behind k front (named_by pairs))
     names_good front [] good = tt
     names_good front (p ∷ pairs) good = (good.0, names_good (front ++ p.0.text ∷ []) pairs good.1.1)
 
@@ -101,21 +103,31 @@ IsObjectIn ds q = IsTrue (is_object (named_in ds q))
 abbrev pub IsStated : List Declaration → StatementKind → Type 0
 IsStated ds (statement.Weight pairs) = AreListed (IsMapIn ds) (named_by pairs) × AreBetween weight_limit pairs
 IsStated ds (statement.Eliminate names) = AreListed (IsMapIn ds) names
-IsStated ds (statement.Shape m sides) = (is_field_modulus (value_of m.value) ≡ true) × (AreListed (IsObjectIn ds) (named_by sides) × AreBetween shape_side_limit sides)
+IsStated ds (statement.Shape m sides) =
+    (is_field_modulus (value_of m.value) ≡ true) × (AreListed (IsObjectIn ds) (named_by sides) × AreBetween shape_side_limit sides)
 IsStated ds k = Unit {0}
 
 -- in a file in whose names nothing is wrong
 module _ (statements : List Statement) (clean : name_fault_of statements ≡ None) where
   is_stated : (at : Spot) (k : StatementKind) → AreGood statements (kind_occurrences at k) → IsStated (declarations_of statements) k
-  is_stated at (statement.Weight pairs) good = pairs_listed (kind_within statements) Map (IsMapIn (declarations_of statements)) (map_named statements clean) weight_limit pairs good.1
-  is_stated at (statement.Eliminate names) good = names_listed (kind_within statements) Map (IsMapIn (declarations_of statements)) (map_named statements clean) names good.1
-  is_stated at (statement.Shape m sides) good =
-      (good.1.0, pairs_listed (kind_within statements) Object (IsObjectIn (declarations_of statements)) (object_named statements clean) shape_side_limit sides good.1.1)
+  is_stated at (statement.Weight pairs) good =
+      pairs_listed (kind_within statements) Map (IsMapIn (declarations_of statements)) (map_named statements clean) weight_limit pairs good.1
+  is_stated at (statement.Eliminate names) good =
+      names_listed (kind_within statements) Map (IsMapIn (declarations_of statements)) (map_named statements clean) names good.1
+  is_stated at (statement.Shape m sides) good = (
+    good.1.0,
+    pairs_listed (kind_within statements) Object (IsObjectIn (declarations_of statements))
+        (object_named statements clean) shape_side_limit sides good.1.1,
+  )
   is_stated at k good = tt
 
   pub all_stated : Each (λ s. IsStated (declarations_of statements) s.kind) statements
-  all_stated = Each-weaker (λ s. AreGood statements (statement_occurrences s)) (λ s. IsStated (declarations_of statements) s.kind) statements (λ s good. is_stated s.at s.kind good) (statements_good statements clean)
+  all_stated =
+      Each-weaker (λ s. AreGood statements (statement_occurrences s)) (λ s. IsStated (declarations_of statements) s.kind) statements
+      (λ s good. is_stated s.at s.kind good) (statements_good statements clean)
 
   pub stated_at : (ds : List Declaration) → ds ≡ declarations_of statements → (i : ℕ) (s : Statement) → i < length statements → s ≡ get_or statements i s
       → (k : StatementKind) → s.kind ≡ k → IsStated ds k
-  stated_at ds declared i s below at k is = subst (IsStated ds) is (subst (λ es. IsStated es s.kind) (sym declared) (Each-item (λ t. IsStated (declarations_of statements) t.kind) statements all_stated i s below at))
+  stated_at ds declared i s below at k is =
+      subst (IsStated ds) is (subst (λ es. IsStated es s.kind) (sym declared)
+      (Each-item (λ t. IsStated (declarations_of statements) t.kind) statements all_stated i s below at))

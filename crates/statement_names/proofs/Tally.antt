@@ -41,9 +41,11 @@ object_each : (names : List Name) → object_count (map (λ n. object n.text) na
 object_each [] = refl
 object_each (n ∷ names) = ap (λ k. 1 + k) (object_each names) ∙ sym (sum_by-cons (amount Objects) (declares_object n) (map (λ n. declares_object n) names))
 
-map_each : (u v : List ℕ) (x y : ℕ) (selfmade : Bool) (names : List Name) → map_count (map (λ n. arrow n.text x y selfmade) names) ≡ sum_by (amount Maps) (map (λ n. declares_map n u v selfmade) names)
+map_each : (u v : List ℕ) (x y : ℕ) (selfmade : Bool) (names : List Name)
+    → map_count (map (λ n. arrow n.text x y selfmade) names) ≡ sum_by (amount Maps) (map (λ n. declares_map n u v selfmade) names)
 map_each u v x y selfmade [] = refl
-map_each u v x y selfmade (n ∷ names) = ap (λ k. 1 + k) (map_each u v x y selfmade names) ∙ sym (sum_by-cons (amount Maps) (declares_map n u v selfmade) (map (λ n. declares_map n u v selfmade) names))
+map_each u v x y selfmade (n ∷ names) = ap (λ k. 1 + k) (map_each u v x y selfmade names)
+    ∙ sym (sum_by-cons (amount Maps) (declares_map n u v selfmade) (map (λ n. declares_map n u v selfmade) names))
 
 -- the counts
 objects_same : (at : Spot) (k : StatementKind) → object_count (objects_in k) ≡ sum_by (amount Objects) (begun_by at k)
@@ -76,11 +78,13 @@ shapes_same ds at (statement.Maps names source target selfmade) =
 shapes_same ds at k = refl
 
 pub object_count-statements : (statements : List Statement) → object_count (declared_objects statements) ≡ sum_by (amount Objects) (occurrences_of statements)
-object_count-statements statements = amount-statements Objects object_count refl object_count-append (λ s. objects_in s.kind) (λ s. objects_same s.at s.kind) statements
+object_count-statements statements =
+    amount-statements Objects object_count refl object_count-append (λ s. objects_in s.kind) (λ s. objects_same s.at s.kind) statements
 
 pub map_count-statements : (objects : List Declaration) (statements : List Statement)
     → map_count (declared_maps objects statements) ≡ sum_by (amount Maps) (occurrences_of statements)
-map_count-statements objects statements = amount-statements Maps map_count refl map_count-append (λ s. maps_in objects s.kind) (λ s. maps_same objects s.at s.kind) statements
+map_count-statements objects statements =
+    amount-statements Maps map_count refl map_count-append (λ s. maps_in objects s.kind) (λ s. maps_same objects s.at s.kind) statements
 
 pub length-assumptions : (ds : List Declaration) (statements : List Statement)
     → length (assumptions_of ds statements) ≡ sum_by (amount Assumptions) (occurrences_of statements)

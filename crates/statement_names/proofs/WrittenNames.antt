@@ -116,8 +116,12 @@ module _ (statements : List Statement) (clean : name_fault_of statements ≡ Non
 
   sides_named : (left right : Sum) → AreGood statements (sides_occurrences left right) → HasNames all (equation left right)
   sides_named left right good = record {
-    left = are_named all (kind_within statements) (map_named statements clean) (object_named statements clean) left (Each-left (IsGood (kind_within statements)) (sum_occurrences left) (sum_occurrences right) good);
-    right = are_named all (kind_within statements) (map_named statements clean) (object_named statements clean) right (Each-right (IsGood (kind_within statements)) (sum_occurrences left) (sum_occurrences right) good);
+    left =
+        are_named all (kind_within statements) (map_named statements clean) (object_named statements clean) left
+        (Each-left (IsGood (kind_within statements)) (sum_occurrences left) (sum_occurrences right) good);
+    right =
+        are_named all (kind_within statements) (map_named statements clean) (object_named statements clean) right
+        (Each-right (IsGood (kind_within statements)) (sum_occurrences left) (sum_occurrences right) good);
   }
 
   quiver_is : IsQuiver (quiver_of all)
@@ -157,9 +161,11 @@ module _ (statements : List Statement) (clean : name_fault_of statements ≡ Non
   pub assumptions_named : Each (HasNames (declarations_of statements)) (assumptions_of (declarations_of statements) statements)
   assumptions_named =
       Each-flat_map (HasNames all) (equations_of all) statements
-      (Each-weaker (λ s. AreGood statements (statement_occurrences s)) (λ s. Each (HasNames all) (equations_of all s)) statements (λ s good. equations_named s.at s.kind good) (statements_good statements clean))
+      (Each-weaker (λ s. AreGood statements (statement_occurrences s)) (λ s. Each (HasNames all) (equations_of all s)) statements
+      (λ s good. equations_named s.at s.kind good) (statements_good statements clean))
 
   pub all_claims_named : Each (HasNames (declarations_of statements)) (claims_of statements)
   all_claims_named =
       Each-flat_map (HasNames all) (λ s. claims_in s.kind) statements
-      (Each-weaker (λ s. AreGood statements (statement_occurrences s)) (λ s. Each (HasNames all) (claims_in s.kind)) statements (λ s good. claims_named s.at s.kind good) (statements_good statements clean))
+      (Each-weaker (λ s. AreGood statements (statement_occurrences s)) (λ s. Each (HasNames all) (claims_in s.kind)) statements
+      (λ s good. claims_named s.at s.kind good) (statements_good statements clean))

@@ -69,8 +69,8 @@ impl Survey {
         target: &Name,
         selfmade: bool,
     ) -> Result<(), NameFault>
-        ensures { run self.old (map (λ name. declares_map name source.now.text target.now.text selfmade) names.now ++ used_names (use_of Kind.Object source.now ∷ use_of Kind.Object target.now ∷ []))
-            ≡ outcome self.new result }
+        ensures { run self.old (map (λ name. declares_map name source.now.text target.now.text selfmade) names.now
+            ++ used_names (use_of Kind.Object source.now ∷ use_of Kind.Object target.now ∷ [])) ≡ outcome self.new result }
     {
         self.maps(names, source, target, selfmade)?;
         self.two(source, target, Kind::Object)

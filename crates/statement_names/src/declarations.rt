@@ -10,6 +10,7 @@ use statement_syntax::{Statement, StatementKind};
 use std::alloc::{AllocError, Global};
 
 /// The quiver that statements declare, in whose names nothing is wrong.
+#[tactic(auto, using(crate::proofs::FileDeclared::each_fits))]
 pub fn declare_all(alloc: Global, statements: &[Statement]) -> Result<Quiver, AllocError>
     requires { name_fault_of statements.now ≡ None }
     ensures { IfOk result (λ quiver. quiver ≡ declarations_of statements.now) }

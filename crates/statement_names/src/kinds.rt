@@ -50,6 +50,7 @@ impl Kinds {
     }
 
     /// Whether the name is one of the first so many.
+    #[tactic(auto, using(crate::proofs::Keys::among_first))]
     pub fn is_among_first(&self, count: usize, name: &str) -> bool
         ensures { result ≡ is_some (kind_in (take count self.now) name.now) }
     {
@@ -60,6 +61,7 @@ impl Kinds {
     }
 
     /// Declares the name, unless it is declared already. Where memory is short, all stays as it was.
+    #[tactic(auto, using(crate::proofs::Keys::bytes_inserted))]
     pub fn declare(&mut self, name: &str, kind: Kind) -> Result<(), AllocError>
         ensures ok { OnOk result (self.new ≡ with_kind self.old name.now kind) }
         ensures err { OnErr result (self.new ≡ self.old) }
@@ -74,6 +76,7 @@ impl Kinds {
 }
 
 /// What each name of some statements is declared as, in the order of their first declarations.
+#[tactic(auto, using(std::proofs::lemmas::Grind::common_steps, crate::proofs::Quiet::declared_statements))]
 pub fn kinds_of(alloc: Global, statements: &[Statement]) -> Result<Kinds, AllocError>
     ensures { IfOk result (λ kinds. kinds ≡ with_kinds [] (declared_in (occurrences_of statements.now))) }
 {

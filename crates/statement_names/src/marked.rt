@@ -132,6 +132,7 @@ fn mark_object(quiver: &Quiver, name: &Name, marks: &mut [bool])
 }
 
 // The objects that are marked.
+#[tactic(auto, using(std::proofs::lemmas::Grind::common_steps, crate::proofs::MarkLemmas::numbers_more))]
 fn marked_objects(alloc: Global, marks: &[bool]) -> Result<Listing<Object>, AllocError>
     requires { length marks.now ≤ 2 ^ 16 }
     ensures { IfOk result (λ objects. objects ≡ map an_object (numbers_that (length marks.now) (λ v. slice_index_or marks.now v false))) }

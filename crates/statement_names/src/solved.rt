@@ -61,6 +61,7 @@ fn solve(quiver: &Quiver, name: &Name, solved: &mut [bool])
 }
 
 // The letters that are marked.
+#[tactic(auto, using(std::proofs::lemmas::Grind::common_steps, crate::proofs::MarkLemmas::numbers_more))]
 fn marked_letters(alloc: Global, marks: &[bool]) -> Result<Listing<Letter>, AllocError>
     requires { length marks.now ≤ 2 ^ 16 }
     ensures { IfOk result (λ letters. letters ≡ map letter (numbers_that (length marks.now) (λ a. slice_index_or marks.now a false))) }

@@ -31,6 +31,7 @@ pub struct Survey {
 }
 
 /// Looks for the first thing that is wrong with the names, the literals and the numbers of statements.
+#[tactic(auto, using(std::proofs::lemmas::Grind::common_steps, crate::proofs::Runs::run_on))]
 pub fn check_names(alloc: Global, statements: &[Statement]) -> Result<(), NameStop>
     ensures ok { OnOk result (name_fault_of statements.now ≡ None) }
     ensures err { IfErr result (Explains (name_fault_of statements.now)) }

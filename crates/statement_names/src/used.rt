@@ -38,6 +38,7 @@ impl Survey {
     }
 
     // A name of a list, behind those that are listed.
+    #[tactic(auto, using(crate::proofs::KindsFound::among_names_in))]
     pub(crate) fn listed(&self, listed: &mut Kinds, name: &Name, kind: Kind) -> Result<(), NameStop>
         ensures ok { OnOk result (fault_at self.now (lists (names_in listed.old) (use_of kind name.now)) ≡ None) }
         ensures after { OnOk result (names_in listed.new ≡ names_in listed.old ++ name.now.text ∷ []) }

@@ -5,18 +5,16 @@ use Rattle.statement_names.specs.Occurrences.{statement_occurrences, occurrences
 use Rattle.statement_names.specs.Faults.{Explains, kind_in, declared_in, name_fault_of}
 use Rattle.statement_names.specs.Survey.{run, fault_in, Ends}
 use Rattle.statement_names.proofs.Bridge.{begun, begun_agrees, first_same}
-use Rattle.statement_names.proofs.Runs.{run_on, items_end}
+use Rattle.statement_names.proofs.Runs.{items_end}
 use Rattle.statement_names.proofs.survey.check_names.Goals as goal
-
-pub loop-statement-preserved : goal.loop-statement-preserved
-loop-statement-preserved c = grind (arith, common_steps, run_on)
 
 pub returns-in-Err-clause-err : goal.returns-in-Err-clause-err
 returns-in-Err-clause-err c =
     let first = begun c.map_limit_of-map_limit.result c.in_ok-kinds_of.field-0 in
     let os = occurrences_of c.args.statements.now in
     let agrees = begun_agrees c.map_limit_of-map_limit.result (map_limit_of c.args.statements.now) os c.in_ok-kinds_of.field-0 c.map_limit_of-map_limit.ensures c.in_ok-kinds_of.ensures in
-    let told : Ends {A = Unit {0}} (run c.loop-statement.survey (statement_occurrences c.statement-item.result)) c.statement.new.self (Err c.in-Err.stop) = search rules in
+    let told : Ends {A = Unit {0}} (run c.loop-statement.survey (statement_occurrences c.statement-item.result)) c.statement.new.self (Err c.in-Err.stop) =
+    search rules in
     let whole : Explains (name_fault_of c.args.statements.now) c.in-Err.stop =
     subst (λ found. Explains found c.in-Err.stop) (sym (first_same (map_limit_of c.args.statements.now) (kind_in (declared_in os)) [] first os agrees))
     (items_end statement_occurrences c.args.statements.now c.loop-statement.statement-index c.statement-item.result c.loop-statement-test.true c.statement-item.is
