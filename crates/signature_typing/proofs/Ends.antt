@@ -52,7 +52,8 @@ module _ (ds : List Declaration) (declared : IsDeclared ds) where
   product_step_fine (Ok so_far) at None fine between = tt
   product_step_fine (Ok None) at (Some s) fine between = between
   product_step_fine (Ok (Some left)) at (Some right) fine between =
-      cond_both (nat_eq left.source.0 right.target.0) _ _ (IsFine IsBetween) (λ _. record { source = between.source; target = fine.target }) (λ _. (fine, between))
+      cond_both (nat_eq left.source.0 right.target.0) _ _ (IsFine IsBetween)
+      (λ _. record { source = between.source; target = fine.target }) (λ _. (fine, between))
 
   product_from_fine : (so_far : Result (Option Sig) SignatureFault) (parts : List Part) → IsFine IsBetween so_far → AreBetween parts → IsFine IsBetween (product_from so_far parts)
   product_from_fine so_far [] fine between = fine

@@ -14,7 +14,8 @@ use Rattle.expressions.specs.Laws.{EquationsAreTyped, LettersAreWritten, IsWritt
 use Rattle.adjoint_rules.specs.Problem.{polynomials, numbers, IsInPlay, HasLettersInPlay, HasObjects, IsTypedOf, IsPosed}
 use Rattle.signature_typing.specs.First.{first_among}
 use Rattle.signature_typing.specs.Fault.{told_signature, told_polynomial, no_claim}
-use Rattle.signature_typing.specs.Typing.{signature_in, polynomial_in, signatures_of, polynomials_of, equations_in, wrong_signature, wrong_polynomial, wrong_claims, ArePartsOf}
+use Rattle.signature_typing.specs.Typing.{signature_in, polynomial_in, signatures_of, polynomials_of, equations_in}
+use Rattle.signature_typing.specs.Typing.{wrong_signature, wrong_polynomial, wrong_claims, ArePartsOf}
 use Rattle.signature_typing.specs.Named.{AreNamed}
 use Rattle.statement_names.proofs.Each.{Each-unmap}
 use Rattle.signature_typing.proofs.Each.{each_part, each_with_both}

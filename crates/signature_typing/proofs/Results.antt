@@ -94,12 +94,15 @@ combined-gives a p b q h k =
 -- products
 step-gives : (sum : Poly) (t : term) (q : Poly) → IsCanonical sum → IsCanonical q → Gives IsCanonical (product_step sum t q)
 step-gives sum t q h k =
-    gives-bind IsCanonical IsCanonical (sized (poly_between t.1 q [])) (λ moved. combined (pos 1) sum t.0 moved) (sized-gives (poly_between t.1 q []) (shaped-between t.1 [] q k.shaped))
+    gives-bind IsCanonical IsCanonical (sized (poly_between t.1 q [])) (λ moved. combined (pos 1) sum t.0 moved)
+    (sized-gives (poly_between t.1 q []) (shaped-between t.1 [] q k.shaped))
     (λ moved m. combined-gives (pos 1) sum t.0 moved h.shaped m.shaped)
 
 steps-give : (sum p q : Poly) → IsCanonical sum → IsCanonical q → Gives IsCanonical (product.product_from sum p q)
 steps-give sum [] q h k = h
-steps-give sum (t ∷ p) q h k = gives-bind IsCanonical IsCanonical (product_step sum t q) (λ next. product.product_from next p q) (step-gives sum t q h k) (λ next m. steps-give next p q m k)
+steps-give sum (t ∷ p) q h k =
+    gives-bind IsCanonical IsCanonical (product_step sum t q) (λ next. product.product_from next p q)
+    (step-gives sum t q h k) (λ next m. steps-give next p q m k)
 
 product-gives : (p q : Poly) → IsCanonical q → Gives IsCanonical (product_result p q)
 product-gives p q k = steps-give [] p q canonical_none k
