@@ -1,5 +1,5 @@
 -- Carets are tokens of the second language alone, which the tokens of a file's first line tell.
-use Rattle.std.proofs.Common.{◌≡◌, ◌&&◌, List, ◌∷◌, ◌++◌, refl, ap, ◌∙◌}
+use Rattle.std.proofs.Common.{◌≡◌, ◌&&◌, List, ◌∷◌, ◌++◌, refl}
 use Rattle.std.specs.Prelude.{if◌then◌else◌}
 use Rattle.statement_syntax.specs.Types.{Token, TokenKind, Language, First, Second}
 use Rattle.statement_tokens.specs.Language.{is_language_word, is_two, is_end, language_of}
@@ -29,7 +29,5 @@ language_by (t ∷ u ∷ v ∷ ts) a b c ks given =
     let one : t.kind ≡ a = cc in
     let two : u.kind ≡ b = cc in
     let three : v.kind ≡ c = cc in
-    ap (λ k. if is_language_word k && is_two u.kind && is_end v.kind then Second else First) one
-    ∙ ap (λ k. if is_language_word a && is_two k && is_end v.kind then Second else First) two
-    ∙ ap (λ k. if is_language_word a && is_two b && is_end k then Second else First) three
+    rw (one, two, three) refl
 language_by ts a b c ks given = absurd cc

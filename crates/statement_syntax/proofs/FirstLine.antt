@@ -57,23 +57,12 @@ pub record Divided (language : Language) (ts : List Token) : Type 0 where
   pub joins : (ls : List StatedLine) → AreLinesOf language ls → IsFileOf language (lines ++ ls)
   pub parts : (ls : List StatedLine) → IsFileOf language ls → (more : List Token) → file_tokens lines ++ more ≡ file_tokens ls → Behind language lines ls more
 
-first_divided : (ts : List Token) → Divided First ts
-first_divided ts = record {
-  lines = [];
-  fits = tt;
-  trees = refl;
-  are = refl;
-  joins = λ ls speak. speak;
-  parts = λ ls speak more is. record { others = ls; speak = speak; are = is; trees = refl; fits = λ fits. fits };
-}
-
-language_line : Spot → Spot → Spot → StatedLine
+abbrev language_line : Spot → Spot → Spot → StatedLine
 language_line at number end = record { stated = second_language at number; end = end }
 
 parts_by : (at number end : Spot) (s : Stated) (to : Spot) (ls : List StatedLine) (more : List Token) → NamesLanguage s → AreLinesOf Second ls
     → word_token (codes "language") at ∷ number_token (two_at number) ∷ sign_token kind.End end ∷ more ≡ file_tokens (record { stated = s; end = to } ∷ ls)
     → Behind Second (language_line at number end ∷ []) (record { stated = s; end = to } ∷ ls) more
-unfolding language_line
 parts_by at number end (second_language to_at to_number) to ls more names speak is =
     let word : word_token (codes "language") at ≡ word_token (codes "language") to_at = cc in
     let rest : more ≡ file_tokens ls = cc in
@@ -92,7 +81,6 @@ parts_of at number end [] speaks more is = absurd speaks
 parts_of at number end (l ∷ ls) speaks more is = parts_by at number end l.stated l.end ls more speaks.0 speaks.1 is
 
 second_divided : (at number end : Spot) (ts : List Token) → Divided Second (word_token (codes "language") at ∷ number_token (two_at number) ∷ sign_token kind.End end ∷ ts)
-unfolding language_line
 second_divided at number end ts = record {
   lines = language_line at number end ∷ [];
   fits = (tt, tt);
@@ -124,7 +112,14 @@ by_kinds t u v ts word two end =
     (subst (λ k. Divided Second (word_token (codes "language") t.at ∷ number_token (two_at u.at) ∷ sign_token k v.at ∷ ts)) (sym end) (second_divided t.at u.at v.at ts)))
 
 pub divided : (language : Language) (ts : List Token) → language_of ts ≡ language → Divided language ts
-divided First ts is = first_divided ts
+divided First ts is = record {
+  lines = [];
+  fits = tt;
+  trees = refl;
+  are = refl;
+  joins = λ ls speak. speak;
+  parts = λ ls speak more is. record { others = ls; speak = speak; are = is; trees = refl; fits = λ fits. fits };
+}
 divided Second (t ∷ u ∷ v ∷ ts) is =
     let are = all_are (is_language_word t.kind) (is_two u.kind) (is_end v.kind) is in
     by_kinds t u v ts (word_is t.kind are.0) (two_is u.kind are.1) (end_is v.kind are.2)

@@ -9,7 +9,7 @@ use Rattle.statement_syntax.specs.Grammar.{Stated, listed, mapped, sides, paired
 use Rattle.statement_syntax.specs.Tree.{sides_kind, stated_tree}
 use Rattle.statement_syntax.specs.Lines.{pairs_end, weights_by, statement_by, line_end}
 use Rattle.statement_syntax.proofs.Viable.{reading_ends, reading_lacks, viable, somewhere, some_name, some_expr}
-use Rattle.statement_syntax.proofs.LineReads.{MapReads, RestReads, FirstSide, SecondSide, half_tokens, WholeReads, list_speaks, LineReads, pairs_more}
+use Rattle.statement_syntax.proofs.LineReads.{MapReads, SecondSide, half_tokens, WholeReads, list_speaks, LineReads, pairs_more}
 
 some_number : Number
 some_number = record { value = pos 1; at = somewhere }
@@ -91,14 +91,6 @@ module _ (language : Language) where
   on_to : (ts us more : List Token) (s : Stated) → StatedFits s → IsOf language s → ts ≡ us → us ++ more ≡ stated_tokens s → LineGoesOn ts
   on_to ts us more s fits speaks is all = (more, s, fits, speaks, ap (λ (x : List Token). x ++ more) is ∙ all)
 
-  names_on : (at : Spot) (names : List Name) (ts : List Token) → RestReads at names rest.Names ts → LineGoesOn ts
-  names_on at [] ts read =
-      on_to ts _ (name_token some_name ∷ sign_token kind.Colon somewhere ∷ name_token some_name ∷ sign_token kind.Arrow somewhere ∷ name_token some_name ∷ [])
-      (mapped at some_name [] somewhere some_name somewhere some_name no_word) tt tt read refl
-  names_on at (n ∷ ns) ts read =
-      on_to ts _ (sign_token kind.Colon somewhere ∷ name_token some_name ∷ sign_token kind.Arrow somewhere ∷ name_token some_name ∷ [])
-      (mapped at n ns somewhere some_name somewhere some_name no_word) tt tt read refl
-
   -- a map with what stands behind its names, and more
   map_on : (at : Spot) (names : List Name) (ts behind more : List Token) (c a : Spot) (s t : Name) → MapReads at names ts behind
       → behind ++ more ≡ sign_token kind.Colon c ∷ name_token s ∷ sign_token kind.Arrow a ∷ name_token t ∷ [] → LineGoesOn ts
@@ -107,36 +99,35 @@ module _ (language : Language) where
       on_to ts _ more (mapped at first.first first.more c s a t no_word) tt tt read.are
       (ap (λ x. word_token (codes "map") at ∷ x) (append_assoc (names_tokens names) behind more ∙ ap₂ (λ ns x. names_tokens ns ++ x) first.is is))
 
-  first_on : (w : SidesWord) (at : Spot) (r : Reading) (ts : List Token) → FirstSide w at r ts → LineGoesOn ts
-  first_on w at r ts read =
-      let v = viable read.side r read.reads in
-      let more = sign_token kind.Equals somewhere ∷ name_token some_name ∷ [] in
-      on_to ts _ (v.0 ++ more) (sides w at v.1 somewhere some_expr) (v.2, tt) tt read.are
-      (ap (λ x. word_token (sides_text w) at ∷ x) (sym (append_assoc read.side v.0 more) ∙ ap (λ x. x ++ more) v.3))
-
-  second_on : (w : SidesWord) (at : Spot) (left : Sum) (r : Reading) (ts : List Token) → SecondSide w at left r ts → LineGoesOn ts
-  second_on w at left r ts read =
-      let v = viable read.side r read.reads in
-      on_to ts _ v.0 (sides w at read.expr read.equals v.1) (read.fits, v.2) tt read.are
-      (ap (λ x. word_token (sides_text w) at ∷ x)
-      (append_assoc (expr_tokens read.expr) (sign_token kind.Equals read.equals ∷ read.side) v.0
-      ∙ ap (λ x. expr_tokens read.expr ++ sign_token kind.Equals read.equals ∷ x) v.3))
-
   pub line_on : (l : Line) (ts : List Token) → LineReads language l ts → LineGoesOn ts
   line_on line.Start ts read =
       on_to ts _ (word_token (codes "order") somewhere ∷ word_token (codes "degree") somewhere ∷ []) (by_degree somewhere somewhere) tt tt read refl
   line_on (line.List w at []) ts read =
       on_to ts _ (name_token some_name ∷ []) (listed w at some_name []) tt (list_speaks language w at some_name [] read.0) read.1 refl
   line_on (line.List w at (n ∷ ns)) ts read = on_to ts _ [] (listed w at n ns) tt (list_speaks language w at n ns read.0) read.1 (append-nil _)
-  line_on (line.Map at names rest.Names) ts read = names_on at names ts read
+  line_on (line.Map at [] rest.Names) ts read =
+      on_to ts _ (name_token some_name ∷ sign_token kind.Colon somewhere ∷ name_token some_name ∷ sign_token kind.Arrow somewhere ∷ name_token some_name ∷ [])
+      (mapped at some_name [] somewhere some_name somewhere some_name no_word) tt tt read refl
+  line_on (line.Map at (n ∷ ns) rest.Names) ts read =
+      on_to ts _ (sign_token kind.Colon somewhere ∷ name_token some_name ∷ sign_token kind.Arrow somewhere ∷ name_token some_name ∷ [])
+      (mapped at n ns somewhere some_name somewhere some_name no_word) tt tt read refl
   line_on (line.Map at names rest.Colon) ts read =
       map_on at names ts _ (name_token some_name ∷ sign_token kind.Arrow somewhere ∷ name_token some_name ∷ []) read.0 somewhere some_name some_name read.1 refl
   line_on (line.Map at names (rest.Source s)) ts read =
       map_on at names ts _ (sign_token kind.Arrow somewhere ∷ name_token some_name ∷ []) read.0 somewhere s some_name read.1 refl
   line_on (line.Map at names (rest.Arrow s)) ts read = map_on at names ts _ (name_token some_name ∷ []) read.0 read.1 s some_name read.2 refl
   line_on (line.Map at names (rest.Target s e)) ts read = map_on at names ts _ [] read.0 read.1 s e read.2 refl
-  line_on (line.Sides w at None r) ts read = first_on w at r ts read
-  line_on (line.Sides w at (Some left) r) ts read = second_on w at left r ts read
+  line_on (line.Sides w at None r) ts read =
+      let v = viable read.side r read.reads in
+      let more = sign_token kind.Equals somewhere ∷ name_token some_name ∷ [] in
+      on_to ts _ (v.0 ++ more) (sides w at v.1 somewhere some_expr) (v.2, tt) tt read.are
+      (ap (λ x. word_token (sides_text w) at ∷ x) (sym (append_assoc read.side v.0 more) ∙ ap (λ x. x ++ more) v.3))
+  line_on (line.Sides w at (Some left) r) ts read =
+      let v = viable read.side r read.reads in
+      on_to ts _ v.0 (sides w at read.expr read.equals v.1) (read.fits, v.2) tt read.are
+      (ap (λ x. word_token (sides_text w) at ∷ x)
+      (append_assoc (expr_tokens read.expr) (sign_token kind.Equals read.equals ∷ read.side) v.0
+      ∙ ap (λ x. expr_tokens read.expr ++ sign_token kind.Equals read.equals ∷ x) v.3))
   line_on (line.Pair w at None) ts read = on_to ts _ (name_token some_name ∷ name_token some_name ∷ []) (paired w at some_name some_name) tt tt read refl
   line_on (line.Pair w at (Some m)) ts read = on_to ts _ (name_token some_name ∷ []) (paired w at m some_name) tt tt read refl
   line_on (line.Projection at) ts read = on_to ts _ (name_token some_name ∷ []) (projected at some_name) tt tt read refl

@@ -13,9 +13,6 @@ ok_is x y p = cc
 pub ok_differs : {A : Type 0} (x : A) (f : Misfit) → (let r : Result A Misfit = Ok x in r) ≡ Err f → ⊥
 ok_differs x f p = absurd cc
 
-deep_differs : {A : Type 0} → (let r : Result A Misfit = Err TooDeep in r) ≡ Err Expected → ⊥
-deep_differs p = absurd cc
-
 -- runs
 module _ {S : Type 0} (step : S → Token → Result S Misfit) where
   pub one_step : (st next : S) (t : Token) (rest : List Token) → step st t ≡ Ok next → run step st (t ∷ rest) ≡ run step next rest
@@ -87,4 +84,4 @@ module _ {S T : Type 0} (inner : S → Token → Result S Misfit) (outer : T →
 
   pub inside_upto : {F : Type 0} (ts : List Token) (s end : S) → Upto F (run inner s ts) (Ok end) → Upto F (run outer (wrap s) ts) (Ok (wrap end))
   inside_upto ts s end (inl (f, p)) = inl (f, inside ts s (Ok end) p (ok_differs end Expected))
-  inside_upto ts s end (inr (f, p)) = inr (f, inside ts s (Err TooDeep) p deep_differs)
+  inside_upto ts s end (inr (f, p)) = inr (f, inside ts s (Err TooDeep) p (λ e. absurd cc))

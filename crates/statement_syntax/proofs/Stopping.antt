@@ -27,13 +27,10 @@ pub goes_on : (ts front : List Token) (t : Token) (p next : Progress) → Runs t
 unfolding run
 goes_on ts front t p next ran goes = run_front (file_step (language_of ts)) (begun ts) front p (t ∷ []) ran ∙ one_step (file_step (language_of ts)) p next t [] goes
 
-no_memory : (ts : List Token) (refused : SyntaxFault) → IsWantOfMemory refused → Refused ts refused
-no_memory ts (refusal.Memory e) loop = tt
-no_memory ts (refusal.Fault code l c) loop = absurd loop
-
 pub stops_at : (ts front : List Token) (t : Token) (rest : List Token) (p : Progress) (e : ReadError) (refused : SyntaxFault) → left ts ≡ front ++ t ∷ rest → Runs ts front p
     → Fails e (file_step (language_of ts) p t) → IsRefusal e t.at refused → Refused ts refused
-stops_at ts front t rest p error.Memory refused splits ran fails tells = no_memory ts refused tells
+stops_at ts front t rest p error.Memory (refusal.Memory e) splits ran fails tells = tt
+stops_at ts front t rest p error.Memory (refusal.Fault code l c) splits ran fails tells = absurd tells
 stops_at ts front t rest p (error.Misfit f) refused splits ran fails tells = subst (Refused ts) (sym tells) (record {
   front = front;
   token = t;

@@ -45,15 +45,6 @@ fn put_mark(mark: &Mark, out: &mut Listing<TokenKind>) -> Result<(), AllocError>
     }
 }
 
-fn put_marks(marks: &Listing<Mark>, out: &mut Listing<TokenKind>) -> Result<(), AllocError>
-    ensures { OnOk result (out.new ≡ out.old ++ flat_map mark_kinds marks.now) }
-{
-    for mark in marks.as_slice() {
-        put_mark(mark, out)?;
-    }
-    Ok(())
-}
-
 #[cycle(kinds)]
 fn put_sum(sum: &Sum, out: &mut Listing<TokenKind>) -> Result<(), AllocError>
     ensures { OnOk result (out.new ≡ out.old ++ sum_kinds sum.now) }
@@ -97,7 +88,10 @@ fn put_factor(factor: &Factor, out: &mut Listing<TokenKind>) -> Result<(), Alloc
             out.push(TokenKind::Close)?;
         }
     }
-    put_marks(&factor.marks, out)
+    for mark in factor.marks.as_slice() {
+        put_mark(mark, out)?;
+    }
+    Ok(())
 }
 
 fn put_word(alloc: Global, word: &str, out: &mut Listing<TokenKind>) -> Result<(), AllocError>

@@ -42,21 +42,16 @@ pub fn list_end(word: ListWord, names: Listing<Name>) -> Result<StatementKind, M
 fn map_names_step(at: Spot, names: Listing<Name>, token: Token) -> Result<Line, ReadError>
     ensures { Gives result (map_names_step at names token.kind token.at) }
 {
-    match &token.kind {
-        TokenKind::Colon => {
-            if names.len() == 0 {
-                return Err(ReadError::Misfit(Misfit::Expected));
-            }
-            let rest = MapRest::Colon;
-            Ok(Line::Map { at, names, rest })
-        }
+    let mut names = names;
+    let rest = match &token.kind {
+        TokenKind::Colon if names.len() == 0 => return Err(ReadError::Misfit(Misfit::Expected)),
+        TokenKind::Colon => MapRest::Colon,
         _ => {
-            let mut names = names;
             names.push(name_in(token)?)?;
-            let rest = MapRest::Names;
-            Ok(Line::Map { at, names, rest })
+            MapRest::Names
         }
-    }
+    };
+    Ok(Line::Map { at, names, rest })
 }
 
 /// One more token of `map`.

@@ -1,6 +1,6 @@
 use Rattle.std.proofs.Common.{◌≡◌, ◌++◌, true, drop, take}
 use Rattle.std.specs.List.{flat_map}
-use Rattle.statement_syntax.specs.Written.{factor_kinds}
+use Rattle.statement_syntax.specs.Written.{factor_kinds, mark_kinds}
 use Rattle.statement_syntax.proofs.TreeKinds.{terms_of}
 use Rattle.statement_syntax.proofs.kinds.+kinds.Given as goal
 
@@ -9,3 +9,6 @@ invariant-put_sum-loop-term l = l.out ++ terms_of l.leading (drop l.term-index l
 
 abbrev pub invariant-put_term-loop-factor : goal.invariant-put_term-loop-factor
 invariant-put_term-loop-factor l = l.out ≡ l.initial.out ++ flat_map factor_kinds (take l.factor-index l.factor-items)
+
+abbrev pub invariant-put_factor-loop-mark : goal.invariant-put_factor-loop-mark
+invariant-put_factor-loop-mark l = l.out ≡ l.initial.out ++ flat_map mark_kinds (take l.mark-index l.mark-items)
