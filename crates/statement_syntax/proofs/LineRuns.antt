@@ -11,7 +11,7 @@ use Rattle.statement_syntax.specs.Grammar.{Expr, expr_tokens, ExprFits, sign_tok
 use Rattle.statement_syntax.specs.Grammar.{sides_text, pair_text, Ending, no_word, self_word, ending_tokens, Stated, listed, mapped, sides, paired, projected}
 use Rattle.statement_syntax.specs.Grammar.{by_degree, by_weight, modelled, second_language, stated_tokens, StatedFits, IsOf}
 use Rattle.statement_syntax.specs.Tree.{expr_tree, stated_tree, sides_kind}
-use Rattle.statement_syntax.specs.Lines.{Lined, on_equals, opened, start_reading, line_step, line_end, statement_by}
+use Rattle.statement_syntax.specs.Lines.{Lined, opened, start_reading, line_step, line_end, statement_by}
 use Rattle.statement_syntax.proofs.Seen.{reading_of, tree_or}
 use Rattle.statement_syntax.proofs.StateReads.{reading_step}
 use Rattle.statement_syntax.proofs.Run.{Upto, then_on, before_it, run_upto, inside_upto, one_step}
