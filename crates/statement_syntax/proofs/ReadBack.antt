@@ -204,7 +204,8 @@ module _ (language : Language) where
         are = ap (λ x. k ∷ x) r.are;
         column' = r.column';
         past' = r.past';
-        reads = one_token before (first_of k all.0) (more_of k all.0) more k line col past (read_back before allowed k all.0 more (λ closed. rw closed (unglued ks all.1 rest given)))
+        reads = one_token before (first_of k all.0) (more_of k all.0) more k line col past
+            (read_back before allowed k all.0 more (λ closed. rw closed (unglued ks all.1 rest given)))
             ∙ rw (r.reads, append_assoc) (front_more here r.tokens _);
         kept = λ some. r.kept (omega arith);
       }) column
