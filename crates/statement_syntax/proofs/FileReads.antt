@@ -6,7 +6,7 @@ use Rattle.statement_syntax.specs.Types.{MapRest as rest, Line, Line as line, Pr
 use Rattle.statement_syntax.specs.Steps.{◌>>=◌, run}
 use Rattle.statement_syntax.specs.Grammar.{sign_token, Stated, stated_tokens, StatedLine, AreLinesOf, file_tokens, FileFits}
 use Rattle.statement_syntax.specs.Tree.{stated_tree, file_tree}
-use Rattle.statement_syntax.specs.Lines.{Lined, on_end, pairs_by, line_step, file_step}
+use Rattle.statement_syntax.specs.Lines.{Lined, pairs_by, line_step, file_step}
 use Rattle.statement_syntax.proofs.Run.{Upto, then_on, before_it, after_it, run_upto, inside_upto, one_step, failing, run_front, bind_ok, ok_is}
 use Rattle.statement_syntax.proofs.Viable.{somewhere}
 use Rattle.statement_syntax.proofs.LineReads.{LineReads, Grows, line_grows}

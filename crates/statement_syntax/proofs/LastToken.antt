@@ -1,5 +1,5 @@
 -- The tokens of a text end with the end of a line.
-use Rattle.std.proofs.Common.{◌≡◌, ℕ, zero, suc, ◌+◌, List, [], ◌∷◌, ◌++◌, ◌⊎◌, inl, inr, Result, Ok, Err, refl, sym, ap, subst, ◌∙◌, arith, append_assoc}
+use Rattle.std.proofs.Common.{◌≡◌, ℕ, zero, suc, ◌+◌, ◌≤◌, List, [], ◌∷◌, ◌++◌, ◌⊎◌, inl, inr, Result, Ok, Err, refl, ap, subst, arith, append_assoc}
 use Rattle.std.proofs.lemmas.List.{append-nil}
 use Rattle.statement_syntax.specs.Types.{Spot, Token, TokenKind as kind, Item, Item as item, ScanFault, Placed}
 use Rattle.statement_tokens.specs.Tokens.{end_of, right_of, below}
@@ -16,12 +16,12 @@ end_ends line zero = inl (refl, refl)
 end_ends line (suc n) = inr ([], record { line = line; column = suc n }, refl)
 
 line_ends : (line past : ℕ) (us : List Token) → EndsWell 0 us → EndsWell past (end_of line past ++ us)
-line_ends line past us (inl known) = subst (EndsWell past) (sym (append-nil (end_of line past)) ∙ ap (λ x. end_of line past ++ x) (sym known.1)) (end_ends line past)
-line_ends line past us (inr known) = inr (end_of line past ++ known.0, known.1, ap (λ x. end_of line past ++ x) known.2 ∙ sym (append_assoc (end_of line past) known.0 (sign_token kind.End known.1 ∷ [])))
+line_ends line past us (inl known) = rw (known.1, append-nil) (end_ends line past)
+line_ends line past us (inr known) = inr (end_of line past ++ known.0, known.1, rw (known.2, append_assoc) refl)
 
-token_ends : (t : Token) (n : ℕ) (us : List Token) (past : ℕ) → EndsWell (suc n) us → EndsWell past (t ∷ us)
-token_ends t n us past (inl known) = absurd (omega (arith, known.0))
-token_ends t n us past (inr known) = inr (t ∷ known.0, known.1, ap (λ x. t ∷ x) known.2)
+token_ends : (t : Token) (n : ℕ) (us : List Token) (past : ℕ) → 1 ≤ n → EndsWell n us → EndsWell past (t ∷ us)
+token_ends t n us past some (inl known) = absurd (omega (arith, known.0, some))
+token_ends t n us past some (inr known) = inr (t ∷ known.0, known.1, ap (λ x. t ∷ x) known.2)
 
 pub scan_ok : {A B F : Type 0} (r : Result A F) (f : A → Result B F) (y : B) → (r >>= f) ≡ Ok y → (x : A) × (r ≡ Ok x) × (f x ≡ Ok y)
 scan_ok (Ok x) f y e = (x, refl, e)
@@ -41,9 +41,8 @@ placed_ends before (Ok (item.Gap more)) at past next go ts known = go before mor
 placed_ends before (Ok (item.Token k more)) at past next go ts known =
     let front = before ++ record { at = at; kind = k } ∷ [] in
     let one = scan_ok (next front more (right_of at 1) (at.column + 1 + more)) (λ ts. Ok (record { at = at; kind = k } ∷ ts)) ts known in
-    let longer : at.column + 1 + more ≡ suc (at.column + more) = omega arith in
     subst (EndsWell past) (tokens_is _ ts one.2)
-    (token_ends (record { at = at; kind = k }) (at.column + more) one.0 past (subst (λ n. EndsWell n one.0) longer (go front more (right_of at 1) (at.column + 1 + more) one.0 one.1)))
+    (token_ends _ (at.column + 1 + more) one.0 past (omega arith) (go front more (right_of at 1) (at.column + 1 + more) one.0 one.1))
 
 pub ends_from : (before : List Token) (cs : List ℕ) (skip : ℕ) (at : Spot) (past : ℕ) (ts : List Token) → tokens_from before cs skip at past ≡ Ok ts → EndsWell past ts
 unfolding tokens_from

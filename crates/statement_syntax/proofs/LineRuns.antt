@@ -2,16 +2,16 @@
 use Rattle.std.proofs.Common.{◌≡◌, List, [], ◌∷◌, ◌++◌, inl, Some, None, Result, Ok, Err, refl, sym, ap, ◌∙◌, append_assoc}
 use Rattle.std.specs.Prelude.{ℕ, codes}
 use Rattle.std.proofs.lemmas.List.{append-nil}
-use Rattle.statement_syntax.specs.Types.{Spot, Token, Language, First, Second, TokenKind, TokenKind as kind, Name, Number, Sum, Misfit, Expected, ListWord, Eliminate}
-use Rattle.statement_syntax.specs.Types.{SidesWord, Assume, Pinv, Reading, Focus, Focus as focus, Opening, Opening as opening, MapRest as rest, Pairs, Line}
-use Rattle.statement_syntax.specs.Types.{Line as line}
+use Rattle.statement_syntax.specs.Types.{Spot, Token, Language, First, Second, TokenKind, TokenKind as kind, Name, Number, Sum, Misfit, Expected, ListWord}
+use Rattle.statement_syntax.specs.Types.{Eliminate, SidesWord, Assume, Pinv, Reading, Focus, Focus as focus, Opening, Opening as opening, MapRest as rest}
+use Rattle.statement_syntax.specs.Types.{Pairs, Line, Line as line}
 use Rattle.statement_syntax.specs.Limits.{bracket_limit}
 use Rattle.statement_syntax.specs.Steps.{◌>>=◌, run, focus_step, token_step, whole_sum}
 use Rattle.statement_syntax.specs.Grammar.{Expr, expr_tokens, ExprFits, sign_token, name_token, number_token, word_token, names_tokens, pairs_tokens, list_text}
 use Rattle.statement_syntax.specs.Grammar.{sides_text, pair_text, Ending, no_word, self_word, ending_tokens, Stated, listed, mapped, sides, paired, projected}
 use Rattle.statement_syntax.specs.Grammar.{by_degree, by_weight, modelled, second_language, stated_tokens, StatedFits, IsOf}
 use Rattle.statement_syntax.specs.Tree.{expr_tree, stated_tree, sides_kind}
-use Rattle.statement_syntax.specs.Lines.{Lined, on_equals, opened, start_reading, line_step, line_end, statement_by}
+use Rattle.statement_syntax.specs.Lines.{Lined, opened, start_reading, line_step, line_end, statement_by}
 use Rattle.statement_syntax.proofs.Seen.{reading_of, tree_or}
 use Rattle.statement_syntax.proofs.StateReads.{reading_step}
 use Rattle.statement_syntax.proofs.Run.{Upto, then_on, before_it, run_upto, inside_upto, one_step}
@@ -85,7 +85,8 @@ sides_run language w at d equals e =
     (then_on
     (run_upto (by_token language) (line.Sides w at None start_reading) (expr_tokens d) (line.Sides w at None (reading_of (end_state [] d)))
     (sign_token kind.Equals equals ∷ expr_tokens e)
-    (inside_upto reading_step (by_token language) (line.Sides w at None) (λ r t. first_step language w at r t.kind t.at) (expr_tokens d) start_reading _ (only d)))
+    (inside_upto reading_step (by_token language) (line.Sides w at None) (λ r t. first_step language w at r t.kind t.at)
+    (expr_tokens d) start_reading _ (only d)))
     (rw (sum_seen d) (inside_upto reading_step (by_token language) (line.Sides w at (Some (expr_tree d))) (second_step language w at (expr_tree d))
     (expr_tokens e) start_reading _ (only e))))
 
@@ -115,7 +116,7 @@ end_line (mapped at n ns colon s arrow t no_word) = line.Map at (n ∷ ns) (rest
 end_line (sides w at d equals e) = line.Sides w at (Some (expr_tree d)) (reading_of (end_state [] e))
 end_line (by_weight at word p ps) = line.Weights at (whole_pairs_of (p ∷ ps))
 end_line (modelled at m ps) = line.Shape at m (whole_pairs_of ps)
--- the line of the language is of no language
+-- all others are whole; the line that names the second language is of neither
 end_line s = line.Whole (stated_tree s)
 
 map_run : (language : Language) (at : Spot) (n : Name) (ns : List Name) (colon : Spot) (s : Name) (arrow : Spot) (t : Name) (end : Ending)

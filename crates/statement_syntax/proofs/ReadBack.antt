@@ -13,7 +13,7 @@ use Rattle.statement_tokens.specs.Language.{language_of}
 use Rattle.statement_tokens.specs.Pieces.{is_digit}
 use Rattle.statement_tokens.specs.Tokens.{value_from}
 use Rattle.statement_tokens.specs.Items.{item_at, item_in, name_of}
-use Rattle.statement_tokens.proofs.Reading.{◌>>=◌, tokens_from, placed, with_front}
+use Rattle.statement_tokens.proofs.Reading.{◌>>=◌, tokens_from, with_front}
 use Rattle.statement_tokens.specs.Limits.{name_limit}
 use Rattle.statement_syntax.specs.Written.{opens, closes, kind_text, gap, text_from}
 use Rattle.statement_tokens.proofs.Scanning.{spot}
@@ -21,7 +21,7 @@ use Rattle.statement_syntax.proofs.Moved.{kinds}
 use Rattle.statement_syntax.proofs.Carets.{Allows, carets_stay, carets_second}
 use Rattle.statement_tokens.proofs.EachCharacter.{and_first, and_second, EachIs}
 use Rattle.statement_syntax.proofs.Spelled.{SpellsName, SpellsNumber, IsToken, AllKinds}
-use Rattle.statement_tokens.proofs.Rescan.{EndsBefore, Ender, one_token, blank_back, name_back, stops_name, stops_digits, colon_back, equals_back, plus_back}
+use Rattle.statement_tokens.proofs.Rescan.{EndsBefore, Ender, one_token, name_back, stops_name, stops_digits, colon_back, equals_back, plus_back}
 use Rattle.statement_tokens.proofs.Rescan.{minus_back, arrow_back, open_back, close_back, open_square_back, close_square_back, quote_back, caret_back}
 use Rattle.statement_tokens.proofs.Literals.{Digits, decimal_digits, plain_digit, literal_back}
 
@@ -204,7 +204,8 @@ module _ (language : Language) where
         are = ap (λ x. k ∷ x) r.are;
         column' = r.column';
         past' = r.past';
-        reads = one_token before (first_of k all.0) (more_of k all.0) more k line col past (read_back before allowed k all.0 more (λ closed. rw closed (unglued ks all.1 rest given)))
+        reads = one_token before (first_of k all.0) (more_of k all.0) more k line col past
+            (read_back before allowed k all.0 more (λ closed. rw closed (unglued ks all.1 rest given)))
             ∙ rw (r.reads, append_assoc) (front_more here r.tokens _);
         kept = λ some. r.kept (omega arith);
       }) column

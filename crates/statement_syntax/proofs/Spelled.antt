@@ -142,7 +142,8 @@ shifted : (before here us : List Token) → AreBehind (before ++ here) us → Al
 shifted before here us given = subst (λ ts. AllKinds (IsFileToken (language_of ts)) (kinds us)) (append_assoc before here us) given
 
 placed_are : (before : List Token) (r : Result Item ScanFault) (at : Spot) (past : ℕ) (next : List Token → ℕ → Spot → ℕ → Result (List Token) Placed)
-    → Makes (language_of before) r → ((front : List Token) (skip : ℕ) (to : Spot) (end : ℕ) (us : List Token) → next front skip to end ≡ Ok us → AreBehind front us)
+    → Makes (language_of before) r
+    → ((front : List Token) (skip : ℕ) (to : Spot) (end : ℕ) (us : List Token) → next front skip to end ≡ Ok us → AreBehind front us)
     → (ts : List Token) → placed before r at past next ≡ Ok ts → AreBehind before ts
 placed_are before (Err e) at past next makes go ts given = absurd cc
 placed_are before (Ok item.NewLine) at past next makes go ts given =

@@ -90,10 +90,6 @@ end_tokens [] head part outside (Some t) e w given =
     rw (append-nil, ← e-is, with_term-tokens, whole_term-tokens part t w) refl
 end_tokens levels head part f t e w given = absurd cc
 
--- what is read whole is the expression's tokens
-whole-tokens : (st : State) (e : Expr) → whole st ≡ Some e → state_tokens st ≡ expr_tokens e
-whole-tokens st e given = end_tokens st.levels st.head st.part st.focus (whole_term st.part) e refl given
-
 tree_ok : (o : Option Expr) (s : Sum) → tree_or o Expected ≡ Ok s → (e : Expr) × (o ≡ Some e) × (s ≡ expr_tree e)
 tree_ok None s read = absurd cc
 tree_ok (Some e) s read = (e, refl, cc)
@@ -104,7 +100,7 @@ found : (st : State) (ts : List Token) (r : Reading) (s : Sum) → runs st ts �
 found st ts r s ran ends =
     let read = run_reads st ts r ran in
     let e = tree_ok (whole read.0) s (sym (whole-seen read.0) ∙ ap whole_sum (sym read.1) ∙ ends) in
-    (e.0, e.2, sym read.2 ∙ whole-tokens read.0 e.0 e.1)
+    (e.0, e.2, sym read.2 ∙ end_tokens read.0.levels read.0.head read.0.part read.0.focus (whole_term read.0.part) e.0 refl e.1)
 
 -- the tokens of an expression end as that expression, where it is within the limit, and else at a bracket that is too deep
 pub only : (e : Expr) → Upto (ExprFits e bracket_limit) (runs (fresh []) (expr_tokens e)) (Ok (reading_of (end_state [] e)))
