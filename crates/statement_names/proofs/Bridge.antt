@@ -1,5 +1,6 @@
 -- The search by what room is left finds what is defined by what stands before.
 use Rattle.std.proofs.Common.{◌≡◌, ℕ, ◌+◌, ◌-◌, ◌≤◌, Bool, if◌then◌else◌, is_some, List, [], ◌∷◌, ◌++◌, length, take, Option, Some, None, refl, ap, ap₂, sym, subst, ◌∙◌, arith, append_assoc}
+use Rattle.std.specs.Result.{result_err}
 use Rattle.std.specs.List.{sum_by}
 use Rattle.std.specs.Option.{option_or}
 use Rattle.std.proofs.lemmas.Bool.Decides.{nat_tests}
@@ -11,7 +12,7 @@ use Rattle.adjoint_rules.specs.Limits.{assumption_limit, claim_limit, shape_limi
 use Rattle.statement_names.specs.Limits.{map_limit_of}
 use Rattle.statement_names.specs.Occurrences.{occurrences_of, Occurrence, declares_object, declares_map, begins_order, begins_assumptions, begins_claim, begins_shape}
 use Rattle.statement_names.specs.Faults.{declared_by, Counted, Objects, Maps, Orders, Assumptions, Claims, Shapes, limit_of, amount, declared_in, kind_in, short_of, fault_of, known_behind, first_fault, name_fault_of}
-use Rattle.statement_names.specs.Survey.{with_kind, with_kinds, declared_count, declared_before, room_of, fault_at, behind, goes_on, run, fault_in}
+use Rattle.statement_names.specs.Survey.{with_kind, with_kinds, declared_count, declared_before, room_of, fault_at, behind, goes_on, run}
 use Rattle.statement_names.proofs.KindsFound.{kind_in-with_kinds, take-with_kinds}
 use Rattle.statement_names.proofs.Clean.{head_clean, tail_clean, declared_push, new_name, or_else_none}
 
@@ -103,14 +104,14 @@ module _ (most_maps : ℕ) (kind : List ℕ → Option Kind) (before after : Lis
 
 -- the first fault is the one that the search finds
 pub first_same : (most_maps : ℕ) (kind : List ℕ → Option Kind) (before : List Occurrence) (s : Survey) (os : List Occurrence) → Agrees most_maps kind before os s
-    → first_fault most_maps kind before os ≡ fault_in (run s os)
+    → first_fault most_maps kind before os ≡ result_err (run s os)
 first_same most_maps kind before s [] agrees = refl
 first_same most_maps kind before s (o ∷ os) agrees =
     ap (λ found. option_or found (first_fault most_maps kind (before ++ o ∷ []) os)) (sym (fault_same most_maps kind before (o ∷ os) s agrees o))
     ∙ go (fault_at s o) refl (λ good. first_same most_maps kind (before ++ o ∷ []) (behind s o) os (behind_agrees most_maps kind before (o ∷ os) s agrees o os refl good))
   where
-    go : (found : Option NameFault) → fault_at s o ≡ found → (fault_at s o ≡ None → first_fault most_maps kind (before ++ o ∷ []) os ≡ fault_in (run (behind s o) os))
-        → option_or found (first_fault most_maps kind (before ++ o ∷ []) os) ≡ fault_in (goes_on found (run (behind s o) os))
+    go : (found : Option NameFault) → fault_at s o ≡ found → (fault_at s o ≡ None → first_fault most_maps kind (before ++ o ∷ []) os ≡ result_err (run (behind s o) os))
+        → option_or found (first_fault most_maps kind (before ++ o ∷ []) os) ≡ result_err (goes_on found (run (behind s o) os))
     go (Some fault) is rest = refl
     go None is rest = rest is
 

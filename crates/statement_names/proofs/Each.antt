@@ -1,5 +1,5 @@
 -- What holds of each item of a list, by the list's own recursion.
-use Rattle.std.proofs.Common.{◌≡◌, ℕ, zero, suc, ◌<◌, List, [], ◌∷◌, ◌++◌, length, take, get_or, map, subst, sym}
+use Rattle.std.proofs.Common.{◌≡◌, ℕ, ◌<◌, List, [], ◌∷◌, ◌++◌, length, get_or, map, subst, sym}
 use Rattle.std.specs.List.{flat_map}
 pub use Rattle.std.specs.List.{AllByRecursion as Each}
 pub use Rattle.std.proofs.lemmas.List.Elements.{All-from_recursion as Each-at}
@@ -17,10 +17,6 @@ pub Each-weaker : {A : Type 0} (P Q : A → Type 0) (xs : List A) → ((x : A) �
 Each-weaker P Q [] f h = tt
 Each-weaker P Q (x ∷ xs) f h = (f x h.0, Each-weaker P Q xs f h.1)
 
-pub Each-map : {A B : Type 0} (P : B → Type 0) (f : A → B) (xs : List A) → Each (λ x. P (f x)) xs → Each P (map f xs)
-Each-map P f [] h = tt
-Each-map P f (x ∷ xs) h = (h.0, Each-map P f xs h.1)
-
 pub Each-unmap : {A B : Type 0} (P : B → Type 0) (f : A → B) (xs : List A) → Each P (map f xs) → Each (λ x. P (f x)) xs
 Each-unmap P f [] h = tt
 Each-unmap P f (x ∷ xs) h = (h.0, Each-unmap P f xs h.1)
@@ -32,11 +28,6 @@ Each-flat_map P f (x ∷ xs) h = Each-append P (f x) (flat_map f xs) h.0 (Each-f
 pub Each-of_flat_map : {A B : Type 0} (P : B → Type 0) (f : A → List B) (xs : List A) → Each P (flat_map f xs) → Each (λ x. Each P (f x)) xs
 Each-of_flat_map P f [] h = tt
 Each-of_flat_map P f (x ∷ xs) h = (Each-left P (f x) (flat_map f xs) h, Each-of_flat_map P f xs (Each-right P (f x) (flat_map f xs) h))
-
-pub Each-take : {A : Type 0} (P : A → Type 0) (n : ℕ) (xs : List A) → Each P xs → Each P (take n xs)
-Each-take P zero xs h = tt
-Each-take P (suc n) [] h = tt
-Each-take P (suc n) (x ∷ xs) h = (h.0, Each-take P n xs h.1)
 
 -- at a place
 pub Each-item : {A : Type 0} (P : A → Type 0) (xs : List A) → Each P xs → (i : ℕ) (x : A) → i < length xs → x ≡ get_or xs i x → P x

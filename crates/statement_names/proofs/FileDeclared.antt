@@ -206,8 +206,8 @@ module _ (statements : List Statement) (clean : name_fault_of statements ≡ Non
       }
 
 -- what stands before the maps of a statement
-abbrev pub declared_before : List Statement → ℕ → List Declaration
-declared_before statements i = declared_objects statements ++ declared_maps (declared_objects statements) (take i statements)
+abbrev pub quiver_before : List Statement → ℕ → List Declaration
+quiver_before statements i = declared_objects statements ++ declared_maps (declared_objects statements) (take i statements)
 
 -- the declarations of a statement behind those of the statements before it
 module _ (statements : List Statement) (clean : name_fault_of statements ≡ None) (i : ℕ) (s : Statement) (below : i < length statements) (at : s ≡ get_or statements i s) where
@@ -232,17 +232,17 @@ module _ (statements : List Statement) (clean : name_fault_of statements ≡ Non
       has_ends_here statements clean s.at s.kind
       (Each-item (λ t. AreGood statements (statement_occurrences t)) statements (statements_good statements clean) i s below at)
 
-  pub ends_fit : HasEnds (declared_before statements i) s.kind
+  pub ends_fit : HasEnds (quiver_before statements i) s.kind
   ends_fit = ends_more file_objects (declared_maps file_objects (take i statements)) s.kind ends_here
 
-  pub maps_next : declared_before statements i ++ maps_in (declared_before statements i) s.kind ≡ declared_before statements (i + 1)
+  pub maps_next : quiver_before statements i ++ maps_in (quiver_before statements i) s.kind ≡ quiver_before statements (i + 1)
   maps_next =
       let so_far = declared_maps file_objects (take i statements) in
       ap (λ ms. (file_objects ++ so_far) ++ ms) (maps_more file_objects so_far s.kind ends_here)
       ∙ append_assoc file_objects so_far (maps_in file_objects s.kind)
       ∙ ap (λ ms. file_objects ++ ms) (sym (flat_next statements i s below at (λ t. maps_in file_objects t.kind)))
 
-  pub maps_fit : AreFirst (declared_before statements i ++ maps_in (declared_before statements i) s.kind)
+  pub maps_fit : AreFirst (quiver_before statements i ++ maps_in (quiver_before statements i) s.kind)
   maps_fit =
       let first = declared_maps file_objects (take (i + 1) statements) in
       let later = declared_maps file_objects (drop (i + 1) statements) in

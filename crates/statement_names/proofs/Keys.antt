@@ -23,7 +23,8 @@ lookup-bytes name [] = refl
 lookup-bytes name (e ∷ entries) = ap (cond (bytes_eq name (string_bytes e.0)) (Some e.1)) (lookup-bytes name entries)
 
 -- a name that isn't there goes last
-pub bytes_inserted : (q : Inside) (new : List (String Global × Kind)) (kinds : List (List ℕ × Kind)) (key : String Global) (name : List ℕ) (kind : Kind) → string_bytes key ≡ name
+pub bytes_inserted : (q : Inside) (new : List (String Global × Kind)) (kinds : List (List ℕ × Kind)) (key : String Global) (name : List ℕ) (kind : Kind)
+    → string_bytes key ≡ name
     → new ≡ insert_entry string_eq q.kinds.entries key kind → bytes_of q.kinds.entries ≡ kinds → is_some (kind_in kinds name) ≡ false → bytes_of new ≡ with_kind kinds name kind
 bytes_inserted q new kinds key name kind key_is new_is view_is fresh =
     let absent : lookup (λ k. bytes_eq (string_bytes key) (string_bytes k)) q.kinds.entries ≡ None =

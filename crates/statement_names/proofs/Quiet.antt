@@ -145,4 +145,5 @@ declared-statement at k =
 pub declared_statements : (statements : List Statement) → declared_in (occurrences_of statements) ≡ flat_map (λ s. kinds_by s.kind) statements
 declared_statements [] = refl
 declared_statements (s ∷ statements) =
-    flat_map-append declared_by (statement_occurrences s) (occurrences_of statements) ∙ ap₂ (λ xs ys. xs ++ ys) (declared-statement s.at s.kind) (declared_statements statements)
+    flat_map-append declared_by (statement_occurrences s) (occurrences_of statements)
+    ∙ ap₂ (λ xs ys. xs ++ ys) (declared-statement s.at s.kind) (declared_statements statements)

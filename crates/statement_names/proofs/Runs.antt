@@ -1,11 +1,12 @@
 -- How a search for the first fault goes on, and how it stops.
 use Rattle.std.proofs.Common.{◌≡◌, ℕ, ◌+◌, ◌<◌, List, [], ◌∷◌, ◌++◌, length, drop, get_or, Option, Some, None, Result, Ok, Err, refl, sym, ap, ◌∙◌}
+use Rattle.std.specs.Result.{result_err}
 use Rattle.std.specs.List.{flat_map}
 use Rattle.statement_names.specs.Types.{NameFault, NameStop, stop, Survey}
 use Rattle.statement_names.specs.Occurrences.{Occurrence}
 use Rattle.statement_names.specs.Faults.{Explains}
 use Rattle.statement_names.proofs.Items.{rest_is}
-use Rattle.statement_names.specs.Survey.{fault_at, behind, goes_on, run, fault_in, Ends}
+use Rattle.statement_names.specs.Survey.{fault_at, behind, goes_on, run, Ends}
 
 -- some occurrences and then others
 abbrev pub then_run : Result Survey NameFault → List Occurrence → Result Survey NameFault
@@ -34,6 +35,6 @@ module _ {A : Type 0} (of : A → List Occurrence) (items : List A) (i : ℕ) (x
 
   pub items_end : (first s t : Survey) (why : NameStop) → run s (flat_map of (drop i items)) ≡ run first (flat_map of items)
       → Ends {A = Unit {0}} (run s (of x)) t (Err why)
-      → Explains (fault_in (run first (flat_map of items))) why
-  items_end first s t (stop.Fault fault) so_far is = ap fault_in (sym (items_on first s (Err fault) so_far is))
+      → Explains (result_err (run first (flat_map of items))) why
+  items_end first s t (stop.Fault fault) so_far is = ap result_err (sym (items_on first s (Err fault) so_far is))
   items_end first s t (stop.Memory e) so_far is = tt

@@ -91,16 +91,6 @@ kind_occurrences at (statement.Solve names) = names_behind Map [] names
 kind_occurrences at (statement.Eliminate names) = begins_order at ∷ names_behind Map [] names
 kind_occurrences at (statement.Shape m sides) = begins_shape at ∷ modulus m ∷ pairs_behind Object shape_side_limit [] sides
 
--- it has no list of names
-abbrev pub IsListless : StatementKind → Type 0
-IsListless (statement.Objects names) = ⊥
-IsListless (statement.Maps names source target selfmade) = ⊥
-IsListless (statement.Weight weights) = ⊥
-IsListless (statement.Solve names) = ⊥
-IsListless (statement.Eliminate names) = ⊥
-IsListless (statement.Shape m sides) = ⊥
-IsListless kind = Unit {0}
-
 abbrev pub statement_occurrences : Statement → List Occurrence
 statement_occurrences s = kind_occurrences s.at s.kind
 

@@ -63,10 +63,6 @@ abbrev pub run : Survey → List Occurrence → Result Survey NameFault
 run s [] = Ok s
 run s (o ∷ os) = goes_on (fault_at s o) (run (behind s o) os)
 
-abbrev pub fault_in : Result Survey NameFault → Option NameFault
-fault_in (Ok s) = None
-fault_in (Err fault) = Some fault
-
 -- what a search answers that goes on from a survey or gives a fault
 abbrev pub outcome : {A : Type 0} → Survey → Result A NameFault → Result Survey NameFault
 outcome s (Ok x) = Ok s

@@ -2,7 +2,7 @@
 
 ghost use Rattle.std.specs.Prelude.{◌≡◌, ◌∷◌, [], ◌++◌, map, Some, Ok, OnOk, IfErr};
 ghost use Rattle.statement_names.specs.Faults.{Explains};
-ghost use Rattle.statement_names.specs.Occurrences.{IsListless, declares_map, begins_assumptions, used_names, kind_occurrences, statement_occurrences};
+ghost use Rattle.statement_names.specs.Occurrences.{declares_map, begins_assumptions, used_names, kind_occurrences, statement_occurrences};
 ghost use Rattle.statement_names.specs.Survey.{run, outcome, Ends};
 ghost use Rattle.statement_names.specs.Uses.{use_of};
 
@@ -23,6 +23,7 @@ impl Survey {
     {
         let at = statement.at;
         match &statement.kind {
+            StatementKind::Language => Ok(()),
             StatementKind::Objects(names) => Ok(self.objects(names.as_slice())?),
             StatementKind::Maps {
                 names,
@@ -30,6 +31,13 @@ impl Survey {
                 target,
                 selfmade,
             } => Ok(self.maps_between(names.as_slice(), source, target, *selfmade)?),
+            StatementKind::Assume(left, right) => Ok(self.assumption(at, left, right)?),
+            StatementKind::Claim(left, right) => Ok(self.claimed(at, left, right)?),
+            StatementKind::Pinv(a, x) => Ok(self.abbreviation(4, at, a, x)?),
+            StatementKind::Inverse(a, x) => Ok(self.abbreviation(2, at, a, x)?),
+            StatementKind::Inner(a, x) => Ok(self.abbreviation(1, at, a, x)?),
+            StatementKind::Projection(p) => Ok(self.projection(at, p)?),
+            StatementKind::Degree => Ok(self.order(at)?),
             StatementKind::Weight(weights) => self.weights(alloc, at, weights.as_slice()),
             StatementKind::Solve(names) => self.names(alloc, names.as_slice()),
             StatementKind::Eliminate(names) => self.eliminated(alloc, at, names.as_slice()),
@@ -39,24 +47,6 @@ impl Survey {
                 modulus,
                 sides.as_slice(),
             ),
-            kind => Ok(self.listless(at, kind)?),
-        }
-    }
-
-    // A statement with no list.
-    fn listless(&mut self, at: Spot, kind: &StatementKind) -> Result<(), NameFault>
-        requires { IsListless kind.now }
-        ensures { run self.old (kind_occurrences at kind.now) ≡ outcome self.new result }
-    {
-        match kind {
-            StatementKind::Language => Ok(()),
-            StatementKind::Assume(left, right) => self.assumption(at, left, right),
-            StatementKind::Claim(left, right) => self.claimed(at, left, right),
-            StatementKind::Pinv(a, x) => self.abbreviation(4, at, a, x),
-            StatementKind::Inverse(a, x) => self.abbreviation(2, at, a, x),
-            StatementKind::Inner(a, x) => self.abbreviation(1, at, a, x),
-            StatementKind::Projection(p) => self.projection(at, p),
-            _ => self.order(at),
         }
     }
 

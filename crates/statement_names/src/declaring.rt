@@ -1,6 +1,7 @@
 //! The names that are declared: whether they are new, and whether there is room for them.
 
-ghost use Rattle.std.specs.Prelude.{◌≡◌, map, is_some, None, Some, Ok, OnOk, IfErr};
+ghost use Rattle.std.specs.Prelude.{◌≡◌, map, is_some, OnOk};
+ghost use Rattle.std.specs.Result.{result_err};
 ghost use Rattle.statement_names.specs.Faults.{kind_in, are_two_objects};
 ghost use Rattle.statement_names.specs.Occurrences.{declares_object, declares_map};
 ghost use Rattle.statement_names.specs.Survey.{fault_at, behind, run, outcome, Ends, declared_before, declared_count};
@@ -40,9 +41,8 @@ impl Survey {
 
     // An object that is declared.
     fn object(&mut self, name: &Name) -> Result<(), NameFault>
-        ensures ok { OnOk result (fault_at self.old (declares_object name.now) ≡ None) }
+        ensures answer { result_err result ≡ fault_at self.old (declares_object name.now) }
         ensures after { OnOk result (self.new ≡ behind self.old (declares_object name.now)) }
-        ensures err { IfErr result (λ e. fault_at self.old (declares_object name.now) ≡ Some e) }
     {
         let at = name.at;
         if self.is_declared(name) {
@@ -60,9 +60,8 @@ impl Survey {
         target: &Name,
         selfmade: bool,
     ) -> Result<(), NameFault>
-        ensures ok { OnOk result (fault_at self.old (declares_map name.now source.now.text target.now.text selfmade) ≡ None) }
+        ensures answer { result_err result ≡ fault_at self.old (declares_map name.now source.now.text target.now.text selfmade) }
         ensures after { OnOk result (self.new ≡ behind self.old (declares_map name.now source.now.text target.now.text selfmade)) }
-        ensures err { IfErr result (λ e. fault_at self.old (declares_map name.now source.now.text target.now.text selfmade) ≡ Some e) }
     {
         let at = name.at;
         if self.is_declared(name) {

@@ -1,6 +1,7 @@
 //! The values of literals, and which values may stand where.
 
-ghost use Rattle.std.specs.Prelude.{◌≡◌, None, Some, OnOk, IfErr};
+ghost use Rattle.std.specs.Prelude.{◌≡◌};
+ghost use Rattle.std.specs.Result.{result_err};
 ghost use Rattle.definitions.specs.Moduli.{is_field_modulus};
 ghost use Rattle.statement_names.specs.Faults.{is_between, number_fault, value_of};
 
@@ -18,8 +19,7 @@ pub fn value_of(number: &Number) -> u128
 
 /// Refuses a literal that isn't from 1 to so much.
 pub fn check_count(most: u32, number: &Number) -> Result<(), NameFault>
-    ensures ok { OnOk result (number_fault (is_between 1 most (value_of number.now.value)) (NameFault.BadNumber number.now.at) ≡ None) }
-    ensures err { IfErr result (λ e. number_fault (is_between 1 most (value_of number.now.value)) (NameFault.BadNumber number.now.at) ≡ Some e) }
+    ensures { result_err result ≡ number_fault (is_between 1 most (value_of number.now.value)) (NameFault.BadNumber number.now.at) }
 {
     let value = value_of(number);
     if 1 <= value && value <= u128::from(most) {
@@ -30,8 +30,7 @@ pub fn check_count(most: u32, number: &Number) -> Result<(), NameFault>
 
 /// Refuses a literal that is no modulus of shapes.
 pub fn check_modulus(number: &Number) -> Result<(), NameFault>
-    ensures ok { OnOk result (number_fault (is_field_modulus (value_of number.now.value)) (NameFault.BadNumber number.now.at) ≡ None) }
-    ensures err { IfErr result (λ e. number_fault (is_field_modulus (value_of number.now.value)) (NameFault.BadNumber number.now.at) ≡ Some e) }
+    ensures { result_err result ≡ number_fault (is_field_modulus (value_of number.now.value)) (NameFault.BadNumber number.now.at) }
 {
     if is_field_modulus(value_of(number)) {
         return Ok(());

@@ -1,6 +1,7 @@
 //! The search for the first fault: each name, literal and first word of the file, in reading order.
 
-ghost use Rattle.std.specs.Prelude.{◌≡◌, ◌-◌, None, Some, OnOk, OnErr, IfErr};
+ghost use Rattle.std.specs.Prelude.{◌≡◌, ◌-◌, None, OnOk, OnErr, IfErr};
+ghost use Rattle.std.specs.Result.{result_err};
 ghost use Rattle.statement_names.specs.Faults.{name_fault_of, short_of, Explains};
 ghost use Rattle.statement_names.specs.Limits.{map_limit_of};
 ghost use Rattle.statement_names.specs.Occurrences.{begins_order, begins_assumptions, begins_claim, begins_shape};
@@ -74,9 +75,8 @@ fn map_limit_of(statements: &[Statement]) -> u32
 
 /// Takes room for so many more, or gives the fault and leaves the room as it was.
 pub fn take_room(room: &mut u32, more: u32, fault: NameFault) -> Result<(), NameFault>
-    ensures ok { OnOk result (short_of room.old more fault ≡ None) }
+    ensures answer { result_err result ≡ short_of room.old more fault }
     ensures left { OnOk result (room.new ≡ room.old - more) }
-    ensures err { IfErr result (λ e. short_of room.old more fault ≡ Some e) }
     ensures unchanged { OnErr result (room.new ≡ room.old) }
 {
     if *room < more {
@@ -89,9 +89,8 @@ pub fn take_room(room: &mut u32, more: u32, fault: NameFault) -> Result<(), Name
 impl Survey {
     // The first word of a statement with so many assumptions.
     pub(crate) fn assumptions(&mut self, count: u32, at: Spot) -> Result<(), NameFault>
-        ensures ok { OnOk result (fault_at self.old (begins_assumptions count at) ≡ None) }
+        ensures answer { result_err result ≡ fault_at self.old (begins_assumptions count at) }
         ensures after { OnOk result (self.new ≡ behind self.old (begins_assumptions count at)) }
-        ensures err { IfErr result (λ e. fault_at self.old (begins_assumptions count at) ≡ Some e) }
     {
         let full = NameFault::TooMany {
             at,
@@ -102,9 +101,8 @@ impl Survey {
 
     // The first word of a claim.
     pub(crate) fn claim(&mut self, at: Spot) -> Result<(), NameFault>
-        ensures ok { OnOk result (fault_at self.old (begins_claim at) ≡ None) }
+        ensures answer { result_err result ≡ fault_at self.old (begins_claim at) }
         ensures after { OnOk result (self.new ≡ behind self.old (begins_claim at)) }
-        ensures err { IfErr result (λ e. fault_at self.old (begins_claim at) ≡ Some e) }
     {
         let full = NameFault::TooMany {
             at,
@@ -115,9 +113,8 @@ impl Survey {
 
     // The first word of a shape.
     pub(crate) fn shape(&mut self, at: Spot) -> Result<(), NameFault>
-        ensures ok { OnOk result (fault_at self.old (begins_shape at) ≡ None) }
+        ensures answer { result_err result ≡ fault_at self.old (begins_shape at) }
         ensures after { OnOk result (self.new ≡ behind self.old (begins_shape at)) }
-        ensures err { IfErr result (λ e. fault_at self.old (begins_shape at) ≡ Some e) }
     {
         let full = NameFault::TooMany {
             at,
@@ -128,9 +125,8 @@ impl Survey {
 
     // The first word of an order.
     pub(crate) fn order(&mut self, at: Spot) -> Result<(), NameFault>
-        ensures ok { OnOk result (fault_at self.old (begins_order at) ≡ None) }
+        ensures answer { result_err result ≡ fault_at self.old (begins_order at) }
         ensures after { OnOk result (self.new ≡ behind self.old (begins_order at)) }
-        ensures err { IfErr result (λ e. fault_at self.old (begins_order at) ≡ Some e) }
     {
         take_room(&mut self.orders, 1, NameFault::Double { at })
     }

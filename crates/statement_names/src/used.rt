@@ -1,7 +1,8 @@
 //! The names that are used: whether they are declared, as what they are to be, and once in a list.
 
-ghost use Rattle.std.specs.Prelude.{◌≡◌, ◌∷◌, [], ◌++◌, None, Some, Ok, OnOk, IfErr};
+ghost use Rattle.std.specs.Prelude.{◌≡◌, ◌∷◌, [], ◌++◌, None, OnOk, IfErr};
 ghost use Rattle.std.specs.List.{flat_map};
+ghost use Rattle.std.specs.Result.{result_err};
 ghost use Rattle.statement_names.specs.Faults.{Explains, kind_in, is_kind, used_fault};
 ghost use Rattle.statement_names.specs.Occurrences.{lists, names_behind, pairs_behind, used_names, mark_occurrences, primary_occurrences};
 ghost use Rattle.statement_names.specs.Occurrences.{factor_occurrences, term_occurrences, sum_occurrences, sides_occurrences};
@@ -28,8 +29,7 @@ impl Survey {
 
     // A name that is used as an object or a map.
     pub(crate) fn name(&self, name: &Name, kind: Kind) -> Result<(), NameFault>
-        ensures ok { OnOk result (used_fault (kind_in self.now.kinds) (use_of kind name.now) ≡ None) }
-        ensures err { IfErr result (λ e. used_fault (kind_in self.now.kinds) (use_of kind name.now) ≡ Some e) }
+        ensures { result_err result ≡ used_fault (kind_in self.now.kinds) (use_of kind name.now) }
     {
         if !self.is_of_kind(name, kind) {
             return Err(NameFault::Unknown { at: name.at });

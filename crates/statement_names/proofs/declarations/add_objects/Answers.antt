@@ -13,10 +13,10 @@ declaration n = object n.text
 pub declare_object-requires : goal.declare_object-requires
 declare_object-requires c =
     let names = c.as_slice-name-items.result.now in
-    let whole : c.args.quiver.now ++ objects_in c.args.statement.now ≡ c.loop-name.quiver ++ object c.name-item.result.text ∷ map declaration (drop (c.loop-name.name-index + 1) names) =
+    let rest = map declaration (drop (c.loop-name.name-index + 1) names) in
+    let whole : c.args.quiver.now ++ objects_in c.args.statement.now ≡ c.loop-name.quiver ++ object c.name-item.result.text ∷ rest =
     ap (λ k. c.args.quiver.now ++ objects_in k) c.in-Objects.is ∙ ap (λ ns. c.args.quiver.now ++ map declaration ns) (sym c.as_slice-name-items.ensures)
     ∙ sym c.loop-name.invariant
     ∙ ap (λ ns. c.loop-name.quiver ++ map declaration ns) (rest_is names c.loop-name.name-index c.name-item.result c.loop-name-test.true c.name-item.is) in
     subst (λ t. object_fault c.loop-name.quiver t ≡ None) (sym c.as_str.ensures)
-    (no_object_fault c.loop-name.quiver c.name-item.result.text (map declaration (drop (c.loop-name.name-index + 1) names))
-    (subst AreFirst whole c.requires))
+    (no_object_fault c.loop-name.quiver c.name-item.result.text rest (subst AreFirst whole c.requires))

@@ -1,9 +1,10 @@
 use Rattle.std.proofs.Common.{◌≡◌, ◌∙◌, [], Ok, Err, rules, arith, ap, sym, subst}
+use Rattle.std.specs.Result.{result_err}
 use Rattle.std.proofs.lemmas.Grind.{common_steps}
 use Rattle.statement_names.specs.Limits.{map_limit_of}
 use Rattle.statement_names.specs.Occurrences.{statement_occurrences, occurrences_of}
 use Rattle.statement_names.specs.Faults.{Explains, kind_in, declared_in, name_fault_of}
-use Rattle.statement_names.specs.Survey.{run, fault_in, Ends}
+use Rattle.statement_names.specs.Survey.{run, Ends}
 use Rattle.statement_names.proofs.Bridge.{begun, begun_agrees, first_same}
 use Rattle.statement_names.proofs.Runs.{items_end}
 use Rattle.statement_names.proofs.survey.check_names.Goals as goal
@@ -27,4 +28,4 @@ returns-clause-ok c =
     let os = occurrences_of c.args.statements.now in
     let agrees = begun_agrees c.map_limit_of-map_limit.result (map_limit_of c.args.statements.now) os c.in_ok-kinds_of.field-0 c.map_limit_of-map_limit.ensures c.in_ok-kinds_of.ensures in
     let done : run first (occurrences_of c.args.statements.now) ≡ Ok c.loop-statement.survey = grind (arith, common_steps) in
-    first_same (map_limit_of c.args.statements.now) (kind_in (declared_in os)) [] first os agrees ∙ ap fault_in done
+    first_same (map_limit_of c.args.statements.now) (kind_in (declared_in os)) [] first os agrees ∙ ap result_err done
