@@ -1,7 +1,6 @@
 //! The names, literals and first words of a statement, kind by kind.
 
-ghost use Rattle.std.specs.Prelude.{◌≡◌, ◌∷◌, [], ◌++◌, map, Some, Ok, OnOk, IfErr};
-ghost use Rattle.statement_names.specs.Faults.{Explains};
+ghost use Rattle.std.specs.Prelude.{◌≡◌, ◌∷◌, [], ◌++◌, map};
 ghost use Rattle.statement_names.specs.Occurrences.{declares_map, begins_assumptions, used_names, kind_occurrences, statement_occurrences};
 ghost use Rattle.statement_names.specs.Survey.{run, outcome, Ends};
 ghost use Rattle.statement_names.specs.Uses.{use_of};

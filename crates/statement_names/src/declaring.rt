@@ -4,7 +4,7 @@ ghost use Rattle.std.specs.Prelude.{◌≡◌, map, is_some, OnOk};
 ghost use Rattle.std.specs.Result.{result_err};
 ghost use Rattle.statement_names.specs.Faults.{kind_in, are_two_objects};
 ghost use Rattle.statement_names.specs.Occurrences.{declares_object, declares_map};
-ghost use Rattle.statement_names.specs.Survey.{fault_at, behind, run, outcome, Ends, declared_before, declared_count};
+ghost use Rattle.statement_names.specs.Survey.{fault_at, behind, run, outcome, declared_before, declared_count};
 
 use crate::fault::NameFault;
 use crate::kinds::Kind;

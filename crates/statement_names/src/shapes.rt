@@ -1,6 +1,6 @@
 //! The shapes of models that a file asks for, or the two that are looked for where it asks for none.
 
-ghost use Rattle.std.specs.Prelude.{◌≡◌, ◌≤◌, ◌<◌, ◌^◌, map, replicate, None, IfOk, IsTrue};
+ghost use Rattle.std.specs.Prelude.{◌≡◌, ◌≤◌, ◌<◌, map, replicate, None, IfOk, IsTrue};
 ghost use Rattle.std.specs.List.{All, IsDistinct};
 ghost use Rattle.std.specs.Str.{bytes_eq};
 ghost use Rattle.quiver.specs.Declarations.{named_in, object_count};

@@ -1,6 +1,5 @@
 //! Statements, a line each: what has been read of a line, and what may come next.
 
-ghost use Rattle.std.specs.Prelude.{◌≡◌};
 ghost use Rattle.statement_syntax.specs.Steps.{Gives, Turns};
 ghost use Rattle.statement_syntax.specs.Lines.{IsPlain, line_step, line_end};
 
