@@ -201,11 +201,11 @@ sides_grows language w at (Some left) r ts t k read = second_grows language w at
 sides_grows language w at None r ts t kind.Equals read = equals_grows language w at r ts t (whole_sum r) refl read
 sides_grows language w at None r ts t k read = first_grows language w at r ts t k (token_step r k t) refl read
 
--- pairs
+-- names with numbers
 pub pairs_more : (ps : List (Name × Number)) (n : Name) (m : Number) → pairs_tokens (ps ++ (n, m) ∷ []) ≡ pairs_tokens ps ++ name_token n ∷ number_token m ∷ []
 pairs_more ps n m = flat_map-append (λ p. name_token p.0 ∷ number_token p.1 ∷ []) ps ((n, m) ∷ [])
 
--- behind these tokens
+-- pairs behind these tokens
 pairs_grow : (language : Language) (wrap : Pairs → Line) (front : List Token)
     → ((p : Pairs) (us : List Token) → us ≡ front ++ read_pairs p → LineReads language (wrap p) us)
     → (ps : List (Name × Number)) (half : Option Name) (ts : List Token) (t : Spot) (k : TokenKind)

@@ -39,7 +39,7 @@ IsOpeningOf language (opening.List w) = IsListOf w language
 IsOpeningOf language o = Unit {0}
 
 -- the text of the word that begins a statement
-abbrev pub opening_text : Opening → List ℕ
+abbrev opening_text : Opening → List ℕ
 opening_text (opening.List w) = list_text w
 opening_text opening.Map = codes "map"
 opening_text (opening.Sides w) = sides_text w
@@ -48,7 +48,7 @@ opening_text opening.Projection = codes "projection"
 opening_text opening.Order = codes "order"
 opening_text opening.Model = codes "model"
 
--- a statement's first word
+-- a statement's first word (where the line computes only once the word is known, a first case stands by itself)
 opens : (language : Language) (o : Opening) (at : Spot) (rest : List Token) → IsOpeningOf language o
     → goes language line.Start (word_token (opening_text o) at ∷ rest) ≡ goes language (opened o at) rest
 unfolding run

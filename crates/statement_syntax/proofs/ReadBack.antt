@@ -29,7 +29,7 @@ use Rattle.statement_tokens.proofs.Literals.{Digits, decimal_digits, plain_digit
 pub digits_of : (v : ℤ) → (t : SpellsNumber v) → Digits t.size (decimal t.size)
 digits_of v t = decimal_digits t.size (omega (arith, t.below))
 
--- characters below 128 are their own bytes
+-- characters below 128, which are their own bytes
 abbrev AreLow : List ℕ → Type 0
 AreLow cs = EachIs (λ c. nat_lt c 128) cs
 
