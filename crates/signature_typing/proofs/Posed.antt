@@ -1,15 +1,16 @@
 -- What a file says, where nothing is wrong with it, can be made a problem.
-use Rattle.std.proofs.Common.{◌≡◌, ◌≢◌, List, [], ◌∷◌, length, Some, None, refl, sym, ap, subst, ◌∙◌, arith, map-id}
+use Rattle.std.proofs.Common.{◌≡◌, ◌≢◌, List, [], ◌∷◌, ◌++◌, length, Some, None, refl, sym, ap, ap₂, subst, ◌∙◌, append-nil, arith, map-id}
 use Rattle.std.specs.List.{All, AllByRecursion, AllZip}
 use Rattle.std.proofs.lemmas.List.{length-map}
 use Rattle.std.proofs.lemmas.List.Elements.{All-from_recursion, recursion_from_All, All-weaker, All-head}
 use Rattle.definitions.specs.Poly.{Poly}
 use Rattle.nc_polynomial.specs.declared.poly.Poly as made
 use Rattle.quiver.specs.Declarations.{Declaration}
-use Rattle.signature_typing.specs.Types.{Statement, Equation, Parts, StatementKind}
+use Rattle.signature_typing.specs.Types.{Spot, Sum, Statement, Equation, Parts, StatementKind, statement}
 use Rattle.statement_names.specs.Marked.{is_starred, marked_of}
 use Rattle.statement_names.specs.Ready.{HasNames, IsReady}
-use Rattle.abbreviations.specs.Written.{equations_of, assumptions_of, claims_in, claims_of}
+use Rattle.abbreviations.specs.Written as written
+use Rattle.abbreviations.specs.Written.{equations_of, assumptions_of, claims_in, claims_of, abbreviation_of}
 use Rattle.expressions.specs.Laws.{EquationsAreTyped, LettersAreWritten, IsWritten}
 use Rattle.adjoint_rules.specs.Problem.{polynomials, numbers, IsInPlay, HasLettersInPlay, HasObjects, IsTypedOf, IsPosed}
 use Rattle.signature_typing.specs.First.{first_among}
@@ -36,6 +37,19 @@ pub named_equation : (ds : List Declaration) (s : Statement) (kind : StatementKi
     → equations_in ds (record { at = s.at; kind = kind }) ≡ e ∷ [] → All (HasNames ds) (equations_in ds s) → HasNames ds e
 named_equation ds s kind e is alone named =
     All-head (HasNames ds) e [] (subst (All (HasNames ds)) (ap (λ k. equations_in ds (record { at = s.at; kind = k })) is ∙ alone) named)
+
+-- a statement that writes no equation itself stands for those of its abbreviation
+pub other_equations : (ds : List Declaration) (at : Spot) (kind : StatementKind) → ((left right : Sum) → kind ≢ statement.Assume left right)
+    → ((left right : Sum) → kind ≢ statement.Claim left right) → (written.equations_in ds at kind ≡ abbreviation_of ds at kind) × (claims_in kind ≡ [])
+other_equations ds at (statement.Assume left right) no_assumption no_claim = absurd (no_assumption left right refl)
+other_equations ds at (statement.Claim left right) no_assumption no_claim = absurd (no_claim left right refl)
+other_equations ds at kind no_assumption no_claim = (refl, refl)
+
+pub other_named : (ds : List Declaration) (s : Statement) → ((left right : Sum) → s.kind ≢ statement.Assume left right)
+    → ((left right : Sum) → s.kind ≢ statement.Claim left right) → equations_in ds s ≡ abbreviation_of ds s.at s.kind
+other_named ds s no_assumption no_claim =
+    let other = other_equations ds s.at s.kind no_assumption no_claim in
+    ap₂ (λ xs ys. xs ++ ys) other.0 other.1 ∙ append-nil (abbreviation_of ds s.at s.kind)
 
 -- equations that have a signature and a polynomial
 module _ (typed : EquationsAreTyped) (written : LettersAreWritten) (ds : List Declaration) (statements : List Statement) (ready : IsReady ds statements) where

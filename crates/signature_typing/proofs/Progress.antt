@@ -48,5 +48,9 @@ one_more_statement assumed claimed wrong xs i assumptions claims more_assumption
 pub said_push : {V X : Type 0} (said : V → X) (vs : List V) (v : V) → map said (vs ++ v ∷ []) ≡ map said vs ++ said v ∷ []
 said_push said vs v = map-append said vs (v ∷ [])
 
+pub said_more : {V X : Type 0} (said : V → X) (before now : List V) (v : V) (values : List X) → now ≡ before ++ v ∷ [] → said v ∷ [] ≡ values
+    → map said now ≡ map said before ++ values
+said_more said before now v values pushed is = ap (map said) pushed ∙ said_push said before v ∙ ap (λ xs. map said before ++ xs) is
+
 -- what a stage gives at its end, and what its first fault explains
 pub ruleset progress = (all_listed, explained_at, err_from_is_err_and)

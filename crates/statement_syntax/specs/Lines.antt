@@ -133,6 +133,16 @@ abbrev pub IsPlain : Line → Type 0
 IsPlain (line.Sides w at left r) = ⊥
 IsPlain l = Unit {0}
 
+-- nothing that it holds goes on into the next one
+abbrev pub IsBare : Line → Type 0
+IsBare (line.List w at names) = ⊥
+IsBare (line.Map at names r) = ⊥
+IsBare (line.Sides w at left r) = ⊥
+IsBare (line.Pair w at first) = ⊥
+IsBare (line.Weights at ps) = ⊥
+IsBare (line.Shape at m ps) = ⊥
+IsBare l = Unit {0}
+
 abbrev pub line_step : Language → Line → TokenKind → Spot → Lined
 line_step language line.Start k t = start_step language k t
 line_step language (line.List w at names) k t = list_step w at names k t

@@ -131,7 +131,10 @@ fn close_step(alloc: Global, reading: &mut Reading) -> Result<(), ReadError>
     let part = mem::replace(&mut reading.part, Part::Nothing);
     let term = ended_part(alloc, part, reading.head.negative)?;
     match reading.levels.pop() {
-        None => Err(ReadError::Misfit(Misfit::Expected)),
+        None => {
+            drop(term);
+            Err(ReadError::Misfit(Misfit::Expected))
+        }
         Some(Level { head, part, at }) => {
             drop(mem::replace(&mut reading.part, part));
             let sum = sum_with(mem::replace(&mut reading.head, head), term)?;
@@ -234,19 +237,22 @@ pub fn token_step(alloc: Global, reading: &mut Reading, token: Token) -> Result<
             Ok(())
         }
         Focus::Named(left, name) => match token.kind {
-            TokenKind::CloseSquare => Ok(part_with(
-                alloc,
-                &mut reading.part,
-                Primary::Identity(name),
-                left,
-            )?),
-            _ => Err(ReadError::Misfit(Misfit::Expected)),
+            TokenKind::CloseSquare => {
+                drop(token);
+                Ok(part_with(alloc, &mut reading.part, Primary::Identity(name), left)?)
+            }
+            _ => {
+                drop((name, token));
+                Err(ReadError::Misfit(Misfit::Expected))
+            }
         },
         Focus::Raised(product, caret) => {
             drop(mem::replace(&mut reading.part, Part::Product(product)));
+            let exponent = number_in(&token);
+            drop(token);
             let power = Mark::Power {
                 at: caret,
-                exponent: number_in(&token)?,
+                exponent: exponent?,
             };
             mark_step(&mut reading.part, power)
         }
@@ -264,11 +270,18 @@ pub fn whole_sum(alloc: Global, reading: Reading) -> Result<Sum, ReadError>
         focus,
     } = reading;
     let open = levels.len() > 0;
+    drop(levels);
     match focus {
-        Focus::Outside if !open => {
-            let term = ended_part(alloc, part, head.negative)?;
-            Ok(sum_with(head, term)?)
+        Focus::Outside if !open => match ended_part(alloc, part, head.negative) {
+            Ok(term) => Ok(sum_with(head, term)?),
+            Err(error) => {
+                drop(head);
+                Err(error)
+            }
+        },
+        focus => {
+            drop((head, part, focus));
+            Err(ReadError::Misfit(Misfit::Expected))
         }
-        _ => Err(ReadError::Misfit(Misfit::Expected)),
     }
 }

@@ -1,7 +1,8 @@
 //! Statements, a line each: what has been read of a line, and what may come next.
 
+ghost use Rattle.std.specs.Prelude.{◌≡◌};
 ghost use Rattle.statement_syntax.specs.Steps.{Gives, Turns};
-ghost use Rattle.statement_syntax.specs.Lines.{IsPlain, line_step, line_end};
+ghost use Rattle.statement_syntax.specs.Lines.{IsPlain, IsBare, line_step, line_end};
 
 use crate::expected::number_in;
 use crate::expression::{Misfit, ReadError, Reading};
@@ -111,15 +112,25 @@ pub fn line_step(
 {
     match line {
         Line::Sides { left, reading, .. } => sides_step(alloc, left, reading, token),
-        _ => {
-            let next = plain_line(alloc, language, mem::replace(line, Line::Start), token)?;
-            drop(mem::replace(line, next));
-            Ok(())
-        }
+        _ => plain_step(alloc, language, line, token),
     }
 }
 
 // The same for a line that holds no expression.
+fn plain_step(
+    alloc: Global,
+    language: Language,
+    line: &mut Line,
+    token: Token,
+) -> Result<(), ReadError>
+    requires { IsPlain line.old }
+    ensures { Turns result line.new (line_step language line.old token.kind token.at) }
+{
+    let next = plain_line(alloc, language, mem::replace(line, Line::Start), token)?;
+    drop(mem::replace(line, next));
+    Ok(())
+}
+
 fn plain_line(
     alloc: Global,
     language: Language,
@@ -130,18 +141,32 @@ fn plain_line(
     ensures { Gives result (line_step language line token.kind token.at) }
 {
     match line {
-        Line::Start => Ok(start_step(alloc, language, &token)?),
         Line::List { word, at, names } => list_step(word, at, names, token),
         Line::Map { at, names, rest } => map_step(at, names, rest, token),
         Line::Pair { word, at, first } => Ok(pair_step(word, at, first, token)?),
-        Line::Projection(at) => Ok(projection_step(at, token)?),
-        Line::Order(at) => Ok(order_step(alloc, at, &token)?),
         Line::Weights(at, pairs) => Ok(Line::Weights(at, pairs_step(pairs, token)?)),
-        Line::Model(at) => Ok(Line::Shape(at, number_in(&token)?, no_pairs(alloc))),
         Line::Shape(at, modulus, pairs) => {
             Ok(Line::Shape(at, modulus, pairs_step(pairs, token)?))
         }
-        _ => Err(ReadError::Misfit(Misfit::Expected)),
+        line => {
+            let next = bare_line(alloc, language, &line, token);
+            drop(line);
+            Ok(next?)
+        }
+    }
+}
+
+// The same for a line that takes over nothing of what has been read.
+fn bare_line(alloc: Global, language: Language, line: &Line, token: Token) -> Result<Line, Misfit>
+    requires { IsBare line.now }
+    ensures { result ≡ line_step language line.now token.kind token.at }
+{
+    match line {
+        Line::Start => start_step(alloc, language, &token),
+        Line::Projection(at) => projection_step(*at, token),
+        Line::Order(at) => order_step(alloc, *at, &token),
+        Line::Model(at) => Ok(Line::Shape(*at, number_in(&token)?, no_pairs(alloc))),
+        _ => Err(Misfit::Expected),
     }
 }
 

@@ -3,6 +3,7 @@
 ghost use Rattle.std.specs.Prelude.{◌≡◌};
 ghost use Rattle.statement_syntax.specs.Steps.{Gives};
 ghost use Rattle.statement_syntax.specs.Lines.{list_step, list_end, map_names_step, map_step, map_end, pair_step, projection_step};
+ghost use Rattle.statement_syntax.specs.Tree.{pair_kind};
 
 use crate::expected::{is_word, name_in};
 use crate::expression::{Misfit, ReadError};
@@ -42,16 +43,21 @@ pub fn list_end(word: ListWord, names: Listing<Name>) -> Result<StatementKind, M
 fn map_names_step(at: Spot, names: Listing<Name>, token: Token) -> Result<Line, ReadError>
     ensures { Gives result (map_names_step at names token.kind token.at) }
 {
-    let mut names = names;
-    let rest = match &token.kind {
-        TokenKind::Colon if names.len() == 0 => return Err(ReadError::Misfit(Misfit::Expected)),
-        TokenKind::Colon => MapRest::Colon,
-        _ => {
-            names.push(name_in(token)?)?;
-            MapRest::Names
+    match &token.kind {
+        TokenKind::Colon => {
+            if names.len() == 0 {
+                return Err(ReadError::Misfit(Misfit::Expected));
+            }
+            let rest = MapRest::Colon;
+            Ok(Line::Map { at, names, rest })
         }
-    };
-    Ok(Line::Map { at, names, rest })
+        _ => {
+            let mut names = names;
+            names.push(name_in(token)?)?;
+            let rest = MapRest::Names;
+            Ok(Line::Map { at, names, rest })
+        }
+    }
 }
 
 /// One more token of `map`.
@@ -102,6 +108,16 @@ pub fn map_end(names: Listing<Name>, rest: MapRest) -> Result<StatementKind, Mis
     }
 }
 
+fn pair_kind(word: PairWord, first: Name, second: Name) -> StatementKind
+    ensures { result ≡ pair_kind word first second }
+{
+    match word {
+        PairWord::Pinv => StatementKind::Pinv(first, second),
+        PairWord::Inverse => StatementKind::Inverse(first, second),
+        PairWord::Inner => StatementKind::Inner(first, second),
+    }
+}
+
 /// One of the two names of `pinv`, `inverse` or `inner`.
 pub fn pair_step(
     word: PairWord,
@@ -119,11 +135,7 @@ pub fn pair_step(
             first: Some(name),
         }),
         Some(first) => {
-            let kind = match word {
-                PairWord::Pinv => StatementKind::Pinv(first, name),
-                PairWord::Inverse => StatementKind::Inverse(first, name),
-                PairWord::Inner => StatementKind::Inner(first, name),
-            };
+            let kind = pair_kind(word, first, name);
             Ok(Line::Whole(Statement { at, kind }))
         }
     }

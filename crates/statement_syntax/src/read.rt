@@ -5,7 +5,7 @@ ghost use Rattle.statement_syntax.specs.Grammar.{StatedLine};
 ghost use Rattle.statement_syntax.specs.Tree.{file_tree};
 ghost use Rattle.statement_syntax.specs.Fault.{IsStatements, IsTreeOf, TellsFirstFault, IsWantOfMemory};
 ghost use Rattle.statement_syntax.specs.Steps.{Turns};
-ghost use Rattle.statement_syntax.specs.Lines.{file_step};
+ghost use Rattle.statement_syntax.specs.Lines.{ended, file_step};
 ghost use Rattle.statement_syntax.specs.Stages.{CharactersRead, TextRead, IsReadSoFar, Goes, IsFront, LeavesFault, IsRefusal, first_statements, behind_first};
 ghost use Rattle.statement_tokens.specs.Language.{language_of};
 ghost use Rattle.std.specs.Vec.Iter.{into_iter_items, into_iter_len};
@@ -36,12 +36,17 @@ fn file_step(
     ensures { Turns result progress.new (file_step language progress.old token) }
 {
     match &token.kind {
-        TokenKind::End => {
-            let line = mem::replace(&mut progress.line, Line::Start);
-            Ok(progress.statements.push(line_end(alloc, line)?)?)
-        }
+        TokenKind::End => end_line(alloc, progress),
         _ => line_step(alloc, language, &mut progress.line, token),
     }
+}
+
+fn end_line(alloc: Global, progress: &mut Progress) -> Result<(), ReadError>
+    ensures { Turns result progress.new (ended progress.old) }
+{
+    let line = mem::replace(&mut progress.line, Line::Start);
+    progress.statements.push(line_end(alloc, line)?)?;
+    Ok(())
 }
 
 fn refusal(error: ReadError, at: Spot) -> SyntaxFault
@@ -68,6 +73,7 @@ fn first_statements(
     if let Language::Second = language {
         if let Some(word) = tokens.next() {
             let at = word.at;
+            drop(word);
             let kind = StatementKind::Language;
             statements.push(Statement { at, kind })?;
         }
@@ -94,6 +100,7 @@ fn opened(alloc: Global, language: Language, tokens: Vec<Token>) -> Result<Progr
     for token in tokens {
         let at = token.at;
         if let Err(error) = file_step(alloc, language, &mut progress, token) {
+            drop(progress);
             return Err(refusal(error, at));
         }
     }
@@ -140,7 +147,10 @@ fn statements(alloc: Global, text: &[char]) -> Result<Listing<Statement>, Syntax
         match scanner.next(alloc, language) {
             Ok(Some(token)) => go_on(alloc, language, &mut read, token),
             Ok(None) => return statements_of(read),
-            Err(error) => return Err(SyntaxFault::from(error)),
+            Err(error) => {
+                drop(read);
+                return Err(SyntaxFault::from(error));
+            }
         }
     }
 }
@@ -148,7 +158,9 @@ fn statements(alloc: Global, text: &[char]) -> Result<Listing<Statement>, Syntax
 fn statements_of(read: Result<Progress, SyntaxFault>) -> Result<Listing<Statement>, SyntaxFault>
     ensures { MatchResult read (λ p. result ≡ Ok p.statements) (λ e. result ≡ Err e) }
 {
-    Ok(read?.statements)
+    let Progress { statements, line } = read?;
+    drop(line);
+    Ok(statements)
 }
 
 fn characters_of(alloc: Global, bytes: &[u8]) -> Result<Vec<char>, SyntaxFault>
@@ -156,7 +168,10 @@ fn characters_of(alloc: Global, bytes: &[u8]) -> Result<Vec<char>, SyntaxFault>
     ensures { CharactersRead bytes.now result }
 {
     match std::str::from_utf8(bytes) {
-        Ok(text) => characters(alloc, text).map_err(SyntaxFault::Memory),
+        Ok(text) => match characters(alloc, text) {
+            Ok(text) => Ok(text),
+            Err(failed) => Err(SyntaxFault::Memory(failed)),
+        },
         Err(error) => {
             let at = Spot {
                 line: 0,

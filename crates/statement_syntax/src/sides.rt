@@ -2,7 +2,7 @@
 
 ghost use Rattle.std.specs.Prelude.{◌≡◌};
 ghost use Rattle.statement_syntax.specs.Steps.{Gives, Turns};
-ghost use Rattle.statement_syntax.specs.Lines.{start_reading, sides_step, sides_end};
+ghost use Rattle.statement_syntax.specs.Lines.{start_reading, left_end, sides_step, sides_end};
 ghost use Rattle.statement_syntax.specs.declared.line.Line.TheVariants.{Sides};
 
 use crate::expression::{
@@ -38,13 +38,18 @@ pub fn sides_step(
         → Turns result (Sides word at left.new reading.new) (sides_step word at left.old reading.old token.kind token.at) }
 {
     match (&*left, &token.kind) {
-        (None, TokenKind::Equals) => {
-            let whole = mem::replace(reading, start_reading(alloc));
-            drop(mem::replace(left, Some(whole_sum(alloc, whole)?)));
-            Ok(())
-        }
+        (None, TokenKind::Equals) => end_left(alloc, left, reading),
         _ => token_step(alloc, reading, token),
     }
+}
+
+// The left side, where it may end; nothing of the right one is read.
+fn end_left(alloc: Global, left: &mut Option<Sum>, reading: &mut Reading) -> Result<(), ReadError>
+    ensures { (word : SidesWord) → (at : Spot) → Turns result (Sides word at left.new reading.new) (left_end word at reading.old) }
+{
+    let whole = mem::replace(reading, start_reading(alloc));
+    drop(mem::replace(left, Some(whole_sum(alloc, whole)?)));
+    Ok(())
 }
 
 /// The statement, where the right side may end.
@@ -56,12 +61,17 @@ pub fn sides_end(
 ) -> Result<StatementKind, ReadError>
     ensures { Gives result (sides_end word left reading) }
 {
-    let Some(left) = left else {
-        return Err(ReadError::Misfit(Misfit::Expected));
-    };
-    let right = whole_sum(alloc, reading)?;
-    match word {
-        SidesWord::Assume => Ok(StatementKind::Assume(left, right)),
-        SidesWord::Claim => Ok(StatementKind::Claim(left, right)),
+    match left {
+        None => {
+            drop(reading);
+            Err(ReadError::Misfit(Misfit::Expected))
+        }
+        Some(left) => {
+            let right = whole_sum(alloc, reading)?;
+            match word {
+                SidesWord::Assume => Ok(StatementKind::Assume(left, right)),
+                SidesWord::Claim => Ok(StatementKind::Claim(left, right)),
+            }
+        }
     }
 }

@@ -1,5 +1,5 @@
-use Rattle.std.proofs.Common.{map, ap, ◌++◌, ◌∙◌, arith}
-use Rattle.signature_typing.proofs.Progress.{one_more, said_push}
+use Rattle.std.proofs.Common.{map, arith}
+use Rattle.signature_typing.proofs.Progress.{one_more, said_more}
 use Rattle.signature_typing.proofs.stage.push_equations.Goals as goal
 
 pub loop-equation-preserved : goal.loop-equation-preserved
@@ -8,5 +8,5 @@ loop-equation-preserved g c =
     let said = g.S.Stage.said c.args.stage.now in
     one_more (made.values c.args.quiver.now) (made.fault c.args.quiver.now c.args.at) c.args.equations.now c.loop-equation.equation-index
     (map said c.args.values.now) (map said c.loop-equation.values) (map said c.push.new.self) c.equation-item.result (omega arith) c.equation-item.is
-    (ap (map said) c.in_ok-push.ensures.ok ∙ said_push said c.loop-equation.values c.in_ok-value.value ∙ ap (λ ys. map said c.loop-equation.values ++ ys) c.in_ok-value.ensures.ok)
+    (said_more said _ _ _ _ c.in_ok-push.ensures.ok c.in_ok-value.ensures.ok)
     c.in_ok-value.ensures.fits c.loop-equation.invariant
