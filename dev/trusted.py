@@ -1,0 +1,137 @@
+#!/usr/bin/env python3
+"""The files that the clauses of `run`, and the laws beside it, stand on: the table of docs/DEFINITIONS.md.
+
+usage: trusted.py [--write]
+
+A clause of a public function cites words that its file imports from `specs/`; a file of definitions stands on those that it imports. The
+table has each such file of the repository with its lines, and the files of code in which the types stand that definitions speak of. With
+--write it is put into the document, between the lines that begin and end it; else it is printed. The status is 1 where the document has
+another one.
+"""
+from __future__ import annotations
+
+import re
+import sys
+from pathlib import Path
+from typing import Dict, Iterator, List, NamedTuple, Set, Tuple
+
+TOP = Path(__file__).resolve().parents[1]
+CRATES, DOCUMENT = TOP / "crates", TOP / "docs" / "DEFINITIONS.md"
+# The public functions whose clauses are the main theorem and the laws for users.
+STARTS = ("command_runs/src/whole_run.rt", "*_command/src/laws.rt", "command_runs/src/laws.rt")
+BEGINS, ENDS = "<!-- dev/trusted.py begins -->", "<!-- dev/trusted.py ends -->"
+IMPORT = re.compile(r"^\s*(?:ghost |pub )?use Rattle\.(\w+)\.specs\.([\w.]+?)(?:\.\{([^}]*)\}| as .*|\s*)?;?\s*$", re.M)
+# A clause ends before the next one, a remark, the body or an empty line.
+CLAUSES = re.compile(r"^\s*(?:ensures|requires)\b.*(?:\n(?!\s*(?:ensures|requires|[{}/]|$)).*)*", re.M)
+
+
+class Import(NamedTuple):
+    crate: str
+    module: Tuple[str, ...]
+    names: str
+
+
+class Trusted(NamedTuple):
+    definitions: Set[Path]
+    types: Set[Path]
+    foreign: Set[str]
+
+
+def imports(text: str) -> Iterator[Import]:
+    for crate, module, names in IMPORT.findall(text):
+        yield Import(crate, tuple(module.split(".")), names)
+
+
+def cited(path: Path) -> Iterator[Import]:
+    """The imports of a file of code of which a clause of a public function holds a name."""
+    text = path.read_text(encoding="utf-8")
+    public = "\n".join(part for part in re.split(r"^(?=(?:pub )?fn )", text, flags=re.M) if part.startswith("pub fn"))
+    words = set(re.findall(r"[\w◌-]+", "\n".join(CLAUSES.findall(public))))
+    return (it for it in imports(text) if words & {name.split(" as ")[-1].strip() for name in it.names.split(",")})
+
+
+def home(it: Import) -> Path:
+    """The file of the module, which the file that lists a crate's modules may take from another crate."""
+    for count in range(len(it.module), 0, -1):
+        path = CRATES / it.crate / "specs" / ("/".join(it.module[:count]) + ".antt")
+        if path.exists():
+            return path
+    listing = (CRATES / it.crate / "specs" / "Lib.antt").read_text(encoding="utf-8")
+    passed_on = re.search(rf"^pub use Rattle\.(\w+)\.specs\.{it.module[0]}$", listing, re.M)
+    if not passed_on:
+        raise SystemExit(f"trusted.py: no file has the module {it.crate}.specs.{'.'.join(it.module)}")
+    return home(Import(passed_on[1], it.module, it.names))
+
+
+def declaring(it: Import) -> Path:
+    """The file of code that declares a type: all but the last word of the module's path are that of the file."""
+    for count in range(len(it.module), 1, -1):
+        path = CRATES / it.crate / "src" / ("/".join(it.module[1:count]) + ".rt")
+        if path.exists():
+            return path
+    return CRATES / it.crate / "src" / "lib.rt"
+
+
+def trusted() -> Trusted:
+    found = Trusted(set(), set(), set())
+    paths = sorted(path for pattern in STARTS for path in CRATES.glob(pattern))
+    work = [it for path in paths for it in cited(path)]
+    while work:
+        it = work.pop()
+        if not (CRATES / it.crate).is_dir():
+            found.foreign.add(it.crate)
+        elif it.module[0] == "declared":
+            found.types.add(declaring(it))
+        else:
+            path = home(it)
+            if path not in found.definitions:
+                found.definitions.add(path)
+                work.extend(imports(path.read_text(encoding="utf-8")))
+    return found
+
+
+def lines(path: Path) -> int:
+    return len(path.read_text(encoding="utf-8").splitlines())
+
+
+def by_crate(paths: Set[Path], with_lines: bool) -> List[str]:
+    crates: Dict[str, List[str]] = {}
+    for path in sorted(paths):
+        name, _, *inner = path.relative_to(CRATES).parts
+        stem = "/".join(inner).rpartition(".")[0]
+        crates.setdefault(name, []).append(f"`{stem}` {lines(path)}" if with_lines else f"`{stem}`")
+    return [f"| `{name}` | {', '.join(files)} |" for name, files in sorted(crates.items())]
+
+
+def table() -> str:
+    found = trusted()
+    total = sum(map(lines, found.definitions))
+    foreign = ", ".join(f"`{name}`" for name in sorted(found.foreign - {"std"}))
+    return "\n".join([
+        f"{len(found.definitions)} files of `specs/` with {total:,} lines, with the lines of each:", "",
+        "| Crate | Files of `specs/` |", "|---|---|", *by_crate(found.definitions, True), "",
+        f"The types that they speak of are declared in {len(found.types)} files of `src/`, and they cite stated contracts of {foreign} and of `std`:", "",
+        "| Crate | Files of `src/` |", "|---|---|", *by_crate(found.types, False),
+    ])  # fmt: skip
+
+
+def main(words: List[str]) -> int:
+    if words not in ([], ["--write"]):
+        print("usage: trusted.py [--write]", file=sys.stderr)
+        return 2
+    text = DOCUMENT.read_text(encoding="utf-8")
+    front, begins, rest = text.partition(BEGINS)
+    _, ends, back = rest.partition(ENDS)
+    if not begins or not ends:
+        print(f"trusted.py: {DOCUMENT} has no place for the table", file=sys.stderr)
+        return 1
+    new = f"{front}{BEGINS}\n{table()}\n{ENDS}{back}"
+    if words:
+        DOCUMENT.write_text(new, encoding="utf-8")
+        return 0
+    print(table())
+    return int(new != text)
+
+
+if __name__ == "__main__":
+    sys.exit(main(sys.argv[1:]))

@@ -1,0 +1,259 @@
+#!/usr/bin/env python3
+"""Tries cancel.py, and to_chain.py on proofs that take letters off: try_cancel.py
+
+The reports that try_cancel_rows.py has are asked of cancel.py, and with them go the proofs of the gallery, random proofs and changed
+ones; check.py has to answer by the same line where no number is too large. Where opprove is built and has `cancel`, or the variable
+OPPROVE names such a program, it prints the same bytes; so does plain.rs, of proofs that it reads, where rustc is.
+"""
+from __future__ import annotations
+
+import re
+import sys
+from pathlib import Path
+from random import Random
+from typing import Callable, Dict, Iterator, List, Tuple
+
+sys.dont_write_bytecode = True
+from opprove.checkers import cancel
+from opprove.translations import chain as to_chain
+import try_cancel_rows
+import try_chains
+from opprove.checkers.check import Problem
+from opprove.checkers.scripts import DONE, REFUSED
+from trying import EXAMPLES, Answer, checker, need, run, tool
+from trying_second import Files, Second, files_in, main
+
+COUNT = 60  # random proofs
+LARGE = 2**16  # bytes of a text that is asked of other scripts
+UNREAD_EVIDENCE = re.compile(rb"\[|'|^[ \t]*#|\r|^(?:model|basis|certificate) ", re.MULTILINE)
+SECOND = Second(cancel, unread_evidence=UNREAD_EVIDENCE)
+BOUNDS = re.compile("refused (?:K4|C4|C5|C9|C11) ")  # what check.py and to_chain.py don't look at
+
+
+def cancelled(files: Files) -> Answer:
+    answer = SECOND.answered(files)
+    need(answer.status in (DONE, REFUSED) and (answer.status == DONE) == (" refused " not in answer.out), answer)
+    return answer
+
+
+def rows(folder: Path) -> str:
+    """The reports that were worked out by hand."""
+    files, found = files_in(folder), try_cancel_rows.runs()
+    for row in found:
+        files.write(row.statement, row.proof)
+        answer = cancelled(files)
+        need(answer.out == row.report, (row.name, row.proof[:1000], answer.out[:3000], row.report[:3000]))
+    return f"{len(found)} reports that were worked out by hand are those of {SECOND.by_whom()}"
+
+
+def told(files: Files) -> int:
+    """Fails unless to_chain.py writes text that is read back, and the same proofs. Gives the number of proofs."""
+    words, problem = [str(files.statement), str(files.evidence)], Problem(str(files.statement))
+    found = list(try_chains.groups_of(list(to_chain.written(words))))
+    for groups in found:
+        try_chains.read_proof(problem, groups)
+    report, text = cancelled(files), "\n".join(to_chain.written([*words, "--certificate"])) + "\n"
+    files.evidence.write_text(text, encoding="utf-8")
+    need(cancelled(files) == report, (text, report))
+    return len(found)
+
+
+def chains(folder: Path) -> str:
+    """What to_chain.py makes of the rows and the gallery."""
+    files, count = Files(folder, None), 0
+    cases = [(row.statement, row.proof) for row in try_cancel_rows.runs() if " refused " not in row.report and len(row.proof) < LARGE]
+    for evidence in sorted(EXAMPLES.glob("gallery/*.cert")):
+        cases.append((evidence.with_suffix(".op").read_text("utf-8"), evidence.read_text("utf-8")))
+    for statement, proof in cases:
+        if len(statement) < LARGE and "m200" not in statement:
+            files.write(statement, proof)
+            count += told(files)
+    files.write(try_cancel_rows.J, try_cancel_rows.proof(try_cancel_rows.J1))
+    answer = run(*tool("chain"), files.statement, files.evidence)
+    need(answer == Answer(0, TEXT, ""), answer)
+    files.write(try_cancel_rows.J, try_cancel_rows.proof(try_cancel_rows.edited(try_cancel_rows.J1, "monic k =>")))
+    answer = run(*tool("chain"), files.statement, files.evidence)
+    need(answer == Answer(1, "", "# block 1 refused X2 item 3\n"), answer)
+    return f"{count} proofs that take letters off are written as chains and read back"
+
+
+TEXT = """Claim 1, where m and k are monic: x = y
+
+Assumptions that are used
+(1) m k x = m k y   line 5
+Not used: none
+
+Lemma [1]: m k y = m k x
+  m k y
+= m k x   by (1)
+
+Lemma [2], by [1], since m is monic: k y = k x
+
+Lemma [3], by [2], since k is monic: y = x
+
+Proof
+  x
+= y   by [3]
+"""
+
+
+def calls(folder: Path) -> str:
+    return SECOND.calls(folder, try_cancel_rows.J, try_cancel_rows.proof(try_cancel_rows.J1), ["--workers", 2])
+
+
+def others(folder: Path) -> str:
+    """What other scripts make of the text: check.py checks it, and explain.py, confirm.py and check_model.py read others."""
+    files = Files(folder, None)
+    files.write(try_cancel_rows.J, try_cancel_rows.proof(try_cancel_rows.J1))
+    want = {"check": (0, "# block 1 accepted claim 1 denominator 1 monic m k\n"), "confirm": (7, "# refused K7\n")}
+    for name, status in (("check", 0), ("explain", 7), ("confirm", 7), ("check_model", 1)):
+        answer = run(*checker(name), files.statement, files.evidence)
+        need(answer == Answer(status, want.get(name, (status, "# refused K2 line 1\n"))[1], ""), (name, answer))
+    return "4 other scripts answer a text of such proofs as they should"
+
+
+def gallery(folder: Path) -> str:
+    """The proofs of the gallery."""
+    files, claims = files_in(folder), 0
+    for evidence in sorted(EXAMPLES.glob("gallery/*.cert")):
+        files.write(evidence.with_suffix(".op").read_text("utf-8"), evidence.read_text("utf-8"))
+        answer = cancelled(files)
+        need(answer.status == DONE, (evidence, answer))
+        claims += answer.out.count(" accepted ")
+    need(claims >= 4, claims)
+    return f"{claims} claims of the gallery are accepted by {SECOND.by_whom()}"
+
+
+# ---- Changed proofs
+
+
+def changed(text: str, letters: List[str]) -> Iterator[str]:
+    """The text with one change: of a number, a letter or a side, or of a line that is left out, comes twice or goes down."""
+    lines = text.split("\n")
+    for place, line in enumerate(lines):
+        front, back = lines[:place], lines[place + 1 :]
+        for match in re.finditer(r"(?<![^ (])-?[0-9]+(?![^ )])", line):
+            for other in (int(match.group()) + 1, 0, int(match.group()) * (2**127 - 1)):
+                yield "\n".join([*front, f"{line[: match.start()]}{other}{line[match.end() :]}", *back])
+        for match in re.finditer(r"(?<=[( ])[^ ()0-9+-][^ ()]*(?=[^()]*\) )|(?<=[( ])[^ ()0-9]+(?=[^()]*\)$)|(?<=ic )\S+|(?<=l [0-9] )\S+", line):
+            for other in [letter for letter in letters if letter != match.group()][:2]:
+                yield "\n".join([*front, line[: match.start()] + other + line[match.end() :], *back])
+        for one, other in (("left", "right"), ("right", "left"), ("monic", "epic"), ("epic", "monic")):
+            if f" {one} " in f" {line} ":
+                yield "\n".join([*front, line.replace(one, other), *back])
+        yield "\n".join([*front, *back])
+        yield "\n".join([*front, line, line, *back])
+        yield "\n".join([*front, *back[:1], line, *back[1:]])
+
+
+def changes(folder: Path) -> str:
+    """Changed proofs of the rows that are accepted."""
+    files, count, accepted = files_in(folder), 0, 0
+    for row in [row for row in try_cancel_rows.runs() if " refused " not in row.report and len(row.proof) < 400][::3]:
+        files.write(row.statement, row.proof)
+        letters = Problem(str(files.statement)).names
+        for text in list(changed(row.proof, letters))[::2]:
+            files.write(row.statement, text)
+            count += 1
+            accepted += cancelled(files).status == DONE
+    need(count >= 300 and accepted >= 10, (count, accepted))
+    return f"{count} changed proofs, {accepted} of which are accepted, are answered by {SECOND.by_whom()}"
+
+
+# ---- Random proofs
+
+
+class Maker:
+    """A statement whose claim follows by taking letters off, and the proof."""
+
+    def __init__(self, random: Random) -> None:
+        self.random = random
+        self.objects = ["U", "V", "W"][: random.randrange(1, 4)]
+        self.maps = [(name, random.choice(self.objects), random.choice(self.objects)) for name in "abcdefgh"]
+        self.lines = [f"object {' '.join(self.objects)}", *(f"map {name} : {source} -> {target}" for name, source, target in self.maps)]
+        self.is_starred = random.random() < 0.3
+
+    def letters(self) -> List[Tuple[str, str, str]]:
+        """Names, sources and targets."""
+        stars = [(f"{name}'", target, source) for name, source, target in self.maps] if self.is_starred else []
+        return [*self.maps, *stars]
+
+    def word(self, source: str, target: str, most: int) -> List[str]:
+        """A path, or nothing where none was found."""
+        for _ in range(100):
+            word, at = [], source
+            for _ in range(self.random.randrange(1, most + 1)):
+                nexts = [letter for letter in self.letters() if letter[1] == at]
+                if not nexts:
+                    break
+                name, _, at = self.random.choice(nexts)
+                word.insert(0, name)
+            if word and at == target:
+                return word
+        return []
+
+    def made(self) -> Tuple[str, str]:
+        random, source, target = self.random, self.random.choice(self.objects), self.random.choice(self.objects)
+        words = {" ".join(word) for word in (self.word(source, target, 3) for _ in range(4)) if word}
+        if not words:
+            return self.made()
+        claim = {word: random.choice([1, 1, -1, 2, -3]) for word in sorted(words)}
+        front, behind, steps, ends = [], [], [], [source, target]
+        for _ in range(random.randrange(4)):
+            is_left = random.random() < 0.5
+            fits = [letter for letter in self.letters() if letter[1 if is_left else 2] == ends[is_left]]
+            if fits:
+                letter = random.choice(fits)
+                ends[is_left] = letter[2 if is_left else 1]
+                front, behind = ([letter[0], *front], behind) if is_left else (front, [*behind, letter[0]])
+                steps.insert(0, (letter[0], is_left))
+        return self.text(claim, front, behind), self.proof(steps)
+
+    def text(self, claim: Dict[str, int], front: List[str], behind: List[str]) -> str:
+        """The statement. The assumption is split into a part and what is left of it."""
+        scale, part = self.random.choice([1, 1, 2]), self.random.choice([0, 1, -2])
+        self.scale, self.part = scale, part
+        longer = {" ".join([*front, word, *behind]): scale * value for word, value in claim.items()}
+        first = {word: part * value for word, value in longer.items()}
+        assumptions = [f"assume {summed({word: value - first[word] for word, value in longer.items()})} = 0", f"assume {summed(first)} = 0"]
+        star = [f"assume {self.maps[0][0]}' = {self.maps[0][0]}'"] if self.is_starred else []
+        return "\n".join([*self.lines, *assumptions, *star, f"claim {summed(claim)} = 0"]) + "\n"
+
+    def proof(self, steps: List[Tuple[str, bool]]) -> str:
+        monic = dict.fromkeys(letter for letter, is_left in steps if is_left)
+        epic = dict.fromkeys(letter for letter, is_left in steps if not is_left)
+        names = [*(f"monic {letter}" for letter in monic), *(f"epic {letter}" for letter in epic)]
+        self.random.shuffle(names)
+        items = ["lemma 1 scale 1", "row 1 () 1 ()", "row 1 () 2 ()"]
+        items += [f"cancel {number} {letter} {'left' if is_left else 'right'} {number - 1}" for number, (letter, is_left) in enumerate(steps, 2)]
+        goal = [f"goal scale {self.scale}", f"row 1 () lemma {len(steps) + 1} ()"]
+        return "\n".join(["cancellation 1", "claim 1", f"denominator {self.scale}", *names, *items, *goal, "end"]) + "\n"
+
+
+def summed(poly: Dict[str, int]) -> str:
+    terms = [f"{'-' if value < 0 else '+'} {abs(value)} {word}" for word, value in poly.items()]
+    return re.sub(r"^\+ ", "", " ".join(terms))
+
+
+def random_proofs(folder: Path, count: int = COUNT) -> str:
+    files, random = files_in(folder), Random(1)
+    accepted = changes_made = 0
+    for _ in range(count):
+        statement, text = Maker(random).made()
+        files.write(statement, text)
+        answer = cancelled(files)
+        need(answer.status == DONE, (statement, text, answer))
+        accepted += told(files)
+        letters = Problem(str(files.statement)).names
+        for other in random.sample(list(changed(text, letters)), 6):
+            files.write(statement, other)
+            cancelled(files)
+            changes_made += 1
+    return f"{accepted} random proofs are accepted, written as chains and read back, and {changes_made} changed ones answered by {SECOND.by_whom()}"
+
+
+CHECKS: List[Callable[[Path], str]] = [calls, others, gallery, rows, chains, changes, random_proofs]
+
+
+if __name__ == "__main__":
+    sys.exit(main(CHECKS))

@@ -1,0 +1,119 @@
+"""Runs the commands of docs/GUIDE.md, and compares what they print with what stands there: try.py guide
+
+A block of the guide that begins with `# NAME.op` is that file. In a block of commands each line that begins with `$ ` is one,
+and what stands below it is its output. They run in a temporary folder that has these files, the examples and the sources for
+Coq; `./opprove` is the built program there, and a tool of the package this checkout's. Where the program isn't built the tools of
+Python run all the same: what it prints into a file by `tee` is then taken from the guide.
+"""
+from __future__ import annotations
+
+import os
+import re
+import shlex
+import shutil
+import sys
+import tempfile
+from pathlib import Path
+from typing import Callable, Dict, List, NamedTuple
+
+from opprove import cli
+from trying import EXAMPLES, PROGRAM, SOURCE, TOP, Skipped, installed, need, run, tool
+
+GUIDE = TOP / "docs" / "GUIDE.md"
+TOOLS = "|".join(tool.word for tool in cli.TOOLS)
+
+
+class Command(NamedTuple):
+    line: str
+    shown: str
+
+    def asks_program(self) -> bool:
+        return re.search(rf"\./opprove (?!({TOOLS}) )|\./opprove search ", self.line) is not None
+
+    def asks_coq(self) -> bool:
+        return self.line.startswith("coqc ")
+
+
+class Guide(NamedTuple):
+    files: Dict[str, str]
+    commands: List[Command]
+
+
+def read(text: str) -> Guide:
+    """The files and the commands of the guide; a block is nothing else."""
+    files: Dict[str, str] = {}
+    commands: List[Command] = []
+    for block in re.findall(r"^```\n(.*?)^```$", text, re.MULTILINE | re.DOTALL):
+        name = re.match(r"# (\w+\.op): ", block)
+        need(bool(name) or block.startswith("$ "), f"a block of the guide: {block}")
+        if name:
+            need(name[1] not in files, f"{name[1]} stands twice")
+            files[name[1]] = block
+            continue
+        for part in re.split(r"^\$ ", block, flags=re.MULTILINE)[1:]:
+            line, _, shown = part.partition("\n")
+            commands.append(Command(line, shown))
+    return Guide(files, commands)
+
+
+def as_run(line: str) -> str:
+    """The line with the program, and the tools of this checkout by this Python."""
+    line = re.sub(rf"\./opprove ({TOOLS})(?= )", lambda match: " ".join(map(shlex.quote, tool(match[1]))), line)
+    return line.replace("./opprove ", f"{shlex.quote(str(PROGRAM))} ")
+
+
+def has_files(line: str, folder: Path) -> bool:
+    """Whether the files are there that the line reads."""
+    return all((folder / word).exists() for word in line.split() if re.fullmatch(r"[\w/]+\.(op|report|model|v)", word))
+
+
+def followed(folder: Path, is_wanted: Callable[[Command, Path], bool]) -> int:
+    """Runs the commands that are wanted at their place, and tells how many they were."""
+    guide, count = read(GUIDE.read_text(encoding="utf-8")), 0
+    place = Path(tempfile.mkdtemp(dir=folder))
+    for name, text in guide.files.items():
+        (place / name).write_text(text, encoding="utf-8")
+    (place / "examples").symlink_to(EXAMPLES)
+    coq_files = SOURCE / "opprove" / "coq" / "theories"
+    others = lambda _, names: {name for name in names if name[-2:] != ".v"}
+    shutil.copytree(coq_files, place / coq_files.relative_to(TOP), ignore=others)
+    for command in guide.commands:
+        stored = re.search(r" \| tee (\S+)$", command.line)
+        if is_wanted(command, place):
+            answer = run("bash", "-c", as_run(command.line), folder=place)
+            need(answer.out == command.shown, f"$ {command.line}\n{answer.out}{answer.error}and the guide has\n{command.shown}")
+            need(not answer.error or "./opprove search " in command.line, f"$ {command.line}\n{answer.error}")
+            count += 1
+        elif stored:
+            (place / stored[1]).write_text(command.shown, encoding="utf-8")
+    return count
+
+
+def alone(folder: Path) -> str:
+    """The tools of Python, on reports as they stand in the guide."""
+
+    def is_of_python(command: Command, place: Path) -> bool:
+        return not command.asks_program() and not command.asks_coq() and has_files(command.line, place)
+
+    count = followed(folder, is_of_python)
+    need(count >= 8, f"{count} commands")
+    return f"{count} commands of the guide that want Python alone print what stands there"
+
+
+def built(folder: Path) -> str:
+    if not os.access(PROGRAM, os.X_OK):
+        raise Skipped("opprove is not built, and its commands of the guide are not run")
+    count = followed(folder, lambda command, _: not command.asks_coq())
+    commands = read(GUIDE.read_text(encoding="utf-8")).commands
+    need(count == sum(not command.asks_coq() for command in commands), f"{count} commands")
+    return f"{count} commands of the guide print what stands there"
+
+
+def coq(folder: Path) -> str:
+    installed("coqc")
+    count = followed(folder, lambda command, _: command.asks_coq() or "./opprove coq " in command.line)
+    need(count == 2, f"{count} commands")
+    return "the theorem of the guide is accepted by coqc"
+
+
+CHECKS: List[Callable[[Path], str]] = [alone, built, coq]

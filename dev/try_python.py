@@ -1,0 +1,575 @@
+#!/usr/bin/env python3
+"""Tries the package of Python: try_python.py [PYTHON ..]
+
+The package is installed by pip, without network, into a fresh venv of this Python, and of each other one that is named, and
+what stands below is tried there. The program is that of OPPROVE or the built one; what needs one is skipped where there is none.
+Each check gives a line, and raises Failed where the package doesn't do what it should. The status is 0 where nothing failed.
+"""
+from __future__ import annotations
+
+import dataclasses
+import functools
+import os
+import re
+import shutil
+import subprocess
+import sys
+import tempfile
+import xml.etree.ElementTree
+from pathlib import Path
+from random import Random
+from typing import Callable, Dict, List, NamedTuple, Tuple
+
+sys.dont_write_bytecode = True
+from opprove.checkers import check
+from trying import EXAMPLES, PROGRAM, TOP, Failed, Skipped, decided, need, run, run_checks
+
+HERE = Path(__file__).resolve()
+NAMED = os.environ.get("OPPROVE") or str(PROGRAM)
+
+
+def program() -> str:
+    if not os.access(NAMED, os.X_OK):
+        raise Skipped("opprove is not built")
+    return NAMED
+
+
+# ---- Statements, built from objects
+
+
+def commutator_square(s: Statement) -> None:
+    V = s.object("V")
+    d, x = s.maps("d x", V, V)
+    s.assume(d * x - x * d == 1)
+    s.claim(d * x**2 - x**2 * d == 2 * x)
+
+
+def evaluation_idempotent(s: Statement) -> None:
+    V = s.object("V")
+    d, i = s.maps("d i", V, V)
+    s.assume(d * i == 1)
+    s.claim((1 - i * d) ** 2 == 1 - i * d, d * (1 - i * d) == 0, (1 - i * d) * i == 0)
+
+
+def moore_penrose_unique(s: Statement) -> None:
+    U, V = s.objects("U V")
+    a, (x, y) = s.map("a", U, V), s.maps("x y", V, U)
+    s.pinv(a, x)
+    s.pinv(a, y)
+    s.claim(x == y)
+
+
+def one_sided_inverse(s: Statement) -> None:
+    U, V = s.objects("U V")
+    a, b = s.map("a", U, V), s.map("b", V, U)
+    s.assume(a * b == 1)
+    s.claim(b * a == 1)
+    s.shape(2, (U, 2), (V, 1))
+
+
+def woodbury(s: Statement) -> None:
+    U, V = s.objects("U V")
+    a, x = s.maps("a x", U, U)
+    u, v, (c, y, m) = s.map("u", V, U), s.map("v", U, V), s.maps("c y m", V, V)
+    s.inverse(a, x)
+    s.inverse(c, y)
+    s.assume((y + v * x * u) * m == 1, m * (y + v * x * u) == 1)
+    s.claim((a + u * c * v) * (x - x * u * m * v * x) == 1, (x - x * u * m * v * x) * (a + u * c * v) == 1)
+
+
+WRITTEN: List[Callable[["Statement"], None]] = [
+    commutator_square, evaluation_idempotent, moore_penrose_unique, one_sided_inverse, woodbury,
+]  # fmt: skip
+
+
+class Builder:
+    """Builds a statement by the operators of Python, token by token of a text. What is declared comes first."""
+
+    def __init__(self, path: Path) -> None:
+        self.statement = Statement()
+        lines = [line.tokens for line in check.lines_of(str(path)) if line.tokens[0].text != "language"]
+        order = {"object": 0, "map": 1}
+        for self.tokens in sorted(lines, key=lambda tokens: order.get(tokens[0].text, 2)):
+            self.line([token.text for token in self.tokens[:-1]])
+
+    def line(self, words: List[str]) -> None:
+        s, word, names = self.statement, words[0], words[1:]
+        if word == "object":
+            s.objects(" ".join(names))
+        elif word == "map":
+            place = names.index(":")
+            source, target = s[names[place + 1]], s[names[place + 3]]
+            s.maps(" ".join(names[:place]), source, target, self_adjoint=names[-1] == "self" and len(names) > place + 4)
+        elif word in ("assume", "claim"):
+            getattr(s, word)(self.equation())
+        elif word in ("pinv", "inverse", "inner", "projection", "solve", "eliminate"):
+            getattr(s, word)(*(s[name] for name in names))
+        elif word == "model":
+            s.shape(int(names[0]), *((s[name], int(side)) for name, side in zip(names[1::2], names[2::2])))
+        elif names[:1] == ["weight"]:
+            s.weights(*((s[name], int(weight)) for name, weight in zip(names[1::2], names[2::2])))
+        else:
+            s.write(" ".join(words))
+
+    def take(self, *kinds: str) -> str:
+        """The next token, if it is of one of these kinds."""
+        return self.tokens.pop(0).text if self.tokens[0].kind in kinds else ""
+
+    def equation(self) -> Equation:
+        self.take("name")
+        left = self.sum()
+        need(self.take("="), self.tokens)
+        right = self.sum()
+        return (left * right if isinstance(left, int) else left) == right  # as 0 alone has no ends
+
+    def sum(self) -> Expression:
+        sign = self.take("+", "-")
+        total = -self.term() if sign == "-" else self.term()
+        while self.tokens[0].kind in ("+", "-"):
+            total = total + self.term() if self.take("+", "-") == "+" else total - self.term()
+        return total
+
+    def term(self) -> Expression:
+        number = self.take("literal")
+        value = None
+        while self.tokens[0].kind in ("name", "[", "("):
+            value = self.factor() if value is None else value * self.factor()
+        if value is None:
+            return int(number)
+        return int(number) * value if number else value
+
+    def factor(self) -> Expression:
+        if self.take("("):
+            value = self.sum()
+            self.take(")")
+        elif self.take("["):
+            value = self.statement[self.take("name")].id
+            self.take("]")
+        else:
+            value = self.statement[self.take("name")]
+        while mark := self.take("'", "^"):
+            value = value.H if mark == "'" else value ** int(self.take("literal"))
+        return value
+
+
+def polys(problem: check.Problem) -> Tuple[object, ...]:
+    return problem.names, problem.ends, problem.is_starred, problem.assumptions, problem.claims
+
+
+def problem_of(folder: Path, text: str) -> check.Problem:
+    path = folder / "statement.op"
+    path.write_text(text, encoding="utf-8")
+    return check.Problem(str(path))
+
+
+def gallery(folder: Path) -> str:
+    """The statements from objects are those of the files, which are read and written back."""
+    for build in WRITTEN:
+        build(built := Statement())
+        path = EXAMPLES / "gallery" / f"{build.__name__}.op"
+        need(polys(problem_of(folder, str(built))) == polys(check.Problem(str(path))), (path, str(built)))
+    paths = sorted(EXAMPLES.glob("**/*.op"))
+    for path in paths:
+        built, read, problem = Builder(path).statement, Statement.read(path), check.Problem(str(path))
+        need(polys(problem_of(folder, str(built))) == polys(problem), (path, str(built)))
+        need(str(read) == path.read_text() and str(Statement.read(problem_file(folder, str(read)))) == str(read), path)
+        need(len(read.claims) == len(problem.claims) == len(built.claims), path)
+        lines = [[token.text for token in check.tokens_of(line, 1)] for line in str(built).split("\n")]
+        need({token for line in lines for token in line} >= {*built.names} and {*built.names} == {*read.names}, path)
+    return f"{len(paths)} statements are built from objects, {len(WRITTEN)} of them by hand, and read and written"
+
+
+def problem_file(folder: Path, text: str) -> Path:
+    problem_of(folder, text)
+    return folder / "statement.op"
+
+
+def heads(folder: Path) -> str:
+    """Of what is built from objects: the head lines of the page, and verdicts that the checkers in Python confirm."""
+    rows = re.findall(r"^\| `(\w+)\.op`: [^|]* \| (.*) \|$", (EXAMPLES / "README.md").read_text(), re.MULTILINE)
+    rows = [(name, text) for name, text in rows if text.startswith("`# claim ")]
+    wanted = {name: (re.findall("`# ([^`]*)`", text), "".join(re.findall(r"\(`([^`]*)`\)", text))) for name, text in rows}
+    count = 0
+    paths = [path for path in decided() if path.parent.name == "gallery" and path.stem in wanted]
+    proofs: List[str] = []
+    for path in paths:
+        lines, options = wanted[path.stem]
+        s = Builder(path).statement
+        verdicts = s.prove(*options.split(), program=program())
+        found = [f"claim {verdict.number} {verdict.kind} {verdict.detail}" for verdict in verdicts]
+        need(found == lines, (path, found, lines))
+        is_false = path.stem in ("braid_relation", "one_sided_inverse", "two_sided_equation_condition")
+        more = s.refute(program=program()) if is_false else s.prove("--format", 1, *options.split(), program=program())
+        count += sum([confirmed(verdict) for verdict in verdicts + more])
+        proofs += [verdict._repr_latex_() for verdict in verdicts if verdict]
+    need(count >= 38 and len(paths) >= 12, (count, paths))
+    typeset(folder, proofs)
+    return f"{len(paths)} statements of the gallery have the head lines of its page; {count} verdicts are confirmed, and not with a change"
+
+
+def confirmed(verdict: Verdict) -> bool:
+    """Whether the verdict is one that is checked in Python, where it has to be accepted, and each changed one not."""
+    is_checked = verdict.kind in ("proved", "refuted")
+    need(verdict.recheck() is (True if is_checked else None), (verdict, verdict.block))
+    need(bool(verdict) == (verdict.kind == "proved"), verdict)
+    if verdict.kind == "not derivable":
+        need(f"rules {len(verdict.rules)}" == verdict.detail and bool(verdict.rest), verdict)
+    for block in changes(verdict.block) if is_checked else ():
+        need(dataclasses.replace(verdict, block=block).recheck() is False, (verdict, block))
+    if verdict.kind == "proved":
+        need(f"Claim {verdict.number}" in verdict.chain() and verdict.certificate == verdict.block, verdict)
+        need(all(f"({number}) {text}" in verdict.chain() for number, text in verdict.assumptions.items()), verdict)
+    return is_checked
+
+
+def changes(block: str) -> List[str]:
+    """The block with a changed row, with one row less, and of another claim."""
+    found = [re.sub(r"^claim (\d+)$", lambda match: f"claim {int(match.group(1)) + 1}", block, flags=re.MULTILINE)]
+    row = re.search(r"^row (-?\d+) .*\n", block, re.MULTILINE)
+    if row:
+        start, end = row.span(1)
+        found += [block[: row.start()] + block[row.end() :], f"{block[:start]}{int(row.group(1)) + 1}{block[end:]}"]
+    return found
+
+
+def stored(folder: Path) -> str:
+    """What verdicts are made of, from stored reports."""
+    rows = [("pasted_squares", {1, 2}), ("one_sided_inverses", {1, 2}), ("pseudoinverses", {*range(1, 9)})]
+    for name, numbers in rows:
+        s = Statement.read(EXAMPLES / f"{name}.op")
+        text = (EXAMPLES / f"{name}.cert").read_text()
+        verdict = Verdict(1, s.claims[0], "proved", "denominator 1 rows 2", text, str(s))
+        need(confirmed(verdict) and {*verdict.assumptions} == numbers, (name, verdict.assumptions))
+        need(dataclasses.replace(verdict, detail="denominator 2 rows 2").recheck() is False, name)
+    s = Statement.read(EXAMPLES / "equal_maps.op")
+    text = (EXAMPLES / "equal_maps_refused.cert").read_text()
+    wrong = Verdict(1, s.claims[0], "proved", "denominator 1 rows 1", text, str(s))
+    need(wrong.recheck() is False, wrong)
+    raised(lambda: wrong.chain(), Refused, "# block 1 refused C6 word b want 0 got -1")
+    s = Statement.read(EXAMPLES / "gallery" / "one_sided_inverse.op")
+    text = "model 1\nclaim 1\nmodulus 2\nside U 2\nside V 1\nmap a = 1 0\nmap b = 1 ; 0\nend\n"
+    refuted = Verdict(1, s.claims[0], "refuted", "", text, str(s))
+    need(confirmed(refuted) and refuted.model == {"a": [[1, 0]], "b": [[1], [0]]}, refuted.model)
+    need((refuted.modulus, refuted.sides, refuted._repr_latex_()) == (2, {"U": 2, "V": 1}, None), refuted)
+    need(dataclasses.replace(refuted, block=text.replace("a = 1", "a = 0")).recheck() is False, refuted)
+    raised(refuted.chain, ValueError, "claim 1 is refuted, and has no chain")
+    return f"{len(rows) + 2} stored certificates and models are verdicts that are confirmed, and not with a change"
+
+
+# ---- Expressions
+
+Poly = Dict[Tuple[str, ...], int]  # words of letters as they are written
+
+
+class Sample(NamedTuple):
+    """An expression, and what it has to multiply out to."""
+
+    expression: Expression
+    poly: Poly
+
+    def is_endomorphism(self) -> bool:
+        return self.expression.source is self.expression.target
+
+
+class Samples:
+    """Random expressions over one statement: by the operators of Python, and multiplied out apart from them."""
+
+    def __init__(self, seed: int) -> None:
+        self.random, self.statement = Random(seed), Statement()
+        objects = self.statement.objects("U V")
+        self.objects = objects
+        U, V = objects
+        maps = [*self.statement.maps("a b", U, V), self.statement.map("c", V, U), self.statement.map("e", U, U)]
+        maps.append(self.statement.map("p", V, V, self_adjoint=True))
+        self.statement.claim(maps[0] == 0)
+        self.maps = [Sample(a, {(a.text,): 1}) for a in maps]
+        self.maps += [Sample(end.id, {(f"[{end}]",): 1}) for end in objects]
+
+    def sample(self, source: Object, target: Object, depth: int) -> Sample:
+        fitting = [one for one in self.maps if (one.expression.source, one.expression.target) == (source, target)]
+        if depth == 0:
+            return self.random.choice(fitting)
+        ways = [self.sum, self.product, self.scaled, self.adjoint, self.signed]
+        ways += [self.power, self.beside_integer] if source is target else []
+        return self.random.choice(ways)(source, target, depth - 1)
+
+    def sum(self, source: Object, target: Object, depth: int) -> Sample:
+        left, right = (self.sample(source, target, self.random.randint(0, depth)) for _ in range(2))
+        sign = self.random.choice((1, -1))
+        result = left.expression + right.expression if sign == 1 else left.expression - right.expression
+        return Sample(result, check.add(dict(left.poly), sign, right.poly))
+
+    def product(self, source: Object, target: Object, depth: int) -> Sample:
+        middle = self.random.choice(self.objects)
+        left, right = self.sample(middle, target, depth), self.sample(source, middle, self.random.randint(0, depth))
+        return Sample(left.expression * right.expression, times(left.poly, right.poly))
+
+    def scaled(self, source: Object, target: Object, depth: int) -> Sample:
+        one, scale = self.sample(source, target, depth), self.random.randint(-3, 3)
+        result = scale * one.expression if self.random.random() < 0.5 else one.expression * scale
+        return Sample(result, check.add({}, scale, one.poly) if scale else {})
+
+    def adjoint(self, source: Object, target: Object, depth: int) -> Sample:
+        one = self.sample(target, source, depth)
+        return Sample(one.expression.H, {tuple(starred(letter) for letter in word[::-1]): one.poly[word] for word in one.poly})
+
+    def signed(self, source: Object, target: Object, depth: int) -> Sample:
+        one = self.sample(source, target, depth)
+        return Sample(-(+one.expression), check.add({}, -1, one.poly))
+
+    def power(self, source: Object, target: Object, depth: int) -> Sample:
+        one, exponent = self.sample(source, target, depth), self.random.randint(0, 2)
+        poly: Poly = one.poly if exponent else {(f"[{source}]",): 1}
+        for _ in range(exponent - 1):
+            poly = times(poly, one.poly)
+        return Sample(one.expression**exponent, poly)
+
+    def beside_integer(self, source: Object, target: Object, depth: int) -> Sample:
+        one, number = self.sample(source, target, depth), self.random.randint(-3, 3)
+        unit: Poly = {(f"[{source}]",): number} if number else {}
+        result, signs = self.random.choice(
+            [
+                (lambda e: e + number, (1, 1)), (lambda e: number + e, (1, 1)),
+                (lambda e: e - number, (1, -1)), (lambda e: number - e, (-1, 1)),
+            ]
+        )  # fmt: skip
+        return Sample(result(one.expression), check.add(check.add({}, signs[0], one.poly), signs[1], unit))
+
+
+def starred(letter: str) -> str:
+    is_own = letter[0] == "[" or letter == "p"
+    return letter if is_own else letter[:-1] if letter[-1] == "'" else letter + "'"
+
+
+def times(left: Poly, right: Poly) -> Poly:
+    total: Poly = {}
+    for word, coefficient in left.items():
+        check.add(total, coefficient, right, left=word)
+    return total
+
+
+def expressions(folder: Path) -> str:
+    """The written text of random expressions has, by check.py, the polynomial that they were multiplied out to."""
+    samples = Samples(7)
+    problem = problem_of(folder, str(samples.statement))
+    for number in range(1000):
+        source, target = (samples.random.choice(samples.objects) for _ in range(2))
+        one = samples.sample(source, target, samples.random.randint(1, 5))
+        line = check.Line(check.tokens_of(one.expression.text, 1), problem)
+        ends, poly = line.sum()
+        need(line.is_at("end"), one)
+        written = {tuple(problem.names[letter] for letter in word): value for word, value in poly.items()}
+        need(written == one.poly, (one, written))
+        need(tuple(problem.names[end] for end in ends) == (f"[{source}]", f"[{target}]"), (one, ends))
+    return f"{number + 1} random expressions are written as what they multiply out to"
+
+
+def raised(action: Callable[[], object], kind: type, message: str, status: int = 0) -> None:
+    try:
+        found: object = action()
+    except kind as error:
+        need(str(error) == message and (not status or error.status == status), (error, message))
+        return
+    raise Failed(f"{message}: not raised, but {found!r}")
+
+
+def refusals(folder: Path) -> str:
+    """What doesn't fit is refused at once, and faults of files by their lines."""
+    s, other = Statement(), Statement()
+    U, V = s.objects("U V")
+    a, x, b = s.map("a", U, V), s.map("x", V, U), other.map("b", *other.objects("U V"))
+    cases = [
+        (lambda: a * a, "a : U -> V doesn't compose with a : U -> V"),
+        (lambda: a**2, "a : U -> V doesn't compose with a : U -> V"),
+        (lambda: a**0, "a : U -> V doesn't compose with a : U -> V"),
+        (lambda: a + x, "a : U -> V, but x : V -> U"),
+        (lambda: a * x == x * a, "a x : V -> V, but x a : U -> U"),
+        (lambda: a - a.H, "a : U -> V, but a' : V -> U"),
+        (lambda: a == 1, "a : U -> V, and no identity beside it, of which there would be 1"),
+        (lambda: a + b, "a : U -> V, but b : U -> V of another statement"),
+        (lambda: b.H * a, "b' : V -> U doesn't compose with a : U -> V of another statement"),
+        (lambda: s.claim(b == 0), "U is an object of another statement"),
+        (lambda: s.pinv(a, a), "a : U -> V, but a : U -> V"),
+        (lambda: s.projection(a), "a : U -> V doesn't compose with a : U -> V"),
+        (lambda: s.map("p", U, V, self_adjoint=True), "p : U -> V, but its adjoint : V -> U"),
+    ]
+    for action, message in cases:
+        raised(action, NotTyped, message)
+    raised(lambda: bool(a == 0), TypeError, "a = 0 is assumed or claimed, and neither true nor false by itself")
+    raised(lambda: s.assume(a == "b"), TypeError, "False is no equation of two expressions")
+    raised(lambda: s.pinv(2 * a, x), TypeError, "2 a is no map that is declared")
+    for names, message in {"a": "a is declared twice", "c c": "c is declared twice", "2c": "2c is no name", "": "there is no name"}.items():
+        raised(lambda: s.maps(names, U, V), ValueError, message)
+    need(str(s) == "object U V\nmap a : U -> V\nmap x : V -> U\n", str(s))
+    (folder / "faulty.op").write_text("object U\nclaim a = a\n")
+    raised(lambda: Statement.read(folder / "faulty.op"), Refused, "# refused S6 line 2 column 7", 3)
+    raised(lambda: Statement.read(folder / "missing"), Refused, f"# load failed {folder / 'missing'}", 4)
+    return f"{len(cases) + 9} things that don't fit are refused at once"
+
+
+def sympy(folder: Path) -> str:
+    try:
+        import sympy
+    except ImportError:
+        raise Skipped("sympy is not installed") from None
+    A, X = sympy.symbols("a x", commutative=False)
+    s = Statement()
+    U, V = s.objects("U V")
+    a, x = s.map("a", U, V), s.map("x", V, U)
+    maps = {"a": a, X: x}
+    problem = problem_of(folder, f"{s}claim a = a\n")
+    cases = [
+        (A * X * A - 2 * A, a * x * a - 2 * a), (1 - A * X, 1 - a * x), (3 * (A * X) ** 2 + A * X - 5, 3 * (a * x) ** 2 + a * x - 5),
+        (sympy.adjoint(A * X), (a * x).H), (sympy.adjoint(A) * A, a.H * a), (A * (1 - X * A) * X, a * (1 - x * a) * x),
+    ]  # fmt: skip
+    for expression, want in cases:
+        found = from_sympy(expression, maps)
+        values = [check.Line(check.tokens_of(text, 1), problem).sum() for text in (str(found), str(want))]
+        need(values[0] == values[1], (expression, found, want))
+    need(from_sympy(sympy.Integer(2), maps) == 2, "an integer")
+    need(str(from_sympy(sympy.Eq(A * X, 1), maps)) == "a x = [V]", "an equation")
+    for expression in (A / 2, sympy.Symbol("a") * A, A**-1, sympy.Symbol("q", commutative=False), sympy.sin(A)):
+        try:
+            need(False, (expression, from_sympy(expression, maps)))
+        except TypeError:
+            pass
+    raised(lambda: from_sympy(A * A, maps), NotTyped, "a : U -> V doesn't compose with a : U -> V")
+    return f"{len(cases) + 2} expressions of SymPy {sympy.__version__} are read"
+
+
+# ---- The program, pictures and proofs
+
+FAKE = """#!/bin/sh
+printf '%s' "$OPPROVE_SAYS"
+printf '%s' "$OPPROVE_TELLS" >&2
+exit "$OPPROVE_STATUS"
+"""
+
+
+def statuses(folder: Path) -> str:
+    """Each status from 2 to 7 is raised with the program's line, from a stand-in; and those of the program that can be had."""
+    fake = folder / "opprove"
+    fake.write_text(FAKE)
+    fake.chmod(0o755)
+    s = Statement.read(EXAMPLES / "equal_maps.op")
+    cases = [
+        (2, "# usage: opprove prove\n", "", "# usage: opprove prove"), (3, "# refused S15\n", "", "# refused S15"),
+        (4, "# too long x limit 1\n", "", "# too long x limit 1"), (5, "# claim 1 pro", "", "standard output failed"),
+        (6, "", "", "no memory"), (7, "# block 1 accepted claim 1\n# block 2 refused C1\n", "", "# block 2 refused C1"),
+        (1, "", "opprove: proving\nopprove: lists could not be proved\n", "opprove: lists could not be proved"), (-9, "", "", "status -9"),
+    ]  # fmt: skip
+    for status, says, tells, line in cases:
+        os.environ.update(OPPROVE_SAYS=says, OPPROVE_TELLS=tells, OPPROVE_STATUS=str(status))
+        if status < 0:
+            fake.write_text(f"#!/bin/sh\nkill -{-status} $$\n")
+        for action in (lambda: s.prove(program=str(fake)), lambda: s.check("", program=str(fake))):
+            raised(action, Refused, line, status)
+    none = str(folder / "none")
+    raised(lambda: s.prove(program=none), FileNotFoundError, f"[Errno 2] No such file or directory: '{none}'")
+    path = os.environ.pop("PATH")
+    named = os.environ.pop("OPPROVE", None)
+    try:
+        raised(s.prove, FileNotFoundError, "opprove isn't in PATH: name the program by program=, or by OPPROVE")
+    finally:
+        os.environ.update({"PATH": path, **({"OPPROVE": named} if named else {})})
+    return f"{len(cases)} statuses of a stand-in are raised with their lines"
+
+
+def real_statuses(folder: Path) -> str:
+    s = Statement.read(EXAMPLES / "equal_maps.op")
+    usage = "# usage: opprove prove|check|refute|model|bench|confirm|explain|cancel"
+    raised(lambda: s.prove("--paris", program=program()), Refused, usage, 2)
+    raised(lambda: Statement().prove(program=program()), Refused, "# refused S15", 3)
+    refused = (EXAMPLES / "equal_maps_refused.cert").read_text()
+    raised(lambda: s.check(refused, program=program()), Refused, "# block 1 refused C6 word b want 0 got -1", 7)
+    long = Statement.read(EXAMPLES / "equal_maps.op")
+    long.lines += ["#" * 1048576]
+    try:
+        raise Failed(f"not raised, but {long.prove(program=program())}")
+    except Refused as error:
+        need(error.status == 4 and re.fullmatch("# too long .*/statement.op limit 1048576", error.line), error)
+    accepted = s.check((EXAMPLES / "equal_maps_untyped.cert").read_text(), program=program())
+    need(accepted == ["# block 1 accepted claim 1 denominator 1"], accepted)
+    return "statuses 2, 3, 4 and 7 of opprove are raised with its lines"
+
+
+def notebook(folder: Path) -> str:
+    """What a notebook shows: pictures that are XML, and proofs that are typeset."""
+    for path in sorted(EXAMPLES.glob("**/*.op")):
+        found = xml.etree.ElementTree.fromstring(Statement.read(path)._repr_svg_())
+        need(found.tag == "{http://www.w3.org/2000/svg}svg", path)
+    need(Statement()._repr_svg_() is None, "a picture of nothing")
+    proofs = []
+    for path in sorted(EXAMPLES.glob("*.cert")):
+        if path.stem in ("pasted_squares", "one_sided_inverses", "pseudoinverses"):
+            s = Statement.read(path.with_suffix(".op"))
+            proofs.append(Verdict(1, s.claims[0], "proved", "denominator 1", path.read_text(), str(s))._repr_latex_())
+    by = "typeset by pdflatex" if typeset(folder, proofs) else "not typeset, as pdflatex is not installed"
+    return f"pictures are XML, and {len(proofs)} proofs are {by}"
+
+
+def typeset(folder: Path, proofs: List[str]) -> bool:
+    """Whether pdflatex is there to typeset them."""
+    head = [r"\documentclass{article}", r"\usepackage{amsmath}", r"\begin{document}"]
+    (folder / "proofs.tex").write_text("\n\n".join([*head, *proofs, r"\end{document}"]))
+    program = shutil.which("pdflatex")
+    if program:
+        answer = run(program, "-interaction=nonstopmode", "-halt-on-error", "proofs.tex", folder=folder)
+        need(answer.status == 0, answer)
+    return program is not None
+
+
+CHECKS: List[Callable[[Path], str]] = [gallery, expressions, refusals, stored, statuses, sympy, notebook, real_statuses, heads]
+
+# ---- In a fresh venv
+
+ALONE = """
+import opprove, sys
+from pathlib import Path
+names = {name.split(".")[0] for name in sys.modules if "check" in name or "chain" in name or "quiver" in name or "la" "tex" in name}
+top = {path.name for path in Path(opprove.__file__).parents[1].iterdir() if "opprove" in path.name or path.suffix == ".py"}
+print(sorted(names), sorted(name.split("-")[0] for name in top))
+"""
+
+
+def in_venv(python: str, folder: Path) -> str:
+    """Installs the package for this Python, and tries it there."""
+    room = folder / "venv"
+    own = room / "bin" / "python"
+    options = ("--no-index", "--no-build-isolation", "--quiet", "--disable-pip-version-check")
+    patiently(python, "-m", "venv", "--system-site-packages", room)
+    patiently(own, "-m", "pip", "install", *options, TOP / "python")
+    answer = run(own, "-I", "-c", ALONE, folder=folder)
+    need(answer.status == 0 and answer.out == "['opprove'] ['opprove', 'opprove']\n", answer)
+    patiently(own, HERE, "here")
+    version = run(own, "--version").out.strip()
+    return f"{version} has the package from pip, with no network and no other name"
+
+
+def package(folder: Path) -> str:
+    """All of it for this Python."""
+    return in_venv(sys.executable, folder)
+
+
+def patiently(*words: object) -> None:
+    """A command that may take longer than two minutes on a busy machine."""
+    done = subprocess.run([str(word) for word in words], timeout=1200)
+    need(done.returncode == 0, words)
+
+
+def in_folder(check: Callable[[Path], str]) -> str:
+    """The check in a folder of its own."""
+    with tempfile.TemporaryDirectory() as name:
+        return check(Path(name))
+
+
+def main(words: List[str]) -> int:
+    pythons = [functools.partial(in_venv, python) for python in [sys.executable, *words]]
+    checks = CHECKS if words == ["here"] else pythons
+    return run_checks("python", (functools.partial(in_folder, check) for check in checks))
+
+
+if __name__ == "__main__":
+    if sys.argv[1:] == ["here"]:
+        from opprove import Expression, NotTyped, Object, Refused, Statement, Verdict, from_sympy
+    sys.exit(main(sys.argv[1:]))

@@ -1,0 +1,95 @@
+"""What try.py and the other try_*.py share: programs that are run, and what is needed of them."""
+from __future__ import annotations
+
+import functools
+import os
+import shutil
+import subprocess
+import sys
+from pathlib import Path
+from typing import Callable, Iterable, List, NamedTuple
+
+from opprove.checkers.check import Refusal
+
+TOP = Path(__file__).resolve().parents[1]
+EXAMPLES, SOURCE = TOP / "examples", TOP / "python" / "src"
+# The program that OPPROVE names, and else the one that is built.
+PROGRAM = Path(os.environ.get("OPPROVE") or TOP / "crates" / "opprove" / "out" / "opprove").resolve()
+
+
+class Failed(Exception):
+    """What a tool did, and should not do."""
+
+
+class Skipped(Exception):
+    """What is not there."""
+
+
+class Answer(NamedTuple):
+    status: int
+    out: str
+    error: str
+
+
+def run(*words: object, folder: Path = TOP, seconds: int = 120) -> Answer:
+    """The answer of a program, which gets no input, and two minutes where nothing else is said."""
+    command = [str(word) for word in words]
+    environment = {**os.environ, "LC_ALL": "C.UTF-8", "PYTHONDONTWRITEBYTECODE": "1"}
+    done = subprocess.run(
+        command, cwd=folder, env=environment, stdin=subprocess.DEVNULL, capture_output=True, timeout=seconds
+    )
+    return Answer(done.returncode, done.stdout.decode(), done.stderr.decode())
+
+
+@functools.lru_cache(maxsize=None)
+def reads_language_2(program: Path = PROGRAM) -> bool:
+    """Whether the program is built, and reads statements of language 2."""
+    statement = EXAMPLES / "gallery" / "drazin_commutes.op"
+    return os.access(program, os.X_OK) and run(program, "check", statement, os.devnull).status == 7
+
+
+def is_second(statement: Path) -> bool:
+    """Whether a statement is of language 2, as one that faulty bytes stand in isn't."""
+    return b"\nlanguage 2\n" in b"\n" + statement.read_bytes()
+
+
+def decided() -> List[Path]:
+    """The statements of the examples that prove decides by default: all but those for searches around the program, and
+    without those of language 2 where the program that is built doesn't read it."""
+    statements = sorted([*EXAMPLES.glob("*.op"), *EXAMPLES.glob("gallery/*.op")])
+    return [path for path in statements if reads_language_2() or not is_second(path)]
+
+
+def tool(word: str) -> List[str]:
+    """The call of the tool with this word."""
+    return [sys.executable, "-IB", str(SOURCE), word]
+
+
+def checker(name: str) -> List[str]:
+    """The call of the second checker with this name, which runs by itself."""
+    return [sys.executable, str(SOURCE / "opprove" / "checkers" / f"{name}.py")]
+
+
+def need(condition: bool, what: object) -> None:
+    if not condition:
+        raise Failed(str(what))
+
+
+def installed(name: str) -> str:
+    path = shutil.which(name)
+    if not path:
+        raise Skipped(f"{name} is not installed")
+    return path
+
+
+def run_checks(name: str, checks: Iterable[Callable[[], str]]) -> int:
+    """Makes checks, each of which has a line behind the name, to the first that fails, and gives the status."""
+    for check in checks:
+        try:
+            print(f"{name}: {check()}", flush=True)
+        except Skipped as what:
+            print(f"{name}: skipped, {what}", flush=True)
+        except (Failed, Refusal, OSError, subprocess.TimeoutExpired) as what:
+            print(f"{name}: failed, {what}", flush=True)
+            return 1
+    return 0

@@ -1,0 +1,114 @@
+"""What try_explain.py, try_confirm.py and try_cancel.py share: a command and its second program, which have to answer by the same bytes."""
+from __future__ import annotations
+
+import functools
+import os
+import re
+import subprocess
+import sys
+import tempfile
+from pathlib import Path
+from types import ModuleType
+from typing import Callable, List, NamedTuple, Optional, Sequence
+
+from opprove.checkers import scripts
+from measuring import OPPROVE, build
+from trying import Answer, Skipped, checker, need, run, run_checks
+
+SHOWN = 3000  # characters of a text that a failure shows
+# What plain.rs has no letters for, in a statement and in evidence.
+UNREAD = re.compile(r"\[|'| self$|^(?:pinv|inverse|inner|projection|order|model|solve) ", re.MULTILINE)
+UNREAD_EVIDENCE = re.compile(rb"\[|'|^(?:model|basis|certificate) ", re.MULTILINE)
+
+
+class Files(NamedTuple):
+    """Those that a text is written to, and plain.rs where it is built."""
+
+    folder: Path
+    plain: Optional[str]
+
+    @property
+    def statement(self) -> Path:
+        return self.folder / "asked.op"
+
+    @property
+    def evidence(self) -> Path:
+        return self.folder / "asked.cert"
+
+    def write(self, statement: str, evidence: str) -> None:
+        self.statement.write_bytes(statement.encode("utf-8", "surrogateescape"))
+        self.evidence.write_bytes(evidence.encode("utf-8", "surrogateescape"))
+
+
+@functools.lru_cache(maxsize=None)
+def files_in(folder: Path) -> Files:
+    try:
+        return Files(folder, build("plain", folder))
+    except Skipped:
+        return Files(folder, None)
+
+
+class Second:
+    """A second program by its module, of the command with that name. plain.rs doesn't read texts in which what is unread occurs."""
+
+    def __init__(self, module: ModuleType, unread: "re.Pattern[str]" = UNREAD, unread_evidence: "re.Pattern[bytes]" = UNREAD_EVIDENCE) -> None:
+        self.module, self.unread, self.unread_evidence = module, unread, unread_evidence
+        self.name = module.__name__.split(".")[-1]
+        self.tool = checker(self.name)
+
+    def is_asked(self) -> bool:
+        """Whether a program is built that has the command."""
+        return has_command(self.name)
+
+    def by_whom(self) -> str:
+        alone = f"{self.name}.py alone, as no opprove with `{self.name}` is built"
+        return f"{self.name}.py and opprove" if self.is_asked() else alone
+
+    def answered(self, files: Files) -> Answer:
+        """The answer of the second program, with which the other programs have to agree."""
+        status, lines = scripts.answer(self.module.report, [str(files.statement), str(files.evidence)])
+        answer = Answer(status, "".join(f"{line}\n" for line in lines), "")
+        others = [OPPROVE] if self.is_asked() else []
+        others += [files.plain] if files.plain and status == scripts.DONE and self.is_plain(files) else []
+        for program in others:
+            other = run(program, self.name, files.statement, files.evidence, seconds=600)
+            texts = files.statement.read_bytes()[:SHOWN], files.evidence.read_bytes()[:SHOWN]
+            need(other == answer, (texts, answer.out[:SHOWN], other.out[:SHOWN], other.status, other.error))
+        return answer
+
+    def is_plain(self, files: Files) -> bool:
+        """Whether plain.rs reads both files."""
+        is_read = not self.unread.search(files.statement.read_text("utf-8"))
+        return is_read and not self.unread_evidence.search(files.evidence.read_bytes())
+
+    def calls(self, folder: Path, statement: str, evidence: str, more: Sequence[object]) -> str:
+        """Files that aren't there or are too long, and words that aren't taken, as these more ones. The evidence is accepted."""
+        files = Files(folder, None)
+        files.write(statement, evidence)
+        programs = [self.tool] + ([[OPPROVE.resolve(), self.name]] if self.is_asked() else [])
+        with (folder / "long").open("wb") as file:
+            file.truncate(2**26 + 1)
+        for program in programs:
+            for name, line in (("missing", "# load failed missing\n"), ("long", f"# too long long limit {2**26}\n")):
+                answer = run(*program, files.statement, name, folder=folder)
+                need(answer == Answer(scripts.NOT_LOADED, line, ""), (program, name, answer))
+            paths = [files.statement, files.evidence]
+            for words in (paths[:1], [*paths, files.evidence], [*paths, *more]):
+                answer = run(*program, *words)
+                need(answer.status == scripts.USAGE and re.fullmatch("# usage: .*\n", answer.out) is not None, (program, words, answer))
+        (folder / "long").unlink()
+        with open("/dev/full", "wb") as full:
+            done = subprocess.run([*self.tool, files.statement, files.evidence], stdout=full, stderr=subprocess.PIPE)
+            need((done.returncode, done.stderr) == (scripts.NO_OUTPUT, b""), done)
+        return f"{len(programs) * 5 + 1} faulty calls of {self.name} are told"
+
+
+@functools.lru_cache(maxsize=None)
+def has_command(name: str) -> bool:
+    return os.access(OPPROVE, os.X_OK) and re.search(rf"\b{name}\b", run(OPPROVE).out) is not None
+
+
+def main(checks: List[Callable[[Path], str]]) -> int:
+    """Makes checks in a folder of their own, to the first that fails."""
+    with tempfile.TemporaryDirectory() as name:
+        return run_checks("try", (functools.partial(check, Path(name)) for check in checks))

@@ -1,0 +1,518 @@
+#!/usr/bin/env python3
+"""A second checker of what opprove finds: check.py STATEMENT EVIDENCE
+
+Reads a statement and the certificates of an evidence text, of both formats, forms the generators, adds up the rows and
+compares. It prints a line for each certificate: that it is accepted, with its denominator, or the first thing that is
+wrong, with its place, which ends the report. The status is 0 where all are accepted, and else 1.
+
+It is written from docs/FORMATS.md and shares nothing with opprove; codes and places are those of that page. It reads both
+languages of statements. Numbers and sums of rows have any size: S4, S13, K4, C4, C5, C9 and C11 are not looked at. Names
+follow this Python's version of Unicode. A text that begins with a `cancellation` is checked by cancel.py, beside this file.
+"""
+from __future__ import annotations
+
+import re
+import sys
+from typing import Callable, Dict, Iterable, Iterator, List, NamedTuple, Optional, Tuple, TypeVar
+
+Word = Tuple[int, ...]  # letters are numbers
+Poly = Dict[Word, int]  # words with their coefficients, none of which is 0
+Signature = Tuple[int, int]  # source and target, each by the number of its identity
+Value = Tuple[Optional[Signature], Poly]  # of an expression; an open one has no signature
+getattr(sys, "set_int_max_str_digits", int)(0)  # so that Python reads and writes numbers of any size
+
+
+class Refusal(Exception):
+    """The line that says what is wrong."""
+
+
+def add(total: Poly, factor: int, poly: Poly, left: Word = (), right: Word = ()) -> Poly:
+    """Adds factor * left * poly * right to the total, and gives the total."""
+    for middle, coefficient in poly.items():
+        word = left + middle + right
+        value = total.pop(word, 0) + factor * coefficient
+        if value:
+            total[word] = value
+    return total
+
+
+def is_name(text: str) -> bool:
+    return text.isidentifier() and len(text.encode()) <= 32
+
+
+def read_lines(path: str, not_utf8: str) -> Iterator[Tuple[int, str]]:
+    """The lines of a file with their numbers. A carriage return that no line feed follows is a character."""
+    try:
+        with open(path, "rb") as file:
+            return enumerate(re.split("\r?\n", file.read().decode()), 1)
+    except (OSError, ValueError) as error:
+        is_loaded = isinstance(error, UnicodeDecodeError)
+        raise Refusal(not_utf8.format(error.start) if is_loaded else f"# load failed {path}") from None
+
+
+# ---- Statements: the grammar, and the values of expressions
+Token = NamedTuple("Token", [("kind", str), ("text", str), ("line", int), ("column", int)])
+# What stands behind the first word of a line: tokens with these roles; + is once or more, ? at most once, * any number.
+SHAPES = {
+    "object": "new_object+", "map": "new_map+ : object -> object self?", "assume": "sum = sum", "claim": "sum = sum",
+    "pinv": "map map", "inverse": "map map", "inner": "map map", "projection": "map",
+    "order": "", "solve": "map+", "model": "literal object,literal*", "eliminate": "map+",
+}  # fmt: skip
+WORDS = {2: list(SHAPES), 1: [word for word in SHAPES if word != "eliminate"]}  # that a line begins with, by the language
+SIGNS = {1: r":=+\-()\[\]'", 2: r":=+\-()\[\]'^"}
+
+
+def fault(code: str, token: Token, more: str = "") -> Refusal:
+    return Refusal(f"# refused {code} line {token.line} column {token.column}{more}")
+
+
+def tokens_of(line: str, number: int, language: int = 1) -> List[Token]:
+    """The tokens of a line, and behind the last an "end". The kind of a token is "name", "literal", or the sign."""
+    tokens, signs = [], SIGNS[language]
+    for match in re.finditer(rf"([0-9]+)|(->|[{signs}])|[^ \t{signs}]+", line.split("#")[0]):
+        kind = "literal" if match.group(1) else match.group(2) or "name"
+        token = Token(kind, match.group(), number, match.start() + 1)
+        if kind == "name" and not is_name(token.text):
+            bad = [place for place, sign in enumerate(token.text) if not ("_" * (place > 0) + sign).isidentifier()]
+            is_long = len(token.text[: bad[0] if bad else None].encode()) > 32
+            raise fault("S2", token if is_long else token._replace(column=token.column + bad[0]))
+        tokens.append(token)
+    return tokens + [Token("end", "", number, tokens[-1].column + len(tokens[-1].text))] if tokens else []
+
+
+def language_of(tokens: List[Token]) -> int:
+    """That of a file whose first line with a token has these."""
+    is_second = [token.kind for token in tokens] == ["name", "literal", "end"] and tokens[0].text == "language"
+    return 2 if is_second and int(tokens[1].text) == 2 else 1
+
+
+def lines_of(path: str) -> List[Line]:
+    """The lines of a statement that have a token, the one that names its language among them."""
+    texts: List[List[Token]] = []
+    language = 1
+    for number, text in read_lines(path, "# refused S1 byte {}"):
+        tokens = tokens_of(text, number, language)
+        language = language_of(tokens) if tokens and not texts else language
+        texts += [tokens] if tokens else []
+    return [Line(tokens) if language == 2 and tokens is texts[0] else Line(tokens).statement(language) for tokens in texts]
+
+
+class Line:
+    """A line of a statement: read for its grammar first, and with a problem for the value of its equation."""
+
+    def __init__(self, tokens: List[Token], problem: Optional[Problem] = None) -> None:
+        self.tokens, self.problem, self.place = tokens, problem, 0
+        self.roles: List[Tuple[Token, str]] = []  # of the tokens that were taken
+
+    def with_role(self, role: str) -> List[str]:
+        return [token.text for token, other in self.roles if other == role]
+
+    def next(self) -> Token:
+        return self.tokens[self.place]
+
+    def is_at(self, *kinds: str) -> bool:
+        return self.next().kind in kinds
+
+    def take(self, role: str, words: Iterable[str] = ()) -> str:
+        """Takes the next token, if it may have this role, and is one of the words where there are any."""
+        token = self.next()
+        kind = {"exponent": "literal", "literal": "literal", "end": "end"}.get(role, "name" if role.isidentifier() else role)
+        if token.kind != kind or (words and token.text not in words):
+            raise fault("S3", token)
+        self.place += 1
+        self.roles.append((token, role))
+        return token.text
+
+    def statement(self, language: int = 1) -> Line:
+        word = self.take("word", WORDS[language])
+        is_weight = word == "order" and self.take("way", ["degree", "weight"]) == "weight"
+        for group in ["map,literal+"] if is_weight else SHAPES[word].split():
+            again = group[-1] not in "?*" or self.is_at("name")
+            while again:
+                for role in group.rstrip("+?*").split(","):
+                    self.sum() if role == "sum" else self.take(role, ["self"] if role == "self" else ())
+                again = group[-1] in "+*" and self.is_at("name")
+        self.take("end")
+        return self
+
+    def equation(self) -> Poly:
+        """The left side minus the right side."""
+        self.place = 1
+        first, (left_ends, left) = self.next(), self.sum()
+        self.take("=")
+        second, (right_ends, right) = self.next(), self.sum()
+        if left_ends is None and right_ends is None:
+            raise fault("S12", first)
+        if left_ends and right_ends and left_ends != right_ends:
+            raise fault("S11", second, self.problem.arrows(left_ends, right_ends))
+        return self.sized(add(left, -1, right))
+
+    def sum(self, depth: int = 0) -> Value:
+        terms: List[Tuple[Token, Value]] = []
+        while not terms or self.is_at("+", "-"):
+            scale = -1 if self.is_at("-") else 1
+            self.place += self.is_at("+", "-")
+            terms.append((self.next(), self.term(scale, depth)))
+        signature, total = None, {}
+        for first, (other, poly) in terms:
+            if signature and other and signature != other:
+                raise fault("S11", first, self.problem.arrows(signature, other))
+            signature, total = signature or other, self.sized(add(total, 1, poly))
+        return signature, total
+
+    def product(self, left: Poly, right: Poly) -> Poly:
+        total: Poly = {}
+        for word in sorted(left, key=lambda word: (len(word), word), reverse=True):
+            add(total, left[word], right, left=word)
+            if len(total) > 20000 or len(word) + max(map(len, right), default=0) > 500:
+                return self.too_large()
+        return total
+
+    def sized(self, poly: Poly) -> Poly:
+        return self.too_large() if len(poly) > 20000 else poly
+
+    def too_large(self) -> Poly:
+        """Has the problem keep this fault, since those of signatures come before it, and gives 0 in its place."""
+        self.problem.too_large = self.problem.too_large or fault("S14", self.tokens[0])
+        return {}
+
+    def term(self, scale: int, depth: int) -> Value:
+        if self.is_at("literal"):
+            scale *= int(self.take("literal"))
+            if scale == 0 and not self.is_at("name", "[", "("):
+                return None, {}
+        factors = [(self.next(), self.factor(depth))]
+        while self.is_at("name", "[", "("):
+            factors.append((self.next(), self.factor(depth)))
+        signature, total = None, {(): scale} if scale else {}
+        for first, (other, poly) in factors if self.problem else []:
+            if other is None and len(factors) > 1:
+                raise fault("S12", first)
+            if signature and signature[0] != other[1]:
+                raise fault("S10", first, self.problem.arrows(signature, other))
+            signature = (other[0], signature[1]) if signature else other
+            total = self.product(total, poly)
+        return signature, total
+
+    def factor(self, depth: int) -> Value:
+        first = self.next()
+        if self.is_at("("):
+            if depth == 64:
+                raise fault("S5", first)
+            self.take("(")
+            value = self.sum(depth + 1)
+            self.take(")")
+        else:
+            letter = self.take("[") + self.take("object") + self.take("]") if self.is_at("[") else self.take("map")
+            value = self.problem.letter(letter) if self.problem else (None, {})
+        while self.is_at("'", "^"):
+            mark, exponent = self.next(), 0
+            if self.take(mark.kind) == "^":
+                exponent = int(self.take("exponent"))
+            if self.problem:
+                value = self.power(first, mark, exponent, value) if exponent else self.problem.adjoint(value)
+        return value
+
+    def power(self, first: Token, mark: Token, exponent: int, value: Value) -> Value:
+        """The product of so many times the value, from the left."""
+        signature, base = value
+        if exponent == 1:
+            return value
+        if signature is None:
+            raise fault("S12", first)
+        if signature[0] != signature[1]:
+            raise fault("S10", mark, self.problem.arrows(signature, signature))
+        if len(base) == 1 and exponent * len(next(iter(base))) <= 500:
+            return signature, {word * exponent: coefficient**exponent for word, coefficient in base.items()}
+        total = base
+        for _ in range(exponent - 1 if base else 0):
+            total = self.product(total, base)
+        return signature, total
+
+
+# ---- Statements: names, letters and generators
+# The equations of abbreviations: a and x are the maps that are named, and a leads from S to T.
+ABBREVIATIONS = {
+    "pinv": ["{a} {x} {a} = {a}", "{x} {a} {x} = {x}", "({a} {x})' = {a} {x}", "({x} {a})' = {x} {a}"],
+    "inverse": ["{a} {x} = [{T}]", "{x} {a} = [{S}]"],
+    "inner": ["{a} {x} {a} = {a}"], "projection": ["{a} {a} = {a}", "{a}' = {a}"],
+}  # fmt: skip
+
+
+LIMITS = {"new_object": 64, "new_map": 200, "assume": 500, "claim": 100, "model": 16}  # 1,000 maps in language 2
+MODULI = (2, 3, 5, 7, 101, 32003, 65537)
+
+
+def check_names(lines: List[Line]) -> None:
+    """Raises the first fault of names and literals: tokens come in reading order, and the tests in the order of their codes."""
+    news = [(token.text, (token, role[4:])) for line in lines for token, role in line.roles if role[:4] == "new_"]
+    firsts = dict(reversed(news))  # the first declaration of each name
+    kinds = {name: kind for name, (_, kind) in firsts.items()}
+    counts = {"order": 0, **dict.fromkeys(LIMITS, 0)}
+    limits = {**LIMITS, "new_map": 1000} if lines and lines[0].tokens[0].text == "language" else LIMITS
+    for line in lines:
+        word, ends = line.tokens[0].text, line.with_role("object") if line.with_role("self") else []
+        named = []  # by this line, if a name may not stand in it twice
+        for place, (token, role) in enumerate(line.roles):
+            kind = role if role != "word" else "assume" if word in ABBREVIATIONS else "order" if word == "eliminate" else word
+            if kind in counts:
+                counts[kind] += len(ABBREVIATIONS.get(word, [""])) if kind == "assume" else 1
+            if role in ("object", "map") and kinds.get(token.text) != role:
+                raise fault("S6", token)
+            if (role[:4] == "new_" and firsts[token.text][0] != token) or token.text in named or (place == 0 and counts["order"] > 1):
+                raise fault("S7", token)
+            if kind in limits and counts[kind] > limits[kind]:
+                raise fault("S8", token, f" limit {limits[kind]}")
+            if role == "new_map" and len(set(ends)) == 2 and all(kinds.get(end) == "object" for end in ends):
+                raise fault("S9", token)
+            if role in ("literal", "exponent") and not is_in_range(role, word, place, int(token.text)):
+                raise fault("S16", token)
+            named += [token.text] if word in ("order", "eliminate", "solve", "model") and role in ("object", "map") else []
+
+
+def is_in_range(role: str, word: str, place: int, literal: int) -> bool:
+    """Of a literal in this role at this place of a line that begins with the word."""
+    if word == "model":
+        return literal in (MODULI if place == 1 else range(1, 7))
+    return 1 <= literal <= 500 if role == "exponent" else word != "order" or 1 <= literal <= 1000
+
+
+class Problem:
+    """What a statement says: its letters, and its assumptions, claims and generators as polynomials."""
+
+    def __init__(self, path: str) -> None:
+        self.lines = lines = lines_of(path)
+        check_names(lines)
+        self.names, self.stars, self.ends = [], [], []  # of each letter: as it is written, its adjoint, its signature
+        self.numbers: Dict[str, int] = {}  # of each way to write a letter
+        for name in (name for line in lines for name in line.with_role("new_object")):
+            self.declare(f"[{name}]", (len(self.names), len(self.names)), True)
+        for line in lines:
+            ends, is_own = tuple(self.numbers[f"[{v}]"] for v in line.with_role("object")), line.with_role("self") != []
+            for name in line.with_role("new_map"):
+                self.declare(name, ends, is_own)
+        self.is_starred, self.marked = any(line.with_role("self") for line in lines), set()
+        self.assumptions, self.claims = [], []
+        self.too_large: Optional[Refusal] = None
+        for line in lines:
+            polys = self.claims if line.tokens[0].text == "claim" else self.assumptions
+            polys += [Line(tokens, self).equation() for tokens in self.equations(line)]
+        if self.too_large:
+            raise self.too_large
+        if not self.claims:
+            raise Refusal("# refused S15")
+
+    def declare(self, name: str, ends: Signature, is_self: bool) -> None:
+        """Numbers a letter and, unless it is its own one, its adjoint."""
+        first = len(self.names)
+        self.names += [name] if is_self else [name, name + "'"]
+        self.stars += [first] if is_self else [first + 1, first]
+        self.ends += [ends] if is_self else [ends, ends[::-1]]
+        self.numbers.update({name: first, name + "'": self.stars[first]})
+
+    def equations(self, line: Line) -> List[List[Token]]:
+        """The equations that a line stands for. Those of an abbreviation have the place of its first word."""
+        word, maps = line.tokens[0], line.with_role("map")
+        if word.text not in ABBREVIATIONS:
+            return [line.tokens] if word.text in ("assume", "claim") else []
+        source, target = (self.names[end][1:-1] for end in self.ends[self.numbers[maps[0]]])
+        texts = [text.format(a=maps[0], x=maps[-1], S=source, T=target) for text in ABBREVIATIONS[word.text]]
+        return [[word] + [token._replace(column=word.column) for token in tokens_of(text, word.line)] for text in texts]
+
+    def letter(self, text: str) -> Value:
+        letter = self.numbers[text]
+        self.marked.update([letter] if text[0] == "[" else [])
+        return self.ends[letter], {(letter,): 1}
+
+    def adjoint(self, value: Value) -> Value:
+        self.is_starred = True
+        return value[0] and value[0][::-1], self.star(value[1])
+
+    def star(self, poly: Poly) -> Poly:
+        return {tuple(self.stars[letter] for letter in word[::-1]): poly[word] for word in poly}
+
+    def generators(self) -> List[Poly]:
+        stars = [(poly, self.star(poly)) for poly in self.assumptions if self.is_starred]
+        found = self.assumptions + [star for poly, star in stars if star not in (poly, add({}, -1, poly))]
+        for unit in sorted(self.marked):
+            found.append({(unit, unit): 1, (unit,): -1})
+            for letter, (source, target) in enumerate(self.ends):
+                if self.names[letter][0] != "[" and (self.is_starred or self.stars[letter] >= letter):
+                    sides = [(target, (unit, letter)), (source, (letter, unit))]
+                    found += [{word: 1, (letter,): -1} for end, word in sides if end == unit]
+        return found
+
+    def text(self, word: Word) -> str:
+        return " ".join(self.names[letter] for letter in word)
+
+    def signature(self, word: Word) -> Optional[Signature]:
+        """The ends of a path, and nothing where a word isn't one."""
+        is_path = all(self.ends[left][0] == self.ends[right][1] for left, right in zip(word, word[1:]))
+        return (self.ends[word[-1]][0], self.ends[word[0]][1]) if is_path else None
+
+    def arrows(self, left: Signature, right: Signature) -> str:
+        return " left {} -> {} right {} -> {}".format(*(self.names[end][1:-1] for end in left + right))
+
+
+# ---- Evidence text, and what is said of it
+Row = NamedTuple("Row", [("coefficient", int), ("left", Word), ("is_lemma", bool), ("number", int), ("right", Word)])
+Share = NamedTuple("Share", [("scale", int), ("rows", List[Row])])  # the rows add up to the scale times a polynomial
+# The last share is the goal's. Format 1 has no other, and its scale is the denominator.
+Certificate = NamedTuple("Certificate", [("claim", int), ("denominator", int), ("shares", List[Share])])
+Block = TypeVar("Block")
+ROW = r"row (-?[0-9]+) \( ([^()]*)\) (%s)?([0-9]+) \( ([^()]*)\)"
+
+
+def is_letter(text: str) -> bool:
+    text = text[:-1] if text[-1] == "'" else text
+    return is_name(text[1:-1] if text[:1] + text[-1:] == "[]" else text)
+
+
+class Blocks:
+    """An evidence text: its lines, but for those that are skipped, and the blocks of other kinds."""
+
+    def __init__(self, path: str) -> None:
+        self.lines = read_lines(path, "# refused K1")
+        self.advance()
+
+    def advance(self) -> None:
+        """Goes to the next line that isn't skipped, with one blank between its tokens; at the end it is empty."""
+        for self.number, text in self.lines:
+            tokens = re.findall(r"[();=]|[^ \t();=]+", text)
+            if tokens and tokens[0][0] != "#":
+                self.line = " ".join(tokens)
+                return
+        self.line = ""
+
+    def read_all(self, word: str, found: List[Block], block: Callable[[], Block], others: str) -> None:
+        """Finds the blocks that begin with the word, of which there has to be one, and skips those that begin with one of the others."""
+        while self.line:
+            if self.line.startswith(f"{word} "):
+                found.append(block())
+            else:
+                self.skip(others)
+        if not found:
+            raise Refusal("# refused K7")
+
+    def skip(self, kinds: str) -> None:
+        """Goes behind a block that begins with one of these words."""
+        self.take(f"({kinds})( .*)?")
+        while self.take("(.+)") != ("end",):
+            pass
+
+    def take(self, pattern: str) -> Tuple[str, ...]:
+        match = re.fullmatch(pattern, self.line)
+        if not match:
+            raise Refusal(f"# refused K2 line {self.number}" if self.line else "# refused K6")
+        self.advance()
+        return match.groups()
+
+    def take_number(self, words: str) -> int:
+        return int(self.take(words + " ([0-9]+)")[0])
+
+    def limit(self, place: int, count: int, most: int) -> None:
+        if count > most:
+            raise Refusal(f"# refused K5 line {place} limit {most}")
+
+
+class Evidence(Blocks):
+    """The certificates of an evidence text."""
+
+    def __init__(self, problem: Problem, path: str) -> None:
+        super().__init__(path)
+        self.letters = problem.numbers
+        self.certificates: List[Certificate] = []
+        self.read_all("certificate", self.certificates, self.certificate, "model|basis")
+
+    def certificate(self) -> Certificate:
+        place, has_lemmas = self.number, self.take("certificate ([12])") == ("2",)
+        self.limit(place, len(self.certificates) + 1, 100)
+        self.read = [0, 0]  # rows and letters
+        claim, denominator = self.take_number("claim"), self.take_number("denominator")
+        shares: List[Share] = []
+        while has_lemmas and self.line.startswith("lemma "):
+            shares.append(self.lemma(len(shares) + 1))
+        scale = self.take_number("goal scale") if has_lemmas else denominator
+        shares.append(Share(scale, self.rows(has_lemmas)))
+        self.take("end")
+        return Certificate(claim, denominator, shares)
+
+    def lemma(self, wanted: int) -> Share:
+        """A lemma with its rows, which has this number."""
+        place, (number, scale) = self.number, map(int, self.take("lemma ([0-9]+) scale ([0-9]+)"))
+        if number != wanted:
+            raise Refusal(f"# refused K2 line {place}")
+        self.limit(place, number, 200000)
+        return Share(scale, self.rows(True))
+
+    def rows(self, has_lemmas: bool) -> List[Row]:
+        rows = []
+        while self.line.startswith("row "):
+            place = self.number
+            coefficient, left, lemma, number, right = self.take(ROW % ("lemma " if has_lemmas else "(?!)"))
+            words = [letters.split(" ")[:-1] for letters in (left, right)]
+            for code, fits in (("K2", is_letter), ("K3", self.letters.__contains__)):
+                if not all(map(fits, words[0] + words[1])):
+                    raise Refusal(f"# refused {code} line {place}")
+            self.read = [self.read[0] + 1, self.read[1] + len(words[0]) + len(words[1])]
+            for count, limit in zip((max(map(len, words)), *self.read), (500, 200000, 1000000)):
+                self.limit(place, count, limit)
+            left_word, right_word = (tuple(self.letters[letter] for letter in word) for word in words)
+            rows.append(Row(int(coefficient), left_word, lemma is not None, int(number), right_word))
+        return rows
+
+
+def judge(problem: Problem, certificate: Certificate, refused: str) -> None:
+    """Raises the first test of the certificate that fails, where one does, behind what is refused."""
+    claim, denominator, shares = certificate
+    if not 1 <= claim <= len(problem.claims):
+        raise Refusal(f"{refused} C1")
+    if min(denominator, *(share.scale for share in shares)) < 1:
+        raise Refusal(f"{refused} C3")
+    for number, share in enumerate(shares, 1):
+        if denominator % share.scale:
+            raise Refusal(f"{refused} C10 lemma {number % len(shares)}")
+    generators, lemmas, place = problem.generators(), [], 0
+    for share in shares:
+        total: Poly = {}
+        for place, row in enumerate(share.rows, place + 1):
+            code, polys = ("C7", lemmas) if row.is_lemma else ("C2", generators)
+            if not 1 <= row.number <= len(polys):
+                raise Refusal(f"{refused} {code} row {place}")
+            add(total, row.coefficient, polys[row.number - 1], row.left, row.right)
+        rests = [(len(word), word) for word in total if total[word] % share.scale]
+        if rests and share is not shares[-1]:
+            raise Refusal(f"{refused} C8 lemma {len(lemmas) + 1} word {problem.text(min(rests)[1])} got {total[min(rests)[1]]}")
+        lemmas.append({word: total[word] // share.scale for word in total})
+    want = add({}, shares[-1].scale, problem.claims[claim - 1])
+    different = [(len(word), word) for word in {**want, **total} if want.get(word) != total.get(word)]
+    if different:
+        word = min(different)[1]
+        raise Refusal(f"{refused} C6 word {problem.text(word)} want {want.get(word, 0)} got {total.get(word, 0)}")
+
+
+def main(paths: List[str]) -> int:
+    """Writes the report, and gives the status."""
+    lines, status = [], 1
+    try:
+        if len(paths) != 2:
+            raise Refusal("# usage: check.py STATEMENT EVIDENCE")
+        problem = Problem(paths[0])
+        if Blocks(paths[1]).line.startswith("cancellation "):
+            if __package__:
+                from . import cancel, scripts  # which stand on this file
+            else:
+                import cancel, scripts
+            return 1 if scripts.run(cancel.report, "", paths) else 0
+        for block, certificate in enumerate(Evidence(problem, paths[1]).certificates, 1):
+            judge(problem, certificate, f"# block {block} refused")
+            lines.append(f"# block {block} accepted claim {certificate.claim} denominator {certificate.denominator}")
+        status = 0
+    except (Refusal, MemoryError) as refusal:
+        lines.append(str(refusal) or "# no memory")
+    sys.stdout.buffer.write("".join(line + "\n" for line in lines).encode("utf-8", "surrogateescape"))
+    return status
+
+
+if __name__ == "__main__":
+    sys.exit(main(sys.argv[1:]))

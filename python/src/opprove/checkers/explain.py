@@ -1,0 +1,40 @@
+#!/usr/bin/env python3
+"""A second `opprove explain`: explain.py STATEMENT CERTIFICATE
+
+Prints the report of `opprove explain`, byte for byte: for each certificate of rows over generators the chain of equations from
+its denominator times the claim down to 0, a step at a time, and then the first block that has none, with the reason. The
+statuses are those of the program. The faults S4 and S13 of statements, of numbers that are too large, are not looked at.
+"""
+from __future__ import annotations
+
+import sys
+from typing import TYPE_CHECKING, Iterator, List
+
+if TYPE_CHECKING or __package__:
+    from .chain_text import Bounded, Lines, explained
+    from .check import Problem
+    from .scripts import end_quietly, load, run
+else:  # run as a file by itself
+    from chain_text import Bounded, Lines, explained
+    from check import Problem
+    from scripts import end_quietly, load, run
+
+
+def report(paths: List[str]) -> Iterator[str]:
+    """The lines of the report."""
+    load(paths)
+    problem = Problem(paths[0])
+    evidence = Bounded(problem, paths[1])
+    lines = Lines(problem)
+    for block, (certificate, has_lemmas) in enumerate(zip(evidence.certificates, evidence.has_lemmas), 1):
+        yield from explained(lines, block, certificate, has_lemmas)
+
+
+def main(words: List[str]) -> int:
+    """Writes the report, and gives the status."""
+    return run(report, "explain.py STATEMENT CERTIFICATE", words)
+
+
+if __name__ == "__main__":
+    end_quietly()
+    sys.exit(main(sys.argv[1:]))

@@ -1,0 +1,70 @@
+"""The tools of the package by their words: `opprove WORD ..`, or `python3 -m opprove WORD ..`.
+
+Each tool is a module with `main(words) -> int`, which gives the status: 0 fine, 2 wrong words, 3 the statement is refused, 4 a file
+isn't loaded, 5 the output fails, 6 no memory, 7 evidence is refused, 10 and above a verdict, as the program's.
+"""
+from __future__ import annotations
+
+import difflib
+import signal
+import sys
+from importlib import import_module
+from typing import Dict, List, NamedTuple
+
+
+class Tool(NamedTuple):
+    """A tool: its word, the module that is loaded for it, and what it is for."""
+
+    word: str
+    module: str
+    summary: str
+
+
+TOOLS: List[Tool] = [
+    Tool("chain", "translations.chain", "a proof as a chain of equal expressions, in text or LaTeX"),
+    Tool("coq", "coq.export", "each certificate as a theorem for Coq, with its proof"),
+    Tool("latex", "translations.latex", "the sum of a certificate as displayed formulas"),
+    Tool("singular", "translations.singular", "a certificate as a script that Singular adds up"),
+    Tool("sympy", "translations.sympy", "a certificate as a script that SymPy adds up"),
+    Tool("picture", "translations.picture", "the quiver of a statement as SVG, TikZ or a graph"),
+    Tool("search", "search.search", "searches around the program for what `prove` leaves undecided"),
+    Tool("join", "search.join", "one certificate from evidence for lemmas and evidence that assumes them"),
+    Tool("why", "words.why", "an answer of the program, and what it means in words"),
+    Tool("second-check", "checkers.second_check", "checks evidence by a second program, in Python"),
+    Tool("candidates", "checkers.candidates", "a second search for matrices that break a claim"),
+    Tool("explain-again", "checkers.explain", "a second `explain`: certificates as chains, byte by byte"),
+    Tool("tree", "checkers.tree", "a statement as plain lines of numbers"),
+    Tool("version", "version", "the version of the package and of the program"),
+    Tool("completions", "completions", "the file that completes words in bash, zsh or fish"),
+    Tool("help", "help", "the tools and commands, or the page of one"),
+]
+BY_WORD: Dict[str, Tool] = {tool.word: tool for tool in TOOLS}
+
+
+def main(words: List[str]) -> int:
+    """Runs the tool that the first word names, with the others, and gives its status; 2 where there is none of that name."""
+    word = {"-h": "help", "--help": "help", "--version": "version"}.get(words[0], words[0]) if words else "help"
+    tool = BY_WORD.get(word)
+    if tool is None:
+        sys.stderr.write(f"opprove: {unknown(word)}\n")
+        return 2
+    if word != "help" and {"--help", "-h"} & set(words[1:2]):
+        return run("help", [word])
+    return run(word, words[1:])
+
+
+def entry() -> int:
+    """Runs the tool that the words of the call name. An interrupt ends it with no word."""
+    signal.signal(signal.SIGINT, signal.SIG_DFL)
+    return main(sys.argv[1:])
+
+
+def run(word: str, words: List[str]) -> int:
+    status: int = import_module(f"opprove.{BY_WORD[word].module}").main(words)
+    return status
+
+
+def unknown(word: str) -> str:
+    """What is said of a word that no tool has, with the nearest that one has."""
+    near = difflib.get_close_matches(word, BY_WORD, n=1)
+    return f"there is no tool {word!r}" + (f"; did you mean {near[0]!r}?" if near else "") + " (opprove help lists them)"

@@ -1,0 +1,60 @@
+"""The program opprove, as it is run on texts."""
+from __future__ import annotations
+
+import os
+import shutil
+import subprocess
+import tempfile
+from contextlib import contextmanager
+from pathlib import Path
+from typing import Iterator, List, Optional, Tuple
+
+# The program of this checkout, where the package stands in one.
+BUILT = Path(__file__).resolve().parents[3] / "crates" / "opprove" / "out" / "opprove"
+# By what statuses without a line were caused.
+CAUSES = {5: "standard output failed", 6: "no memory"}
+
+
+class Refused(Exception):
+    """The line by which the program, or a checker in Python, refuses what it was given, and the status."""
+
+    def __init__(self, status: int, line: str) -> None:
+        super().__init__(line)
+        self.status, self.line = status, line
+
+
+@contextmanager
+def files(*texts: str) -> Iterator[List[str]]:
+    """The paths of files with these texts, which are there for a while."""
+    with tempfile.TemporaryDirectory(prefix="opprove-") as folder:
+        paths = [Path(folder, name) for name, _ in zip(("statement.op", "evidence.cert"), texts)]
+        for path, text in zip(paths, texts):
+            path.write_bytes(text.encode())
+        yield [str(path) for path in paths]
+
+
+def path() -> str:
+    """The program that OPPROVE names, or that of this checkout, or that in PATH; and where there is none, what this checkout would have."""
+    built = str(BUILT)
+    return os.environ.get("OPPROVE") or (built if os.access(built, os.X_OK) else shutil.which("opprove") or built)
+
+
+def found(program: Optional[str]) -> str:
+    """The program that is named, or else that of `path`."""
+    program = shutil.which(program or path())
+    if not program:
+        raise FileNotFoundError("opprove isn't in PATH: name the program by program=, or by OPPROVE")
+    return program
+
+
+def run(program: Optional[str], word: str, texts: List[str], options: Tuple[object, ...], seconds: Optional[float]) -> str:
+    """What the program writes. Raised are statuses that come with no report."""
+    with files(*texts) as paths:
+        command = [found(program), word, *paths, *map(str, options)]
+        done = subprocess.run(command, stdin=subprocess.DEVNULL, stdout=subprocess.PIPE, stderr=subprocess.PIPE, timeout=seconds)
+    out, error = (text.decode("utf-8", "replace") for text in (done.stdout, done.stderr))
+    if done.returncode == 0 or done.returncode >= 10:
+        return out
+    lines = out.split("\n") if done.returncode in (2, 3, 4, 7) else error.split("\n")
+    told = next((line for line in reversed(lines) if line), f"status {done.returncode}")
+    raise Refused(done.returncode, CAUSES.get(done.returncode, told))

@@ -1,0 +1,345 @@
+"""What why.py tells of the outcomes of claims: what was shown, by what, and what may help, as docs/COMMANDS.md and README have it."""
+from __future__ import annotations
+
+import re
+import shlex
+from typing import Callable, Dict, Iterator, List, NamedTuple, Optional, Tuple
+
+from opprove.checkers import check_model
+from opprove.checkers.check import Line, Poly, Problem, Refusal, add
+from opprove.words.calls import Call, typed
+from opprove.words.evidence import Text, matrices
+from opprove.words.parts import Quote, Told, counted, few, is_are, listed
+from opprove.words.statement import Statement
+
+HEAD = re.compile(r"# claim ([0-9]+) (proved|not derivable|refuted|not refuted|undecided)(.*)")
+
+
+class Outcome(NamedTuple):
+    """What a report says of a claim."""
+
+    claim: int
+    kind: str
+    rest: str
+    block: Tuple[str, ...]
+
+    def number(self, word: str) -> int:
+        return int(re.search(rf"\b{word} ([0-9]+)", self.rest).group(1))  # type: ignore[union-attr]
+
+
+def outcomes(report: str) -> List[Outcome]:
+    found: List[Tuple[str, List[str]]] = []
+    for line in report.split("\n"):
+        if HEAD.fullmatch(line):
+            found.append((line, []))
+        elif found and line:
+            found[-1][1].append(line)
+    matches = [(HEAD.fullmatch(head), block) for head, block in found]
+    return [Outcome(int(match[1]), match[2], match[3], tuple(block)) for match, block in matches if match]
+
+
+class Asked(NamedTuple):
+    """What is asked for: a call, and its statement; bench has none."""
+
+    call: Call
+    statement: Optional[Statement]
+
+    def problem(self) -> Optional[Problem]:
+        return self.statement.problem() if self.statement else None
+
+    def quote(self, claim: int) -> Optional[Quote]:
+        """The line of a claim."""
+        lines = [line for line in self.statement.lines if line.tokens[0].text == "claim"] if self.statement else []
+        return self.statement.quote(lines[claim - 1].tokens[0].line) if self.statement and claim <= len(lines) else None
+
+
+# ---- proved
+
+
+def sources(problem: Problem) -> List[Tuple[int, str]]:
+    """For each generator the line of the statement that it stems from, and what it is of that line; 0 for a relation of identities."""
+    lines = [line for line in problem.lines for _ in (problem.equations(line) if line.tokens[0].text != "claim" else [])]
+    found = [(line.tokens[0].line, "") for line in lines]
+    if problem.is_starred:
+        for poly, line in zip(problem.assumptions, lines):
+            star = problem.star(poly)
+            if star not in (poly, add({}, -1, poly)):
+                found.append((line.tokens[0].line, "adjoint"))
+    return found + [(0, "")] * (len(problem.generators()) - len(found))
+
+
+def used_generators(block: Tuple[str, ...]) -> List[int]:
+    rows = [re.match(r"row \S+ \([^()]*\) ([0-9]+) \(", line) for line in block]
+    return sorted({int(row.group(1)) for row in rows if row})
+
+
+def proved(asked: Asked, outcome: Outcome) -> Told:
+    denominator, rows = outcome.number("denominator"), outcome.number("rows")
+    told = f"claim {outcome.claim} is proved, by a certificate of {counted(rows, 'row')}: it is zero wherever the generators are"
+    more = []
+    if denominator != 1:
+        more.append(f"The denominator is {denominator}: it has to cancel, which says that {denominator} m = 0 for m = 0 only.")
+        more.append(f"Modulo a divisor of {denominator} other than 1 it does not.")
+    problem = asked.problem()
+    if problem and asked.statement and outcome.block:
+        more += assumptions(problem, used_generators(outcome.block))
+    return Told(told + (" and the denominator cancels" if denominator != 1 else ""), asked.quote(outcome.claim), tuple(more))
+
+
+def assumptions(problem: Problem, used: List[int]) -> List[str]:
+    """Which lines of the statement the rows name, and which they don't."""
+    origin = sources(problem)
+    lines = sorted({line for line, _ in origin if line})
+    named = {origin[number - 1][0] for number in used if number <= len(origin)}
+    adjoints = sorted({origin[number - 1][0] for number in used if origin[number - 1][1]})
+    if not lines:
+        return []
+    inside, outside = [str(it) for it in lines if it in named], [str(it) for it in lines if it not in named]
+    told = f"Used are the assumptions of {on_lines(inside)}" if inside else "No assumption is used"
+    told += f" (of {few([str(it) for it in adjoints], 12)} the adjoint too)" if adjoints else ""
+    told += ", and relations of identities" if 0 in named else ""
+    return [f"{told}; not those of {on_lines(outside)}." if outside and inside else f"{told}."]
+
+
+def on_lines(numbers: List[str]) -> str:
+    return f"line{'s' if len(numbers) > 1 else ''} {few(numbers, 12)}"
+
+
+# ---- refuted
+
+
+def refuted(asked: Asked, outcome: Outcome) -> Told:
+    modulus = next((line.split()[1] for line in outcome.block if line.startswith("modulus ")), "")
+    told = f"claim {outcome.claim} is refuted: these matrices modulo {modulus}, with transposes for adjoints, make all assumptions zero"
+    return Told(told + ", and the claim not", asked.quote(outcome.claim), tuple(values(asked, outcome)))
+
+
+def values(asked: Asked, outcome: Outcome) -> Iterator[str]:
+    """The matrices, and the values of both sides of the claim."""
+    shown = [(line.split()[1], rows_of(line)) for line in outcome.block if line.startswith("map ")]
+    yield matrices(shown)
+    problem = asked.problem()
+    if problem is None:
+        return
+    line = [line for line in problem.lines if line.tokens[0].text == "claim"][outcome.claim - 1]
+    arrows = check_model.Arrows(problem, model_of(problem, outcome))
+    tokens = line.tokens
+    equals = next(place for place, token in enumerate(tokens) if token.kind == "=")
+    text = asked.statement.texts[tokens[0].line - 1] if asked.statement else ""
+    source = [text[tokens[1].column - 1 : tokens[equals].column - 1], text[tokens[equals + 1].column - 1 : tokens[-1].column - 1]]
+    sides = both_sides(line, problem)
+    ends = next(signature for signature, _ in sides if signature)
+    yield "The sides of the claim are then"
+    yield matrices([(" ".join(it.split()), value(problem, arrows, poly, ends)) for it, (_, poly) in zip(source, sides)])
+
+
+def rows_of(line: str) -> check_model.Matrix:
+    return [[int(number) for number in row.split()] for row in line.split("=")[1].split(";")]
+
+
+def model_of(problem: Problem, outcome: Outcome) -> check_model.Model:
+    """The model of a block, which the program has written."""
+    model = check_model.Model(outcome.claim, 2, [1 for name in problem.names if name[0] == "["], {})
+    for line in outcome.block:
+        words = line.split()
+        if words[0] == "modulus":
+            model = model._replace(modulus=int(words[1]))
+        if words[0] == "side":
+            model.sides[problem.numbers[f"[{words[1]}]"]] = int(words[2])
+        if words[0] == "map":
+            model.maps[problem.numbers[words[1]]] = rows_of(line)
+    return model
+
+
+def both_sides(line: Line, problem: Problem) -> List[Tuple[Optional[Tuple[int, int]], Poly]]:
+    again = Line(line.tokens, problem)
+    again.place = 1
+    left = again.sum()
+    again.take("=")
+    return [left, again.sum()]
+
+
+def value(problem: Problem, arrows: check_model.Arrows, poly: Poly, ends: Tuple[int, int]) -> check_model.Matrix:
+    rows, columns = len(arrows.matrices[ends[1]]), len(arrows.matrices[ends[0]])
+    total = [[0] * columns for _ in range(rows)]
+    for word, coefficient in poly.items():
+        matrix = arrows.value(word)
+        total = [[(x + coefficient * y) % arrows.modulus for x, y in zip(*pair)] for pair in zip(total, matrix)]
+    return total
+
+
+def not_refuted(asked: Asked, outcome: Outcome) -> Told:
+    tried = counted(outcome.number("candidates"), "candidate")
+    told = f"claim {outcome.claim} is not refuted: none of {tried} makes all assumptions zero and the claim not; this says nothing of it"
+    shapes = "Other shapes may: a line such as `model 3"
+    objects = asked.statement.named("object") if asked.statement else []
+    shapes += "".join(f" {name} 2" for name in objects[:3]) + "` in the file names one"
+    seed = int(asked.call.options.get("--seed", "1")) + 1
+    draws = "and where a shape has too many candidates to try them all, so may other draws:"
+    return Told(told, asked.quote(outcome.claim), (f"{shapes}; {draws}", f"  {asked.call.with_option('--seed', str(seed))}"))
+
+
+# ---- not derivable
+
+
+def not_derivable(asked: Asked, outcome: Outcome) -> Told:
+    told = f"claim {outcome.claim} is not derivable: no positive multiple of it is a sum of rows over the generators, whatever their words"
+    problem = asked.problem()
+    more = ["This says nothing of matrices of finite size, nor of star representations: the claim may hold in all of these all the same."]
+    if problem and asked.call.command == "prove":
+        missing = ["that a map has an inverse on one side (`assume x a = [V]`), where one is to cancel it"]
+        if not problem.is_starred:
+            without = "the file has no ', `self`, `pinv` or `projection`, so no assumption has its adjoint among the generators"
+            missing.append(f"a law of adjoints: {without}")
+        else:
+            missing.append("positivity, which the language doesn't have: a' a = 0 does not give a = 0")
+        more.append(f"What may be missing: {'; or '.join(missing)}.")
+        more += ["Matrices that break it are looked for by", f"  {refute(asked)}"]
+    return Told(told, asked.quote(outcome.claim), tuple(more))
+
+
+def refute(asked: Asked) -> str:
+    return typed(["refute", *asked.call.operands])
+
+
+# ---- undecided
+
+
+def undecided(asked: Asked, outcome: Outcome) -> Told:
+    cause = outcome.rest.strip()
+    told = f"claim {outcome.claim} is undecided: {stopped(cause)}"
+    more = []
+    least = re.search(" least (.*)$", cause)
+    if least:
+        below = f"in which all words are below {least.group(1)}"
+        more.append(f"No positive multiple of the claim is a sum of rows over the generators {below}.")
+    if " at certificate after round " in cause:
+        more.append("Some positive multiple of the claim is a sum of rows over the generators.")
+    if "--no-models" not in asked.call.options and asked.call.command == "prove":
+        shapes = "A line `model MODULUS OBJECT SIDE ..` in the file names other shapes"
+        more.append(f"None of the candidates for a model breaks the claim. {shapes}; --no-models leaves this search out, which is faster.")
+    return Told(told, asked.quote(outcome.claim), tuple(more + helps(asked, cause)))
+
+
+CAUSES: List[Tuple[str, str]] = [
+    (r"pairs ([0-9]+)", "as many overlaps and inclusions of leading words are treated as --pairs says, {0}, and some are left"),
+    (r"steps ([0-9]+)", "a reduction has made as many steps as --steps says, {0}, and a word can still be reduced"),
+    (r"size letters ([0-9]+)", "a word has more than {0} letters"),
+    (r"size terms ([0-9]+)", "a polynomial has more than {0} terms"),
+    (r"rows letters ([0-9]+)", "the certificate would have more than {0} letters in all its words"),
+    (r"rows ([0-9]+)", "the certificate would have more than {0} rows"),
+    (r"overflow (-?[0-9]+ (?:times|plus) -?[0-9]+)", "the coefficient {0} leaves ±(2^127 - 1)"),
+]
+PLACES = {
+    " at round ": "in round {0}, which is given up", " at claim after round ": "in the reduction of the claim after round {0}",
+    " at certificate after round ": "in its certificate after round {0}",
+}  # fmt: skip
+
+
+def stopped(cause: str) -> str:
+    match, text = next((found, text) for pattern, text in CAUSES for found in [re.match(pattern, cause)] if found)
+    told = text.format(match.group(1))
+    for place, where in PLACES.items():
+        at = re.search(place + "([0-9]+)", cause)
+        if at:
+            told += "; that was " + where.format(at.group(1))
+    return told
+
+
+def helps(asked: Asked, cause: str) -> List[str]:
+    """What may help, with the command to type."""
+    if asked.call.command != "prove":
+        return []
+    kind, call = cause.split()[0], asked.call
+    lines = []
+    if kind in ("pairs", "steps"):
+        now = int(cause.split()[1])
+        if now < 1000000:
+            lines.append(f"  {call.with_option('--' + kind, str(min(now * 10, 1000000)))}")
+    if kind == "rows" and call.options.get("--format") == "1":
+        lines.append(f"  {call.with_option('--format', '2')}")
+    told = ["More may do:" if kind in ("pairs", "steps") else "Lemmas make a certificate shorter:"] + lines if lines else []
+    if kind != "rows":
+        told.append(
+            "Another order may do, since it makes other words leading: `order weight NAME N ..` in the file gives maps a weight, "
+            "and `eliminate NAME ..`, where its first line is `language 2`, puts maps that others define above all others."
+        )
+    told += ["Fewer assumptions, other orders, lemmas and larger budgets are tried by"]
+    return [*told, f"  opprove search {shlex.quote(call.operands[0])}"]
+
+
+# ---- All claims
+
+KINDS: Dict[str, Tuple[Callable[[Asked, Outcome], Told], str]] = {
+    "undecided": (undecided, "undecided"),
+    "refuted": (refuted, "refuted"),
+    "not derivable": (not_derivable, "not derivable"),
+    "not refuted": (not_refuted, "not refuted"),
+    "proved": (proved, "proved"),
+}
+
+
+def told_of(asked: Asked, report: str, briefly: bool = False) -> List[Told]:
+    """Of each kind of outcome the first claim, or briefly its outcome alone, and the numbers of the others."""
+    found = outcomes(report)
+    told = []
+    for kind, (tell, name) in KINDS.items():
+        of_kind = [outcome for outcome in found if outcome.kind == kind]
+        if not of_kind:
+            continue
+        try:
+            told.append(Told(f"claim {of_kind[0].claim} is {name}") if briefly else tell(asked, of_kind[0]))
+        except (Refusal, LookupError, StopIteration, ValueError, AttributeError, RecursionError):
+            told.append(Told(f"claim {of_kind[0].claim} is {name}"))
+        others = [str(outcome.claim) for outcome in of_kind[1:]]
+        if others:
+            told.append(Told(f"{'Claims' if len(others) > 1 else 'Claim'} {few(others, 12)} {is_are(len(others))} {name} too."))
+    return told
+
+
+def told_of_blocks(text: Text, report: str) -> List[Told]:
+    """What the lines on accepted, explained, confirmed and closed blocks say."""
+    accepted = re.findall("^# block ([0-9]+) accepted claim ([0-9]+) denominator ([0-9]+)(?: (?:monic|epic) .*)?$", report, re.MULTILINE)
+    explained = re.findall("^# block ([0-9]+) explained claim ([0-9]+) denominator ([0-9]+) steps [0-9]+$", report, re.MULTILINE)
+    confirmed = re.findall("^# block ([0-9]+) confirmed claim ([0-9]+)$", report, re.MULTILINE)
+    if accepted and text.kind == "cancellation":
+        return [told_of_cancelled(accepted)]
+    if accepted:
+        scales = sorted({int(it[2]) for it in accepted if it[2] != "1"})
+        where = f"it is zero wherever the generators are{' and its denominator cancels' if scales else ''}"
+        told = f"{counted(len(accepted), 'certificate')} {is_are(len(accepted))} accepted, of {claims([it[1] for it in accepted])}"
+        return [Told(f"{told}: each adds up to its claim, so {where}", None, denominators(scales))]
+    if explained:
+        scales = sorted({int(it[2]) for it in explained if it[2] != "1"})
+        where = f"it is zero wherever the generators are{' and its denominator cancels' if scales else ''}"
+        told = f"{counted(len(explained), 'chain')} of {claims([it[1] for it in explained])}"
+        return [Told(f"{told}: each leads from its claim down to 0, so {where}", None, denominators(scales))]
+    if confirmed:
+        told = f"{counted(len(confirmed), 'model')} {is_are(len(confirmed))} confirmed, of {claims([it[1] for it in confirmed])}"
+        return [Told(f"{told}: the matrices make all assumptions zero, and the claim not")]
+    closed = re.findall("^# block ([0-9]+) closed claim ([0-9]+)( sharp)?$", report, re.MULTILINE)
+    if closed:
+        bases = f"{len(closed):,} {'basis is' if len(closed) == 1 else 'bases are'} closed, of {claims([it[1] for it in closed])}"
+        told = f"{bases}: no positive multiple of it is a sum of rows over the generators, whatever their words"
+        sharp = f"{sum(it[2] != '' for it in closed):,} of {len(closed):,} sharp: the rules make a preadditive category that tells the claim from zero."
+        return [Told(told, None, (sharp, "This says nothing of matrices of finite size, nor of star representations."))]
+    return []
+
+
+def told_of_cancelled(accepted: List[Tuple[str, str, str]]) -> Told:
+    """What the lines on accepted proofs say that take letters off."""
+    scales = sorted({int(it[2]) for it in accepted if it[2] != "1"})
+    where = f"it is zero wherever the generators are{', its denominator cancels' if scales else ''} and the maps are monic and epic that its line names so"
+    told = f"{counted(len(accepted), 'proof')} {is_are(len(accepted))} accepted, of {claims([it[1] for it in accepted])}: each adds up to its claim, so {where}"
+    meaning = "A map m is monic where m n = 0 holds for n = 0 only, and epic where n m = 0 does."
+    return Told(told, None, (meaning, *denominators(scales)))
+
+
+def denominators(scales: List[int]) -> Tuple[str, ...]:
+    names = [str(it) for it in scales]
+    return (f"A denominator D other than 1 ({listed(names)}) has to cancel: D m = 0 for m = 0 only.",) if scales else ()
+
+
+def claims(numbers: List[str]) -> str:
+    known = sorted(set(numbers), key=int)
+    return f"claim{'s' if len(known) > 1 else ''} {few(known, 12)}"
