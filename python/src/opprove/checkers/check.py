@@ -66,9 +66,10 @@ def fault(code: str, token: Token, more: str = "") -> Refusal:
     return Refusal(f"# refused {code} line {token.line} column {token.column}{more}")
 
 
-def tokens_of(line: str, number: int, language: int = 1) -> List[Token]:
-    """The tokens of a line, and behind the last an "end". The kind of a token is "name", "literal", or the sign."""
-    tokens, signs = [], SIGNS[language]
+def tokens_of(line: str, number: int, language: int = 1, signs: str = "") -> List[Token]:
+    """The tokens of a line, and behind the last an "end". The kind of a token is "name", "literal", or the sign: of the language, if
+    no signs are given."""
+    tokens, signs = [], signs or SIGNS[language]
     for match in re.finditer(rf"([0-9]+)|(->|[{signs}])|[^ \t{signs}]+", line.split("#")[0]):
         kind = "literal" if match.group(1) else match.group(2) or "name"
         token = Token(kind, match.group(), number, match.start() + 1)
