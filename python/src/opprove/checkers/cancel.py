@@ -14,11 +14,11 @@ from typing import TYPE_CHECKING, Dict, Iterator, List, NamedTuple, Set, Tuple, 
 
 if TYPE_CHECKING or __package__:
     from .chain_text import LETTERS_OF_A_WORD, Bounded, Lines, add_row, greatness
-    from .check import Blocks, Poly, Problem, Refusal, Row, Share, Word, is_letter
+    from .check import Blocks, Poly, Problem, Refusal, Row, Share, Source, Word, is_letter
     from .scripts import end_quietly, load, run
 else:  # run as a file by itself
     from chain_text import LETTERS_OF_A_WORD, Bounded, Lines, add_row, greatness
-    from check import Blocks, Poly, Problem, Refusal, Row, Share, Word, is_letter
+    from check import Blocks, Poly, Problem, Refusal, Row, Share, Source, Word, is_letter
     from scripts import end_quietly, load, run
 
 TERMS_OF_A_POLYNOMIAL, TERMS_OF_ITEMS, PROOFS, ITEMS = 20000, 1000000, 100, 200000
@@ -46,9 +46,9 @@ class Cancellation(NamedTuple):
 class Cancellations(Bounded):
     """The proofs of an evidence text that take letters off."""
 
-    def __init__(self, problem: Problem, path: str) -> None:
+    def __init__(self, problem: Problem, source: Source) -> None:
         self.is_large = False
-        Blocks.__init__(self, path)
+        Blocks.__init__(self, source)
         self.letters = problem.numbers
         self.proofs: List[Cancellation] = []
         self.read_all("cancellation", self.proofs, self.proof, "certificate|model|basis")

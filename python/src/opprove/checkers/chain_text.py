@@ -11,9 +11,9 @@ from itertools import chain
 from typing import TYPE_CHECKING, Dict, List, NamedTuple, Tuple
 
 if TYPE_CHECKING or __package__:
-    from .check import Blocks, Certificate, Evidence, Line, Poly, Problem, Refusal, Row, Signature, Token, Word, add, is_letter
+    from .check import Blocks, Certificate, Evidence, Line, Poly, Problem, Refusal, Row, Signature, Source, Token, Word, add, is_letter
 else:  # run as a file by itself
-    from check import Blocks, Certificate, Evidence, Line, Poly, Problem, Refusal, Row, Signature, Token, Word, add, is_letter
+    from check import Blocks, Certificate, Evidence, Line, Poly, Problem, Refusal, Row, Signature, Source, Token, Word, add, is_letter
 
 NUMBERS, MOST = 2**32 - 1, 2**127 - 1
 LETTERS_OF_A_WORD, TERMS_OF_A_LINE, LETTERS_OF_LINES, TERMS_OF_A_SUM = 500, 20000, 10000000, 200000
@@ -192,10 +192,10 @@ def explained(lines: Lines, block: int, certificate: Certificate, has_lemmas: bo
 class Bounded(Evidence):
     """The certificates of an evidence text, with the bounds of their numbers, and for each whether it is of format 2."""
 
-    def __init__(self, problem: Problem, path: str) -> None:
+    def __init__(self, problem: Problem, source: Source) -> None:
         self.has_lemmas: List[bool] = []
         self.is_large = False  # whether a number of the line that was taken last is
-        super().__init__(problem, path)
+        super().__init__(problem, source)
 
     def certificate(self) -> Certificate:
         self.has_lemmas.append(self.line == "certificate 2")
@@ -224,8 +224,8 @@ class Bounded(Evidence):
 class Texts(Evidence):
     """The certificates of a text or its chains: which of both it has the first such block says."""
 
-    def __init__(self, problem: Problem, path: str) -> None:
-        Blocks.__init__(self, path)
+    def __init__(self, problem: Problem, source: Source) -> None:
+        Blocks.__init__(self, source)
         self.letters = problem.numbers
         self.certificates: List[Certificate] = []
         self.chains: List[ChainText] = []

@@ -13,12 +13,13 @@ from __future__ import annotations
 
 import re
 import sys
-from typing import Callable, Dict, Iterable, Iterator, List, NamedTuple, Optional, Tuple, TypeVar
+from typing import Callable, Dict, Iterable, Iterator, List, NamedTuple, Optional, Tuple, TypeVar, Union
 
 Word = Tuple[int, ...]  # letters are numbers
 Poly = Dict[Word, int]  # words with their coefficients, none of which is 0
 Signature = Tuple[int, int]  # source and target, each by the number of its identity
 Value = Tuple[Optional[Signature], Poly]  # of an expression; an open one has no signature
+Source = Union[str, bytes]  # the path of a file, or what stands in it
 getattr(sys, "set_int_max_str_digits", int)(0)  # so that Python reads and writes numbers of any size
 
 
@@ -40,14 +41,23 @@ def is_name(text: str) -> bool:
     return text.isidentifier() and len(text.encode()) <= 32
 
 
-def read_lines(path: str, not_utf8: str) -> Iterator[Tuple[int, str]]:
-    """The lines of a file with their numbers. A carriage return that no line feed follows is a character."""
+def read_lines(source: Source, not_utf8: str) -> Iterator[Tuple[int, str]]:
+    """The lines of a text with their numbers. A carriage return that no line feed follows is a character."""
     try:
-        with open(path, "rb") as file:
-            return enumerate(re.split("\r?\n", file.read().decode()), 1)
-    except (OSError, ValueError) as error:
-        is_loaded = isinstance(error, UnicodeDecodeError)
-        raise Refusal(not_utf8.format(error.start) if is_loaded else f"# load failed {path}") from None
+        return enumerate(re.split("\r?\n", content(source).decode()), 1)
+    except UnicodeDecodeError as error:
+        raise Refusal(not_utf8.format(error.start)) from None
+
+
+def content(source: Source) -> bytes:
+    """The bytes of a file, or those that are given."""
+    if isinstance(source, bytes):
+        return source
+    try:
+        with open(source, "rb") as file:
+            return file.read()
+    except (OSError, ValueError):
+        raise Refusal(f"# load failed {source}") from None
 
 
 # ---- Statements: the grammar, and the values of expressions
@@ -87,11 +97,11 @@ def language_of(tokens: List[Token]) -> int:
     return 2 if is_second and int(tokens[1].text) == 2 else 1
 
 
-def lines_of(path: str) -> List[Line]:
+def lines_of(source: Source) -> List[Line]:
     """The lines of a statement that have a token, the one that names its language among them."""
     texts: List[List[Token]] = []
     language = 1
-    for number, text in read_lines(path, "# refused S1 byte {}"):
+    for number, text in read_lines(source, "# refused S1 byte {}"):
         tokens = tokens_of(text, number, language)
         language = language_of(tokens) if tokens and not texts else language
         texts += [tokens] if tokens else []
@@ -281,8 +291,8 @@ def is_in_range(role: str, word: str, place: int, literal: int) -> bool:
 class Problem:
     """What a statement says: its letters, and its assumptions, claims and generators as polynomials."""
 
-    def __init__(self, path: str) -> None:
-        self.lines = lines = lines_of(path)
+    def __init__(self, source: Source) -> None:
+        self.lines = lines = lines_of(source)
         check_names(lines)
         self.names, self.stars, self.ends = [], [], []  # of each letter: as it is written, its adjoint, its signature
         self.numbers: Dict[str, int] = {}  # of each way to write a letter
@@ -372,8 +382,8 @@ def is_letter(text: str) -> bool:
 class Blocks:
     """An evidence text: its lines, but for those that are skipped, and the blocks of other kinds."""
 
-    def __init__(self, path: str) -> None:
-        self.lines = read_lines(path, "# refused K1")
+    def __init__(self, source: Source) -> None:
+        self.lines = read_lines(source, "# refused K1")
         self.advance()
 
     def advance(self) -> None:
@@ -419,8 +429,8 @@ class Blocks:
 class Evidence(Blocks):
     """The certificates of an evidence text."""
 
-    def __init__(self, problem: Problem, path: str) -> None:
-        super().__init__(path)
+    def __init__(self, problem: Problem, source: Source) -> None:
+        super().__init__(source)
         self.letters = problem.numbers
         self.certificates: List[Certificate] = []
         self.read_all("certificate", self.certificates, self.certificate, "model|basis")

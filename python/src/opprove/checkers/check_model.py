@@ -15,9 +15,9 @@ import sys
 from typing import TYPE_CHECKING, Dict, List, NamedTuple, Optional, Tuple
 
 if TYPE_CHECKING or __package__:
-    from .check import Blocks, Poly, Problem, Refusal, Word, is_name
+    from .check import Blocks, Poly, Problem, Refusal, Source, Word, is_name
 else:  # run as a file by itself
-    from check import Blocks, Poly, Problem, Refusal, Word, is_name
+    from check import Blocks, Poly, Problem, Refusal, Source, Word, is_name
 
 Matrix = List[List[int]]  # its rows; all numbers are from 0 to one less than a modulus
 NUMBERS = "[0-9]+( [0-9]+)*"
@@ -37,8 +37,8 @@ class Model(NamedTuple):
 class Models(Blocks):
     """The models of an evidence text."""
 
-    def __init__(self, problem: Problem, path: str) -> None:
-        super().__init__(path)
+    def __init__(self, problem: Problem, source: Source) -> None:
+        super().__init__(source)
         self.problem = problem
         self.models: List[Model] = []
         self.read_all("model", self.models, self.model, "certificate|basis")

@@ -18,13 +18,13 @@ from typing import TYPE_CHECKING, DefaultDict, Dict, Iterable, Iterator, List, N
 if TYPE_CHECKING or __package__:
     from . import check
     from .chain_text import MOST, NUMBERS, operated
-    from .check import Blocks, Problem, Refusal, is_name
+    from .check import Blocks, Problem, Refusal, Source, is_name
     from .scripts import end_quietly, load, run
     from .tree import measures_of
 else:  # run as a file by itself
     import check
     from chain_text import MOST, NUMBERS, operated
-    from check import Blocks, Problem, Refusal, is_name
+    from check import Blocks, Problem, Refusal, Source, is_name
     from scripts import end_quietly, load, run
     from tree import measures_of
 
@@ -103,8 +103,8 @@ def number_in(token: str) -> int:
 class Bases(Blocks):
     """The bases of an evidence text."""
 
-    def __init__(self, problem: Problem, path: str) -> None:
-        super().__init__(path)
+    def __init__(self, problem: Problem, source: Source) -> None:
+        super().__init__(source)
         self.problem = problem
         self.bases: List[Basis] = []
         self.characters = {name: chr(FIRST - letter) for letter, name in enumerate(problem.names)}

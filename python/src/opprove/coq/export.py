@@ -4,8 +4,8 @@ Writes a file for coqc that stands on coq/Opprove.v: for each certificate a theo
 words of the statement, and its proof, in which Coq adds up the rows by a checker whose soundness is proved there. Where the
 file is NAME.v, these print "Closed under the global context", which is to say that Coq accepts it, with no axioms:
 
-    coqc -Q contrib/translators/coq Opprove contrib/translators/coq/Opprove.v
-    coqc -Q contrib/translators/coq Opprove NAME.v
+    coqc -Q python/src/opprove/coq/theories Opprove python/src/opprove/coq/theories/Opprove.v
+    coqc -Q python/src/opprove/coq/theories Opprove NAME.v
 
 Rows over relations of identities are left out, as Coq has identities themselves, and so are rows that are no paths, which
 say nothing of categories. The theorem of claim 1 is claim_1_holds, and that of a second certificate of it claim_1_2_holds.
