@@ -10,7 +10,7 @@ S13 of statements, of numbers that are too large, are not looked at.
 from __future__ import annotations
 
 import sys
-from typing import TYPE_CHECKING, Dict, Iterator, List, NamedTuple, Set, Tuple, Union
+from typing import TYPE_CHECKING, Any, Dict, Iterator, List, NamedTuple, Set, Tuple, Type
 
 if TYPE_CHECKING or __package__:
     from .chain_text import LETTERS_OF_A_WORD, Bounded, Lines, add_row, greatness
@@ -37,7 +37,7 @@ class Cancellation(NamedTuple):
     denominator: int
     monic: List[int]
     epic: List[int]
-    items: List[Union[Share, Cancel]]  # the last one is the goal
+    items: List[Any]  # each a Share or a Cancel, or of a kind of star.py; the last one is the goal, a Share
 
 
 # ---- Proofs as text
@@ -46,16 +46,19 @@ class Cancellation(NamedTuple):
 class Cancellations(Bounded):
     """The proofs of an evidence text that take letters off."""
 
+    HEAD, OTHERS = "cancellation 1", "certificate|model|basis"
+    ITEM_WORDS: Tuple[str, ...] = ("lemma ", "cancel ")
+
     def __init__(self, problem: Problem, source: Source) -> None:
         self.is_large = False
         Blocks.__init__(self, source)
         self.letters = problem.numbers
         self.proofs: List[Cancellation] = []
-        self.read_all("cancellation", self.proofs, self.proof, "certificate|model|basis")
+        self.read_all(self.HEAD.split(" ")[0], self.proofs, self.proof, self.OTHERS)
 
     def proof(self) -> Cancellation:
         place = self.number
-        self.take("cancellation 1")
+        self.take(self.HEAD)
         self.limit(place, len(self.proofs) + 1, PROOFS)
         self.read = [0, 0]
         claim, denominator = self.take_number("claim"), self.take_number("denominator")
@@ -65,13 +68,17 @@ class Cancellations(Bounded):
             letter = self.map_letter(place, name)
             self.require(place, "K2", letter not in declared[word])
             declared[word][letter] = None
-        items: List[Union[Share, Cancel]] = []
-        while self.line.startswith(("lemma ", "cancel ")):
+        items: List[Any] = []
+        while self.line.startswith(self.ITEM_WORDS):
             is_lemma, number = self.line.startswith("lemma "), len(items) + 1
-            items.append(self.lemma(number) if is_lemma else self.cancel(number))
+            items.append(self.lemma(number) if is_lemma else self.other_item(number))
         items.append(Share(self.take_number("goal scale"), self.rows(True)))
         self.take("end")
         return Cancellation(claim, denominator, [*declared["monic"]], [*declared["epic"]], items)
+
+    def other_item(self, wanted: int) -> Any:
+        """An item that is no lemma."""
+        return self.cancel(wanted)
 
     def cancel(self, wanted: int) -> Cancel:
         """A letter that is taken off, in an item with this number."""
@@ -111,14 +118,14 @@ class Items:
     """The polynomials of the items of a proof, one after another."""
 
     def __init__(self, lines: Lines, proof: Cancellation, refused: str) -> None:
-        self.lines, self.refused = lines, refused
+        self.lines, self.refused, self.denominator = lines, refused, proof.denominator
         self.monic, self.epic = set(proof.monic), set(proof.epic)
         self.polys: List[Poly] = []
         self.descending: Dict[int, List[Tuple[Word, int]]] = {}  # the terms of the items that rows name, by their numbers
         self.row = self.terms = 0  # how many rows were read, and how many terms all polynomials have
 
-    def add(self, item: Union[Share, Cancel]) -> None:
-        self.polys.append(self.divided(item) if isinstance(item, Share) else self.stripped(item))
+    def add(self, item: Any) -> None:
+        self.polys.append(self.divided(item) if isinstance(item, Share) else self.other(item))
         self.terms += len(self.polys[-1])
         if self.terms > TERMS_OF_ITEMS:
             raise Refusal(f"{self.refused} C11 row {self.row} limit {TERMS_OF_ITEMS}")
@@ -153,6 +160,10 @@ class Items:
             raise Refusal(f"{self.refused} C9 lemma {number}")
         return {word: value // share.scale for word, value in total.items()}
 
+    def other(self, item: Any) -> Poly:
+        """The polynomial of an item that is no lemma."""
+        return self.stripped(item)
+
     def stripped(self, cancel: Cancel) -> Poly:
         """The polynomial of an earlier item, with the letter off each word."""
         place = f"item {len(self.polys) + 1}"
@@ -174,12 +185,12 @@ def is_typed(problem: Problem, poly: Poly) -> bool:
     return len(signatures) <= 1 and None not in signatures
 
 
-def judge(lines: Lines, proof: Cancellation, refused: str) -> List[Poly]:
+def judge(lines: Lines, proof: Cancellation, refused: str, kind: Type[Items] = Items) -> List[Poly]:
     """Raises the first test of the proof that fails, where one does. Gives the polynomials of the items but the goal."""
     check_scales(lines.problem, proof, refused)
     goal = proof.items[-1]
     want = lines.first(proof.claim, goal.scale, f"{refused} C4 row 0")
-    items = Items(lines, proof, refused)
+    items = kind(lines, proof, refused)
     for item in proof.items[:-1]:
         items.add(item)
     different = lines.difference(want, items.sum(goal))
@@ -188,11 +199,11 @@ def judge(lines: Lines, proof: Cancellation, refused: str) -> List[Poly]:
     return items.polys
 
 
-def accepted(problem: Problem, proof: Cancellation) -> str:
-    """What an accepted proof shows, and what it takes for granted."""
+def accepted(problem: Problem, proof: Cancellation, more: str = "") -> str:
+    """What an accepted proof shows, and what it takes for granted, with more of it in front."""
     kinds = [(word, letters) for word, letters in (("monic", proof.monic), ("epic", proof.epic)) if letters]
     granted = "".join(f" {word} {problem.text(tuple(letters))}" for word, letters in kinds)
-    return f"accepted claim {proof.claim} denominator {proof.denominator}{granted}"
+    return f"accepted claim {proof.claim} denominator {proof.denominator}{more}{granted}"
 
 
 def report(paths: List[str]) -> Iterator[str]:

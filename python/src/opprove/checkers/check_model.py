@@ -4,7 +4,8 @@
 Reads a statement and the models of an evidence text, puts the matrices of a model in for the maps, their transposes for
 the adjoints and identity matrices for the objects, and multiplies and adds up. It prints a line for each model: that it
 is confirmed, with its claim, or the first thing that is wrong, with its place, which ends the report. The status is 0
-where all are confirmed, and else 1.
+where all are confirmed, and else 1. A text whose first block is a `rational model` has matrices of rational numbers, which
+the program doesn't read, and is computed with exactly.
 
 It is written from docs/FORMATS.md and shares nothing with opprove; codes and places are those of that page. Statements
 are read by check.py, with the limits that it doesn't look at; those of models are all looked at.
@@ -12,21 +13,25 @@ are read by check.py, with the limits that it doesn't look at; those of models a
 from __future__ import annotations
 
 import sys
-from typing import TYPE_CHECKING, Dict, List, NamedTuple, Optional, Tuple
+from fractions import Fraction
+from typing import TYPE_CHECKING, Dict, List, NamedTuple, Optional, Tuple, Union
 
 if TYPE_CHECKING or __package__:
     from .check import Blocks, Poly, Problem, Refusal, Source, Word, is_name
 else:  # run as a file by itself
     from check import Blocks, Poly, Problem, Refusal, Source, Word, is_name
 
-Matrix = List[List[int]]  # its rows; all numbers are from 0 to one less than a modulus
+Number = Union[int, Fraction]
+Matrix = List[List[Number]]  # its rows; all numbers are from 0 to one less than a modulus, where there is one
 NUMBERS = "[0-9]+( [0-9]+)*"
 MAP = f"map ([^ ]+) = ({NUMBERS}( ; {NUMBERS})*)"
+RATIONAL_MAP = MAP.replace("[0-9]+", "-?[0-9]+(?:/[0-9]+)?")
+DIGITS = 1000  # of a numerator or a denominator
 
 
 class Model(NamedTuple):
     claim: int
-    modulus: int
+    modulus: int  # 0 where the numbers are rational
     sides: List[int]  # of each object
     maps: Dict[int, Matrix]  # of declared maps, each by the number of its letter
 
@@ -50,19 +55,25 @@ class Models(Blocks):
             raise Refusal(f"# refused K5 line {place} limit 100")
         claim, modulus = self.number_within("claim", 0, 2**32 - 1), self.number_within("modulus", 2, 2**31 - 1)
         model = Model(claim, modulus, [1 for name in self.problem.names if name[0] == "["], {})
+        self.lines_of(model)
+        return model
+
+    def lines_of(self, model: Model, map_line: str = MAP) -> None:
+        """The lines on sides and maps, to the last one."""
         names: List[str] = []
         while self.line.startswith(("side ", "map ")):
             place, is_side = self.number, self.line.startswith("side ")
-            name, text = self.take("side ([^ ]+) ([0-9]+)" if is_side else MAP)[:2]
-            rows = [[int(number) for number in row.split(" ")] for row in text.split(" ; ")]
+            name, text = self.take("side ([^ ]+) ([0-9]+)" if is_side else map_line)[:2]
             self.check(place, "K2", is_name(name) and name not in names)
             if is_side:
-                self.add_side(model, place, name, rows[0][0])
+                self.add_side(model, place, name, int(text))
             else:
-                self.add_map(model, place, name, rows)
+                self.add_map(model, place, name, [[self.entry(place, number) for number in row.split(" ")] for row in text.split(" ; ")])
             names.append(name)
         self.take("end")
-        return model
+
+    def entry(self, place: int, text: str) -> Number:
+        return int(text)
 
     def number_within(self, word: str, least: int, most: int) -> int:
         place, number = self.number, self.take_number(word)
@@ -79,7 +90,7 @@ class Models(Blocks):
     def add_map(self, model: Model, place: int, name: str, rows: Matrix) -> None:
         self.check(place, "K2", all(len(row) == len(rows[0]) for row in rows))
         letter = self.letter(place, name)
-        self.check(place, "K4", all(number < model.modulus for row in rows for number in row))
+        self.check(place, "K4", not model.modulus or all(number < model.modulus for row in rows for number in row))
         self.check(place, "K5", max(len(rows), len(rows[0])) <= 64, " limit 64")
         model.maps[letter] = rows
 
@@ -91,6 +102,31 @@ class Models(Blocks):
         """Raises the fault of the line at this place, unless what it is about is met."""
         if not is_met:
             raise Refusal(f"# refused {code} line {place}{more}")
+
+
+class RationalModels(Models):
+    """The rational models of an evidence text."""
+
+    def __init__(self, problem: Problem, source: Source) -> None:
+        Blocks.__init__(self, source)
+        self.problem = problem
+        self.models: List[Model] = []
+        self.read_all("rational", self.models, self.model, "certificate|model|basis|cancellation|star")
+
+    def model(self) -> Model:
+        place = self.number
+        self.take("rational model 1")
+        self.limit(place, len(self.models) + 1, 100)
+        claim = self.number_within("claim", 0, 2**32 - 1)
+        model = Model(claim, 0, [1 for name in self.problem.names if name[0] == "["], {})
+        self.lines_of(model, RATIONAL_MAP)
+        return model
+
+    def entry(self, place: int, text: str) -> Number:
+        parts = text.lstrip("-").split("/")
+        self.check(place, "K2", len(parts) == 1 or parts[1].strip("0") != "")
+        self.check(place, "K4", max(map(len, parts)) <= DIGITS)
+        return Fraction(text)
 
 
 # ---- Matrices
@@ -106,7 +142,8 @@ def identity(side: int) -> Matrix:
 
 def product(left: Matrix, right: Matrix, modulus: int) -> Matrix:
     columns = transpose(right)
-    return [[sum(x * y for x, y in zip(row, column)) % modulus for column in columns] for row in left]
+    totals = [[sum(x * y for x, y in zip(row, column)) for column in columns] for row in left]
+    return [[total % modulus for total in row] for row in totals] if modulus else totals
 
 
 def declared_maps(problem: Problem) -> List[int]:
@@ -144,7 +181,7 @@ class Arrows:
         for word, coefficient in poly.items():
             value = [[coefficient * number for number in row] for row in self.value(word)]
             total = [[x + y for x, y in zip(*rows)] for rows in zip(total, value)] if total else value
-        return all(number % self.modulus == 0 for row in total or [] for number in row)
+        return all(number % self.modulus == 0 if self.modulus else number == 0 for row in total or [] for number in row)
 
 
 # ---- What is said of a model
@@ -177,7 +214,8 @@ def report(paths: List[str]) -> Tuple[List[str], int]:
         if len(paths) != 2:
             raise Refusal("# usage: check_model.py STATEMENT MODELS")
         problem = Problem(paths[0])
-        for block, model in enumerate(Models(problem, paths[1]).models, 1):
+        reader = RationalModels if Blocks(paths[1]).line.startswith("rational ") else Models
+        for block, model in enumerate(reader(problem, paths[1]).models, 1):
             judge(problem, model, f"# block {block} refused")
             lines.append(f"# block {block} confirmed claim {model.claim}")
     except (Refusal, MemoryError) as refusal:

@@ -1,7 +1,8 @@
 """second-check STATEMENT EVIDENCE: checks evidence by the second program that reads its first block.
 
 Certificates are checked by check.py, models by check_model.py, bases by confirm.py and proofs that cancel by cancel.py, each a file
-that shares nothing with the program and runs by itself too.
+that shares nothing with the program and runs by itself too. Star proofs, by star.py, and rational models, by check_model.py, are read
+by no command of the program.
 """
 from __future__ import annotations
 
@@ -10,7 +11,9 @@ from importlib import import_module
 from typing import List
 
 # The checkers by the word with which a block begins that they read.
-CHECKERS = {"certificate": "check", "model": "check_model", "basis": "confirm", "cancellation": "cancel"}
+CHECKERS = {
+    "certificate": "check", "model": "check_model", "rational": "check_model", "basis": "confirm", "cancellation": "cancel", "star": "star",
+}  # fmt: skip
 
 
 def checker_of(path: str) -> str:
