@@ -22,7 +22,8 @@ from opprove.checkers.check import Problem, Refusal
 from trying import PROGRAM, SOURCE, TOP, Answer, Skipped, decided, installed, need, reads_language_2, run, tool
 from opprove.words.parts import Screen, on_screen
 
-CASES = TOP / "python" / "tests" / "data" / "words.txt"
+DATA = TOP / "python" / "tests" / "data"
+CASES, TYPED = DATA / "words.txt", DATA / "typed.txt"
 SCREEN = Screen(100, 60)
 NOT_RUN = ("5", "6", "C5", "C11", "E4", "K5: rows", "12: a large certificate", "12: many terms")  # of devices and memory, and what takes long
 
@@ -117,6 +118,24 @@ def write(folder: Path) -> None:
             texts.append(as_text(case._replace(told=told(case))))
     front = CASES.read_text().split("\n==== ")[0]
     CASES.write_text("\n".join([front, *texts]))
+
+
+# ---- What is often typed
+
+BEFORE = "object U V\nmap a b : U -> V\nmap x y : V -> U\n"
+
+
+def typed_mistakes(folder: Path) -> str:
+    """Each row: the line is refused at its place, and what is said is what is stored."""
+    rows = re.findall(r"^(\[2\] )?(\S.*)\n    (.*)$", TYPED.read_text().split("\n\n", 1)[1], re.MULTILINE)
+    for mark, line, said in rows:
+        path = folder / "typed.op"
+        path.write_text("language 2\n" * bool(mark) + BEFORE + line + "\n" + "claim a = b\n" * (not line.startswith("claim")))
+        told = why.explanation(["prove", str(path)], why.Answer(3, answer_of(path)))
+        need(len(told) == 1 and told[0].sentence == said, (line, told))
+        need(not re.search("token|begins no", said), said)
+    need(len(rows) >= 60, len(rows))
+    return f"of {len(rows)} lines that are often typed it is said what is meant"
 
 
 # ---- Edits of the gallery
@@ -233,12 +252,12 @@ def stored_words(folder: Path) -> str:
     codes = {match for case in found for match in re.findall("^([A-Z][0-9]+): ", case.told, re.MULTILINE)}
     page = (TOP / "docs" / "FORMATS.md").read_text()
     of_page = set(re.findall(r"^\|(?: [0-9] \|)? (?:`# block B refused )?([A-Z][0-9]+)\b", page, re.MULTILINE))
-    need(codes == of_page, codes ^ of_page)
+    need(codes == {code for code in of_page if code[0] != "P"}, codes ^ of_page)  # P: of what tools alone read
     need({case.status for case in found} == {0, 2, 3, 4, 5, 6, 7, 10, 11, 12, 13}, "statuses")
     return f"{len(found)} answers are told in the words that are stored, {by_both} of them as opprove gives them"
 
 
-CHECKS: List[Callable[[Path], str]] = [stored_words, edits, editor]
+CHECKS: List[Callable[[Path], str]] = [stored_words, typed_mistakes, edits, editor]
 
 if __name__ == "__main__":
     import tempfile

@@ -6,10 +6,17 @@ isn't loaded, 5 the output fails, 6 no memory, 7 evidence is refused, 10 and abo
 from __future__ import annotations
 
 import difflib
+import os
 import signal
+import subprocess
 import sys
 from importlib import import_module
 from typing import Dict, List, NamedTuple
+
+from opprove.program import path
+from opprove.words.calls import COMMANDS
+
+MISSING = 75  # a status that no tool has
 
 
 class Tool(NamedTuple):
@@ -18,6 +25,7 @@ class Tool(NamedTuple):
     word: str
     module: str
     summary: str
+    asks: bool = False  # whether it runs the program
 
 
 TOOLS: List[Tool] = [
@@ -28,9 +36,9 @@ TOOLS: List[Tool] = [
     Tool("sympy", "translations.sympy", "a certificate as a script that SymPy adds up"),
     Tool("picture", "translations.picture", "the quiver of a statement as SVG, TikZ or a graph"),
     Tool("expand", "notation.expand", "the statements that a file of the notation stands for"),
-    Tool("search", "search.search", "searches around the program for what `prove` leaves undecided"),
+    Tool("search", "search.search", "searches around the program for what `prove` leaves undecided", asks=True),
     Tool("join", "search.join", "one certificate from evidence for lemmas and evidence that assumes them"),
-    Tool("why", "words.why", "an answer of the program, and what it means in words"),
+    Tool("why", "words.why", "an answer of the program, and what it means in words", asks=True),
     Tool("second-check", "checkers.second_check", "checks evidence by a second program, in Python"),
     Tool("candidates", "checkers.candidates", "a second search for matrices that break a claim"),
     Tool("explain-again", "checkers.explain", "a second `explain`: certificates as chains, byte by byte"),
@@ -45,10 +53,9 @@ BY_WORD: Dict[str, Tool] = {tool.word: tool for tool in TOOLS}
 def main(words: List[str]) -> int:
     """Runs the tool that the first word names, with the others, and gives its status; 2 where there is none of that name."""
     word = {"-h": "help", "--help": "help", "--version": "version"}.get(words[0], words[0]) if words else "help"
-    tool = BY_WORD.get(word)
-    if tool is None:
+    if word not in BY_WORD and word != "help":
         sys.stderr.write(f"opprove: {unknown(word)}\n")
-        return 2
+        return usage()
     if word != "help" and {"--help", "-h"} & set(words[1:2]):
         return run("help", [word])
     return run(word, words[1:])
@@ -61,11 +68,26 @@ def entry() -> int:
 
 
 def run(word: str, words: List[str]) -> int:
-    status: int = import_module(f"opprove.{BY_WORD[word].module}").main(words)
+    """Runs a tool. One that asks the program ends with MISSING where the script opprove has to build it first."""
+    tool, how = BY_WORD[word], os.environ.get("OPPROVE_HOW")
+    if tool.asks and how == "missing":
+        return MISSING
+    if tool.asks and how == "unproved":
+        sys.stderr.write("opprove: this program isn't proved on this machine\n")
+    status: int = import_module(f"opprove.{tool.module}").main(words)
     return status
 
 
+def usage() -> int:
+    """Has the program answer as it does to words that it doesn't know; where there is none, that answer is written here."""
+    program = path()
+    if os.access(program, os.X_OK):
+        return subprocess.call([program])
+    sys.stdout.write(f"# usage: opprove {'|'.join(COMMANDS)}\n")
+    return 2
+
+
 def unknown(word: str) -> str:
-    """What is said of a word that no tool has, with the nearest that one has."""
-    near = difflib.get_close_matches(word, BY_WORD, n=1)
-    return f"there is no tool {word!r}" + (f"; did you mean {near[0]!r}?" if near else "") + " (opprove help lists them)"
+    """What is said of a word that neither the program nor a tool has, with the nearest that one has."""
+    near = difflib.get_close_matches(word.lower(), [*COMMANDS, *BY_WORD, "build"], n=1)
+    return f"there is no command or tool {word!r}" + (f"; did you mean {near[0]!r}?" if near else "") + " (opprove help lists them)"

@@ -1,16 +1,24 @@
-"""help [WORD]: lists the tools with a line each, or shows the page of one."""
+"""help [WORD]: lists the commands and the tools with a line each, or shows the page of one."""
 from __future__ import annotations
 
 import sys
+import textwrap
 from importlib import import_module
-from typing import List
+from typing import Iterable, List, Tuple
 
 from opprove.cli import BY_WORD, TOOLS, unknown
+from opprove.words.calls import ALL_STATUSES, COMMANDS, LIMITS, OPTIONS, SAID_OF, form
+
+WIDTH = 100
+OF_THE_SCRIPT = (
+    ("build", "proves and builds the program, in a checkout"),
+    ("version", "the version, and which program answers"),
+)
 
 
 def main(words: List[str]) -> int:
-    """Writes the list of tools, or the page of the tool that is named."""
-    if len(words) > 1 or (words and words[0] not in BY_WORD):
+    """Writes the list, or the page of the command or tool that is named."""
+    if len(words) > 1 or (words and words[0] not in BY_WORD and words[0] not in COMMANDS):
         sys.stderr.write(f"opprove: {unknown(words[0]) if len(words) == 1 else 'help takes one word'}\n")
         return 2
     sys.stdout.write(page(words[0]) if words else listed())
@@ -18,13 +26,37 @@ def main(words: List[str]) -> int:
 
 
 def page(word: str) -> str:
-    """What the module of the tool says of it."""
+    """What there is to know of a command of the program, or what the module of a tool says."""
+    if word in COMMANDS:
+        return command_page(word)
     tool = BY_WORD[word]
     text = import_module(f"opprove.{tool.module}").__doc__ or ""
     return f"opprove {word}: {tool.summary}\n\n{text.strip()}\n"
 
 
+def command_page(word: str) -> str:
+    command = COMMANDS[word]
+    options: List[Tuple[str, str]] = []
+    for name in command.options:
+        least, most = OPTIONS[name]
+        options.append((f"{name} N", f"{SAID_OF[name]}; {least:,} to {most:,}" if most < 2**63 else f"{SAID_OF[name]}; 0 to 2^64 - 1"))
+    options += [(name, SAID_OF[name]) for name in command.flags] + [(f"{name} N", said) for name, said in LIMITS.items()]
+    statuses = [(str(number), said) for number, said in sorted(command.statuses + ALL_STATUSES)]
+    call = textwrap.fill(form(word), WIDTH, subsequent_indent="    ", break_on_hyphens=False)
+    parts = [f"opprove {word}: {command.summary}", call, textwrap.fill(command.about, WIDTH), table(options), "Status\n" + table(statuses)]
+    return "\n\n".join(parts) + "\n"
+
+
+def table(rows: Iterable[Tuple[str, str]]) -> str:
+    """Two columns."""
+    found = list(rows)
+    wide = max(len(name) for name, _ in found) + 4
+    lines = [textwrap.wrap(said, WIDTH - wide) for _, said in found]
+    return "\n".join(f"  {name:{wide - 2}}" + f"\n{'':{wide}}".join(said) for (name, _), said in zip(found, lines))
+
+
 def listed() -> str:
-    """A line for each tool."""
-    width = max(len(tool.word) for tool in TOOLS)
-    return "".join(f"  {tool.word:{width}}  {tool.summary}\n" for tool in TOOLS)
+    """A line for each command and each tool."""
+    commands = table([(name, command.summary) for name, command in COMMANDS.items()])
+    tools = table([*OF_THE_SCRIPT, *((tool.word, tool.summary) for tool in TOOLS if tool.word != "version")])
+    return f"The program, which is proved:\n{commands}\n\nTools around it:\n{tools}\n\nopprove help WORD shows the page of one.\n"

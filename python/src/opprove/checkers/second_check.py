@@ -30,7 +30,11 @@ def checker_of(path: str) -> str:
 
 
 def main(words: List[str]) -> int:
-    """Runs the checker with the words, and gives its status."""
+    """Runs the checker with the words, and gives its status. `--answer` is for the script opprove."""
+    if words[:1] == ["--answer"]:
+        from opprove.words import checked
+
+        return checked.main(words[1:])
     checker = import_module(f"opprove.checkers.{checker_of(words[1]) if len(words) == 2 else 'check'}")
     status: int = checker.main(words)
     return status

@@ -29,7 +29,7 @@ class Program:
         if self.answer(["bench", "1"]) != 10:
             self.memory, self.patience = 0, 8  # a program with checks of its own reserves more than it uses, and is slow
             if self.answer(["bench", "1"]) != 10:
-                raise Unusable(f"{path} isn't built: ./opprove or ./unproved build it, and OPPROVE may name another one")
+                raise Unusable(f"{path} isn't there: ./opprove build makes it in a checkout, and OPPROVE may name another one")
 
     def answer(self, words: List[str], seconds: int = 120) -> int:
         """The status of a short run whose report nobody reads."""

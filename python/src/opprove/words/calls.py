@@ -8,28 +8,82 @@ from typing import Dict, List, NamedTuple, Optional, Tuple
 
 from opprove.words.parts import Told, counted, did_you_mean, is_are, listed, near, quoted
 
+NAME = os.environ.get("OPPROVE_NAME", "opprove")  # what is typed to call the program and the tools
 Span = Tuple[int, int]
 OPTIONS: Dict[str, Span] = {
     "--pairs": (1, 1000000), "--steps": (1, 1000000), "--workers": (1, 64), "--seed": (0, 2**64 - 1), "--format": (1, 2),
 }  # fmt: skip
+SAID_OF: Dict[str, str] = {  # what an option is for, and what stands where it is left out
+    "--pairs": "how many overlaps and inclusions of leading words are treated (5,000)",
+    "--steps": "how many steps a reduction makes (20,000)",
+    "--workers": "threads, on which no answer depends (4)",
+    "--seed": "what the entries of models are drawn by where there are too many to try them all (1)",
+    "--format": "certificates over generators alone (1), or with lemmas (2)",
+    "--no-models": "looks for no model of a claim that the rules leave",
+}
+LIMITS: Dict[str, str] = {"--seconds": "ends the run after N seconds, with status 1", "--memory": "ends the run at N megabytes, with status 1"}
 
 
 class Command(NamedTuple):
+    """A command of the program: its files, its options with a number and without, what it does, and its statuses."""
+
     operands: Tuple[str, ...]
+    summary: str
+    about: str
+    statuses: Tuple[Tuple[int, str], ...]
     options: Tuple[str, ...] = ()
     flags: Tuple[str, ...] = ()
 
 
 COMMANDS: Dict[str, Command] = {
-    "prove": Command(("FILE",), ("--pairs", "--steps", "--workers", "--seed", "--format"), ("--no-models",)),
-    "check": Command(("STATEMENT", "CERTIFICATE")),
-    "refute": Command(("FILE",), ("--workers", "--seed")),
-    "model": Command(("STATEMENT", "MODEL")),
-    "bench": Command(("N",), ("--workers",)),
-    "confirm": Command(("STATEMENT", "BASIS")),
-    "explain": Command(("STATEMENT", "CERTIFICATE")),
-    "cancel": Command(("STATEMENT", "PROOF")),
-}
+    "prove": Command(
+        ("FILE",), "decides each claim of a statement",
+        "Decides each claim by completing the rules that the assumptions give. A claim is proved, with a certificate; or not derivable, with"
+        " the closed rules that show it; or refuted, with matrices; or undecided, with what stopped the search.",
+        ((0, "each claim is proved"), (10, "some claim isn't derivable, none is refuted or undecided"), (11, "some is refuted, none is undecided"),
+         (12, "some claim is undecided")),
+        ("--pairs", "--steps", "--workers", "--seed", "--format"), ("--no-models",),
+    ),
+    "check": Command(
+        ("STATEMENT", "CERTIFICATE"), "adds up certificates, and says whether they prove their claims",
+        "Reads certificates, of either format, and says of each whether its rows add up to its denominator times its claim.",
+        ((0, "each is accepted"), (7, "one is refused, or its text has a fault")),
+    ),
+    "refute": Command(
+        ("FILE",), "looks for matrices that make the assumptions true and a claim false",
+        "Looks through matrices of the shapes that the file's `model` lines name, or modulo 2 with all sides 1 and with all sides 2.",
+        ((11, "each claim is refuted"), (13, "some claim isn't, which says nothing of it")), ("--workers", "--seed"),
+    ),
+    "model": Command(
+        ("STATEMENT", "MODEL"), "says of matrices whether they refute their claims",
+        "Reads models, and says of each whether it makes all assumptions zero and its claim not.",
+        ((0, "each is confirmed"), (7, "one is refused, or its text has a fault")),
+    ),
+    "bench": Command(
+        ("N",), "decides a statement of size N, 1 to 60, that the program makes",
+        "Decides the two claims of a chain of N maps with right inverses, and prints the head lines alone.",
+        ((10, "the first is proved, and the second isn't derivable"),), ("--workers",),
+    ),
+    "confirm": Command(
+        ("STATEMENT", "BASIS"), "says of rule sets whether they are closed, so that no sum of rows gives the claim",
+        "Reads rule sets, and says of each whether it reduces all assumptions and all its own ambiguities to zero, and the claim not.",
+        ((0, "each is closed"), (7, "one is refused, or its text has a fault")),
+    ),
+    "explain": Command(
+        ("STATEMENT", "CERTIFICATE"), "prints certificates without lemmas as chains of equations",
+        "Prints each certificate over generators alone, as `prove --format 1` writes it, as a chain of equations from the claim down to 0."
+        " `opprove chain` reads both formats.",
+        ((0, "each is explained"), (7, "one has lemmas or is refused, or its text has a fault")),
+    ),
+    "cancel": Command(
+        ("STATEMENT", "PROOF"), "checks proofs that take monic and epic maps off",
+        "Reads proofs that may take a letter off each word of an equation, in front where they declare it monic and at the end where epic.",
+        ((0, "each is accepted; the line names the letters"), (7, "one is refused, or its text has a fault")),
+    ),
+}  # fmt: skip
+ALL_STATUSES: Tuple[Tuple[int, str], ...] = (
+    (2, "the words are no call"), (3, "the statement has a fault"), (4, "a file isn't loaded"), (5, "standard output failed"), (6, "no memory"),
+)  # fmt: skip
 
 
 class Call(NamedTuple):
@@ -54,13 +108,14 @@ class Call(NamedTuple):
 
 
 def typed(words: List[str]) -> str:
-    return " ".join(["./opprove"] + [shlex.quote(word) for word in words])
+    """A call to type: by the name that the script was called by."""
+    return " ".join([NAME, *(shlex.quote(word) for word in words)])
 
 
 def form(name: str) -> str:
     command = COMMANDS[name]
     parts = [name, *command.operands] + [f"[{it} N]" for it in command.options] + [f"[{it}]" for it in command.flags]
-    return "./opprove " + " ".join(parts)
+    return f"{NAME} {' '.join(parts)}"
 
 
 def number_fault(name: str, value: str, span: Span) -> str:
@@ -125,11 +180,11 @@ def operands_fault(call: Call) -> str:
 def words(call: Call) -> List[Told]:
     first = call.words[0] if call.words else ""
     if first in ("--help", "-h", "--version", "-V", "help"):
-        told = f"'{first}' is answered by the line of usage; ./opprove help tells of the commands, and ./opprove help COMMAND of one"
+        told = f"'{first}' is answered by the line of usage; {NAME} help lists the commands, and {NAME} help COMMAND shows one"
         return [Told(told)]
     forms = [form(call.command)] if call.command else [form(name) for name in COMMANDS]
     wrong = call.wrong or "these words are no call"
-    return [Told(f"status 2: {wrong}", None, ("  " + "\n  ".join(forms), "./opprove help tells more"))]
+    return [Told(f"status 2: {wrong}", None, ("  " + "\n  ".join(forms), f"{NAME} help says more"))]
 
 
 def not_loaded(report: str) -> List[Told]:

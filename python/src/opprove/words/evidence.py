@@ -374,7 +374,7 @@ def overflow(fault: Fault) -> Told:
 
 def has_lemmas(fault: Fault) -> Told:
     entry = (fault.text.of_block(fault.block, "lemma") or fault.text.of_block(fault.block, "certificate"))[0]
-    return fault.told("a certificate with lemmas has no chain; prove writes one without by --format 1", entry)
+    return fault.told("explain takes certificates without lemmas, which prove writes with --format 1; `opprove chain` reads both formats", entry)
 
 
 def chain_overflow(fault: Fault) -> Told:

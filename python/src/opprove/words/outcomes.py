@@ -1,17 +1,24 @@
 """What why.py tells of the outcomes of claims: what was shown, by what, and what may help, as docs/COMMANDS.md and README have it."""
 from __future__ import annotations
 
+import itertools
 import re
-import shlex
+import subprocess
 from typing import Callable, Dict, Iterator, List, NamedTuple, Optional, Tuple
 
 from opprove.checkers import check_model
 from opprove.checkers.check import Line, Poly, Problem, Refusal, add
+from opprove.program import files, path
+from opprove.translations import chain
 from opprove.words.calls import Call, typed
 from opprove.words.evidence import Text, matrices
 from opprove.words.parts import Quote, Told, counted, few, is_are, listed
 from opprove.words.statement import Statement
 
+SMALL_OBJECTS, SMALL_MAPS, SEARCH_SECONDS = 4, 10, 3  # of statements for which matrices are looked for at once
+SHAPES = ((1, (2, 3, 5, 7)), (2, (2, 3)))  # sides, and moduli for them
+MODULI_TRIED = "2, 3, 5 and 7"
+SHORT_LINES, LONG_ROWS = 14, 500  # of chains that are shown whole, and of certificates whose chain isn't made
 HEAD = re.compile(r"# claim ([0-9]+) (proved|not derivable|refuted|not refuted|undecided)(.*)")
 
 
@@ -43,6 +50,7 @@ class Asked(NamedTuple):
 
     call: Call
     statement: Optional[Statement]
+    is_waited_for: bool = False  # whether somebody at a terminal waits, for whom some seconds of search pay
 
     def problem(self) -> Optional[Problem]:
         return self.statement.problem() if self.statement else None
@@ -82,8 +90,24 @@ def proved(asked: Asked, outcome: Outcome) -> Told:
         more.append(f"Modulo a divisor of {denominator} other than 1 it does not.")
     problem = asked.problem()
     if problem and asked.statement and outcome.block:
-        more += assumptions(problem, used_generators(outcome.block))
+        more += chain_shown(asked, problem, outcome) or assumptions(problem, used_generators(outcome.block))
     return Told(told + (" and the denominator cancels" if denominator != 1 else ""), asked.quote(outcome.claim), tuple(more))
+
+
+def chain_shown(asked: Asked, problem: Problem, outcome: Outcome) -> List[str]:
+    """The proof as a chain where it is short; of a long one the assumptions that it uses, its steps, and the call that prints it."""
+    if outcome.number("rows") > LONG_ROWS:
+        return []
+    with files("", "\n".join(outcome.block) + "\n") as paths:
+        reader = chain.Reader(problem)
+        proof = chain.proofs_of(reader, paths[1])[0]
+    lines = [line for line in chain.text(reader, proof) if line][1:]
+    if len(lines) <= SHORT_LINES:
+        return ["  " + "\n  ".join(lines)]
+    steps = sum(len(part.steps) for part in proof.chains)
+    head = [line for line in itertools.takewhile(lambda line: not line.startswith(("Proof", "Lemma")), lines)]
+    report = f"`{typed(['prove', *asked.call.operands])} >report`"
+    return ["  " + "\n  ".join(head), f"The chain has {counted(steps, 'step')}; after {report} it is printed by", f"  {typed(['chain', *asked.call.operands, 'report'])}"]
 
 
 def assumptions(problem: Problem, used: List[int]) -> List[str]:
@@ -194,12 +218,35 @@ def not_derivable(asked: Asked, outcome: Outcome) -> Told:
         else:
             missing.append("positivity, which the language doesn't have: a' a = 0 does not give a = 0")
         more.append(f"What may be missing: {'; or '.join(missing)}.")
-        more += ["Matrices that break it are looked for by", f"  {refute(asked)}"]
+        more += searched(asked, outcome, problem)
     return Told(told, asked.quote(outcome.claim), tuple(more))
 
 
-def refute(asked: Asked) -> str:
-    return typed(["refute", *asked.call.operands])
+def searched(asked: Asked, outcome: Outcome, problem: Problem) -> List[str]:
+    """What a search for matrices of some seconds found, where the statement is small and on a terminal; else its call."""
+    call, objects = ["refute", *asked.call.operands], asked.statement.named("object") if asked.statement else []
+    maps = asked.statement.named("map") if asked.statement else []
+    if not asked.is_waited_for or len(objects) > SMALL_OBJECTS or len(maps) > SMALL_MAPS:
+        return ["Matrices that break it are looked for by", f"  {typed(call)}"]
+    shapes = [f"model {modulus}{''.join(f' {name} {side}' for name in objects)}" for side, moduli in SHAPES for modulus in moduli]
+    text = asked.statement.data.decode(errors="surrogateescape") if asked.statement else ""
+    own = "" if re.search(r"^[ \t]*solve\b", text, re.MULTILINE) or not maps else f"\nsolve {' '.join(maps)}"
+    with files(text + own + "".join(f"\n{shape}" for shape in shapes) + "\n") as paths:
+        try:
+            done = subprocess.run([path(), "refute", *paths], stdin=subprocess.DEVNULL, capture_output=True, timeout=SEARCH_SECONDS)
+        except (OSError, subprocess.TimeoutExpired):
+            return [f"A search for matrices that break it hadn't ended after {SEARCH_SECONDS} seconds.", f"  {typed(call)}"]
+    if done.returncode not in (11, 13):
+        return ["Matrices that break it are looked for by", f"  {typed(call)}"]
+    found = [it for it in outcomes(done.stdout.decode(errors="surrogateescape")) if it.claim == outcome.claim]
+    if found[0].kind != "refuted":
+        tried = counted(found[0].number("candidates"), "candidate")
+        return [f"A search for matrices found none that break it: {tried} of {len(shapes)} shapes, modulo {MODULI_TRIED}, none larger than 2 by 2."]
+    model = next(line.split()[1] for line in found[0].block if line.startswith("modulus "))
+    sides = " ".join(" ".join(line.split()[1:]) for line in found[0].block if line.startswith("side "))
+    head = f"A search for matrices found some that break it all the same, modulo {model}, with transposes for adjoints:"
+    lines = f"With the line `model {model} {sides}` in the file{own and ', and `' + own[1:] + '`,'} they are printed as evidence by"
+    return [head, *values(asked, found[0]), lines, f"  {typed(call)}"]
 
 
 # ---- undecided
@@ -264,8 +311,8 @@ def helps(asked: Asked, cause: str) -> List[str]:
             "Another order may do, since it makes other words leading: `order weight NAME N ..` in the file gives maps a weight, "
             "and `eliminate NAME ..`, where its first line is `language 2`, puts maps that others define above all others."
         )
-    told += ["Fewer assumptions, other orders, lemmas and larger budgets are tried by"]
-    return [*told, f"  opprove search {shlex.quote(call.operands[0])}"]
+    told += ["Fewer assumptions, other orders, lemmas and larger budgets are tried, for a minute, by"]
+    return [*told, f"  {typed(['search', call.operands[0], '--seconds', '60'])}"]
 
 
 # ---- All claims

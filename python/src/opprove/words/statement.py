@@ -9,6 +9,7 @@ import unicodedata
 from typing import Callable, Dict, List, NamedTuple, Optional, Set, Tuple
 
 from opprove.checkers.check import WORDS, Line, Problem, Refusal, Token, language_of, tokens_of
+from opprove.words.meant import Typed, meant
 from opprove.words.parts import LIMIT_OF_NUMBERS, Quote, Told, article, counted, did_you_mean, few, listed, ordinal, short
 
 MODULI = "2, 3, 5, 7, 101, 32003 and 65537"
@@ -133,30 +134,6 @@ def leads(ends: Ends) -> str:
 # ---- Characters and numbers
 
 POWERS = {1: "powers are written out, as a a, unless the file's first line is `language 2`", 2: "powers are written with ^, as a^2"}
-INSTEAD = {  # what is meant by characters that begin no token
-    "*": "products are written side by side, as a b",
-    "·": "products are written side by side, as a b",
-    "∘": "products are written side by side, as a b",
-    "/": "nothing is divided: an inverse is a map of its own, which `inverse a x` declares to be one",
-    ",": "names are separated by blanks",
-    ";": "each statement has a line of its own",
-    "{": "brackets are round",
-    "}": "brackets are round",
-    "−": "minus is -",
-    "–": "minus is -",
-    "→": "the arrow is written ->",
-    "≔": "an equation is written with =",
-    ">": "the arrow is written ->",
-    "’": "the adjoint is written with '",
-    "′": "the adjoint is written with '",
-    "`": "the adjoint is written with '",
-    "†": "the adjoint is written with '",
-    "\ufeff": "this is a byte order mark; the file has to be saved without one",
-    "\u00a0": "blanks and tabs separate, and this is a no-break space",
-    "\r": "this carriage return has no line feed behind it, so it doesn't end the line",
-}
-
-
 def named_sign(char: str) -> str:
     name = unicodedata.name(char, "")
     return f"'{char}' (U+{ord(char):04X}{', ' + name.lower() if name and ord(char) > 126 else ''})"
@@ -184,9 +161,19 @@ def character(fault: Fault) -> str:
     if name:
         return f"a name has at most 32 bytes, and '{short(name)}' has {len(name.encode())}"
     char, language = text[0], fault.statement.language
-    power = POWERS[language] if char == "^" or unicodedata.category(char) == "No" else ""
-    signs = "the signs are : -> = + - ( ) [ ] '" + " ^" * (language == 2)
-    return f"{named_sign(char)} begins no token: {INSTEAD.get(char) or power or f'names have letters, digits and _, and {signs}'}"
+    if char == "^" or unicodedata.category(char) == "No":
+        return POWERS[language]
+    signs = ": -> = + - ( ) [ ] '" + " ^" * (language == 2)
+    return f"{named_sign(char)} has no meaning here: names have letters, digits and _, and the signs are {signs}"
+
+
+def meant_by(code: str, fault: Fault) -> Optional[str]:
+    """What is meant by what is often typed in the place of a fault; none where that isn't known."""
+    if code not in ("S2", "S3", "S6"):
+        return None
+    text, place = fault.statement.texts[fault.line - 1], fault.column - 1
+    maps = {name: it.ends for name, it in fault.statement.declared.items() if it.ends}
+    return meant(Typed(text[:place], text[place:], maps))
 
 
 def number(fault: Fault) -> str:
@@ -231,7 +218,7 @@ def grammar(fault: Fault) -> str:
 def first_word(token: Token, found: str, language: int) -> str:
     """Of a word that begins no line of this language."""
     if token.text == "language":
-        return "the line `language 2` is the first one of its file, with no other word; no other line begins with 'language'"
+        return "`language 2` has to be the first line of its file, and stands there alone"
     if token.text in WORDS[2]:
         return f"a line begins with {found} only where the first line of the file is `language 2`"
     return f"a line begins with {listed(WORDS[language], 'or')}, and here stands {found}{did_you_mean(token.text, WORDS[language])}"
@@ -468,7 +455,7 @@ def claim(fault: Fault) -> Told:
 
 RULES = {  # the rule alone, for where no more can be told
     "S1": "a statement is UTF-8, and this file is not",
-    "S2": "this character begins no token, or the name that begins here has more than 32 bytes",
+    "S2": "this character has no meaning in a statement, or the name that begins here has more than 32 bytes",
     "S3": "this doesn't fit the grammar",
     "S4": "a number is at most 2^127 - 1",
     "S5": "round brackets are nested at most 64 deep",
@@ -501,7 +488,7 @@ def told_of(path: str, data: bytes, report: str, briefly: bool = False) -> Optio
     statement = Statement(path, data)
     fault = Fault(statement, int(match["line"] or 1), int(match["column"] or 1), match["rest"].strip())
     try:
-        told = RULES[code] if briefly else SENTENCES[code](fault)
+        told = RULES[code] if briefly else meant_by(code, fault) or SENTENCES[code](fault)
     except (Refusal, LookupError, StopIteration, ValueError, AttributeError):
         told = RULES[code]
     if isinstance(told, Told):

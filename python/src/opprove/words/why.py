@@ -6,8 +6,8 @@ assumptions or matrices, or what stopped the search and what may help; and what 
 
 why.py --editor STATEMENT [EVIDENCE] writes the first fault as FILE:LINE:COLUMN: error: CODE: .. for editors, and nothing
 where there is none; with --bytes behind --editor the column counts bytes, as Vim does. Its status is then 0, and else the
-program's. ./opprove calls why.py --told STATUS SECONDS WORDS.. for a run that has ended: it asks the program again where the
-status and five seconds allow it, and writes nothing but the words.
+program's. ./opprove calls why --told STATUS REPORT WORDS.. for a run that has ended, with its report in a file: it writes nothing but
+the words.
 
 The program is that of this checkout, or the one that OPPROVE names. NO_COLOR is heard.
 """
@@ -25,8 +25,7 @@ from opprove.words import calls, evidence, outcomes, statement
 from opprove.words.parts import Screen, Told, on_screen
 
 PROGRAM = path_of_program()
-SECONDS = 5  # a run that took longer is not repeated
-PATIENCE = 2  # seconds for an explanation; what takes longer is told by its status alone
+PATIENCE = 2  # seconds for an explanation, and three times as many at a terminal; what takes longer is told by its status alone
 KEPT = 1 << 26  # bytes of a report that are read
 
 
@@ -51,8 +50,8 @@ STATUSES = {  # where the report isn't known
 }
 
 
-def explanation(words: List[str], answer: Answer, briefly: bool = False) -> List[Told]:
-    """What an answer means. Reads the files that the words name again."""
+def explanation(words: List[str], answer: Answer, briefly: bool = False, is_waited_for: bool = False) -> List[Told]:
+    """What an answer means. Reads the files that the words name again. Where somebody waits at a terminal, matrices are looked for too."""
     call = calls.call_of(words)
     status, report = answer
     if status == 2:
@@ -61,11 +60,11 @@ def explanation(words: List[str], answer: Answer, briefly: bool = False) -> List
         return calls.not_loaded(report or "")
     if status in (5, 6):
         return calls.not_put() if status == 5 else calls.no_memory()
-    told = told_of_report(call, report, briefly) if report is not None else []
+    told = told_of_report(call, report, briefly, is_waited_for) if report is not None else []
     return told or ([Told(STATUSES[status])] if status in STATUSES else [])
 
 
-def told_of_report(call: calls.Call, report: str, briefly: bool) -> List[Told]:
+def told_of_report(call: calls.Call, report: str, briefly: bool, is_waited_for: bool) -> List[Told]:
     files = [(name, content(name)) for name in call.files()]
     lines = report.split("\n")
     last = lines[-2] if len(lines) > 1 else ""
@@ -75,7 +74,7 @@ def told_of_report(call: calls.Call, report: str, briefly: bool) -> List[Told]:
         refused = statement.told_of(*files[0], last, briefly) or evidence.told_of(read, text, last, briefly)
         return outcomes.told_of_blocks(text, report) + ([refused] if refused else [])
     refused = statement.told_of(*files[0], last, briefly) if files else None
-    return [refused] if refused else outcomes.told_of(outcomes.Asked(call, read), report, briefly)
+    return [refused] if refused else outcomes.told_of(outcomes.Asked(call, read, is_waited_for), report, briefly)
 
 
 def content(name: str) -> bytes:
@@ -142,20 +141,6 @@ def told_failure(error: OSError) -> int:
     return 1
 
 
-def asked_again(words: List[str], status: int) -> Answer:
-    """The answer of a second run; without its report where it is another one, or can't be had."""
-    files = calls.call_of(words).files()
-    if status in (2, 5, 6) or any(os.path.exists(name) and not os.path.isfile(name) and not os.path.isdir(name) for name in files):
-        return Answer(status, None)
-    try:
-        again = subprocess.run(
-            [PROGRAM, *words], stdout=subprocess.PIPE, stderr=subprocess.DEVNULL, timeout=2 * SECONDS, close_fds=False
-        )
-    except (OSError, subprocess.TimeoutExpired):
-        return Answer(status, None)
-    return Answer(status, again.stdout.decode(errors="surrogateescape") if again.returncode == status else None)
-
-
 # ---- What is written
 
 
@@ -181,13 +166,13 @@ def say(text: str) -> None:
         pass
 
 
-def tell(words: List[str], answer: Answer) -> None:
+def tell(words: List[str], answer: Answer, is_waited_for: bool = False) -> None:
     """Writes what the answer means, and never more than that."""
     shown = screen()
-    say("\n".join(on_screen(in_time(words, answer), shown)))
+    say("\n".join(on_screen(in_time(words, answer, is_waited_for), shown)))
 
 
-def in_time(words: List[str], answer: Answer) -> List[Told]:
+def in_time(words: List[str], answer: Answer, is_waited_for: bool = False) -> List[Told]:
     """The explanation, or a brief one where it takes too long or a file is beyond what check.py reads."""
 
     def stop(*_: object) -> None:
@@ -195,9 +180,9 @@ def in_time(words: List[str], answer: Answer) -> List[Told]:
 
     signal.signal(signal.SIGALRM, stop)
     for briefly in (False, True):
-        signal.setitimer(signal.ITIMER_REAL, PATIENCE)
+        signal.setitimer(signal.ITIMER_REAL, PATIENCE * (3 if is_waited_for else 1))
         try:
-            return explanation(words, answer, briefly)
+            return explanation(words, answer, briefly, is_waited_for)
         except (TooLong, MemoryError, RecursionError, OSError, ArithmeticError, LookupError, ValueError, TypeError, AttributeError):
             continue
         finally:
@@ -248,8 +233,8 @@ def main(words: List[str]) -> int:
     if words[:1] == ["--editor"]:
         return editor(words[1:])
     if words[:1] == ["--told"] and len(words) >= 3:
-        status, seconds, words = int(words[1]), float(words[2]), words[3:]
-        tell(words, asked_again(words, status) if seconds <= SECONDS else Answer(status, None))
+        report = content(words[2]).decode(errors="surrogateescape") if os.path.getsize(words[2]) < KEPT else None
+        tell(words[3:], Answer(int(words[1]), report), is_waited_for=True)
         return 0
     answer = run_and_pass(words)
     if answer.status >= 0:
