@@ -252,7 +252,7 @@ def stored_words(folder: Path) -> str:
     codes = {match for case in found for match in re.findall("^([A-Z][0-9]+): ", case.told, re.MULTILINE)}
     page = (TOP / "docs" / "FORMATS.md").read_text()
     of_page = set(re.findall(r"^\|(?: [0-9] \|)? (?:`# block B refused )?([A-Z][0-9]+)\b", page, re.MULTILINE))
-    need(codes == {code for code in of_page if code[0] != "P"}, codes ^ of_page)  # P: of what tools alone read
+    need(codes == {code for code in of_page if code[0] not in "NP"}, codes ^ of_page)  # these are of what tools alone read
     need({case.status for case in found} == {0, 2, 3, 4, 5, 6, 7, 10, 11, 12, 13}, "statuses")
     return f"{len(found)} answers are told in the words that are stored, {by_both} of them as opprove gives them"
 
