@@ -1,6 +1,7 @@
 # How `./opprove build` proves and builds the program, for which ./opprove reads this file: by the gate's own command, `rt ci`, on a copy of
 # the crates that the program stands on, without the edits that must be refused. What passes is kept where the gate looks for it, so
-# each crate is proved once between the two. Here is also what dev/unproved.sh shares with it.
+# each crate is proved once between the two. The program lies in out/, since a gate empties crates/*/out. Here is also what
+# dev/unproved.sh shares with it.
 # shellcheck shell=bash disable=SC2154,SC2034
 group="" copy=""
 
@@ -215,9 +216,18 @@ prove() {
   wait "$group" || fail "the program could not be proved"
   group=""
   is_whole "$copy/crates/opprove/out/opprove" || fail "rt ci left no program"
-  rm -f "$out/opprove.o"
-  [ ! -f "$copy/crates/opprove/out/opprove.o" ] || mv "$copy/crates/opprove/out/opprove.o" "$out/opprove.o" || fail "nothing could be written"
 }
+
+# Keeps the object of the program too, for a release: where it was compiled just now, or by a gate here, whose object gives the same program.
+keep_object() {
+  local kit it
+  kit=$(kit_file) && kit=${kit%/*}
+  for it in "$copy" "$top"; do
+    "$kit/bin/rattle-link" --target x86_64-unknown-linux-gnu --toolchain "$kit/toolchain" -o "$copy/linked" "$it/crates/opprove/out/opprove.o" \
+      "$kit/c/libos_c.a" "$kit/c/liblibc_c.a" && cmp -s "$copy/linked" "$out/opprove" && cp "$it/crates/opprove/out/opprove.o" "$out" && return
+  done
+  rm -f "$out/opprove.o"
+} >/dev/null 2>&1
 
 say_proved() { say "proved and built: ${#crates[@]} crates, by $(sed -n 2p "$out/opprove.sources"); ./opprove answers by this program"; }
 
@@ -236,6 +246,7 @@ build() {
     stamp=$(stamp_now) || fail "the sources or the kit's KIT-ID could not be read"
     prove
     keep_built "$copy/crates/opprove/out/opprove" "$out/opprove" "$stamp" "$out/opprove.started" || fail "nothing could be written"
+    keep_object
     clear_away
     copy=""
     say "built in $(minutes $((SECONDS - began)))"

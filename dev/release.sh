@@ -1,6 +1,6 @@
 #!/usr/bin/env bash
-# release.sh [--no-licence] [OUT]: a release of the program that ./opprove has proved and built: an archive, a Debian package and
-# their checksums, in the folder OUT (out of the checkout, if it isn't named). The checkout has to be clean, and the program that of
+# release.sh [--no-licence] [OUT]: a release of the program that ./opprove build has proved and built: an archive, a Debian package and
+# their checksums, in the folder OUT (out/release, if it isn't named). The checkout has to be clean, and the program that of
 # its sources and of the kit. The same revision, program and system's tools give the same bytes.
 # GATE_LOG may name the gate's log, whose last line is recorded, and MAINTAINER a name and address for the Debian package.
 # A licence and authors are the owner's to say: without them there is a package for trial alone, by --no-licence.
@@ -9,7 +9,7 @@ set -euo pipefail
 export LC_ALL=C
 umask 022
 top=$(cd "$(dirname "${BASH_SOURCE[0]}")/.." && pwd)
-built=$top/crates/opprove/out
+built=$top/out
 needed_tools=(git gcc strip objdump dpkg dpkg-deb gzip tar sha256sum)
 
 stop() {
@@ -24,6 +24,7 @@ look_at_version() {
   [[ $version =~ ^(0|[1-9][0-9]*)(\.(0|[1-9][0-9]*))*$ ]] || stop "VERSION has to hold numbers with dots between them"
   [ "$(head -n 1 "$top/CHANGELOG.md" 2>/dev/null)" = "# $version" ] || stop "CHANGELOG.md has to begin with the version, '# $version'"
   grep -qsFx "version: \"$version\"" "$top/CITATION.cff" || stop "CITATION.cff has to have the line 'version: \"$version\"'"
+  [ "$(cat "$top/python/src/opprove/VERSION" 2>/dev/null)" = "$version" ] || stop "python/src/opprove/VERSION has to hold the version, '$version'"
   grep -qsFx "This page is of version $version." "$top/editors/opprove.1" ||
     stop "editors/opprove.1 has to have the line 'This page is of version $version.'"
 }
@@ -39,12 +40,12 @@ sources() {
 look_at_program() {
   local kept
   { [ -x "$built/opprove" ] && [ -f "$built/opprove.o" ] && [ -f "$built/opprove.sources" ]; } ||
-    stop "the program isn't built; ./opprove proves and builds it"
+    stop "the program isn't built; ./opprove build proves and builds it"
   mapfile -t kept <"$built/opprove.sources"
   kit=$(dirname "${kept[0]:-}") kit_name=${kept[1]:-} sources=${kept[2]:-}
   git -C "$top" rev-parse -q --verify HEAD >/dev/null || stop "this is no checkout of git"
   [ -z "$(git -C "$top" status --porcelain)" ] || stop "the checkout has changes"
-  [ "$(sources)" = "$sources" ] || stop "the program is that of other sources; ./opprove proves and builds it anew"
+  [ "$(sources)" = "$sources" ] || stop "the program is that of other sources; ./opprove build proves and builds it anew"
   [ "$(cat "$kit/KIT-ID" 2>/dev/null)" = "$kit_name" ] || stop "the kit that built the program isn't there: $kit_name"
   sources=${sources%% *}
 }
@@ -158,8 +159,8 @@ proved() {
   echo "revision $revision"
   echo "kit $kit_name"
   echo "sources $sources"
-  echo "object $(sum "$built/opprove.o") crates/opprove/out/opprove.o"
-  echo "linked $(sum "$built/opprove") crates/opprove/out/opprove by rt, dynamic"
+  echo "object $(sum "$built/opprove.o") out/opprove.o"
+  echo "linked $(sum "$built/opprove") out/opprove by rt, dynamic"
   echo "packed $(sum "$tree/bin/opprove") bin/opprove the same, stripped"
   echo "packed $(sum "$tree/bin/opprove-static") bin/opprove-static from the same object by gcc -static, stripped"
   echo "needs ${needs}with glibc $glibc or later; opprove-static needs no library"
@@ -210,7 +211,7 @@ END_OF_CONTROL
 }
 
 main() {
-  local tool out=$top/out
+  local tool out=$top/out/release
   is_trial="" gate=""
   if [ "${1:-}" = --no-licence ]; then is_trial=yes && shift; fi
   { (($# <= 1)) && [[ ${1:-} != -* ]]; } || stop "usage: release.sh [--no-licence] [OUT]"

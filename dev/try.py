@@ -1,4 +1,4 @@
-#!/usr/bin/env python3
+#!/usr/bin/env -S PYTHONPATH=python/src python3
 """Tries the tools in Python, and compares check.py, check_model.py and candidates.py with opprove where that is built.
 
 try.py [checker | chains | explain | confirm | pictures | bounds | guide | plain | others] ..: all of these where none is named; the gate names checker.

@@ -1,4 +1,4 @@
-#!/usr/bin/env python3
+#!/usr/bin/env -S PYTHONPATH=python/src python3
 """Tries cancel.py, and to_chain.py on proofs that take letters off: try_cancel.py
 
 The reports that try_cancel_rows.py has are asked of cancel.py, and with them go the proofs of the gallery, random proofs and changed

@@ -1,4 +1,4 @@
-#!/usr/bin/env python3
+#!/usr/bin/env -S PYTHONPATH=python/src python3
 """Tries confirm.py: try_confirm.py
 
 The reports that try_confirm_rows.py has are asked of confirm.py, and with them go changed bases, those of random statements while

@@ -1,4 +1,4 @@
-#!/usr/bin/env python3
+#!/usr/bin/env -S PYTHONPATH=python/src python3
 """Tries to_coq.py and coq/*.v with coqc: try_coq.py
 
 Each check is a function that gives a line on what it found, and raises Failed where something is not as it should be. What

@@ -1,4 +1,4 @@
-#!/usr/bin/env python3
+#!/usr/bin/env -S PYTHONPATH=python/src python3
 """Tries explain.py, to_chain.py on text of chains, and `explain` of plain.rs: try_explain.py
 
 The reports that try_explain_rows.py has are asked of explain.py, and with them go the stored certificates, the proofs of the examples

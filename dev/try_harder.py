@@ -1,4 +1,4 @@
-#!/usr/bin/env python3
+#!/usr/bin/env -S PYTHONPATH=python/src python3
 """Tries harder.py, join.py and their variants: try_harder.py [COUNT | table]
 
 COUNT (500) random pairs of a lemma and a claim are joined, and changed ones; try.py does 20. What asks opprove is skipped

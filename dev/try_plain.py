@@ -1,4 +1,4 @@
-#!/usr/bin/env python3
+#!/usr/bin/env -S PYTHONPATH=python/src python3
 """Tries the plain programs plain_run.rs and plain_models.rs: try_plain.py [COUNT]
 
 Compares plain_models.rs with candidates.py, byte for byte, on the searches of try_models.py, on the examples and on

@@ -1,4 +1,4 @@
-#!/usr/bin/env python3
+#!/usr/bin/env -S PYTHONPATH=python/src python3
 """Tries the package of Python: try_python.py [PYTHON ..]
 
 The package is installed by pip, without network, into a fresh venv of this Python, and of each other one that is named, and

@@ -1,4 +1,4 @@
-#!/usr/bin/env python3
+#!/usr/bin/env -S PYTHONPATH=python/src python3
 """Tries release.sh, in a clone of this checkout with what is changed here.
 
 Where ./opprove has built the program of these sources, and its object is there, that is what is released; else a stand-in in C,
@@ -42,7 +42,7 @@ KINDS += " preferred-citation references repository repository-artifact reposito
 FIELDS = {*KINDS.split()}  # of the Citation File Format 1.2.0
 
 
-OTHER_SOURCES = "the program is that of other sources; ./opprove proves and builds it anew"
+OTHER_SOURCES = "the program is that of other sources; ./opprove build proves and builds it anew"
 
 
 class Checkout:
@@ -58,7 +58,7 @@ class Checkout:
                 (self.top / name).parent.mkdir(parents=True, exist_ok=True)
                 shutil.copy2(TOP / name, self.top / name)
         self.commit("as it stands")
-        self.out = self.top / "crates" / "opprove" / "out"
+        self.out = self.top / "out"
         self.out.mkdir()
         self.is_real = self.take_built()
         if not self.is_real:
@@ -80,7 +80,7 @@ class Checkout:
 
     def take_built(self) -> bool:
         """Takes over what ./opprove has built here, if it is that of these sources."""
-        built = TOP / "crates" / "opprove" / "out"
+        built = TOP / "out"
         names = ("opprove", "opprove.o", "opprove.sources")
         if not all((built / name).is_file() for name in names):
             return False
@@ -243,7 +243,7 @@ def record(checkout: Checkout) -> str:
     lines = (checkout.tree / "usr" / "share" / "doc" / "opprove" / "PROVED").read_text().split("\n")
     named = [match for match in (re.match(r"\w+ ([0-9a-f]{64}) (\S+)", line) for line in lines) if match]
     for match in named:
-        path = checkout.top / match.group(2) if match.group(2).startswith("crates/") else checkout.tree / "usr" / match.group(2)
+        path = checkout.top / match.group(2) if match.group(2).startswith("out/") else checkout.tree / "usr" / match.group(2)
         need(sha256(path.read_bytes()).hexdigest() == match.group(1), match.group())
     need(len(named) == 4 and "licence none" in lines and "authors none" in lines, lines)
     kit = (checkout.out / "opprove.sources").read_text().split("\n")
@@ -298,7 +298,7 @@ def refusals(checkout: Checkout) -> str:
     kept.write_text(text)
     for name in ("opprove", "opprove.o", "opprove.sources"):
         (checkout.out / name).rename(checkout.out / "aside")
-        checkout.refused("the program isn't built; ./opprove proves and builds it")
+        checkout.refused("the program isn't built; ./opprove build proves and builds it")
         (checkout.out / "aside").rename(checkout.out / name)
     changed(checkout, "README.md", lambda text: text + "more\n", "the checkout has changes")
     for version in ("", "1.0-rc1", "v1", "1..2", "01", "1\n2"):

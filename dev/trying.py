@@ -13,8 +13,10 @@ from opprove.checkers.check import Refusal
 
 TOP = Path(__file__).resolve().parents[1]
 EXAMPLES, SOURCE = TOP / "examples", TOP / "python" / "src"
-# The program that OPPROVE names, and else the one that is built.
-PROGRAM = Path(os.environ.get("OPPROVE") or TOP / "crates" / "opprove" / "out" / "opprove").resolve()
+os.environ["PYTHONPATH"] = str(SOURCE)  # for the scripts that are run
+# The program that OPPROVE names, and else that of a gate here, or of `./opprove build`.
+BUILT = [TOP / "crates" / "opprove" / "out" / "opprove", TOP / "out" / "opprove"]
+PROGRAM = Path(os.environ.get("OPPROVE") or next((path for path in BUILT if path.exists()), BUILT[1])).resolve()
 
 
 class Failed(Exception):

@@ -1,5 +1,5 @@
 # How ./opprove builds the program without proofs, once for the present sources and kit, for which it reads this file: by `rt try`, from
-# a folder that stands for the kit. It is kept in crates/opprove/out/unproved, with the three lines that ./opprove compares.
+# a folder that stands for the kit. It is kept in out/unproved, with the three lines that ./opprove compares.
 # shellcheck shell=bash disable=SC2154,SC2034
 . "$top/dev/building.sh"
 kept=$out/unproved
@@ -77,7 +77,7 @@ give_up() {
 # Runs rt try in a folder of its own, and leaves the program in $room/program.
 try_once() {
   local taker status began=$SECONDS
-  rm -rf "$kept/program" "$kept/program.sources" "$kept"/building.* # also what a killed call left
+  rm -rf "$kept/opprove" "$kept/opprove.sources" "$kept"/building.* # also what a killed call left
   { room=$(mktemp -d "$kept/building.XXXXXX") && mkdir "$room/tmp" && mkfifo "$room/statement"; } 2>/dev/null ||
     give_up "no folder could be made in $kept"
   make_kit "$room/kit" 2>"$room/log" || give_up "no folder could be made that stands for the kit"
@@ -103,21 +103,21 @@ build_unproved() {
   expected=$(awk -v processors="$(nproc)" '{ share = ($1 + 1) / processors; print int(110 * (share > 1 ? share : 1)) }' /proc/loadavg)
   on_signals 'nothing is kept of it'
   for round in 1 2 3; do
-    ! is_current "$kept/program" || break
+    ! is_current "$kept/opprove" || break
     need_kit || exit 1
     ((round > 1)) || say "building the program without proofs, once for these sources: about $(minutes "$expected")"
     { : >"$kept/started"; } 2>/dev/null || give_up ""
     stamp=$(stamp_now) || give_up "the sources or the kit's KIT-ID could not be read"
-    if [ -x "$kept/program" ] && [ "$(cat "$kept/program.sources" 2>/dev/null)" = "$stamp" ]; then
-      touch -r "$kept/started" "$kept/program.sources" 2>/dev/null || give_up ""
+    if [ -x "$kept/opprove" ] && [ "$(cat "$kept/opprove.sources" 2>/dev/null)" = "$stamp" ]; then
+      touch -r "$kept/started" "$kept/opprove.sources" 2>/dev/null || give_up ""
       continue
     fi
     try_once
-    keep_built "$room/program" "$kept/program" "$stamp" "$kept/started" || give_up ""
+    keep_built "$room/program" "$kept/opprove" "$stamp" "$kept/started" || give_up ""
     rm -rf "$room"
     room=""
   done
-  is_current "$kept/program" || give_up "the sources change while the program is built; call again when they don't"
+  is_current "$kept/opprove" || give_up "the sources change while the program is built; call again when they don't"
   exec 9>&-
   trap - INT QUIT TERM HUP PIPE
 }

@@ -10,7 +10,7 @@ from pathlib import Path
 from typing import Iterator, List, Optional, Tuple
 
 # The program of this checkout, where the package stands in one.
-BUILT = Path(__file__).resolve().parents[3] / "crates" / "opprove" / "out" / "opprove"
+BUILT = Path(__file__).resolve().parents[3] / "out" / "opprove"
 # By what statuses without a line were caused.
 CAUSES = {5: "standard output failed", 6: "no memory"}
 
