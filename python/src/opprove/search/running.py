@@ -13,6 +13,8 @@ from typing import IO, Any, Callable, Dict, Iterator, List, NamedTuple, Optional
 
 MEMORY = 2 << 30  # bytes that a run may have
 PARENT_DEATH_SIGNAL = 1  # of prctl
+WORKER, WORKER_MODULE = "worker", "opprove.search.worker"
+PACKAGE = str(Path(__file__).resolve().parents[2])  # the folder from which the package is imported
 
 
 class Unusable(Exception):
@@ -44,10 +46,13 @@ class Program:
             return 1, b""
 
     def start(self, words: List[str], out: Union[int, IO[bytes]], seconds: int) -> "subprocess.Popen[bytes]":
-        """Starts a run that ends with this program, and that ends behind so many seconds of processor time."""
+        """Starts a run that ends with this program, and that ends after so many seconds of processor time. Where the first word
+        is `worker` it is one of the searches in Python."""
+        is_worker = words[:1] == [WORKER]
+        command = [sys.executable, "-m", WORKER_MODULE, *words[1:]] if is_worker else [str(self.path), *words]
         return subprocess.Popen(
-            [str(self.path), *words], stdin=subprocess.DEVNULL, stdout=out, stderr=subprocess.DEVNULL,
-            preexec_fn=lambda: self.bound(seconds),
+            command, stdin=subprocess.DEVNULL, stdout=out, stderr=subprocess.DEVNULL, preexec_fn=lambda: self.bound(seconds),
+            env={**os.environ, "PYTHONPATH": os.pathsep.join([PACKAGE, *os.environ.get("PYTHONPATH", "").split(os.pathsep)])},
         )  # fmt: skip
 
     def bound(self, seconds: int) -> None:
@@ -80,6 +85,9 @@ class Runs:
 
     def __exit__(self, *what: object) -> None:
         self.end(lambda job: True)
+
+    def has_room(self, jobs: int) -> bool:
+        return len(self.going) < jobs
 
     def start(self, job: Any, words: List[str], seconds: int) -> None:
         self.count += 1
@@ -128,27 +136,25 @@ class Interrupts:
 
 
 class Progress:
-    """A line on standard error on what is under way: rewritten on a terminal, and else one from time to time."""
+    """A line on standard error on what is under way, rewritten where that is a terminal. Elsewhere nothing is written."""
 
-    PAUSE = 10.0  # seconds between lines that nobody rewrites
+    PAUSE = 0.2  # seconds
 
-    def __init__(self) -> None:
-        self.is_terminal = sys.stderr.isatty()
+    def __init__(self, name: str = "search") -> None:
+        self.name, self.is_terminal = name, sys.stderr.isatty()
         self.start = self.last = time.monotonic()
 
     def seconds(self) -> float:
         return time.monotonic() - self.start
 
     def tell(self, text: str, is_news: bool = False) -> None:
-        pause = 0.2 if self.is_terminal else self.PAUSE
-        if is_news or time.monotonic() - self.last >= pause:
+        if self.is_terminal and (is_news or time.monotonic() - self.last >= self.PAUSE):
             self.last = time.monotonic()
-            width = os.get_terminal_size(2).columns - 1 if self.is_terminal else 1000
-            line = f"harder: {self.seconds():.0f} s, {text}"[:width]
-            self.write("\r\033[K" + line if self.is_terminal else line + "\n")
+            self.write("\r\033[K" + f"{self.name}: {self.seconds():.0f} s, {text}"[: os.get_terminal_size(2).columns - 1])
 
     def clear(self) -> None:
-        self.write("\r\033[K" if self.is_terminal else "")
+        if self.is_terminal:
+            self.write("\r\033[K")
 
     def write(self, text: str) -> None:
         try:

@@ -1,185 +1,47 @@
-"""Searches around the program: harder.py STATEMENT [--seconds N] [--jobs N] [--only NAME,..] [--lemmas FILE] [--keep FOLDER]
+"""Searches around the program: search STATEMENT [--monic LETTER,..] [--epic LETTER,..] [--complex] [--over q] [--seconds N] [..]
 
-Runs the built opprove on variants of a statement, side by side, until each claim is settled or the time is over (60
-seconds): with fewer assumptions, other orders of words, both, larger budgets, settled claims as lemmas, other shapes for
-models. It prints a report as `opprove prove` does: evidence for the statement as it was written, which `opprove check` and
-check.py, or `opprove model` and check_model.py, accept. Behind it, comments say which variant did it.
+Looks for evidence on each claim, side by side, until each is settled or the time is over (60 seconds, or N), and prints a report
+as `opprove prove` does, of which the program and the second checkers accept each block for the statement as it was written:
 
---only leaves the variants with these names: of selections lemmas, inside, paired, near, light (fewer assumptions), given, whole
-(all of them, without and with lemmas); of orders written, defined, eliminated, hidden, second, shown, adjoints, backwards,
-degree; and models. FILE has lines `claim E = E`, which are tried first. FOLDER gets the variants. Statuses are those of
-`opprove prove`; 1 says that nothing could be run. The program is this checkout's, or the one that OPPROVE names.
+- proofs, from variants of the statement: fewer assumptions, other orders of words, both, larger budgets, settled claims as lemmas;
+- matrices that break a claim, also where it isn't derivable: other shapes, moduli, seeds and maps that are solved for; with --over q
+  rational matrices instead, which say something of complex ones too (`rational model 1`, which check_model.py reads);
+- proofs for `opprove cancel` that take off maps which --monic and --epic name, in front and behind. Where none is named, all are
+  tried, and a claim that follows where some of them are monic or epic is printed so, with the least such maps; that settles nothing;
+- with --complex, proofs by `r' r = 0 gives r = 0`, which holds for complex matrices and for operators between Hilbert spaces: as a
+  `star proof 1`, which star.py reads, and for matrices as a statement with Moore-Penrose inverses and a certificate for `check`.
+
+--jobs N runs so many at a time, and --scheduler ADDRESS has the runs of the program made by the workers of a Dask scheduler.
+--lemmas FILE has lines `claim E = E`, which are tried first. --keep FOLDER gets the variants, and each block as a file.
+--only NAME,.. leaves what has these names: of selections lemmas, inside, paired, near, light (fewer assumptions), given, whole (all
+of them, without and with lemmas); of orders written, defined, eliminated, hidden, second, shown, adjoints, backwards, degree; and
+models, cancellations, rationals. On a terminal a line says what is under way; an interrupt prints what was found so far.
+
+The last line says why the search ended. Statuses are those of `opprove prove`, where a claim is proved too that follows from what
+--monic, --epic and --complex say; 1 says that nothing could be run.
 """
 from __future__ import annotations
 
 import argparse
 import errno
+import json
 import os
 import re
 import sys
 import tempfile
 import time
-from heapq import heappop, heappush
 from pathlib import Path
-from typing import Dict, Iterator, List, NamedTuple, NoReturn, Optional, Set, Tuple
+from typing import Any, Dict, List, NoReturn, Optional, Set, Tuple
 
 from opprove.checkers import check_model
 from opprove.search import join
 from opprove.search import variants
 from opprove.program import path as path_of_program
 from opprove.checkers.check import Evidence, Poly, Problem, Refusal, judge
+from opprove.search import cluster, findings
+from opprove.search.plan import ANY, AS_IT_IS, SECONDS, WORKER, WORKER_SECONDS, Goal, Job, Plan
 from opprove.search.running import Interrupts, Program, Progress, Runs, Unusable
-from opprove.search.variants import Equation, Order, Statement
-
-PAIRS, STEPS, LIMIT, SECONDS = 500, 20_000, 1_000_000, 1  # of level 0; each level has twice as much, to the limit
-# What a batch tries: fewer assumptions; other orders for all goals in one run; both; other orders for a goal alone; what
-# did it for another goal; models; and the statement as it is. Cheap ones have a low rank.
-FEWER, OTHER, BOTH, ALONE, AGAIN, MODELS, AS_WRITTEN = range(7)
-RANKS = [0, 0, 1, 2, 0, 1, 0]
-AS_IT_IS = "the statement as it is"
-
-
-class Goal:
-    """A claim of the statement, or a lemma, and what was found of it."""
-
-    def __init__(self, number: int, equation: Equation) -> None:
-        self.number, self.equation = number, equation  # a lemma has the number 0
-        self.verdict = ""  # proved, not derivable, or refuted
-        self.cause, self.level = "", -1  # why the statement as it is leaves it undecided, at this level
-        self.lines: List[str] = []
-        self.found_by: List[str] = []
-
-
-class Job(NamedTuple):
-    """A variant, with a budget."""
-
-    name: str
-    goals: List[Goal]  # its claims
-    text: str
-    words: List[str]  # of the command, behind its file
-    level: int
-    order: Order
-
-    def is_open(self) -> bool:
-        return not all(goal.verdict for goal in self.goals)
-
-
-def budget(level: int) -> List[str]:
-    pairs, steps = (str(min(LIMIT, number << level)) for number in (PAIRS, STEPS))
-    return ["prove", "--pairs", pairs, "--steps", steps, "--workers", "1", "--no-models"]
-
-
-Batch = Tuple[int, int, int, int]  # when, of which goal or 0, what, level
-
-
-class Plan:
-    """What is to be tried, in turn."""
-
-    def __init__(self, options: argparse.Namespace, statement: Statement, has_eliminate: bool) -> None:
-        self.options, self.statement = options, statement
-        lemmas = statement.lemmas(options.lemmas) if options.lemmas else []
-        numbered = enumerate(statement.claims, 1)
-        self.goals = [Goal(0, lemma) for lemma in lemmas] + [Goal(number, claim) for number, claim in numbered]
-        self.claims = self.goals[len(lemmas) :]
-        self.orders = [order for order in variants.ORDERS if has_eliminate or order is not variants.eliminated]
-        self.tried: Dict[Tuple[int, str], int] = {}  # the level of a goal and a text
-        self.closed: Set[str] = set()  # texts that no larger budget helps
-        self.names = {"lemmas written"}  # of variants that proved something, or that are cheap where there is a lemma
-        self.batches: List[Batch] = []
-        self.pending: Set[Batch] = set()  # those that are among the batches
-        self.jobs: List[Job] = []
-        self.begin()
-        for place, goal in enumerate(self.goals, 1):
-            if goal.number and (not options.only or "models" in options.only):
-                self.push(MODELS, place, 0)
-        if not options.only:
-            self.push(AS_WRITTEN, 0, 0)
-
-    def push(self, kind: int, place: int, level: int) -> None:
-        batch = (RANKS[kind] + 2 * level, place, kind, level) if kind != AGAIN else (-1, place, kind, level)
-        if batch not in self.pending:
-            self.pending.add(batch)
-            heappush(self.batches, batch)
-
-    def begin(self, job: Optional[Job] = None) -> None:
-        """Begins with all goals again where a job has made a new lemma. What was tried isn't tried again."""
-        self.jobs = []
-        self.push(OTHER, 0, 0)
-        for place in range(1, len(self.goals) + 1):
-            for kind in (FEWER, BOTH) if len(self.goals) == 1 else (FEWER, BOTH, ALONE):
-                self.push(kind, place, 0)
-            if job:
-                self.names.add(job.name)
-                self.push(AGAIN, place, job.level)
-
-    def is_asked(self, name: str, group: List[str]) -> bool:
-        """Whether --only has the name, or none of its group but a name of the other one."""
-        only = set(self.options.only) - {"models"}
-        return name in only or not self.options.only or (bool(only) and not only & set(group))
-
-    def next_job(self) -> Optional[Job]:
-        while self.jobs or self.batches:
-            if not self.jobs:
-                self.expand()
-            while self.jobs:
-                job = self.jobs.pop()
-                key = (self.goals.index(job.goals[0]), job.text)
-                if job.is_open() and job.text not in self.closed and self.tried.get(key, -1) < job.level:
-                    self.tried[key] = job.level
-                    return job
-        return None
-
-    def expand(self) -> None:
-        """Makes the jobs of the next batch, and puts the batch with a larger budget behind the others."""
-        batch = heappop(self.batches)
-        self.pending.remove(batch)
-        _, place, kind, level = batch
-        goals = [self.goals[place - 1]] if place else self.goals
-        found = [job for job in self.batch(goals, kind, level) if job.is_open() and job.text not in self.closed]
-        self.jobs = found[::-1]
-        if found and kind != AGAIN and PAIRS << level < LIMIT:
-            self.push(kind, place, level + 1)
-
-    def batch(self, goals: List[Goal], kind: int, level: int) -> Iterator[Job]:
-        if kind == AS_WRITTEN:
-            yield Job(AS_IT_IS, self.claims, self.statement.text, budget(level), level, Order([]))
-        elif kind == MODELS:
-            text = variants.model_text(self.statement, goals[0].number, level)
-            yield Job("models", goals, text, ["refute", "--workers", "1", "--seed", str(level + 1)], level, Order([]))
-        elif any(not goal.verdict for goal in goals):
-            yield from self.proofs(goals, kind, level)
-
-    def proofs(self, goals: List[Goal], kind: int, level: int) -> Iterator[Job]:
-        """Variants by their size."""
-        pool = list(self.statement.assumptions)
-        for other in self.goals:
-            pool += [other.equation._replace(is_lemma=True)] if other.verdict == "proved" else []
-        group = [selection.__name__ for selection in [*variants.FEWER, *variants.ALL]]
-        found = []
-        selections = variants.FEWER if kind in (FEWER, BOTH) else variants.ALL
-        for selection in variants.ALL + variants.FEWER if kind == AGAIN else selections:
-            for label, chosen in selection(pool, union(goals)) if self.is_asked(selection.__name__, group) else []:
-                if selection in variants.ALL or len(chosen) < len(pool):
-                    found.append((selection.__name__ + label, chosen))
-        for name, chosen in sorted(found, key=lambda named: len(named[1])):
-            # without lemmas the claims stay, and so does the text
-            open_goals = goals if name == "given" else [goal for goal in goals if not goal.verdict]
-            yield from self.ordered(open_goals, kind, level, name, chosen)
-
-    def ordered(self, goals: List[Goal], kind: int, level: int, name: str, chosen: List[Equation]) -> Iterator[Job]:
-        group = [order.__name__ for order in variants.ORDERS]
-        for order in [variants.written] if kind == FEWER else self.orders:
-            is_asked = self.is_asked(order.__name__, group) and (kind != AGAIN or f"{name} {order.__name__}" in self.names)
-            is_as_it_is = order is variants.written and chosen == self.statement.assumptions and not self.options.only
-            made = order(self.statement, chosen, union(goals)) if is_asked and not is_as_it_is else None
-            if made:
-                text = variants.text_of(self.statement, chosen, [goal.equation for goal in goals], made)
-                yield Job(f"{name} {order.__name__}", goals, text, budget(level), level, made)
-
-
-def union(goals: List[Goal]) -> Equation:
-    """The goal, or an equation with the maps of all goals, for what looks at its maps alone."""
-    return goals[0].equation._replace(maps=variants.maps_of(goal.equation for goal in goals))
+from opprove.search.variants import Statement
 
 
 class Search:
@@ -203,7 +65,7 @@ class Search:
     def run(self) -> None:
         while not self.options.interrupts.is_met and self.progress.seconds() < self.options.seconds:
             self.runs.end(lambda job: not job.is_open() or job.text in self.plan.closed)
-            while len(self.runs.going) < self.options.jobs and self.start(self.plan.next_job()):
+            while self.runs.has_room(self.options.jobs) and self.start(self.plan.next_job()):
                 pass
             if not self.runs.going:
                 break
@@ -218,14 +80,16 @@ class Search:
             name = re.sub("[^a-z0-9]+", "_", f"{job.goals[0].number if len(job.goals) == 1 else 'all'} {job.name}")
             path = self.write(f"{name}_{job.level}_{self.runs.count + 1}.op", job.text, self.options.keep)
             self.paths[job.text] = path
-            self.runs.start(job, [job.words[0], str(path), *job.words[1:]], min(SECONDS << job.level, 1 << 20))
+            seconds = 3 * WORKER_SECONDS << job.level if job.kind in WORKER else SECONDS << job.level
+            self.runs.start(job, [job.words[0], str(path), *job.words[1:]], min(seconds, 1 << 20))
         return job is not None
 
     def under_way(self) -> str:
         claims = self.plan.claims
-        settled = sum(goal.verdict != "" for goal in claims)
+        settled = ", ".join(f"{goal.number} {goal.verdict or 'open'}" for goal in claims[:6]) + ", .." * (len(claims) > 6)
         names = ", ".join(f"{run.job.name} level {run.job.level}" for run in self.runs.going)
-        return f"{settled} of {len(claims)} claims settled, {self.runs.count} runs so far, now {names}"
+        left = len(self.plan.batches) + len(self.plan.jobs)
+        return f"claims {settled}; {self.runs.count} runs, now {names}; {left} more to try, of {self.options.seconds} s"
 
     # ---- What was found
 
@@ -235,12 +99,18 @@ class Search:
         report.unlink()
         if status == 5:
             raise OSError(errno.ENOSPC, os.strerror(errno.ENOSPC), str(report))
+        if job.kind in WORKER:
+            for line in text.splitlines():
+                self.took_off(job, json.loads(line))
+            for goal in job.goals:
+                goal.is_tried = goal.is_tried or job.kind == ANY
+            return
         if status in (0, 2, 3, 4, 10):
             self.plan.closed.add(job.text)
         sections = re.split(r"^# claim ([0-9]+) (.*)\n", text, flags=re.MULTILINE)[1:]
         for place in range(0, len(sections), 3):
             number, head, block = int(sections[place]), sections[place + 1], sections[place + 2]
-            if not job.goals[number - 1].verdict:
+            if job.goals[number - 1].wants(job.kind):
                 self.judge(job, job.goals[number - 1], number, head, block)
 
     def judge(self, job: Job, goal: Goal, number: int, head: str, block: str) -> None:
@@ -297,12 +167,54 @@ class Search:
         if check_model.report(words)[1] == 0 and self.program.answer(["model", *words]) == 0:
             self.settle(job, goal, "refuted", lines)
 
+    # ---- What the searches in Python found
+
+    def took_off(self, job: Job, found: Dict[str, Any]) -> None:
+        """Takes over a proof that takes letters or stars off, or a rational model, where its checkers accept it."""
+        goal, block, takes = self.plan.claims[found["claim"] - 1], found["block"], found["takes"]
+        if not goal.wants(job.kind) or not findings.is_accepted(self.program, self.runs.folder, self.statement.text, block):
+            return
+        kind = findings.kind_of(block)
+        self.keep_block(goal, block, kind)
+        if kind == "rational":
+            named = [f"{word} {' '.join(names)}" for word, names in (("monic", self.options.monic), ("epic", self.options.epic)) if names]
+            self.settle(job, goal, "refuted", [f"# claim {goal.number} refuted over q" + "".join(f" {text}" for text in named), *block])
+            return
+        granted = f" by {takes}" if takes else ""
+        rows = sum(line.startswith("row ") for line in block)
+        lines = [f"# claim {goal.number} proved {block[2]} rows {rows}{granted}", *block]
+        lines += self.for_matrices(goal, found["statement"], found["certificate"]) if "statement" in found else []
+        if job.kind == ANY and takes:
+            goal.more = [f"# claim {goal.number} follows where {in_words(takes)}", *block]
+            self.progress.tell(f"claim {goal.number} follows where {in_words(takes)}", is_news=True)
+        else:
+            self.settle(job, goal, "proved", lines)
+
+    def for_matrices(self, goal: Goal, statement: str, certificate: List[str]) -> List[str]:
+        """The other piece of a star proof, as comments, where its checkers accept it."""
+        if not findings.is_accepted(self.program, self.runs.folder, statement, certificate):
+            return []
+        if self.options.keep:
+            name = f"claim_{goal.number}_for_matrices"
+            findings.keep(self.options.keep, findings.Finding("", certificate, statement, name))
+        lines = ["# for matrices, which have Moore-Penrose inverses, this statement with this certificate:"]
+        return lines + [f"#   {line}" for line in [*statement.rstrip("\n").split("\n"), *certificate]]
+
+    def keep_block(self, goal: Goal, block: List[str], kind: str) -> None:
+        if self.options.keep:
+            self.write(f"claim_{goal.number}.{kind}", "\n".join(block) + "\n", self.options.keep)
+
+    # ---- The report
+
     def settle(self, job: Job, goal: Goal, verdict: str, lines: List[str]) -> None:
+        before = goal.verdict
         goal.verdict, goal.lines = verdict, lines
         name = str(self.paths[job.text]) if self.options.keep else "VARIANT"
         name = self.options.statement if job.name == AS_IT_IS else name
         goal.found_by = [f"# found by {job.name}: opprove {job.words[0]} {name} {' '.join(job.words[1:])}"]
-        if job.name != AS_IT_IS:
+        if job.kind in WORKER:
+            goal.found_by = [f"# found by {job.name}, and the claim isn't derivable by rows" if before else f"# found by {job.name}"]
+        elif job.name != AS_IT_IS:
             goal.found_by += ["# the variant:"] + [f"#   {line}" for line in job.text.rstrip("\n").split("\n")]
         if verdict == "not derivable" and job.order.lines:
             goal.found_by.append("# the basis is of another order than the statement's: " + job.order.lines[-1])
@@ -315,11 +227,32 @@ class Search:
         for goal in self.plan.claims:
             cause = goal.cause or f"seconds {self.progress.seconds():.0f}"
             lines += (goal.lines if goal.verdict else [f"# claim {goal.number} undecided {cause}"]) + goal.found_by
+            lines += goal.more if goal.verdict != "proved" else []
         for goal in self.plan.goals:
             if not goal.number and goal.verdict:
                 lines += [f"# lemma {variants.spelled(goal.equation.tokens, ())}", *goal.found_by]
         verdicts = {goal.verdict for goal in self.plan.claims}
-        return lines, 12 if "" in verdicts else 11 if "refuted" in verdicts else 10 if "not derivable" in verdicts else 0
+        status = 12 if "" in verdicts else 11 if "refuted" in verdicts else 10 if "not derivable" in verdicts else 0
+        return [*lines, self.why_ended()], status
+
+    def why_ended(self) -> str:
+        """The last line: why the search ended, and what it leaves."""
+        claims = self.plan.claims
+        left = [f"claim {goal.number} is {goal.verdict or 'undecided'}" for goal in claims if goal.verdict in ("", "not derivable") and not goal.more]
+        if not left:
+            return "# ended: each claim is settled"
+        why = "nothing is left to try"
+        if self.options.interrupts.is_met:
+            why = f"interrupted after {self.progress.seconds():.0f} s"
+        elif self.progress.seconds() >= self.options.seconds:
+            why = f"the {self.options.seconds} s are over"
+        return f"# ended: {why}; {', '.join(left)}, and no proof, model or step that cancels was found"
+
+
+def in_words(takes: str) -> str:
+    """What a proof takes for granted of letters, as `f is monic and g h are epic`."""
+    texts = re.findall("(monic|epic) (.+?)(?= epic|$)", takes)
+    return " and ".join(f"{names} {'are' if ' ' in names else 'is'} {word}" for word, names in texts)
 
 
 def claimed(goal: Goal, head: str, block: str) -> List[str]:
@@ -334,7 +267,11 @@ def shapes(polys: List[Poly]) -> Set[join.Shape]:
 
 class Words(argparse.ArgumentParser):
     def error(self, message: str) -> NoReturn:
-        raise Unusable(f"# usage: {__doc__.splitlines()[0].split(': ', 1)[1]}")
+        raise Unusable(f"# usage: {(__doc__ or '').splitlines()[0].split(': ', 1)[1]}")
+
+
+def letters(text: str) -> List[str]:
+    return [name for name in text.split(",") if name]
 
 
 def options_of(words: List[str]) -> argparse.Namespace:
@@ -345,7 +282,14 @@ def options_of(words: List[str]) -> argparse.Namespace:
     parser.add_argument("--only", type=lambda text: text.split(","), default=[])
     parser.add_argument("--lemmas")
     parser.add_argument("--keep", default="")
+    parser.add_argument("--monic", type=letters, default=[])
+    parser.add_argument("--epic", type=letters, default=[])
+    parser.add_argument("--complex", action="store_true")
+    parser.add_argument("--over", choices=["q"], default="")
+    parser.add_argument("--scheduler", default="")
     options = parser.parse_args(words)
+    # Matrices modulo a prime say nothing of complex ones, nor have they the maps monic and epic that are named so.
+    options.is_special = bool(options.over or options.complex or options.monic or options.epic)
     if options.seconds < 1 or options.jobs < 1 or not set(options.only) <= set(variants.NAMES):
         parser.error("")
     return options
@@ -360,7 +304,10 @@ def searched(options: argparse.Namespace, folder: Path) -> Tuple[List[str], int]
     if status in (2, 3, 4, 6):
         return answer.decode().splitlines(), status
     statement = Statement(options.statement)
-    with Runs(program, folder) as runs:
+    for name in [*options.monic, *options.epic]:
+        if name not in statement.problem.numbers or name[0] == "[":
+            raise Unusable(f"# no map {name} in {options.statement}")
+    with cluster.runs_of(options.scheduler, program, folder) as runs:
         search = Search(options, statement, runs, progress)
         search.run()
     return search.report()
@@ -379,7 +326,7 @@ def main(words: List[str]) -> int:
     except Refusal as what:
         error, status = str(what), 4 if str(what).startswith("# load") else 3
     except (OSError, MemoryError) as what:
-        error = f"harder.py: {what or 'no memory'}"
+        error = f"search: {what or 'no memory'}"
     try:
         if error:
             sys.stderr.buffer.write(f"{error}\n".encode("utf-8", "surrogateescape"))

@@ -1,4 +1,4 @@
-"""Variants of a statement, for harder.py: fewer assumptions, other orders of words, other shapes for models.
+"""Variants of a statement, for the tool `search`: fewer assumptions, other orders of words, other shapes for models.
 
 A selection takes the assumptions and lemmas that there are, and a goal, and gives some of them, each with its label. An
 order takes a selection, and says which maps weigh how much, come first, or stand for their adjoints. Both are small
@@ -241,7 +241,8 @@ def adjoints(statement: Statement, chosen: List[Equation], goal: Equation) -> Op
 
 Ordering = Callable[[Statement, List[Equation], Equation], Optional[Order]]
 ORDERS: List[Ordering] = [written, defined, eliminated, hidden, second, shown, adjoints, backwards, degree]
-NAMES = [function.__name__ for function in [*FEWER, *ALL, *ORDERS]] + ["models"]
+OTHER_NAMES = ["models", "cancellations", "rationals"]  # of what else `search` tries
+NAMES = [function.__name__ for function in [*FEWER, *ALL, *ORDERS]] + OTHER_NAMES
 
 
 def defined_weights(statement: Statement, equations: List[Equation]) -> Dict[str, int]:
