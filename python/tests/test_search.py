@@ -51,7 +51,9 @@ class Search(unittest.TestCase):
         answer = tool("search", self.file(DIVIDED), "--seconds", 20, "--jobs", 2)
         self.assertEqual(answer.status, 11, answer.out)
         self.assertIn("# claim 1 follows where a is monic", answer.heads)
-        self.assertEqual([accepted(DIVIDED, block) for block in answer.blocks], [True, True])
+        self.assertEqual([accepted(DIVIDED, block) for block in answer.blocks], [True])
+        proof = re.search(r"^#   cancellation 1\n(#   .*\n)*?#   end\n", answer.out, re.MULTILINE)
+        self.assertTrue(proof and accepted(DIVIDED, re.sub("^#   ", "", proof.group(), flags=re.MULTILINE)), answer.out)
 
     def test_named_letters_that_do_not_do(self) -> None:
         """The matrices that break the claim have a of full column rank: with one column it isn't zero."""

@@ -158,7 +158,7 @@ class Reports(unittest.TestCase):
         file = Path(opprove.__file__).parent / "checkers" / "star.py"
         with tempfile.TemporaryDirectory() as folder:
             words = [sys.executable, str(file), *written(folder, ZERO, ZERO_PROOF)]
-            done = subprocess.run(words, stdout=subprocess.PIPE, stderr=subprocess.PIPE, cwd=folder, env={})
+            done = subprocess.run(words, stdout=subprocess.PIPE, stderr=subprocess.PIPE, cwd=folder, env={"LC_ALL": "C"})
         self.assertEqual((done.returncode, done.stdout, done.stderr), (0, b"# block 1 accepted claim 1 denominator 1 proper\n", b""))
 
 

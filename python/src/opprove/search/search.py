@@ -7,7 +7,7 @@ as `opprove prove` does, of which the program and the second checkers accept eac
 - matrices that break a claim, also where it isn't derivable: other shapes, moduli, seeds and maps that are solved for; with --over q
   rational matrices instead, which say something of complex ones too (`rational model 1`, which check_model.py reads);
 - proofs for `opprove cancel` that take off maps which --monic and --epic name, in front and behind. Where none is named, all are
-  tried, and a claim that follows where some of them are monic or epic is printed so, with the least such maps; that settles nothing;
+  tried, and a comment says that a claim follows where some of them are monic or epic, with the least such maps: it settles nothing;
 - with --complex, proofs by `r' r = 0 gives r = 0`, which holds for complex matrices and for operators between Hilbert spaces: as a
   `star proof 1`, which star.py reads, and for matrices as a statement with Moore-Penrose inverses and a certificate for `check`.
 
@@ -185,7 +185,7 @@ class Search:
         lines = [f"# claim {goal.number} proved {block[2]} rows {rows}{granted}", *block]
         lines += self.for_matrices(goal, found["statement"], found["certificate"]) if "statement" in found else []
         if job.kind == ANY and takes:
-            goal.more = [f"# claim {goal.number} follows where {in_words(takes)}", *block]
+            goal.more = [f"# claim {goal.number} follows where {in_words(takes)}", *(f"#   {line}" for line in block)]
             self.progress.tell(f"claim {goal.number} follows where {in_words(takes)}", is_news=True)
         else:
             self.settle(job, goal, "proved", lines)
