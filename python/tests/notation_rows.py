@@ -238,3 +238,30 @@ USED: List[Tuple[str, str]] = [
     ("use bad.opn | claim a = 0", "N4 file bad.opn 1 19"),
     ("use  # none | claim a = 0", "S3 1 4"),
 ]
+
+# Statements with what `shorten` writes for them.
+SHORT: List[Tuple[str, str]] = [
+    ("object V | map a x : V -> V | pinv a x | assume a a' = a' a | claim a x = x a", "pinv a x | normal a | claim a x = x a"),
+    ("object V | map a x : V -> V | pinv a x | assume x a = a x | claim a = 0", "ep a x | claim a = 0"),
+    (
+        "# of c | object U V | map a : U -> V | map b : V -> U | map c g : V -> V # both | assume c = [V] - a b | assume c g c = c"
+        " | assume g c = c g | claim a b g = g a b | assume g c g = g",
+        "# of c | # both | a : U -> V, b : V -> U | define c = 1 - a b | group c g | claim a b g = g a b",
+    ),
+    (
+        "language 2 | object V | map a d : V -> V | assume a d = d a | assume d a d = d | assume a^3 d = a^2 | claim d = 0",
+        "drazin a d 2 | claim d = 0",
+    ),
+    (
+        "object V | map p q s : V -> V | projection p | projection q | assume s = p + q | claim s s = s | order weight s 2",
+        "projection p q | define s = p + q | claim s s = s | order weight s 2",
+    ),
+    (
+        "language 2 | object V | map a b c d : V -> V | assume c = a b | assume d = b a | eliminate d | claim c a = a d",
+        "a b c : V -> V | assume c = a b | define d = b a | claim c a = a d",
+    ),
+    ("object U V | map a b c : U -> V | assume a = b | assume b = c | claim c = a", "a b c : U -> V | assume a = b = c | claim c = a"),
+    ("object V | map a x : V -> V | claim x a x = x | claim a x a = a | claim x a = a x", "a x : V -> V | claim group a x"),
+    ("object U V | map a : U -> V self | claim a = 0", "S9 2 5"),
+    ("object V W | map h : V -> V self | map a : V -> W | claim a h = a", "h : V -> V self, a : V -> W | claim a h = a"),
+]

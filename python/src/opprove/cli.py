@@ -36,6 +36,7 @@ TOOLS: List[Tool] = [
     Tool("sympy", "translations.sympy", "a certificate as a script that SymPy adds up"),
     Tool("picture", "translations.picture", "the quiver of a statement as SVG, TikZ or a graph"),
     Tool("expand", "notation.expand", "the statements that a file of the notation stands for"),
+    Tool("shorten", "notation.shorten", "a statement written in the notation"),
     Tool("search", "search.search", "searches around the program for what `prove` leaves undecided", asks=True),
     Tool("join", "search.join", "one certificate from evidence for lemmas and evidence that assumes them"),
     Tool("why", "words.why", "an answer of the program, and what it means in words", asks=True),
