@@ -224,15 +224,42 @@ def longest(shown: Picture) -> int:
     return max(labels, default=0) + max(map(len, shown.objects))
 
 
+# In a page the colour is that of its text; by itself, as an image too, it is dark on light or light on dark as the reader has it.
 STYLE = (
-    ".quiver path{fill:none;stroke:#333}.quiver text{font:italic 14px serif;text-anchor:middle}"
-    ".quiver .object{font-size:17px}"
+    ".quiver path{fill:none;stroke:currentColor}.quiver text{font:italic 14px serif;text-anchor:middle;fill:currentColor}"
+    ".quiver .object{font-size:17px}@media (prefers-color-scheme:dark){.quiver:root{color:#ddd}}"
 )
 HEAD = (
     '<defs><marker id="head" viewBox="0 0 8 8" refX="7" refY="4" markerWidth="7" markerHeight="7" orient="auto">'
     '<path d="M0 0L8 4L0 8"/></marker></defs>'
 )
 CHARACTER, LINE = 7.5, 16  # how wide and high a character is taken to be, in pixels
+POINTS = 24  # parts of a curve between the points at which it is looked at
+PLACES = (12, 10, 14, 8, 16, 6, 18)  # on a curve, for its label
+
+
+class Box(NamedTuple):
+    """A text: its middle, its width and its height."""
+
+    at: Point
+    width: float
+    height: float
+
+    def holds(self, point: Point, margin: float) -> bool:
+        """Whether a point is inside, or outside by less than the margin."""
+        return abs(point[0] - self.at[0]) < self.width / 2 + margin and abs(point[1] - self.at[1]) < self.height / 2 + margin
+
+    def meets(self, other: "Box") -> bool:
+        across, down = abs(self.at[0] - other.at[0]), abs(self.at[1] - other.at[1])
+        return across < (self.width + other.width) / 2 and down < (self.height + other.height) / 2
+
+
+class Label(NamedTuple):
+    """The names at an arrow: the points of its curve, and the side of it on which they are rather than on the other."""
+
+    lines: List[str]
+    curve: List[Point]
+    way: Point
 
 
 class Drawing:
@@ -242,61 +269,89 @@ class Drawing:
         self.shown = shown
         self.parts: List[str] = []
         self.corners: List[Point] = []  # of all that is drawn
-        across = max(110.0, CHARACTER * longest(shown) + 40)
-        self.at = [(across * column, 100.0 * row) for column, row in shown.cells]
-        for arrow in shown.arrows:
-            if arrow.source == arrow.target:
-                self.loop(arrow)
-            else:
-                self.line(arrow)
+        self.boxes: List[Box] = []
+        across = max(125.0, CHARACTER * longest(shown) + 50)
+        self.at = [(across * column, 110.0 * row) for column, row in shown.cells]
+        self.labels = [self.loop(arrow) if arrow.source == arrow.target else self.line(arrow) for arrow in shown.arrows]
         for name, at in zip(shown.objects, self.at):
-            self.text([name], at, (0, 0), ' class="object"')
+            self.text([name], Box(at, CHARACTER * len(name), LINE), ' class="object"')
+        # of each label: how far along its arrow, and whether it is on the other side
+        self.places = [self.place(label) for label in self.labels]
 
     def edge(self, place: int, way: Point) -> Point:
-        """Where an arrow that leads this way begins, behind the object's name."""
+        """Where an arrow that leads this way begins, beside the object's name."""
         half = CHARACTER * len(self.shown.objects[place]) / 2 + 6
         far = min(half / (abs(way[0]) or 1e-9), 13 / (abs(way[1]) or 1e-9))
         return self.at[place][0] + far * way[0], self.at[place][1] + far * way[1]
 
-    def line(self, arrow: Arrow) -> None:
+    def line(self, arrow: Arrow) -> Label:
         (x, y), (u, v) = self.at[arrow.source], self.at[arrow.target]
         far = hypot(u - x, v - y)
         normal = (v - y) / far, (x - u) / far  # to the left, as one goes along the arrow
-        bend = (0, 30, 80)[arrow.bend]
+        bend = (0, 22, 80)[arrow.bend]
         turn = (x + u) / 2 + bend * normal[0], (y + v) / 2 + bend * normal[1]
         ways = [((turn[0] - end[0]), (turn[1] - end[1])) for end in ((x, y), (u, v))]
         start, end = (
             self.edge(place, (way[0] / hypot(*way), way[1] / hypot(*way)))
             for place, way in zip((arrow.source, arrow.target), ways)
         )
-        self.path([start, turn, end], "Q")
-        middle = ((start[0] + end[0]) / 4 + turn[0] / 2, (start[1] + end[1]) / 4 + turn[1] / 2)
-        self.text(label_lines(arrow.names), middle, normal)
+        return self.path([start, turn, end], "Q", arrow, normal)
 
-    def loop(self, arrow: Arrow) -> None:
+    def loop(self, arrow: Arrow) -> Label:
         way = loop_way(self.shown, arrow.source)
         x, y = self.edge(arrow.source, way)
         points = [
             (x + way[0] * far - way[1] * aside, y + way[1] * far + way[0] * aside)
             for far, aside in ((0, -7), (44, -26), (44, 26), (0, 7))
         ]
-        self.path(points, "C")
-        self.text(label_lines(arrow.names), (x + 33 * way[0], y + 33 * way[1]), way)
+        return self.path(points, "C", arrow, way)
 
-    def path(self, points: List[Point], kind: str) -> None:
+    def path(self, points: List[Point], kind: str, arrow: Arrow, way: Point) -> Label:
+        """Draws a curve by its Bezier points."""
         texts = [f"{x:.1f} {y:.1f}" for x, y in points]
         self.parts.append(f'<path d="M{texts[0]}{kind}{" ".join(texts[1:])}" marker-end="url(#head)"/>')
         self.corners += points
+        return Label(label_lines(arrow.names), [bezier(points, place / POINTS) for place in range(POINTS + 1)], way)
 
-    def text(self, lines: List[str], at: Point, way: Point, kind: str = "") -> None:
-        """Lines of text around a point, or beside it where a way is given."""
-        width, height = CHARACTER * max(map(len, lines)), LINE * len(lines)
-        far = 5 + abs(way[0]) * width / 2 + abs(way[1]) * height / 2
-        x, y = at[0] + far * way[0], at[1] + far * way[1]
+    def place(self, label: Label) -> Tuple[float, bool]:
+        """Puts a label beside its arrow, where it covers least of what is drawn."""
+        found = []
+        width, height = CHARACTER * max(map(len, label.lines)), LINE * len(label.lines)
+        for place in PLACES:
+            (x, y), (a, b), (c, d) = label.curve[place], label.curve[place - 1], label.curve[place + 1]
+            far = hypot(c - a, d - b)
+            normal = (d - b) / far, (a - c) / far
+            for side in (1, -1):
+                way = side * normal[0], side * normal[1]
+                off = 5 + abs(way[0]) * width / 2 + abs(way[1]) * height / 2
+                box = Box((x + off * way[0], y + off * way[1]), width, height)
+                is_other = way[0] * label.way[0] + way[1] * label.way[1] < 0
+                found.append((self.covered(box, label) + abs(place - 12) + 2 * is_other, len(found), box, (place / POINTS, is_other)))
+        _, _, box, chosen = min(found)
+        self.text(label.lines, box)
+        return chosen
+
+    def covered(self, box: Box, of: Label) -> int:
+        """How much of what is drawn is inside, or near if it is another arrow."""
+        inside = sum(box.holds(point, 1) for label in self.labels for point in label.curve)
+        near = sum(box.holds(point, 6) for label in self.labels if label is not of for point in label.curve)
+        return 8 * inside + 2 * near + 30 * sum(box.meets(other) for other in self.boxes)
+
+    def text(self, lines: List[str], box: Box, kind: str = "") -> None:
+        """Lines of text in a box."""
+        (x, y), height = box.at, LINE * len(lines)
         for place, line in enumerate(lines):
             below = y - height / 2 + LINE * place + 13
             self.parts.append(f'<text{kind} x="{x:.1f}" y="{below:.1f}">{escape(line)}</text>')
-        self.corners += [(x - width / 2, y - height / 2), (x + width / 2, y + height / 2)]
+        self.boxes.append(box)
+        self.corners += [(x - box.width / 2, y - height / 2), (x + box.width / 2, y + height / 2)]
+
+
+def bezier(points: List[Point], share: float) -> Point:
+    """The point of a Bezier curve at this share of its way."""
+    while len(points) > 1:
+        points = [(x + share * (u - x), y + share * (v - y)) for (x, y), (u, v) in zip(points, points[1:])]
+    return points[0]
 
 
 def svg(shown: Picture) -> str:
@@ -312,16 +367,17 @@ LOOPS = {(0, -1): "above", (0, 1): "below", (1, 0): "right", (-1, 0): "left"}
 
 
 def tikz(shown: Picture) -> str:
-    across = max(2.4, 0.2 * longest(shown) + 1)
+    across = max(3.2, 0.2 * longest(shown) + 1.4)
     lines = [r"\begin{tikzpicture}"]
     for number, (name, (column, row)) in enumerate(zip(shown.objects, shown.cells)):
-        lines.append(rf"  \node ({number}) at ({across * column:.1f}, {-1.8 * row:.1f}) {{${name_in_latex(name)}$}};")
-    for arrow in shown.arrows:
-        way = ("", "[bend left=18]", "[bend left=40]")[arrow.bend]
+        lines.append(rf"  \node ({number}) at ({across * column:.1f}, {-2.6 * row:.1f}) {{${name_in_latex(name)}$}};")
+    for arrow, (share, is_other) in zip(shown.arrows, Drawing(shown).places):
+        way = ("", "[bend left=14]", "[bend left=40]")[arrow.bend]
         if arrow.source == arrow.target:
             way = f"[loop {LOOPS[loop_way(shown, arrow.source)]}]"
         label = r" \\ ".join(" ".join(map(word_in_latex, line.split())) for line in label_lines(arrow.names))
-        lines.append(rf"  \draw[->] ({arrow.source}) to{way} node[auto, align=center] {{{label}}} ({arrow.target});")
+        place = "auto" + ", swap" * is_other + f", pos={share:.2f}" * (share != 0.5)
+        lines.append(rf"  \draw[->] ({arrow.source}) to{way} node[{place}, align=center] {{{label}}} ({arrow.target});")
     return "\n".join([*lines, r"\end{tikzpicture}"]) + "\n"
 
 
