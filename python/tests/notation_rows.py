@@ -246,7 +246,7 @@ SHORT: List[Tuple[str, str]] = [
     (
         "# of c | object U V | map a : U -> V | map b : V -> U | map c g : V -> V # both | assume c = [V] - a b | assume c g c = c"
         " | assume g c = c g | claim a b g = g a b | assume g c g = g",
-        "# of c | # both | a : U -> V, b : V -> U | define c = 1 - a b | group c g | claim a b g = g a b",
+        "# of c | # both | a : U -> V, b : V -> U | define c = 1 - a b | group c g | claim a b g = g a b | order degree",
     ),
     (
         "language 2 | object V | map a d : V -> V | assume a d = d a | assume d a d = d | assume a^3 d = a^2 | claim d = 0",

@@ -273,14 +273,14 @@ def letter_value(name: str, written: Written) -> Matrix:
 
 
 def values_of(problem: Problem, polys: List[Poly], written: Written) -> List[Matrix]:
-    """The values of polynomials; a zero has none."""
+    """The values of polynomials that aren't zero: one that isn't zero may have such a value, as `[V] a - a`."""
     found = []
     for poly in polys:
         if poly:
             ends = problem.signature(next(iter(poly)))
             assert ends is not None
             found.append(value_of(problem, poly, written, (problem.names[ends[0]][1:-1], problem.names[ends[1]][1:-1])))
-    return found
+    return [value for value in found if not is_zero(value)]
 
 
 def is_zero(matrix: Matrix) -> bool:

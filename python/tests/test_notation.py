@@ -85,12 +85,13 @@ class Values(unittest.TestCase):
             with open(place, "w", encoding="utf-8") as file:
                 file.write(statement.text)
             problem = check.Problem(place)
-            assumed = [value for value in (each(written.values) for each in written.assumptions + stated.assumptions) if not is_zero(value)]
-            claimed = [value for value in (each(written.values) for each in stated.claims) if not is_zero(value)]
+            assumed, claimed = (
+                [value for value in (each(written.values) for each in functions) if not is_zero(value)]
+                for functions in (written.assumptions + stated.assumptions, stated.claims)
+            )
             self.assertEqual(values_of(problem, problem.assumptions, written), assumed)
             self.assertEqual(values_of(problem, problem.claims, written), claimed)
-            found = [value for value in values_of(problem, problem.generators(), written) if not is_zero(value)]
-            self.assertEqual(found, generators_of(assumed) if problem.is_starred else assumed)
+            self.assertEqual(values_of(problem, problem.generators(), written), generators_of(assumed) if problem.is_starred else assumed)
 
 
 if __name__ == "__main__":

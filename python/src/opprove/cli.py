@@ -26,6 +26,7 @@ class Tool(NamedTuple):
     module: str
     summary: str
     asks: bool = False  # whether it runs the program
+    takes_notation: bool = False  # whether it reads files of the notation itself; others are given their expansions
 
 
 TOOLS: List[Tool] = [
@@ -35,7 +36,8 @@ TOOLS: List[Tool] = [
     Tool("singular", "translations.singular", "a certificate as a script that Singular adds up"),
     Tool("sympy", "translations.sympy", "a certificate as a script that SymPy adds up"),
     Tool("picture", "translations.picture", "the quiver of a statement as SVG, TikZ or a graph"),
-    Tool("expand", "notation.expand", "the statements that a file of the notation stands for"),
+    Tool("expand", "notation.expand", "the statements that a file of the notation stands for", takes_notation=True),
+    Tool("implications", "notation.implications", "which of the cases of a file of the notation follow from which", asks=True, takes_notation=True),
     Tool("shorten", "notation.shorten", "a statement written in the notation"),
     Tool("search", "search.search", "searches around the program for what `prove` leaves undecided", asks=True),
     Tool("join", "search.join", "one certificate from evidence for lemmas and evidence that assumes them"),
@@ -75,7 +77,11 @@ def run(word: str, words: List[str]) -> int:
         return MISSING
     if tool.asks and how == "unproved":
         sys.stderr.write("opprove: this program isn't proved on this machine\n")
-    status: int = import_module(f"opprove.{tool.module}").main(words)
+    module = import_module(f"opprove.{tool.module}")
+    if not tool.takes_notation and any(name.endswith(".opn") for name in words):
+        statuses: int = import_module("opprove.notation.expand").run_on(words, module.main)
+        return statuses
+    status: int = module.main(words)
     return status
 
 

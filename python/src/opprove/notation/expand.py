@@ -8,13 +8,13 @@ from __future__ import annotations
 import argparse
 import os
 import sys
-from typing import List, NamedTuple, Tuple
+from typing import Callable, List, NamedTuple, Tuple
 
 from opprove.checkers import scripts
 from opprove.checkers.check import Refusal
 from opprove.notation.expansion import HEAD, Expanded, Expansion
 
-LIMIT = 2**20  # bytes of a file, and of a statement
+ENDING = ".opn"  # of the names of files of the notation
 
 
 class NotWritten(Exception):
@@ -40,10 +40,11 @@ def read(path: str, all_pairs: bool = False) -> Read:
 
 
 def expanded(path: str, folder: str = "", all_pairs: bool = False) -> List[Tuple[str, str]]:
-    """Writes the statements of a file beside it, or into this folder, says on standard error where they stand, and gives path and name
-    of each. Raises a `Refusal`, or `NotWritten`."""
+    """Writes the statements of a file into this folder, or that of OPPROVE_EXPANSIONS, or beside it, says on standard error where they
+    stand, and gives path and name of each. Raises a `Refusal`, or `NotWritten`."""
     found = read(path, all_pairs)
-    paths = [(os.path.join(folder or os.path.dirname(path), f"{statement.name}.op"), statement.name) for statement in found.statements]
+    folder = folder or os.environ.get("OPPROVE_EXPANSIONS", "") or os.path.dirname(path)
+    paths = [(os.path.join(folder, f"{statement.name}.op"), statement.name) for statement in found.statements]
     for line in found.told:
         tell(line)
     for (place, _), statement in zip(paths, found.statements):
@@ -58,7 +59,7 @@ def write(path: str, text: str) -> None:
         os.makedirs(os.path.dirname(path) or ".", exist_ok=True)
         if os.path.exists(path):
             with open(path, "rb") as file:
-                if not file.read(len(HEAD)) == HEAD.encode():
+                if file.read(len(HEAD)) != HEAD.encode():
                     raise NotWritten(f"# not written {path}: it is there, and was written by hand")
         with open(path, "wb") as file:
             file.write(text.encode())
@@ -69,6 +70,38 @@ def write(path: str, text: str) -> None:
 def tell(line: str) -> None:
     sys.stderr.buffer.write(f"{line}\n".encode("utf-8", "surrogateescape"))
     sys.stderr.buffer.flush()
+
+
+def opened(words: List[str]) -> List[List[str]]:
+    """Words of a tool with the statements of files of the notation in the place of these files, once for each statement."""
+    lists: List[List[str]] = [[]]
+    for word in words:
+        paths = [path for path, _ in expanded(word)] if word.endswith(ENDING) else [word]
+        lists = [[*others, path] for others in lists for path in paths]
+    return lists
+
+
+def run_on(words: List[str], run: Callable[[List[str]], int]) -> int:
+    """Runs a tool on each statement of the files of the notation among its words, and gives the greatest status."""
+    try:
+        lists = opened(words)
+    except (Refusal, NotWritten) as refusal:
+        return refused(refusal)
+    statuses = []
+    for each in lists:
+        if len(lists) > 1 and not scripts.put([f"# statement {' '.join(each[place] for place, word in enumerate(words) if word.endswith(ENDING))}"]):
+            return scripts.NO_OUTPUT
+        statuses.append(run(each))
+    return max(statuses)
+
+
+def refused(refusal: Exception) -> int:
+    """Tells what is wrong, and gives the status."""
+    line = str(refusal)
+    tell(line)
+    if isinstance(refusal, NotWritten):
+        return scripts.NO_OUTPUT
+    return scripts.NO_MEMORY if line == "# no memory" else scripts.NOT_LOADED if line.startswith(("# load ", "# too ")) else scripts.FAULTY
 
 
 def words_of(words: List[str]) -> argparse.Namespace:
@@ -103,9 +136,5 @@ def main(words: List[str]) -> int:
         return int(end.code or 0)
     try:
         return scripts.DONE if scripts.put(lines(given)) else scripts.NO_OUTPUT
-    except Refusal as refusal:
-        tell(str(refusal))
-        return scripts.NO_MEMORY if str(refusal) == "# no memory" else scripts.NOT_LOADED if str(refusal)[:6] in ("# load", "# too ") else scripts.FAULTY
-    except NotWritten as refusal:
-        tell(str(refusal))
-        return scripts.NO_OUTPUT
+    except (Refusal, NotWritten) as refusal:
+        return refused(refusal)

@@ -4,7 +4,7 @@ from __future__ import annotations
 import os
 import re
 from itertools import combinations, count, groupby
-from typing import Dict, Iterator, List, NamedTuple, Optional, Sequence, Set, Tuple
+from typing import Dict, Iterator, List, NamedTuple, Optional, Sequence, Set, Tuple, Union
 
 from opprove.checkers import check
 from opprove.checkers.check import Refusal, Token
@@ -30,6 +30,16 @@ class Fact(NamedTuple):
     note: str = ""  # a comment above its lines
 
 
+class Plan(NamedTuple):
+    """What a statement has besides the lines that stand in each: what is given with its cases, conditions, and claims."""
+
+    name: str
+    token: Token
+    given: List[Union[Definition, Given]]
+    conditions: List[Item]
+    claims: List[Item]
+
+
 class Expanded(NamedTuple):
     """A statement with its name."""
 
@@ -52,13 +62,15 @@ class Expansion:
         self.names, self.size = set(self.file.names), 0
         self.made: Dict[str, Token] = {}
         self.maps: Dict[str, Token] = {}  # in the order in which they stand in statements
+        self.entries = [part for entry in self.file.entries for part in self.parts(entry)]
+        self.definitions = [entry for entry in self.entries if isinstance(entry, Definition)]
         self.check_declarations()
         self.introduce()
-        for entry in self.file.entries:
+        for entry in self.entries:
             self.check_names(entry)
         self.facts: Dict[int, List[Fact]] = {}  # by the item
         self.ends = Ends()
-        for entry in self.file.entries:
+        for entry in self.entries:
             for item in self.items(entry):
                 self.facts[id(item)] = self.facts_of(item)
         self.find_ends()
@@ -69,8 +81,7 @@ class Expansion:
         """Refuses what is declared twice, or as an object and a map."""
         seen: Set[str] = set()
         objects = {token.text for token in self.file.objects}
-        definitions = [entry.name for entry in self.file.entries if isinstance(entry, Definition)]
-        for tokens in (self.file.declared, [token for token, _ in self.file.maps], definitions):
+        for tokens in (self.file.declared, [token for token, _ in self.file.maps], [entry.name for entry in self.definitions]):
             for token in tokens:
                 if token.text in seen or (tokens is not self.file.declared and token.text in objects):
                     raise fault("S7", token)
@@ -80,20 +91,22 @@ class Expansion:
     def introduce(self) -> None:
         """Maps: of signatures, of definitions, and those that are arguments of words that are assumed."""
         self.maps.update({token.text: token for token, _ in self.file.maps})
-        for entry in self.file.entries:
+        for entry in self.entries:
             if isinstance(entry, Definition):
                 self.maps.setdefault(entry.name.text, entry.name)
             items = entry.conditions if isinstance(entry, Claim) else self.items(entry)
             for argument in (node for item in items if isinstance(item, Use) for node in item.arguments if node.kind == "map"):
                 self.maps.setdefault(argument.text, argument.token)
 
+    def parts(self, entry: object) -> List[object]:
+        """A line, or of one with cases its cases and what is given with them."""
+        return [part for case in entry.cases for part in (Given(case.items), *case.given)] if isinstance(entry, Cases) else [entry]
+
     def items(self, entry: object) -> List[Item]:
-        """The items of a line, in their order; a definition has none."""
-        if isinstance(entry, Given):
-            return entry.items
+        """The items of a part of a line, in their order; a definition has none."""
         if isinstance(entry, Claim):
             return entry.items + entry.conditions
-        return [item for case in entry.cases for item in case] if isinstance(entry, Cases) else []
+        return entry.items if isinstance(entry, Given) else []
 
     def check_names(self, entry: object) -> None:
         """Refuses what isn't declared, or is of the other kind, and definitions that go round."""
@@ -105,8 +118,7 @@ class Expansion:
             if (node.kind == "map" and node.text not in self.maps) or (node.kind == "object" and node.text not in objects):
                 raise fault("S6", node.name or node.token)
         if isinstance(entry, Definition):
-            lines = [line.name.text for line in self.file.entries if isinstance(line, Definition)]
-            later = lines[lines.index(entry.name.text) :]
+            later = [other.name.text for other in self.definitions[self.definitions.index(entry) :]]
             for node in nodes(entry.value):
                 if node.kind == "map" and node.text in later:
                     raise fault("N8", node.token)
@@ -208,7 +220,7 @@ class Expansion:
             signature = signatures.get(name)
             named = [ends.named(end.text) for end in signature[:2]] if signature else [ends.new(), ends.new()]
             ends.maps[name] = named[0], named[1]
-        for entry in self.file.entries:
+        for entry in self.entries:
             if isinstance(entry, Definition):
                 ends.equal("S11", entry.value.token, ends.maps[entry.name.text], ends.value(entry.value))
             for equation in (each for item in self.items(entry) for fact in self.facts[id(item)] for each in fact.equations):
@@ -224,39 +236,45 @@ class Expansion:
     def statements(self, all_pairs: bool = False) -> List[Expanded]:
         """The statement of all claims without a condition, one for each claim with one or with a label, and those of cases."""
         plain = [item for entry in self.claims() if entry.is_plain() for item in entry.items]
-        plans: List[Tuple[str, Token, List[Item], List[Item]]] = [(self.stem, Token("", "", 0, 0), [], plain)] if plain else []
+        plans = [Plan(self.stem, Token("", "", 0, 0), [], [], plain)] if plain else []
         for number, claim in enumerate(self.claims(), 1):
             if not claim.is_plain():
-                plans.append((f"{self.stem}-{claim.label or number}", claim.token, claim.conditions, claim.items))
-        for entry in (entry for entry in self.file.entries if isinstance(entry, Cases)):
-            cases, stem = entry.cases, "-".join([self.stem, entry.label][: 1 + bool(entry.label)])
-            pairs = [(one, two) for one in range(len(cases)) for two in range(len(cases)) if one != two]
-            circle = [(one, (one + 1) % len(cases)) for one in range(len(cases))]
-            for one, two in pairs if all_pairs else circle:
-                plans.append((f"{stem}-{ROMAN[one]}-{ROMAN[two]}", entry.token, cases[one], cases[two]))
+                plans.append(Plan(f"{self.stem}-{claim.label or number}", claim.token, [], claim.conditions, claim.items))
+        for entry in self.equivalences():
+            numbers = range(len(entry.cases))
+            for one, two in [(one, two) for one in numbers for two in numbers if (one != two if all_pairs else two == (one + 1) % len(numbers))]:
+                first, second = entry.cases[one], entry.cases[two]
+                name = f"{self.stem_of(entry)}-{ROMAN[one]}-{ROMAN[two]}"
+                plans.append(Plan(name, entry.token, [*first.given, *second.given], first.items, second.items))
         if not plans:
             raise Refusal("# refused S15")
-        names = [plan[0] for plan in plans]
         for place, plan in enumerate(plans):
-            if plan[0] in names[:place]:
-                raise fault("S7", plan[1])
-        return [Statement(self, name, conditions, claims, len(plans) == 1, claims is plain).expanded() for name, _, conditions, claims in plans]
+            if plan.name in [other.name for other in plans[:place]]:
+                raise fault("S7", plan.token)
+        return [Statement(self, plan, len(plans) == 1, plan.claims is plain).expanded() for plan in plans]
 
     def claims(self) -> List[Claim]:
         return [entry for entry in self.file.entries if isinstance(entry, Claim)]
+
+    def equivalences(self) -> List[Cases]:
+        return [entry for entry in self.file.entries if isinstance(entry, Cases)]
+
+    def stem_of(self, entry: Cases) -> str:
+        """How the names of its statements begin."""
+        return f"{self.stem}-{entry.label}" if entry.label else self.stem
 
 
 class Statement:
     """One statement as it is written, and of each piece of its lines the token that it stands for."""
 
-    def __init__(self, whole: Expansion, name: str, conditions: List[Item], claims: List[Item], is_alone: bool, is_plain: bool) -> None:
-        self.whole, self.name, self.is_alone, self.is_plain, self.ends = whole, name, is_alone, is_plain, whole.ends
+    def __init__(self, whole: Expansion, plan: Plan, is_alone: bool, is_plain: bool) -> None:
+        self.whole, self.plan, self.is_alone, self.is_plain, self.ends = whole, plan, is_alone, is_plain, whole.ends
         self.body: List[List[Piece]] = []
         self.used: Dict[str, None] = {}  # maps and objects
-        self.entries = whole.file.entries
-        self.conditions, self.claimed = conditions, claims
+        self.entries = [*whole.file.entries, *plan.given]
+        self.assumed = [item for entry in self.entries if isinstance(entry, Given) for item in entry.items] + plan.conditions
         self.inverses: Dict[Tuple[str, str], Set[str]] = {}
-        for fact in self.facts([item for entry in self.entries if isinstance(entry, Given) for item in entry.items] + conditions):
+        for fact in self.facts(self.assumed):
             kind = {"inverse": "-1", "pinv": "†"}.get(fact.word)
             for one, two in zip(fact.maps, reversed(fact.maps)) if kind else ():
                 self.inverses.setdefault((kind or "", one), set()).add(two)
@@ -269,8 +287,8 @@ class Statement:
         kept = [entry.tokens for entry in self.entries if isinstance(entry, Kept) and entry.tokens]
         for entry in self.entries[self.whole.file.heading :]:
             self.entry(entry)
-        self.assumptions(self.conditions)
-        self.claims([item for item in self.claimed if not self.is_plain])
+        self.assumptions(self.plan.conditions)
+        self.claims([item for item in self.plan.claims if not self.is_plain])
         self.check_claims()
         named = [token for tokens in kept if tokens[0].text == "eliminate" for token in tokens[1:]]
         names = defined + [token for token in named if token.text not in [name.text for name in defined]]
@@ -279,7 +297,7 @@ class Statement:
         lines = self.heading() + self.declarations() + self.body
         text = "".join("".join(piece for piece, _ in line) + "\n" for line in lines)
         self.check(text, lines)
-        return Expanded(self.name, text)
+        return Expanded(self.plan.name, text)
 
     def heading(self) -> List[List[Piece]]:
         """The comments that stand in front of everything, and the language."""
@@ -339,9 +357,8 @@ class Statement:
         """Refuses a map of a claim of which nothing is said."""
         known = {token.text for token, _ in self.whole.file.maps}
         known |= {entry.name.text for entry in self.entries if isinstance(entry, Definition)}
-        given = [item for entry in self.entries if isinstance(entry, Given) for item in entry.items] + self.conditions
-        known |= {node.text for node in self.maps_of(given)}
-        for node in self.maps_of(self.claimed):
+        known |= {node.text for node in self.maps_of(self.assumed)}
+        for node in self.maps_of(self.plan.claims):
             if node.text not in known:
                 raise fault("N9", node.token)
 

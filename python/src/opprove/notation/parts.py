@@ -96,14 +96,6 @@ class Claim(NamedTuple):
         return not self.label and not self.conditions
 
 
-class Cases(NamedTuple):
-    """Cases that are equivalent."""
-
-    token: Token
-    label: str
-    cases: List[List[Item]]
-
-
 class Definition(NamedTuple):
     name: Token
     value: Node
@@ -113,6 +105,21 @@ class Given(NamedTuple):
     """Assumptions."""
 
     items: List[Item]
+
+
+class Case(NamedTuple):
+    """A case of some that are equivalent, and what is given wherever it takes part."""
+
+    items: List[Item]
+    given: List[Union[Definition, Given]]
+
+
+class Cases(NamedTuple):
+    """Cases that are equivalent."""
+
+    token: Token
+    label: str
+    cases: List[Case]
 
 
 class Kept(NamedTuple):

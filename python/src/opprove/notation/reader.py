@@ -4,14 +4,15 @@ from __future__ import annotations
 import functools
 import os
 import re
-from typing import Callable, Dict, List, Optional, Sequence, Tuple
+from typing import Callable, Dict, List, Optional, Sequence, Tuple, Union
 
 from opprove.checkers import check
 from opprove.checkers.check import Refusal, Token
-from opprove.notation.parts import Cases, Claim, Definition, Equation, File, Given, Item, Kept, Mark, Node, Use, Word, fault
+from opprove.notation.parts import Case, Cases, Claim, Definition, Equation, File, Given, Item, Kept, Mark, Node, Use, Word, fault
 
 SIGNS = r":=+\-()\[\]'^,*†."
 TABLE = os.path.join(os.path.dirname(os.path.abspath(__file__)), "words.opn")
+STOPS = ("if", "with")  # behind an item
 LARGEST, NESTED = 2**127 - 1, 64  # a literal, and round brackets
 ROMAN = "i ii iii iv v vi vii viii ix x xi xii xiii xiv xv xvi xvii xviii xix xx".split()
 
@@ -71,7 +72,7 @@ class Reader:
             if "#" in text and len(self.above) == 1:
                 found.append([Token("name", "#", number, 1), Token("comment", text.split("#", 1)[1], number, 1)])
             last = next((line for line in reversed(found) if line[0].text != "#"), None)
-            if last and tokens and (last[-1].kind in (",", ":") or tokens[0].text in ("(", "=", "+", "-", ",", "if")):
+            if last and tokens and (last[-1].kind in (",", ":") or tokens[0].text in ("(", "=", "+", "-", ",", *STOPS)):
                 last.extend(tokens)
             elif tokens:
                 found.append(tokens)
@@ -110,7 +111,7 @@ class Reader:
 
     def is_end(self) -> bool:
         """Whether an item ends here."""
-        return self.is_at(",", "end") or self.is_word("if") or self.is_case(self.place)
+        return self.is_at(",", "end") or self.next().text in STOPS or self.is_case(self.place)
 
     # ---- Lines
 
@@ -159,11 +160,14 @@ class Reader:
         self.file.maps += [(name, (source, target, is_own)) for name in names]
 
     def define(self) -> None:
-        self.take("name")
+        self.file.entries.append(self.definition())
+        self.take("end")
+
+    def definition(self) -> Definition:
+        self.take("name", "define")
         name = self.take("name")
         self.take("=")
-        self.file.entries.append(Definition(name, self.sum()))
-        self.take("end")
+        return Definition(name, self.sum())
 
     def assume(self) -> None:
         self.take("name")
@@ -194,11 +198,19 @@ class Reader:
                 self.take("(")
                 self.take("name", ROMAN[self.case - 1])
                 self.take(")")
-                cases.append(self.items())
+                cases.append(Case(self.items(), self.given()))
         self.case = 0
         if len(cases) < 2 or not self.is_at("end"):
             raise fault("N10", word) if self.is_at("end", "(") else fault("S3", self.next())
         self.file.entries.append(Cases(word, label, cases))
+
+    def given(self) -> List[Union[Definition, Given]]:
+        """What stands behind `with`: definitions and items."""
+        found: List[Union[Definition, Given]] = []
+        while self.is_word("with") if not found else self.is_at(","):
+            self.place += 1
+            found.append(self.definition() if self.is_word("define") else Given([self.item()]))
+        return found
 
     def let(self) -> None:
         self.take("name")
@@ -284,7 +296,7 @@ class Reader:
         depth, start = 0, self.place
         for place in range(start, len(self.tokens)):
             token = self.tokens[place]
-            if token.kind in (",", "end") or (token.text == "if" and place > start) or (place > start and self.is_case(place)):
+            if token.kind in (",", "end") or (token.text in STOPS and place > start) or (place > start and self.is_case(place)):
                 return False
             if token.kind == "=":
                 return True
@@ -341,7 +353,7 @@ class Reader:
     def term(self, depth: int) -> Node:
         first, number = self.next(), int(self.take("literal").text) if self.is_at("literal") else None
         factors: List[Node] = []
-        while self.is_at("name", "[", "(") and not self.is_case(self.place) and not (self.is_word("if") and (factors or number is not None)):
+        while self.is_at("name", "[", "(") and not self.is_case(self.place) and not (self.next().text in STOPS and (factors or number is not None)):
             factors.append(self.factor(depth))
         if not factors:
             if number is None:

@@ -1,7 +1,8 @@
-"""Writes a statement in the notation: shorten STATEMENT, which prints it.
+"""Writes a statement in the notation, and prints it: shorten STATEMENT [--eliminate]
 
 Definitions, the equations of words, chains of equations and identities are found, and declarations that the rest fixes are left out. What
-is printed has been expanded again: it has the maps, the generators and the claims of the statement, up to their order and signs.
+is printed has been expanded again: it has the maps, the generators and the claims of the statement, up to their order and signs. Words are
+compared as in the statement; with --eliminate definitions are put for what they are where the statement has no order of its own.
 """
 from __future__ import annotations
 
@@ -143,13 +144,13 @@ class Matcher:
 class Shortener:
     """A statement as entries, which become fewer."""
 
-    def __init__(self, path: str) -> None:
+    def __init__(self, path: str, eliminates: bool = False) -> None:
         self.problem = problem = Problem(path)
         self.matcher = Matcher(problem)
         self.texts = dict(check.read_lines(path, ""))
         self.lines = {line.tokens[0].line: line for line in problem.lines}
         self.eliminated = [name for line in problem.lines if line.tokens[0].text == "eliminate" for name in line.with_role("map")]
-        self.has_order = any(line.tokens[0].text == "order" for line in problem.lines)
+        self.keeps_order = not eliminates and not self.eliminated and all(line.tokens[0].text != "order" for line in problem.lines)
         self.defined: Set[str] = set()
         self.entries = [entry for number, text in self.texts.items() for entry in self.read(text, self.lines.get(number))]
 
@@ -259,7 +260,7 @@ class Shortener:
         lines = [line if line[0] == "#" or is_plain else ones(line) for line in lines]
         first = next((number for number, entry in enumerate(self.entries) if entry.kind != "comment"), 0)
         rest = [name for name in self.eliminated if name not in self.defined]
-        lines += [f"eliminate {' '.join(rest)}"] if rest else []
+        lines += [f"eliminate {' '.join(rest)}"] if rest else ["order degree"] * (self.keeps_order and self.defined != set())
         return "\n".join(lines[:first] + self.signatures(shown) + lines[first:]) + "\n"
 
     def signatures(self, shown: Sequence[str]) -> List[str]:
@@ -344,12 +345,13 @@ def ones(line: str) -> str:
 
 def main(words: List[str]) -> int:
     """Prints the statement in the notation. The status is 0, or 2 for other words, 3 for a fault, 4 for a file that isn't loaded."""
-    if len(words) != 1 or words[0].startswith("-"):
-        sys.stderr.write("usage: opprove shorten STATEMENT\n")
+    paths = [word for word in words if word != "--eliminate"]
+    if len(paths) != 1 or paths[0].startswith("-"):
+        sys.stderr.write("usage: opprove shorten STATEMENT [--eliminate]\n")
         return scripts.USAGE
     try:
-        scripts.load(words)
-        text = Shortener(words[0]).written()
+        scripts.load(paths)
+        text = Shortener(paths[0], len(paths) < len(words)).written()
     except Refusal as refusal:
         sys.stderr.buffer.write(f"{refusal}\n".encode("utf-8", "surrogateescape"))
         return scripts.status_of(str(refusal))

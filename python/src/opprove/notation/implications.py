@@ -1,0 +1,65 @@
+"""Which cases of a file of the notation follow from which: implications FILE.opn [OPTIONS of prove]
+
+Proves, for each line `equivalent` and each two of its cases, that the one gives the other, and prints a table for each line: a row for
+what is assumed and a column for what is claimed. yes: proved; yes/D: proved with the denominator D; no: refuted by matrices; -: not
+derivable; ?: undecided. Of a case with several equations it is the worst of their answers.
+"""
+from __future__ import annotations
+
+import re
+import sys
+from typing import Dict, List, Tuple
+
+from opprove.checkers import scripts
+from opprove.checkers.check import Refusal
+from opprove.notation import expand
+from opprove.notation.expansion import Expansion
+from opprove.notation.reader import ROMAN
+from opprove.program import Refused
+from opprove.program import run as run_program
+
+ORDER = ["yes", "yes/", "-", "no", "?"]  # from the best answer to the worst
+
+
+def answer(report: str) -> str:
+    """What a report of `prove` says of all its claims together."""
+    found = []
+    for head in re.findall(r"^# claim [0-9]+ (.*)", report, re.MULTILINE):
+        denominator = re.match(r"proved denominator ([0-9]+)", head)
+        words = {"not": "-", "refuted": "no"}.get(head.split()[0], "?")
+        found.append(words if not denominator else "yes" if denominator.group(1) == "1" else f"yes/{denominator.group(1)}")
+    return max(found, key=lambda each: (ORDER.index(re.sub(r"[0-9]+", "", each)), len(each), each))
+
+
+def tables(path: str, options: List[str]) -> List[str]:
+    """A table for each line with cases. Raises a `Refusal` of the file, or what the program refuses."""
+    scripts.load([path])
+    expansion = Expansion(path)
+    texts = {statement.name: statement.text for statement in expansion.statements(True)}
+    lines: List[str] = []
+    for entry in expansion.equivalences():
+        stem, marks = expansion.stem_of(entry), ROMAN[: len(entry.cases)]
+        answers: Dict[Tuple[str, str], str] = {}
+        for one in marks:
+            for two in marks:
+                name = f"{stem}-{one}-{two}"
+                answers[one, two] = answer(run_program(None, "prove", [texts[name]], tuple(options), None)) if one != two else ""
+        width = max(map(len, [*(f"({mark})" for mark in marks), *answers.values()])) + 2
+        lines.append(f"{stem:{width}}" + "".join(f"{f'({mark})':{width}}" for mark in marks).rstrip())
+        for one in marks:
+            lines.append(f"{f'({one})':{max(width, len(stem))}}" + "".join(f"{answers[one, two]:{width}}" for two in marks).rstrip())
+    return lines
+
+
+def main(words: List[str]) -> int:
+    """Prints the tables. The status is 0, or 2 for other words, or that of the fault."""
+    if not words or not words[0].endswith(expand.ENDING):
+        sys.stderr.write("usage: opprove implications FILE.opn [OPTIONS of prove]\n")
+        return scripts.USAGE
+    try:
+        return scripts.DONE if scripts.put(tables(words[0], words[1:])) else scripts.NO_OUTPUT
+    except Refusal as refusal:
+        return expand.refused(refusal)
+    except Refused as refusal:
+        expand.tell(refusal.line)
+        return refusal.status
