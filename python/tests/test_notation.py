@@ -9,6 +9,7 @@ from typing import Callable, List, Sequence, Tuple, Union
 
 from notation_rows import FILES, ROWS, SHORT, USED
 from notation_values import Written, generators_of, is_zero, values_of
+from opprove import program
 from opprove.checkers import check
 from opprove.checkers.check import Refusal
 from opprove.notation.expansion import Expansion
@@ -92,6 +93,26 @@ class Values(unittest.TestCase):
             self.assertEqual(values_of(problem, problem.assumptions, written), assumed)
             self.assertEqual(values_of(problem, problem.claims, written), claimed)
             self.assertEqual(values_of(problem, problem.generators(), written), generators_of(assumed) if problem.is_starred else assumed)
+
+
+LIBRARY = os.path.join(os.path.dirname(os.path.abspath(__file__)), "..", "..", "library")
+
+
+@unittest.skipUnless(os.access(program.path(), os.X_OK) and os.path.isdir(LIBRARY), "no program, or no library, is here")
+class Library(unittest.TestCase):
+    def test_cases_give_one_another(self) -> None:
+        """Each statement of the files with cases is proved with the denominator 1, and a second program accepts the certificates."""
+        paths = [os.path.join(folder, name) for folder, _, names in os.walk(LIBRARY) for name in names if name.endswith(".opn")]
+        for path in sorted(paths):
+            for statement in Expansion(path).statements():
+                with self.subTest(statement.name):
+                    report = program.run(None, "prove", [statement.text], ("--no-models",), 60)
+                    heads = [line for line in report.split("\n") if line.startswith("# claim")]
+                    self.assertTrue(all(" proved denominator 1 " in head for head in heads), heads)
+                    with program.files(statement.text, report) as files:
+                        problem = check.Problem(files[0])
+                        for certificate in check.Evidence(problem, files[1]).certificates:
+                            check.judge(problem, certificate, "")
 
 
 if __name__ == "__main__":

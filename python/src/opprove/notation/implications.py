@@ -45,9 +45,10 @@ def tables(path: str, options: List[str]) -> List[str]:
                 name = f"{stem}-{one}-{two}"
                 answers[one, two] = answer(run_program(None, "prove", [texts[name]], tuple(options), None)) if one != two else ""
         width = max(map(len, [*(f"({mark})" for mark in marks), *answers.values()])) + 2
-        lines.append(f"{stem:{width}}" + "".join(f"{f'({mark})':{width}}" for mark in marks).rstrip())
+        first = max(width, len(stem) + 2)
+        lines.append((f"{stem:{first}}" + "".join(f"{f'({mark})':{width}}" for mark in marks)).rstrip())
         for one in marks:
-            lines.append(f"{f'({one})':{max(width, len(stem))}}" + "".join(f"{answers[one, two]:{width}}" for two in marks).rstrip())
+            lines.append((f"{f'({one})':{first}}" + "".join(f"{answers[one, two]:{width}}" for two in marks)).rstrip())
     return lines
 
 
