@@ -34,6 +34,7 @@ import try_plain
 import try_python
 import try_release
 import try_why
+from opprove.checkers.check import status_of
 from trying import EXAMPLES, PROGRAM, TOP, Answer, Skipped, checker, decided, installed, is_second, need, reads_language_2, run, run_checks, tool
 
 # ---- The two checkers
@@ -43,13 +44,12 @@ def judged(statement: Path, evidence: Path) -> Tuple[str, bool]:
     """The last line of check.py, and whether opprove was asked too, which has to give the same report."""
     answer = run(*checker("check"), statement, evidence)
     line = answer.out.split("\n")[-2] if answer.out.endswith("\n") else ""
-    status = 0 if re.fullmatch("# block [0-9]+ accepted .*", line) else 1
+    status = 0 if re.fullmatch("# block [0-9]+ accepted .*", line) else status_of(line)
     need(answer.status == status and not answer.error and line.startswith("# "), (statement, evidence, answer))
     is_asked = is_read_by_opprove(evidence) and (reads_language_2() or not is_second(statement))
     if is_asked:
         other = run(PROGRAM, "check", statement, evidence)
-        same = (other.status == 0) == (status == 0) and other.out == answer.out
-        need(same, (statement.read_bytes(), evidence.read_bytes(), answer, other))
+        need(other == answer, (statement.read_bytes(), evidence.read_bytes(), answer, other))
     return line, is_asked
 
 
@@ -90,7 +90,7 @@ def examples() -> str:
     by_both = sum(expect("refused" not in evidence.stem, statement, evidence) for statement, evidence in cases)
     for statement in EXAMPLES.glob("**/*.op"):
         answer = run(*checker("check"), statement, os.devnull)
-        need(answer == Answer(1, "# refused K7\n", ""), (statement, answer))
+        need(answer == Answer(7, "# refused K7\n", ""), (statement, answer))
     return told(len(cases), by_both, "certificates of the examples are answered by the same line")
 
 
@@ -187,6 +187,11 @@ ROWS = [  # behind "certificate", for a statement with the assumption 2 a = 0 an
 ]
 
 
+def told_by_tools(line: str) -> Tuple[str, ...]:
+    """What the tools that want a proof say of a refusal."""
+    return (f"{line}: there is no proof to be written\n",) if line == "# refused K7" else (f"{line}\n",)
+
+
 def bad_input(folder: Path) -> str:
     head = b"object U\nmap a : U -> U\nassume 2 a = 0\nclaim a = 0\n"
     cases = FAULTY + [(head, b"certificate " + rows, line) for rows, line in ROWS]
@@ -200,14 +205,14 @@ def bad_input(folder: Path) -> str:
         by_both += is_asked
         for name in ["chain", *(TRANSLATIONS if " C6 " not in line else [])]:
             answer = run(*tool(name), statement, evidence)
-            need(answer == Answer(1, "", line + "\n"), (name, text, rows, answer))
+            need((answer.status, answer.out) == (status_of(line), "") and answer.error in told_by_tools(line), (name, text, rows, answer))
         if line.startswith("# refused S"):
             answer = run(*tool("picture"), statement)
-            need(answer == Answer(1, "", line + "\n"), (text, answer))
+            need(answer == Answer(3, "", line + "\n"), (text, answer))
     missing = folder / "missing"
-    for name, status in ((checker("check"), 1), (tool("latex"), 1), (tool("chain"), 1), (checker("explain"), 4)):
+    for name in (checker("check"), tool("latex"), tool("chain"), checker("explain")):
         answer = run(*name, missing, evidence)
-        need((answer.status, answer.out + answer.error) == (status, f"# load failed {missing}\n"), (name, answer))
+        need((answer.status, answer.out + answer.error) == (4, f"# load failed {missing}\n"), (name, answer))
     return told(len(cases), by_both, "faulty inputs are answered by the same line")
 
 

@@ -19,7 +19,7 @@ from opprove.translations import chain as to_chain
 import try_cancel_rows
 import try_chains
 from opprove.checkers.check import Problem
-from opprove.checkers.scripts import DONE, REFUSED
+from opprove.checkers.check import DONE, REFUSED
 from trying import EXAMPLES, Answer, checker, need, run, tool
 from trying_second import Files, Second, files_in, main
 
@@ -49,10 +49,10 @@ def rows(folder: Path) -> str:
 def told(files: Files) -> int:
     """Fails unless to_chain.py writes text that is read back, and the same proofs. Gives the number of proofs."""
     words, problem = [str(files.statement), str(files.evidence)], Problem(str(files.statement))
-    found = list(try_chains.groups_of(list(to_chain.written(words))))
+    found = list(try_chains.groups_of(try_chains.written(files.statement, files.evidence)))
     for groups in found:
         try_chains.read_proof(problem, groups)
-    report, text = cancelled(files), "\n".join(to_chain.written([*words, "--certificate"])) + "\n"
+    report, text = cancelled(files), "\n".join(try_chains.written(files.statement, files.evidence, "certificate")) + "\n"
     files.evidence.write_text(text, encoding="utf-8")
     need(cancelled(files) == report, (text, report))
     return len(found)
@@ -73,7 +73,7 @@ def chains(folder: Path) -> str:
     need(answer == Answer(0, TEXT, ""), answer)
     files.write(try_cancel_rows.J, try_cancel_rows.proof(try_cancel_rows.edited(try_cancel_rows.J1, "monic k =>")))
     answer = run(*tool("chain"), files.statement, files.evidence)
-    need(answer == Answer(1, "", "# block 1 refused X2 item 3\n"), answer)
+    need(answer == Answer(7, "", "# block 1 refused X2 item 3\n"), answer)
     return f"{count} proofs that take letters off are written as chains and read back"
 
 
@@ -106,7 +106,7 @@ def others(folder: Path) -> str:
     files = Files(folder, None)
     files.write(try_cancel_rows.J, try_cancel_rows.proof(try_cancel_rows.J1))
     want = {"check": (0, "# block 1 accepted claim 1 denominator 1 monic m k\n"), "confirm": (7, "# refused K7\n")}
-    for name, status in (("check", 0), ("explain", 7), ("confirm", 7), ("check_model", 1)):
+    for name, status in (("check", 0), ("explain", 7), ("confirm", 7), ("check_model", 7)):
         answer = run(*checker(name), files.statement, files.evidence)
         need(answer == Answer(status, want.get(name, (status, "# refused K2 line 1\n"))[1], ""), (name, answer))
     return "4 other scripts answer a text of such proofs as they should"

@@ -13,7 +13,7 @@ from random import Random
 from typing import Callable, Dict, Iterator, List, NamedTuple, Optional, Set, Tuple
 
 from opprove.translations import chain as to_chain
-from opprove.checkers.check import Certificate, Evidence, Line, Poly, Problem, Row, Share, Signature, Value, Word, add, judge, tokens_of
+from opprove.checkers.check import Certificate, Evidence, Line, Poly, Problem, Row, Share, Signature, Value, Word, add, judge, loaded, tokens_of
 from trying import EXAMPLES, PROGRAM, Answer, Skipped, decided, installed, need, run, tool
 
 TOOL = tool("chain")
@@ -169,6 +169,11 @@ def groups_of(lines: List[str]) -> Iterator[List[List[str]]]:
 # ---- What is tried
 
 
+def written(statement: Path, evidence: Path, form: str = "text") -> List[str]:
+    """What the tool writes, in this process."""
+    return list(to_chain.written(*loaded([str(statement), str(evidence)]), form))
+
+
 def is_built() -> bool:
     return os.access(PROGRAM, os.X_OK)
 
@@ -176,10 +181,9 @@ def is_built() -> bool:
 def tried(statement: Path, evidence: Path, folder: Path) -> Tuple[int, int]:
     """Fails unless the text is read back, and each certificate that is written is accepted and has no more rows than before.
     Gives the numbers of proofs and of steps."""
-    words = [str(statement), str(evidence)]
-    problem, short = Problem(words[0]), folder / "short.cert"
-    steps = [read_proof(problem, groups) for groups in groups_of(list(to_chain.written(words)))]
-    short.write_text("\n".join(to_chain.written([*words, "--certificate"])), encoding="utf-8")
+    problem, short = Problem(str(statement)), folder / "short.cert"
+    steps = [read_proof(problem, groups) for groups in groups_of(written(statement, evidence))]
+    short.write_text("\n".join(written(statement, evidence, "certificate")), encoding="utf-8")
     before, after = (Evidence(problem, str(path)).certificates for path in (evidence, short))
     need(len(before) == len(after) == len(steps), (statement, evidence))
     for old, new in zip(before, after):
@@ -409,7 +413,7 @@ def stored(folder: Path) -> str:
         statement = next(path for path in statements if evidence.stem.startswith(path.stem))
         if "refused" in evidence.stem:
             answer = run(*TOOL, statement, evidence)
-            need(answer == Answer(1, "", "# block 1 refused C6 word b want 0 got -1\n"), answer)
+            need(answer == Answer(7, "", "# block 1 refused C6 word b want 0 got -1\n"), answer)
         else:
             found = tried(statement, evidence, folder)
             proofs, steps = proofs + found[0], steps + found[1]
@@ -427,9 +431,9 @@ def cases(folder: Path) -> str:
         evidence.write_text(text, encoding="utf-8")
         found = tried(statement, evidence, folder)
         proofs, steps = proofs + found[0], steps + found[1]
-    usage = Answer(1, "", "# usage: to_chain.py STATEMENT EVIDENCE|CHAIN [--latex | --certificate]\n")
     for words in ([], [statement], [statement, evidence, "--text"], [statement, evidence, "--latex", "--certificate"]):
-        need(run(*TOOL, *words) == usage, words)
+        answer = run(*TOOL, *words)
+        need(answer.status == 2 and not answer.out and answer.error.startswith("usage: opprove chain "), (words, answer))
     return f"{proofs} chains of hard certificates are read back, with {steps} steps{asked()}"
 
 
@@ -446,7 +450,7 @@ def reports(folder: Path) -> str:
                 found = tried(statement, evidence, folder)
                 proofs, steps = proofs + found[0], steps + found[1]
                 if statement.stem == "moore_penrose_unique":
-                    text = "\n".join(to_chain.written([str(statement), str(evidence)])) + "\n"
+                    text = "\n".join(written(statement, evidence)) + "\n"
                     need(found == (1, 12) and text == (EXAMPLES / "tools" / "moore_penrose_unique.chain").read_text(), text)
     need(proofs >= 30, f"{proofs} proofs")
     return f"{proofs} chains of reports are read back, with {steps} steps"
@@ -463,7 +467,7 @@ def latex(folder: Path) -> str:
     for evidence in sorted([*EXAMPLES.glob("*.cert"), *EXAMPLES.glob("tools/*.cert"), *folder.glob("*[0-9].cert")]):
         fitting = [path for path in statements if evidence.stem.startswith(path.stem)]
         if fitting and "certificate " in evidence.read_text("utf-8") and "refused" not in evidence.stem:
-            bodies += to_chain.written([str(fitting[0]), str(evidence), "--latex"])
+            bodies += written(fitting[0], evidence, "latex")
     head = [r"\documentclass{article}", r"\usepackage{amsmath}", r"\allowdisplaybreaks", r"\begin{document}"]
     (folder / "chains.tex").write_text("\n".join([*head, *bodies, r"\end{document}"]))
     answer = run(program, "-interaction=nonstopmode", "-halt-on-error", "chains.tex", folder=folder)

@@ -20,7 +20,7 @@ import try_confirm_rows
 from opprove.checkers.check import Problem, Refusal
 from opprove.checkers.confirm import Bases, Order, Poly, Rules, as_texts, gcd_of, text_of
 from measuring import OPPROVE
-from opprove.checkers.scripts import DONE
+from opprove.checkers.check import DONE
 from trying import Answer, Skipped, decided, need, run
 from trying_second import UNREAD_EVIDENCE, Files, Second, files_in, main
 

@@ -23,7 +23,7 @@ from opprove.translations import chain as to_chain
 import try_chains
 from opprove.checkers.check import Certificate, Evidence, Poly, Problem, Refusal, Share, add, judge
 from opprove.checkers.chain_text import Texts
-from opprove.checkers.scripts import DONE, FAULTY, REFUSED
+from opprove.checkers.check import DONE, FAULTY, REFUSED, status_of
 from measuring import OPPROVE
 from try_explain_rows import Run
 from trying import EXAMPLES, Answer, Skipped, installed, need, run, tool
@@ -41,9 +41,9 @@ explained, by_whom = SECOND.answered, SECOND.by_whom
 def set_text(statement: Path, chain: Path, *options: str) -> Answer:
     """What to_chain.py answers, in this process."""
     try:
-        lines = list(to_chain.written([str(statement), str(chain), *options]))
+        lines = try_chains.written(statement, chain, options[0][2:] if options else "text")
     except Refusal as refusal:
-        return Answer(1, "", f"{refusal}\n")
+        return Answer(status_of(str(refusal)), "", f"{refusal}\n")
     return Answer(0, "".join(f"{line}\n" for line in lines), "")
 
 
@@ -167,7 +167,7 @@ def texts(folder: Path) -> str:
     for mixed, place in ((report + certificate, count), (certificate + report, certificate.count("\n") + 2)):
         chain.write_text(mixed)
         answer = set_text(files.statement, chain)
-        need(answer == Answer(1, "", f"# refused K2 line {place}\n"), answer)
+        need(answer == Answer(7, "", f"# refused K2 line {place}\n"), answer)
     return "2 chains are set as they were worked out by hand"
 
 
@@ -206,7 +206,7 @@ FAULTS: List[Tuple[str, str, str]] = [  # what is put in the place of what in a 
     *(("- 6 u u + 4 v", text, "# refused K2 line 7") for text in ("6", "- 6 u u + 4", "- - u", "u +", "-", "u + + u", "0 + u", "(u)", "")),
     ("end\n", "", "# refused K6"),
     ("chain 1", "chain 2", "# refused K2 line 2"),
-    (CHAIN, "# nothing\n", "# refused K7"),
+    (CHAIN, "# nothing\n", "# refused K7: there is no proof to be written"),
     (CHAIN, CHAIN * 101, "# refused K5 line 1002 limit 100"),
 ]
 
@@ -223,7 +223,7 @@ def faults(folder: Path) -> str:
     untyped = try_explain_rows.told(["1 () 1 ()", *try_explain_rows.FIVE], ["- g + f", *try_explain_rows.FIVE_LINES])
     files.write(try_explain_rows.PAIR, untyped)
     answer = set_text(files.statement, files.evidence)
-    need(answer == Answer(1, "", "# block 1 refused line 6 no step\n"), answer)
+    need(answer == Answer(7, "", "# block 1 refused line 6 no step\n"), answer)
     return f"{len(FAULTS) + 1} chains are answered by the line that was worked out by hand"
 
 

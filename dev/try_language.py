@@ -206,10 +206,10 @@ def tried(row: Row, command: str, folder: Path) -> None:
     report = row.answer.replace(" / ", "\n") + "\n"
     answer = run(*checker(second), *paths)
     is_right = answer.out.startswith(row.own) if row.own else answer.out == report
-    need(is_right and not answer.error, (row, answer))
+    status = 3 if row.answer.startswith("# refused S") else 7 if " refused " in row.answer else 11 if command == "refute" else 0
+    need(is_right and not answer.error and (row.own or answer.status == status), (row, answer))
     if reads_language_2():
         other = run(PROGRAM, command, *paths)
-        status = 3 if row.answer.startswith("# refused S") else 7 if " refused " in row.answer else 11 if command == "refute" else 0
         need(other == Answer(status, report, ""), (row, other))
 
 

@@ -9,9 +9,10 @@ import sys
 from pathlib import Path
 from typing import Callable, Iterator, List, Optional, Tuple
 
+from opprove import tool
 from opprove.checkers import candidates
 from opprove.checkers import check_model
-from opprove.checkers.check import Problem
+from opprove.checkers.check import Problem, Refusal
 from trying import EXAMPLES, PROGRAM, Answer, Skipped, checker, decided, need, run
 
 MAPS = b"object U V\nmap p : U -> U self\nmap a : U -> V\nclaim a = 0\n"
@@ -184,11 +185,11 @@ def by_both(tool: str, command: str) -> str:
 
 def said_of(statement: Path, text: Path) -> str:
     """The report of check_model.py, which opprove has to give too, where it is asked."""
-    lines, status = check_model.report([str(statement), str(text)])
+    status, lines = tool.answer(check_model.report, [str(statement), str(text)])
     out = "".join(f"{line}\n" for line in lines)
     if knows("model"):
         other = run(PROGRAM, "model", statement, text)
-        want = Answer(0 if status == 0 else 3 if out.startswith("# refused S") else 7, out, "")
+        want = Answer(status, out, "")
         need(other == want, (statement.read_bytes(), text.read_bytes(), want, other))
     return out
 
@@ -202,7 +203,7 @@ def models(folder: Path) -> str:
         said = said_of(statement, text)
         need(said == want, (words, evidence, want, said))
     answer = run(*checker("check_model"), statement, text)
-    need(answer == Answer(1, said, ""), answer)
+    need(answer == Answer(7, said, ""), answer)
     return f"{len(MODELS)} texts of models are answered as worked out by hand, {by_both('check_model.py', 'model')}"
 
 
@@ -253,12 +254,15 @@ def refuted_claims(statement: Path, out: str, folder: Path) -> None:
 
 def searched(statement: Path, seed: int, folder: Path) -> None:
     """Fails unless opprove, where it is asked, gives the report of candidates.py, and its models are confirmed."""
-    lines, status = candidates.report(str(statement), seed)
+    try:
+        lines, status = candidates.report(str(statement), seed)
+    except Refusal as refusal:
+        lines, status = [str(refusal)], 3
     out = "".join(f"{line}\n" for line in lines)
     if knows("refute"):
         other = run(PROGRAM, "refute", statement, "--seed", seed)
-        need(other == Answer(3 if status == 1 else status, out, ""), (statement.read_bytes(), seed, out, other))
-    if status != 1:
+        need(other == Answer(status, out, ""), (statement.read_bytes(), seed, out, other))
+    if status != 3:
         confirmed(statement, out, folder)
 
 

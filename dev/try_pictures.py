@@ -76,11 +76,11 @@ def known() -> str:
     stored = (EXAMPLES / "tools" / "pasted_squares.svg").read_text()
     call = tool("picture")
     need(run(*call, path) == Answer(0, stored, ""), "another picture than the stored one")
-    usage = Answer(1, "", "# usage: quiver.py STATEMENT [--tikz | --dot]\n")
-    for words in ([], [path, path], [path, "--svg"], [path, "--dot", "--dot"]):
-        need(run(*call, *words) == usage, words)
+    for words in ([], [path, path], [path, "--svg"], [path, "--dot", "--tikz"]):
+        answer = run(*call, *words)
+        need(answer.status == 2 and not answer.out and answer.error.startswith("usage: opprove picture "), (words, answer))
     answer = run(*call, EXAMPLES / "missing.op", "--dot")
-    need(answer == Answer(1, "", f"# load failed {EXAMPLES / 'missing.op'}\n"), answer)
+    need(answer == Answer(4, "", f"# load failed {EXAMPLES / 'missing.op'}\n"), answer)
     return "two squares side by side are two rows of three, as stored"
 
 

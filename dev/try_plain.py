@@ -189,7 +189,7 @@ def searches(folder: Path, count: int = COUNT) -> str:
         line = refusal(statement)
         if line:
             answer = run(*checker("tree"), statement)
-            need(answer == Answer(1, line + "\n", ""), (text, line, answer))
+            need(answer == Answer(3, line + "\n", ""), (text, line, answer))
             continue
         made += 1
         asked += searched(statement, seed, plain, folder, lambda: next(long_ones) % 5 > 0)
@@ -329,7 +329,7 @@ def words(folder: Path) -> str:
         answer = run(sys.executable, TOP / "dev" / case[0], *case[1:])
         need(answer.status == 1 and answer.error.startswith("usage: ") and "Traceback" not in answer.error, (case, answer))
     answer = run(*checker("tree"), folder / "missing")
-    need(answer == Answer(1, f"# load failed {folder / 'missing'}\n", ""), answer)
+    need(answer == Answer(4, f"# load failed {folder / 'missing'}\n", ""), answer)
     return f"{len(cases) + 1} faulty calls of presentations.py and tree.py are told"
 
 

@@ -11,7 +11,8 @@ from pathlib import Path
 from types import ModuleType
 from typing import Callable, List, NamedTuple, Optional, Sequence
 
-from opprove.checkers import scripts
+from opprove import tool
+from opprove.checkers import check
 from measuring import OPPROVE, build
 from trying import Answer, Skipped, checker, need, run, run_checks
 
@@ -66,10 +67,10 @@ class Second:
 
     def answered(self, files: Files) -> Answer:
         """The answer of the second program, with which the other programs have to agree."""
-        status, lines = scripts.answer(self.module.report, [str(files.statement), str(files.evidence)])
+        status, lines = tool.answer(self.module.report, [str(files.statement), str(files.evidence)])
         answer = Answer(status, "".join(f"{line}\n" for line in lines), "")
         others = [OPPROVE] if self.is_asked() else []
-        others += [files.plain] if files.plain and status == scripts.DONE and self.is_plain(files) else []
+        others += [files.plain] if files.plain and status == check.DONE and self.is_plain(files) else []
         for program in others:
             other = run(program, self.name, files.statement, files.evidence, seconds=600)
             texts = files.statement.read_bytes()[:SHOWN], files.evidence.read_bytes()[:SHOWN]
@@ -91,15 +92,15 @@ class Second:
         for program in programs:
             for name, line in (("missing", "# load failed missing\n"), ("long", f"# too long long limit {2**26}\n")):
                 answer = run(*program, files.statement, name, folder=folder)
-                need(answer == Answer(scripts.NOT_LOADED, line, ""), (program, name, answer))
+                need(answer == Answer(check.NOT_LOADED, line, ""), (program, name, answer))
             paths = [files.statement, files.evidence]
             for words in (paths[:1], [*paths, files.evidence], [*paths, *more]):
                 answer = run(*program, *words)
-                need(answer.status == scripts.USAGE and re.fullmatch("# usage: .*\n", answer.out) is not None, (program, words, answer))
+                need(answer.status == check.USAGE and re.fullmatch("# usage: .*\n", answer.out) is not None, (program, words, answer))
         (folder / "long").unlink()
         with open("/dev/full", "wb") as full:
             done = subprocess.run([*self.tool, files.statement, files.evidence], stdout=full, stderr=subprocess.PIPE)
-            need((done.returncode, done.stderr) == (scripts.NO_OUTPUT, b""), done)
+            need((done.returncode, done.stderr) == (check.NO_OUTPUT, b""), done)
         return f"{len(programs) * 5 + 1} faulty calls of {self.name} are told"
 
 

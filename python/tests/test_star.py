@@ -9,7 +9,9 @@ from pathlib import Path
 from typing import Tuple
 
 import opprove
-from opprove.checkers import check_model, scripts, star
+from opprove.checkers import check_model, star
+from opprove.checkers.check import DONE, REFUSED
+from opprove.tool import answer
 
 ZERO = "object U V\nmap a : U -> V\nassume a' a = 0\nclaim a = 0\n"
 ZERO_PROOF = """star proof 1
@@ -142,16 +144,16 @@ class Reports(unittest.TestCase):
         for statement, proof, old, new, last in REPORTS:
             with self.subTest(old=old, new=new, last=last), tempfile.TemporaryDirectory() as folder:
                 self.assertIn(old, proof)
-                status, lines = scripts.answer(star.report, [*written(folder, statement, proof.replace(old, new) if old else proof)])
+                status, lines = answer(star.report, [*written(folder, statement, proof.replace(old, new) if old else proof)])
                 self.assertEqual(lines[-1], last)
-                self.assertEqual(status, scripts.DONE if " accepted " in last else scripts.REFUSED)
+                self.assertEqual(status, DONE if " accepted " in last else REFUSED)
 
     def test_rational_models(self) -> None:
         for statement, model, old, new, last in MODELS:
             with self.subTest(old=old, new=new, last=last), tempfile.TemporaryDirectory() as folder:
                 self.assertIn(old, model)
-                lines, status = check_model.report([*written(folder, statement, model.replace(old, new) if old else model)])
-                self.assertEqual((lines[-1], status), (last, 0 if " confirmed " in last else 1))
+                status, lines = answer(check_model.report, [*written(folder, statement, model.replace(old, new) if old else model)])
+                self.assertEqual((lines[-1], status), (last, DONE if " confirmed " in last else REFUSED))
 
     def test_alone(self) -> None:
         """The checker is a file that runs by itself."""

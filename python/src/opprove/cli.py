@@ -42,10 +42,8 @@ TOOLS: List[Tool] = [
     Tool("search", "search.search", "searches around the program for what `prove` leaves undecided", asks=True),
     Tool("join", "search.join", "one certificate from evidence for lemmas and evidence that assumes them"),
     Tool("why", "words.why", "an answer of the program, and what it means in words", asks=True),
-    Tool("second-check", "checkers.second_check", "checks evidence by a second program, in Python"),
+    Tool("second-check", "second_check", "checks evidence by a second program, in Python"),
     Tool("candidates", "checkers.candidates", "a second search for matrices that break a claim"),
-    Tool("explain-again", "checkers.explain", "a second `explain`: certificates as chains, byte by byte"),
-    Tool("tree", "checkers.tree", "a statement as plain lines of numbers"),
     Tool("version", "version", "the version of the package and of the program"),
     Tool("completions", "completions", "the file that completes words in bash, zsh or fish"),
     Tool("help", "help", "the tools and commands, or the page of one"),
@@ -56,12 +54,10 @@ BY_WORD: Dict[str, Tool] = {tool.word: tool for tool in TOOLS}
 def main(words: List[str]) -> int:
     """Runs the tool that the first word names, with the others, and gives its status; 2 where there is none of that name."""
     word = {"-h": "help", "--help": "help", "--version": "version"}.get(words[0], words[0]) if words else "help"
-    if word not in BY_WORD and word != "help":
-        sys.stderr.write(f"opprove: {unknown(word)}\n")
-        return usage()
-    if word != "help" and {"--help", "-h"} & set(words[1:2]):
-        return run("help", [word])
-    return run(word, words[1:])
+    if word in BY_WORD:
+        return run(word, words[1:])
+    sys.stderr.write(f"opprove: {unknown(word)}\n")
+    return usage()
 
 
 def entry() -> int:
@@ -71,17 +67,21 @@ def entry() -> int:
 
 
 def run(word: str, words: List[str]) -> int:
-    """Runs a tool. One that asks the program ends with MISSING where the script opprove has to build it first."""
+    """Runs a tool, or shows its page. One that asks the program ends with MISSING where the script opprove has to build it first."""
     tool, how = BY_WORD[word], os.environ.get("OPPROVE_HOW")
-    if tool.asks and how == "missing":
+    asks = tool.asks and words[:1] not in (["--help"], ["-h"])
+    if asks and how == "missing":
         return MISSING
-    if tool.asks and how == "unproved":
+    if asks and how == "unproved":
         sys.stderr.write("opprove: this program isn't proved on this machine\n")
     module = import_module(f"opprove.{tool.module}")
-    if not tool.takes_notation and any(name.endswith(".opn") for name in words):
-        statuses: int = import_module("opprove.notation.expand").run_on(words, module.main)
-        return statuses
-    status: int = module.main(words)
+    try:
+        if not tool.takes_notation and any(name.endswith(".opn") for name in words):
+            statuses: int = import_module("opprove.notation.expand").run_on(words, module.main)
+            return statuses
+        status: int = module.main(words)
+    except SystemExit as end:  # of argparse: a page, or wrong words
+        return int(end.code or 0)
     return status
 
 

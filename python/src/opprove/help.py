@@ -1,12 +1,12 @@
-"""help [WORD]: lists the commands and the tools with a line each, or shows the page of one."""
+"""Lists the commands and the tools with a line each, or shows the page of one"""
 from __future__ import annotations
 
 import sys
 import textwrap
-from importlib import import_module
 from typing import Iterable, List, Tuple
 
-from opprove.cli import BY_WORD, TOOLS, unknown
+from opprove.cli import BY_WORD, TOOLS, run, unknown
+from opprove.tool import parser
 from opprove.words.calls import ALL_STATUSES, COMMANDS, LIMITS, OPTIONS, SAID_OF, form
 
 WIDTH = 100
@@ -18,20 +18,16 @@ OF_THE_SCRIPT = (
 
 def main(words: List[str]) -> int:
     """Writes the list, or the page of the command or tool that is named."""
-    if len(words) > 1 or (words and words[0] not in BY_WORD and words[0] not in COMMANDS):
-        sys.stderr.write(f"opprove: {unknown(words[0]) if len(words) == 1 else 'help takes one word'}\n")
+    made = parser("help", __doc__)
+    made.add_argument("word", metavar="WORD", nargs="?", help="the command or the tool whose page is wanted")
+    word = made.parse_args(words).word
+    if word in BY_WORD:
+        return run(word, ["--help"])
+    if word and word not in COMMANDS:
+        sys.stderr.write(f"opprove: {unknown(word)}\n")
         return 2
-    sys.stdout.write(page(words[0]) if words else listed())
+    sys.stdout.write(command_page(word) if word else listed())
     return 0
-
-
-def page(word: str) -> str:
-    """What there is to know of a command of the program, or what the module of a tool says."""
-    if word in COMMANDS:
-        return command_page(word)
-    tool = BY_WORD[word]
-    text = import_module(f"opprove.{tool.module}").__doc__ or ""
-    return f"opprove {word}: {tool.summary}\n\n{text.strip()}\n"
 
 
 def command_page(word: str) -> str:

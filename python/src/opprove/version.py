@@ -1,4 +1,4 @@
-"""version: the version of the package, and the program that the tools run."""
+"""The version of the package, and the program that the tools run"""
 from __future__ import annotations
 
 import sys
@@ -6,14 +6,13 @@ from pathlib import Path
 from typing import List
 
 from opprove.program import path
+from opprove.tool import parser
 
 VERSION = Path(__file__).with_name("VERSION").read_text(encoding="utf-8").strip()
 
 
 def main(words: List[str]) -> int:
     """Writes both."""
-    if words:
-        sys.stderr.write("opprove: version takes no more words\n")
-        return 2
+    parser("version", __doc__).parse_args(words)
     sys.stdout.write(f"opprove {VERSION}\nprogram {path()}\n")
     return 0

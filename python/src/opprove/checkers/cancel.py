@@ -9,17 +9,14 @@ S13 of statements, of numbers that are too large, are not looked at.
 """
 from __future__ import annotations
 
-import sys
 from typing import TYPE_CHECKING, Any, Dict, Iterator, List, NamedTuple, Set, Tuple, Type
 
 if TYPE_CHECKING or __package__:
     from .chain_text import LETTERS_OF_A_WORD, Bounded, Lines, add_row, greatness
-    from .check import Blocks, Poly, Problem, Refusal, Row, Share, Source, Word, is_letter
-    from .scripts import end_quietly, load, run
+    from .check import Blocks, Poly, Problem, Refusal, Row, Share, Source, Word, answered, is_letter, script
 else:  # run as a file by itself
     from chain_text import LETTERS_OF_A_WORD, Bounded, Lines, add_row, greatness
-    from check import Blocks, Poly, Problem, Refusal, Row, Share, Source, Word, is_letter
-    from scripts import end_quietly, load, run
+    from check import Blocks, Poly, Problem, Refusal, Row, Share, Source, Word, answered, is_letter, script
 
 TERMS_OF_A_POLYNOMIAL, TERMS_OF_ITEMS, PROOFS, ITEMS = 20000, 1000000, 100, 200000
 
@@ -206,11 +203,10 @@ def accepted(problem: Problem, proof: Cancellation, more: str = "") -> str:
     return f"accepted claim {proof.claim} denominator {proof.denominator}{more}{granted}"
 
 
-def report(paths: List[str]) -> Iterator[str]:
+def report(statement: Source, evidence: Source) -> Iterator[str]:
     """The lines of the report."""
-    load(paths)
-    problem = Problem(paths[0])
-    proofs = Cancellations(problem, paths[1]).proofs
+    problem = Problem(statement)
+    proofs = Cancellations(problem, evidence).proofs
     lines = Lines(problem)
     for block, proof in enumerate(proofs, 1):
         judge(lines, proof, f"# block {block} refused")
@@ -219,9 +215,8 @@ def report(paths: List[str]) -> Iterator[str]:
 
 def main(words: List[str]) -> int:
     """Writes the report, and gives the status."""
-    return run(report, "cancel.py STATEMENT PROOF", words)
+    return answered(report, "cancel.py STATEMENT PROOF", words)
 
 
 if __name__ == "__main__":
-    end_quietly()
-    sys.exit(main(sys.argv[1:]))
+    script(main)

@@ -3,7 +3,7 @@
 
 Reads a statement, goes through the candidates of its shapes in their order, and prints for each claim the first that
 makes all assumptions zero and not the claim, or that none does: the report of `opprove refute`, with its statuses 11 and
-13. For a fault of the statement it prints its line, with status 1.
+13. For a fault of the statement it prints its line, with status 3.
 
 It is written from docs/FORMATS.md and shares nothing with opprove. Statements are read by check.py, with the limits that
 it doesn't look at.
@@ -11,46 +11,19 @@ it doesn't look at.
 from __future__ import annotations
 
 import argparse
-import sys
 from collections import defaultdict
 from typing import TYPE_CHECKING, DefaultDict, Dict, Iterator, List, NamedTuple, Optional, Set, Tuple
 
 if TYPE_CHECKING or __package__:
-    from .check import Poly, Problem, Refusal, Word
+    from .check import Poly, Problem, Source, Word, finished, loaded, script
     from .check_model import Arrows, Matrix, Model, declared_maps, identity, sides_of
+    from .tree import Shape, shapes_of, solved_maps
 else:  # run as a file by itself
-    from check import Poly, Problem, Refusal, Word
+    from check import Poly, Problem, Source, Word, finished, loaded, script
     from check_model import Arrows, Matrix, Model, declared_maps, identity, sides_of
+    from tree import Shape, shapes_of, solved_maps
 
 Form = List[int]  # a coefficient for each unknown, and behind them a constant, all below a prime modulus
-
-
-class Shape(NamedTuple):
-    number: int  # from 1
-    modulus: int
-    sides: List[int]  # of each object
-
-
-def shapes_of(problem: Problem) -> List[Shape]:
-    """The shapes of the `model` lines, or the two that stand in their place."""
-    objects = [name[1:-1] for name in problem.names if name[0] == "["]
-    shapes: List[Shape] = []
-    for line in problem.lines:
-        if line.tokens[0].text == "model":
-            modulus, *numbers = map(int, line.with_role("literal"))
-            sides = dict(zip(line.with_role("object"), numbers))
-            shapes.append(Shape(len(shapes) + 1, modulus, [sides.get(name, 1) for name in objects]))
-    return shapes or [Shape(side, 2, [side for _ in objects]) for side in (1, 2)]
-
-
-def solved_letters(problem: Problem) -> Set[int]:
-    """The letters of the maps that are solved for, and their adjoints."""
-    solved = set()
-    for line in problem.lines:
-        word, maps = line.tokens[0].text, line.with_role("map")
-        names = maps if word == "solve" else maps[1:] if word in ("pinv", "inverse", "inner") else []
-        solved.update(problem.numbers[name + star] for name in names for star in ("", "'"))
-    return solved
 
 
 def words_of(seed: int, stream: int) -> Iterator[int]:
@@ -111,7 +84,7 @@ class Search:
 
     def __init__(self, problem: Problem, shape: Shape) -> None:
         self.problem, self.shape = problem, shape
-        self.solved = solved_letters(problem)
+        self.solved = {letter for solved in solved_maps(problem) for letter in (solved, problem.stars[solved])}
         self.linear = [poly for poly in problem.generators() if all(map(self.is_linear, poly))]
         self.entries = 0  # how many there are
         self.places: Dict[Tuple[int, int, int], int] = {}  # the number of the entry at a letter, a row and a column
@@ -199,14 +172,11 @@ def block_lines(problem: Problem, number: int, model: Model) -> Iterator[str]:
     yield "end"
 
 
-def report(path: str, seed: int) -> Tuple[List[str], int]:
+def report(statement: Source, seed: int) -> Tuple[List[str], int]:
     """The lines, and the status."""
-    try:
-        problem = Problem(path)
-        searches = [Search(problem, shape) for shape in shapes_of(problem)]
-        found, count = refuting(problem, searches, seed), sum(search.count for search in searches)
-    except (Refusal, MemoryError) as refusal:
-        return [str(refusal) or "# no memory"], 1
+    problem = Problem(statement)
+    searches = [Search(problem, shape) for shape in shapes_of(problem)]
+    found, count = refuting(problem, searches, seed), sum(search.count for search in searches)
     lines = []
     for number in range(1, len(problem.claims) + 1):
         if number in found:
@@ -217,16 +187,15 @@ def report(path: str, seed: int) -> Tuple[List[str], int]:
 
 
 def main(words: List[str]) -> int:
+    """Writes the report, and gives the status."""
     parser = argparse.ArgumentParser(description="A second search for models")
     parser.add_argument("statement")
     parser.add_argument("--seed", type=int, default=1, help="from 0 to 2^64 - 1; 1 if left out")
     options = parser.parse_args(words)
     if not 0 <= options.seed < 2**64:
         parser.error("a seed is from 0 to 2^64 - 1")
-    lines, status = report(options.statement, options.seed)
-    sys.stdout.buffer.write("".join(line + "\n" for line in lines).encode("utf-8", "surrogateescape"))
-    return status
+    return finished(lambda: report(loaded([options.statement])[0], options.seed))
 
 
 if __name__ == "__main__":
-    sys.exit(main(sys.argv[1:]))
+    script(main)

@@ -3,7 +3,8 @@
 
 Reads a statement and the certificates of an evidence text, of both formats, forms the generators, adds up the rows and
 compares. It prints a line for each certificate: that it is accepted, with its denominator, or the first thing that is
-wrong, with its place, which ends the report. The status is 0 where all are accepted, and else 1.
+wrong, with its place, which ends the report. The statuses are those of the program: 0 where all are accepted, 3 for a fault of
+the statement, 4 where a file can't be loaded, 7 for a fault of the evidence or a certificate that is refused.
 
 It is written from docs/FORMATS.md and shares nothing with opprove; codes and places are those of that page. It reads both
 languages of statements. Numbers and sums of rows have any size: S4, S13, K4, C4, C5, C9 and C11 are not looked at. Names
@@ -11,9 +12,11 @@ follow this Python's version of Unicode. A text that begins with a `cancellation
 """
 from __future__ import annotations
 
+import os
 import re
+import signal
 import sys
-from typing import Callable, Dict, Iterable, Iterator, List, NamedTuple, Optional, Tuple, TypeVar, Union
+from typing import TYPE_CHECKING, Callable, Dict, Iterable, Iterator, List, NamedTuple, NoReturn, Optional, Sequence, Tuple, TypeVar, Union
 
 Word = Tuple[int, ...]  # letters are numbers
 Poly = Dict[Word, int]  # words with their coefficients, none of which is 0
@@ -49,13 +52,13 @@ def read_lines(source: Source, not_utf8: str) -> Iterator[Tuple[int, str]]:
         raise Refusal(not_utf8.format(error.start)) from None
 
 
-def content(source: Source) -> bytes:
-    """The bytes of a file, or those that are given."""
+def content(source: Source, most: int = -1) -> bytes:
+    """The bytes of a file, or the first ones of so many; or those that are given."""
     if isinstance(source, bytes):
         return source
     try:
         with open(source, "rb") as file:
-            return file.read()
+            return file.read(most)
     except (OSError, ValueError):
         raise Refusal(f"# load failed {source}") from None
 
@@ -502,28 +505,87 @@ def judge(problem: Problem, certificate: Certificate, refused: str) -> None:
         raise Refusal(f"{refused} C6 word {problem.text(word)} want {want.get(word, 0)} got {total.get(word, 0)}")
 
 
-def main(paths: List[str]) -> int:
-    """Writes the report, and gives the status."""
-    lines, status = [], 1
+def report(statement: Source, evidence: Source) -> Iterator[str]:
+    """The lines of the report."""
+    problem = Problem(statement)
+    if Blocks(evidence).line.startswith("cancellation "):
+        if TYPE_CHECKING or __package__:
+            from . import cancel  # which stands on this file
+        else:
+            import cancel
+        yield from cancel.report(statement, evidence)
+        return
+    for block, certificate in enumerate(Evidence(problem, evidence).certificates, 1):
+        judge(problem, certificate, f"# block {block} refused")
+        yield f"# block {block} accepted claim {certificate.claim} denominator {certificate.denominator}"
+
+
+# ---- How this file and those beside it end
+MOST_BYTES = (2**20, 2**26)  # of a statement and of evidence
+DONE, USAGE, FAULTY, NOT_LOADED, NO_OUTPUT, NO_MEMORY, REFUSED = 0, 2, 3, 4, 5, 6, 7
+# The lines that are said of a statement and of evidence; it ends with the first thing that is wrong as a `Refusal`.
+Report = Callable[[Source, Source], Iterable[str]]
+
+
+def loaded(paths: List[str], limits: Sequence[int] = MOST_BYTES) -> List[bytes]:
+    """The bytes of a statement, and of evidence where that is named. Raises which can't be read, and else which is too long."""
+    texts = [content(path, limit + 1) for path, limit in zip(paths, limits)]
+    for path, text, limit in zip(paths, texts, limits):
+        if len(text) > limit:
+            raise Refusal(f"# too long {path} limit {limit}")
+    return texts
+
+
+def status_of(line: str) -> int:
+    """Of a refusal."""
+    if line.startswith(("# load ", "# too ")):
+        return NOT_LOADED
+    return FAULTY if line.startswith("# refused S") else REFUSED
+
+
+def written(lines: Iterable[str]) -> bool:
+    """Writes lines to standard output, and tells whether that took them."""
     try:
-        if len(paths) != 2:
-            raise Refusal("# usage: check.py STATEMENT EVIDENCE")
-        problem = Problem(paths[0])
-        if Blocks(paths[1]).line.startswith("cancellation "):
-            if __package__:
-                from . import cancel, scripts  # which stand on this file
-            else:
-                import cancel, scripts
-            return 1 if scripts.run(cancel.report, "", paths) else 0
-        for block, certificate in enumerate(Evidence(problem, paths[1]).certificates, 1):
-            judge(problem, certificate, f"# block {block} refused")
-            lines.append(f"# block {block} accepted claim {certificate.claim} denominator {certificate.denominator}")
-        status = 0
+        for line in lines:
+            sys.stdout.buffer.write(f"{line}\n".encode("utf-8", "surrogateescape"))
+        sys.stdout.buffer.flush()
+        return True
+    except (OSError, AttributeError):  # it is full, or closed
+        if sys.stdout:
+            os.dup2(os.open(os.devnull, os.O_WRONLY), 1)  # for what is flushed at the end
+        return False
+
+
+def finished(made: Callable[[], Tuple[Iterable[str], int]]) -> int:
+    """Writes the lines that are made, with the first thing that is wrong, and gives their status, or that of the first thing."""
+    try:
+        lines, status = made()
+        is_written = written(lines)
     except (Refusal, MemoryError) as refusal:
-        lines.append(str(refusal) or "# no memory")
-    sys.stdout.buffer.write("".join(line + "\n" for line in lines).encode("utf-8", "surrogateescape"))
-    return status
+        status = status_of(str(refusal)) if isinstance(refusal, Refusal) else NO_MEMORY
+        is_written = written([str(refusal) or "# no memory"])
+    return status if is_written else NO_OUTPUT
+
+
+def answered(report: Report, usage: str, words: List[str]) -> int:
+    """Writes the report on the two files that the words are, and gives the status."""
+    if len(words) != 2:
+        return finished(lambda: ([f"# usage: {usage}"], USAGE))
+    return finished(lambda: (report(*loaded(words)), DONE))
+
+
+def script(main: Callable[[List[str]], int]) -> NoReturn:
+    """Ends with the status for the words of the call. An interrupt and a closed pipe end the script with no word on it."""
+    for name in ("SIGINT", "SIGPIPE"):
+        if hasattr(signal, name):
+            signal.signal(getattr(signal, name), signal.SIG_DFL)
+    sys.exit(main(sys.argv[1:]))
+
+
+def main(words: List[str]) -> int:
+    """Writes the report, and gives the status."""
+    return answered(report, "check.py STATEMENT EVIDENCE", words)
 
 
 if __name__ == "__main__":
-    sys.exit(main(sys.argv[1:]))
+    script(main)

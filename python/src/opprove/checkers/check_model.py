@@ -3,23 +3,22 @@
 
 Reads a statement and the models of an evidence text, puts the matrices of a model in for the maps, their transposes for
 the adjoints and identity matrices for the objects, and multiplies and adds up. It prints a line for each model: that it
-is confirmed, with its claim, or the first thing that is wrong, with its place, which ends the report. The status is 0
-where all are confirmed, and else 1. A text whose first block is a `rational model` has matrices of rational numbers, which
-the program doesn't read, and is computed with exactly.
+is confirmed, with its claim, or the first thing that is wrong, with its place, which ends the report. The statuses are those
+of the program. A text whose first block is a `rational model` has matrices of rational numbers, which the program doesn't read,
+and is computed with exactly.
 
 It is written from docs/FORMATS.md and shares nothing with opprove; codes and places are those of that page. Statements
 are read by check.py, with the limits that it doesn't look at; those of models are all looked at.
 """
 from __future__ import annotations
 
-import sys
 from fractions import Fraction
-from typing import TYPE_CHECKING, Dict, List, NamedTuple, Optional, Tuple, Union
+from typing import TYPE_CHECKING, Dict, Iterator, List, NamedTuple, Optional, Tuple, Union
 
 if TYPE_CHECKING or __package__:
-    from .check import Blocks, Poly, Problem, Refusal, Source, Word, is_name
+    from .check import Blocks, Poly, Problem, Refusal, Source, Word, answered, is_name, script
 else:  # run as a file by itself
-    from check import Blocks, Poly, Problem, Refusal, Source, Word, is_name
+    from check import Blocks, Poly, Problem, Refusal, Source, Word, answered, is_name, script
 
 Number = Union[int, Fraction]
 Matrix = List[List[Number]]  # its rows; all numbers are from 0 to one less than a modulus, where there is one
@@ -207,28 +206,19 @@ def judge(problem: Problem, model: Model, refused: str) -> None:
         raise Refusal(f"{refused} M5")
 
 
-def report(paths: List[str]) -> Tuple[List[str], int]:
-    """The lines, and the status."""
-    lines: List[str] = []
-    try:
-        if len(paths) != 2:
-            raise Refusal("# usage: check_model.py STATEMENT MODELS")
-        problem = Problem(paths[0])
-        reader = RationalModels if Blocks(paths[1]).line.startswith("rational ") else Models
-        for block, model in enumerate(reader(problem, paths[1]).models, 1):
-            judge(problem, model, f"# block {block} refused")
-            lines.append(f"# block {block} confirmed claim {model.claim}")
-    except (Refusal, MemoryError) as refusal:
-        return lines + [str(refusal) or "# no memory"], 1
-    return lines, 0
+def report(statement: Source, evidence: Source) -> Iterator[str]:
+    """The lines of the report."""
+    problem = Problem(statement)
+    reader = RationalModels if Blocks(evidence).line.startswith("rational ") else Models
+    for block, model in enumerate(reader(problem, evidence).models, 1):
+        judge(problem, model, f"# block {block} refused")
+        yield f"# block {block} confirmed claim {model.claim}"
 
 
-def main(paths: List[str]) -> int:
+def main(words: List[str]) -> int:
     """Writes the report, and gives the status."""
-    found, status = report(paths)
-    sys.stdout.buffer.write("".join(line + "\n" for line in found).encode("utf-8", "surrogateescape"))
-    return status
+    return answered(report, "check_model.py STATEMENT MODELS", words)
 
 
 if __name__ == "__main__":
-    sys.exit(main(sys.argv[1:]))
+    script(main)

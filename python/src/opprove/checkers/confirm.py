@@ -9,7 +9,6 @@ are read by check.py: the faults S4 and S13, of numbers that are too large, are 
 """
 from __future__ import annotations
 
-import sys
 from collections import defaultdict
 from heapq import heapify, heappop, heappush
 from math import gcd
@@ -18,14 +17,12 @@ from typing import TYPE_CHECKING, DefaultDict, Dict, Iterable, Iterator, List, N
 if TYPE_CHECKING or __package__:
     from . import check
     from .chain_text import MOST, NUMBERS, operated
-    from .check import Blocks, Problem, Refusal, Source, is_name
-    from .scripts import end_quietly, load, run
+    from .check import Blocks, Problem, Refusal, Source, answered, is_name, script
     from .tree import measures_of
 else:  # run as a file by itself
     import check
     from chain_text import MOST, NUMBERS, operated
-    from check import Blocks, Problem, Refusal, Source, is_name
-    from scripts import end_quietly, load, run
+    from check import Blocks, Problem, Refusal, Source, answered, is_name, script
     from tree import measures_of
 
 LETTERS_OF_A_WORD, TERMS, RULES, BASES, STEPS = 500, 20000, 100000, 100, 1000000
@@ -341,11 +338,10 @@ def gcd_of(poly: Poly) -> int:
     return content
 
 
-def report(paths: List[str]) -> Iterator[str]:
+def report(statement: Source, evidence: Source) -> Iterator[str]:
     """The lines of the report."""
-    load(paths)
-    problem = Problem(paths[0])
-    bases = Bases(problem, paths[1]).bases
+    problem = Problem(statement)
+    bases = Bases(problem, evidence).bases
     order = Order(problem)
     for block, basis in enumerate(bases, 1):
         judge(problem, order, basis, f"# block {block} refused")
@@ -354,9 +350,8 @@ def report(paths: List[str]) -> Iterator[str]:
 
 def main(words: List[str]) -> int:
     """Writes the report, and gives the status."""
-    return run(report, "confirm.py STATEMENT BASIS", words)
+    return answered(report, "confirm.py STATEMENT BASIS", words)
 
 
 if __name__ == "__main__":
-    end_quietly()
-    sys.exit(main(sys.argv[1:]))
+    script(main)

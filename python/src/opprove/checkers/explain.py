@@ -7,34 +7,29 @@ statuses are those of the program. The faults S4 and S13 of statements, of numbe
 """
 from __future__ import annotations
 
-import sys
 from typing import TYPE_CHECKING, Iterator, List
 
 if TYPE_CHECKING or __package__:
     from .chain_text import Bounded, Lines, explained
-    from .check import Problem
-    from .scripts import end_quietly, load, run
+    from .check import Problem, Source, answered, script
 else:  # run as a file by itself
     from chain_text import Bounded, Lines, explained
-    from check import Problem
-    from scripts import end_quietly, load, run
+    from check import Problem, Source, answered, script
 
 
-def report(paths: List[str]) -> Iterator[str]:
+def report(statement: Source, evidence: Source) -> Iterator[str]:
     """The lines of the report."""
-    load(paths)
-    problem = Problem(paths[0])
-    evidence = Bounded(problem, paths[1])
+    problem = Problem(statement)
+    read = Bounded(problem, evidence)
     lines = Lines(problem)
-    for block, (certificate, has_lemmas) in enumerate(zip(evidence.certificates, evidence.has_lemmas), 1):
+    for block, (certificate, has_lemmas) in enumerate(zip(read.certificates, read.has_lemmas), 1):
         yield from explained(lines, block, certificate, has_lemmas)
 
 
 def main(words: List[str]) -> int:
     """Writes the report, and gives the status."""
-    return run(report, "explain.py STATEMENT CERTIFICATE", words)
+    return answered(report, "explain.py STATEMENT CERTIFICATE", words)
 
 
 if __name__ == "__main__":
-    end_quietly()
-    sys.exit(main(sys.argv[1:]))
+    script(main)

@@ -11,19 +11,16 @@ and the statuses are those of `cancel`.
 from __future__ import annotations
 
 import re
-import sys
 from typing import TYPE_CHECKING, Iterator, List, NamedTuple, Union
 
 if TYPE_CHECKING or __package__:
     from .cancel import ITEMS, Cancel, Cancellation, Cancellations, Items, TERMS_OF_A_POLYNOMIAL, accepted, is_typed, judge
     from .chain_text import LETTERS_OF_A_WORD, MOST, NUMBERS, Lines
-    from .check import Poly, Problem, Refusal, add, is_letter
-    from .scripts import end_quietly, load, run
+    from .check import Poly, Problem, Refusal, Source, add, answered, is_letter, script
 else:  # run as a file by itself
     from cancel import ITEMS, Cancel, Cancellation, Cancellations, Items, TERMS_OF_A_POLYNOMIAL, accepted, is_typed, judge
     from chain_text import LETTERS_OF_A_WORD, MOST, NUMBERS, Lines
-    from check import Poly, Problem, Refusal, add, is_letter
-    from scripts import end_quietly, load, run
+    from check import Poly, Problem, Refusal, Source, add, answered, is_letter, script
 
 PRODUCTS = 1000000  # of terms, in the squares of one item
 
@@ -125,11 +122,10 @@ def granted(proof: Cancellation) -> str:
     return " positive" if max(counts, default=0) > 1 else " proper" if counts else ""
 
 
-def report(paths: List[str]) -> Iterator[str]:
+def report(statement: Source, evidence: Source) -> Iterator[str]:
     """The lines of the report."""
-    load(paths)
-    problem = Problem(paths[0])
-    proofs = StarProofs(problem, paths[1]).proofs
+    problem = Problem(statement)
+    proofs = StarProofs(problem, evidence).proofs
     lines = Lines(problem)
     for block, proof in enumerate(proofs, 1):
         judge(lines, proof, f"# block {block} refused", StarItems)
@@ -138,9 +134,8 @@ def report(paths: List[str]) -> Iterator[str]:
 
 def main(words: List[str]) -> int:
     """Writes the report, and returns the status."""
-    return run(report, "star.py STATEMENT PROOF", words)
+    return answered(report, "star.py STATEMENT PROOF", words)
 
 
 if __name__ == "__main__":
-    end_quietly()
-    sys.exit(main(sys.argv[1:]))
+    script(main)

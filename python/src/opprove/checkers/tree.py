@@ -2,7 +2,7 @@
 """A statement as a tree of plain lines: tree.py STATEMENT
 
 For programs that want what a statement says, and no language of statements: `plain_run.rs` and `plain_models.rs` read it.
-Statements are read by check.py. For a fault the line of check.py is printed, with status 1. A line is a word and what
+Statements are read by check.py. For a fault the line of check.py is printed, with status 3. A line is a word and what
 stands behind it, with one blank between them:
 
 letters COUNT
@@ -16,13 +16,20 @@ assumption | claim | generator COEFFICIENT COUNT LETTER .. ..      a polynomial:
 from __future__ import annotations
 
 import itertools
-import sys
-from typing import TYPE_CHECKING, Iterator, List
+from typing import TYPE_CHECKING, Iterator, List, NamedTuple
 
 if TYPE_CHECKING or __package__:
-    from .check import Poly, Problem, Refusal
+    from .check import DONE, USAGE, Poly, Problem, finished, loaded, script
 else:  # run as a file by itself
-    from check import Poly, Problem, Refusal
+    from check import DONE, USAGE, Poly, Problem, finished, loaded, script
+
+
+class Shape(NamedTuple):
+    """A shape for models."""
+
+    number: int  # from 1
+    modulus: int
+    sides: List[int]  # of each object
 
 
 def objects_of(problem: Problem) -> List[str]:
@@ -52,16 +59,16 @@ def solved_maps(problem: Problem) -> List[int]:
     return sorted(solved)
 
 
-def shapes_of(problem: Problem) -> List[List[int]]:
-    """The modulus and the sides of each shape; where the statement names none, the two that stand in their place."""
+def shapes_of(problem: Problem) -> List[Shape]:
+    """The shapes; where the statement names none, the two that stand in their place."""
     objects = objects_of(problem)
-    shapes = []
+    shapes: List[Shape] = []
     for line in problem.lines:
         if line.tokens[0].text == "model":
             modulus, *numbers = map(int, line.with_role("literal"))
             sides = dict(zip(line.with_role("object"), numbers))
-            shapes.append([modulus] + [sides.get(name, 1) for name in objects])
-    return shapes or [[2] + [side] * len(objects) for side in (1, 2)]
+            shapes.append(Shape(len(shapes) + 1, modulus, [sides.get(name, 1) for name in objects]))
+    return shapes or [Shape(side, 2, [side for _ in objects]) for side in (1, 2)]
 
 
 def spoken(numbers: List[int]) -> str:
@@ -84,21 +91,17 @@ def tree_lines(problem: Problem) -> Iterator[str]:
     yield "measures" + spoken(measures_of(problem))
     yield f"units {units}"
     yield "solved" + spoken(solved_maps(problem))
-    yield from ("shape" + spoken(shape) for shape in shapes_of(problem))
+    yield from ("shape" + spoken([shape.modulus, *shape.sides]) for shape in shapes_of(problem))
     for word, polys in (("assumption", problem.assumptions), ("claim", problem.claims), ("generator", generators)):
         yield from (word + terms(poly) for poly in polys)
 
 
 def main(words: List[str]) -> int:
-    try:
-        if len(words) != 1:
-            raise Refusal("# usage: tree.py STATEMENT")
-        lines, status = list(tree_lines(Problem(words[0]))), 0
-    except (Refusal, MemoryError) as refusal:
-        lines, status = [str(refusal) or "# no memory"], 1
-    sys.stdout.buffer.write("".join(line + "\n" for line in lines).encode("utf-8", "surrogateescape"))
-    return status
+    """Writes the lines, and gives the status."""
+    if len(words) != 1:
+        return finished(lambda: (["# usage: tree.py STATEMENT"], USAGE))
+    return finished(lambda: (tree_lines(Problem(*loaded(words))), DONE))
 
 
 if __name__ == "__main__":
-    sys.exit(main(sys.argv[1:]))
+    script(main)

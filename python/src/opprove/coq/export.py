@@ -1,4 +1,4 @@
-"""Certificates as theorems for Coq: to_coq.py STATEMENT CERTIFICATE
+"""Certificates as theorems for Coq
 
 Writes a file for coqc that stands on coq/Opprove.v: for each certificate a theorem over every preadditive category, in the
 words of the statement, and its proof, in which Coq adds up the rows by a checker whose soundness is proved there. Where the
@@ -10,7 +10,7 @@ file is NAME.v, these print "Closed under the global context", which is to say t
 Rows over relations of identities are left out, as Coq has identities themselves, and so are rows that are no paths, which
 say nothing of categories. The theorem of claim 1 is claim_1_holds, and that of a second certificate of it claim_1_2_holds.
 A name that is a word of Coq gets an _, and one with signs that Coq may not read a number. Powers are written out; for one
-that is too long for that there is a line on standard error, with status 1.
+that is too long for that there is a line on standard error.
 """
 from __future__ import annotations
 
@@ -364,4 +364,5 @@ def translate(problem: Problem, certificates: List[Certificate]) -> List[str]:
 
 
 def main(words: List[str]) -> int:
-    return run(translate, words)
+    """Writes the translation, and gives the status."""
+    return run("coq", __doc__, translate, words)

@@ -10,7 +10,7 @@ import os
 import sys
 from typing import Callable, List, NamedTuple, Tuple
 
-from opprove.checkers import scripts
+from opprove.checkers import check
 from opprove.checkers.check import Refusal
 from opprove.notation.expansion import HEAD, Expanded, Expansion
 
@@ -30,7 +30,7 @@ class Read(NamedTuple):
 
 def read(path: str, all_pairs: bool = False) -> Read:
     """Reads a file of the notation. Raises a `Refusal` whose line begins with `# load failed`, `# too long` or `# refused`."""
-    scripts.load([path])
+    check.loaded([path])
     try:
         expansion = Expansion(path)
         statements = expansion.statements(all_pairs)
@@ -89,8 +89,8 @@ def run_on(words: List[str], run: Callable[[List[str]], int]) -> int:
         return refused(refusal)
     statuses = []
     for each in lists:
-        if len(lists) > 1 and not scripts.put([f"# statement {' '.join(each[place] for place, word in enumerate(words) if word.endswith(ENDING))}"]):
-            return scripts.NO_OUTPUT
+        if len(lists) > 1 and not check.written([f"# statement {' '.join(each[place] for place, word in enumerate(words) if word.endswith(ENDING))}"]):
+            return check.NO_OUTPUT
         statuses.append(run(each))
     return max(statuses)
 
@@ -100,8 +100,8 @@ def refused(refusal: Exception) -> int:
     line = str(refusal)
     tell(line)
     if isinstance(refusal, NotWritten):
-        return scripts.NO_OUTPUT
-    return scripts.NO_MEMORY if line == "# no memory" else scripts.NOT_LOADED if line.startswith(("# load ", "# too ")) else scripts.FAULTY
+        return check.NO_OUTPUT
+    return check.NO_MEMORY if line == "# no memory" else check.NOT_LOADED if line.startswith(("# load ", "# too ")) else check.FAULTY
 
 
 def words_of(words: List[str]) -> argparse.Namespace:
@@ -135,6 +135,6 @@ def main(words: List[str]) -> int:
     except SystemExit as end:
         return int(end.code or 0)
     try:
-        return scripts.DONE if scripts.put(lines(given)) else scripts.NO_OUTPUT
+        return check.DONE if check.written(lines(given)) else check.NO_OUTPUT
     except (Refusal, NotWritten) as refusal:
         return refused(refusal)

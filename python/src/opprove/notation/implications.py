@@ -10,7 +10,7 @@ import re
 import sys
 from typing import Dict, List, Tuple
 
-from opprove.checkers import scripts
+from opprove.checkers import check
 from opprove.checkers.check import Refusal
 from opprove.notation import expand
 from opprove.notation.expansion import Expansion
@@ -33,7 +33,7 @@ def answer(report: str) -> str:
 
 def tables(path: str, options: List[str]) -> List[str]:
     """A table for each line with cases. Raises a `Refusal` of the file, or what the program refuses."""
-    scripts.load([path])
+    check.loaded([path])
     expansion = Expansion(path)
     texts = {statement.name: statement.text for statement in expansion.statements(True)}
     lines: List[str] = []
@@ -56,9 +56,9 @@ def main(words: List[str]) -> int:
     """Prints the tables. The status is 0, or 2 for other words, or that of the fault."""
     if not words or not words[0].endswith(expand.ENDING):
         sys.stderr.write("usage: opprove implications FILE.opn [OPTIONS of prove]\n")
-        return scripts.USAGE
+        return check.USAGE
     try:
-        return scripts.DONE if scripts.put(tables(words[0], words[1:])) else scripts.NO_OUTPUT
+        return check.DONE if check.written(tables(words[0], words[1:])) else check.NO_OUTPUT
     except Refusal as refusal:
         return expand.refused(refusal)
     except Refused as refusal:

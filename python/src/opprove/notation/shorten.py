@@ -13,7 +13,7 @@ import tempfile
 from itertools import groupby
 from typing import Dict, FrozenSet, Iterator, List, NamedTuple, Optional, Sequence, Set, Tuple
 
-from opprove.checkers import check, scripts
+from opprove.checkers import check
 from opprove.checkers.check import Line, Poly, Problem, Refusal
 from opprove.notation.expansion import NATIVE, Expansion, nodes
 from opprove.notation.parts import Equation, Node, Use, Word
@@ -348,11 +348,11 @@ def main(words: List[str]) -> int:
     paths = [word for word in words if word != "--eliminate"]
     if len(paths) != 1 or paths[0].startswith("-"):
         sys.stderr.write("usage: opprove shorten STATEMENT [--eliminate]\n")
-        return scripts.USAGE
+        return check.USAGE
     try:
-        scripts.load(paths)
+        check.loaded(paths)
         text = Shortener(paths[0], len(paths) < len(words)).written()
     except Refusal as refusal:
         sys.stderr.buffer.write(f"{refusal}\n".encode("utf-8", "surrogateescape"))
-        return scripts.status_of(str(refusal))
-    return scripts.DONE if scripts.put(text.split("\n")[:-1]) else scripts.NO_OUTPUT
+        return check.status_of(str(refusal))
+    return check.DONE if check.written(text.split("\n")[:-1]) else check.NO_OUTPUT

@@ -13,8 +13,8 @@ import tempfile
 from pathlib import Path
 from typing import Callable, Iterable, Iterator, List, NamedTuple, NoReturn, Optional, Sequence, Tuple
 
-from opprove.checkers import cancel, check, check_model, confirm, scripts, star
-from opprove.checkers.check import Problem, Refusal
+from opprove import second_check
+from opprove.checkers.check import NO_MEMORY, NO_OUTPUT, USAGE, Problem, Refusal, status_of, written
 from opprove.search.running import Program, Unusable
 
 HEAD = re.compile(r"^# claim ([0-9]+) (.*)\n", re.MULTILINE)
@@ -101,27 +101,7 @@ def is_accepted(program: Program, folder: Path, statement: str, block: Sequence[
     commands = {"certificate": "check", "cancellation": "cancel", "model": "model", "basis": "confirm"}
     if kind in commands and program.answer([commands[kind], *paths]) != 0:
         return False
-    return second_checker(kind, paths)
-
-
-def second_checker(kind: str, paths: List[str]) -> bool:
-    """Whether the checker in Python accepts the blocks of this kind."""
-    if kind in ("model", "rational"):
-        return check_model.report(paths)[1] == 0
-    if kind == "certificate":
-        return is_certified(paths)
-    reports = {"cancellation": cancel.report, "star": star.report, "basis": confirm.report}
-    return kind in reports and scripts.answer(reports[kind], paths)[0] == 0
-
-
-def is_certified(paths: List[str]) -> bool:
-    try:
-        problem = Problem(paths[0])
-        for certificate in check.Evidence(problem, paths[1]).certificates:
-            check.judge(problem, certificate, "")
-    except Refusal:
-        return False
-    return True
+    return second_check.is_accepted(*paths)
 
 
 # ---- Tools
@@ -156,13 +136,13 @@ def answered(name: str, answer: Callable[[List[str], Path], Answer], words: List
     try:
         with tempfile.TemporaryDirectory(prefix="opprove-") as folder:
             lines, status = answer(words, Path(folder))
-        return status if scripts.put(lines) else scripts.NO_OUTPUT
+        return status if written(lines) else NO_OUTPUT
     except Unusable as what:
-        return complained(str(what), scripts.USAGE if str(what).startswith("# usage") else 1)
+        return complained(str(what), USAGE if str(what).startswith("# usage") else 1)
     except Refusal as what:
-        return complained(str(what), scripts.status_of(str(what)))
+        return complained(str(what), status_of(str(what)))
     except MemoryError:
-        return complained("# no memory", scripts.NO_MEMORY)
+        return complained("# no memory", NO_MEMORY)
     except OSError as what:
         return complained(f"{name}: {what}", 1)
 

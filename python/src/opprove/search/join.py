@@ -1,4 +1,4 @@
-"""Composes evidence by way of lemmas: join.py STATEMENT PIECE EVIDENCE [PIECE EVIDENCE ..]
+"""Composes evidence by way of lemmas: join STATEMENT PIECE EVIDENCE [PIECE EVIDENCE ..]
 
 A piece is a statement about maps of STATEMENT, with evidence of its claims. What its rows use has to be a generator of
 STATEMENT, a claim of an earlier block or piece, or the adjoint of such a claim where STATEMENT is starred, or a multiple
@@ -7,17 +7,17 @@ others numbers, another order and other letters than STATEMENT. For each claim o
 certificate of format 2 over the generators of STATEMENT is printed, with its head line.
 
 As the translations do, it writes what `check` would refuse for its sum (C6): whether the whole adds up is for `check` to
-say. For every other fault it prints a line on standard error. The status is 0, and 1 where there was such a line.
+say. For every other fault it prints a line on standard error.
 """
 from __future__ import annotations
 
-import sys
 from functools import reduce
 from math import gcd
 from typing import Dict, FrozenSet, List, NamedTuple, Optional, Tuple
 
 from opprove.translations import translation
-from opprove.checkers.check import Certificate, Poly, Problem, Refusal, Row, Share, Word
+from opprove.checkers.check import Certificate, Poly, Problem, Refusal, Row, Share, Word, loaded
+from opprove.tool import ended, parser
 
 Shape = FrozenSet[Tuple[Word, int]]  # a polynomial without its content, as a key
 
@@ -185,16 +185,14 @@ def written(problem: Problem, certificate: Certificate) -> List[str]:
     return lines + ["end"]
 
 
-def report(paths: List[str]) -> List[str]:
+def report(statement: str, pieces: List[str]) -> List[str]:
     """The lines of all certificates."""
-    if len(paths) < 3 or len(paths) % 2 == 0:
-        raise Refusal("# usage: join.py STATEMENT PIECE EVIDENCE [PIECE EVIDENCE ..]")
-    join = Join(Problem(paths[0]))
-    for place in range(1, len(paths), 2):
+    join = Join(Problem(*loaded([statement])))
+    for place in range(0, len(pieces), 2):
         try:
-            join.add(Piece(*translation.read(paths[place : place + 2]), {}))
+            join.add(Piece(*translation.read(*loaded(pieces[place : place + 2])), {}))
         except Refusal as refusal:
-            raise Refusal(f"{refusal} ({paths[place]})") from None
+            raise Refusal(f"{refusal} ({pieces[place]})") from None
     numbers = range(1, len(join.problem.claims) + 1)
     certificates = [found for found in map(join.certificate, numbers) if found]
     if not certificates:
@@ -202,15 +200,13 @@ def report(paths: List[str]) -> List[str]:
     return [line for certificate in certificates for line in written(join.problem, certificate)]
 
 
-def main(paths: List[str]) -> int:
-    try:
-        text = "\n".join(report(paths)) + "\n"
-        sys.stdout.buffer.write(text.encode())
-        sys.stdout.buffer.flush()
-        return 0
-    except (Refusal, MemoryError, OSError) as what:
-        line = "# standard output failed" if isinstance(what, OSError) else str(what) or "# no memory"
-        sys.stderr.buffer.write(f"{line}\n".encode("utf-8", "surrogateescape"))
-        sys.stderr.flush()
-        return 1
+def main(words: List[str]) -> int:
+    """Writes the certificates, and gives the status."""
+    made = parser("join", __doc__)
+    made.add_argument("statement", metavar="STATEMENT", help="the statement whose claims are to be proved")
+    made.add_argument("pieces", metavar="PIECE EVIDENCE", nargs="+", help="statements about maps of it, each with evidence")
+    given = made.parse_args(words)
+    if len(given.pieces) % 2:
+        made.error("after each piece its evidence is named")
+    return ended(lambda: report(given.statement, given.pieces))
 

@@ -33,7 +33,7 @@ import time
 from pathlib import Path
 from typing import Any, Dict, List, NoReturn, Optional, Set, Tuple
 
-from opprove.checkers import check_model
+from opprove import second_check
 from opprove.search import join
 from opprove.search import variants
 from opprove.program import path as path_of_program
@@ -164,7 +164,7 @@ class Search:
     def refuted(self, job: Job, goal: Goal, block: str) -> None:
         lines = claimed(goal, "refuted", block)
         words = [self.options.statement, str(self.write("whole.model", "\n".join(lines) + "\n"))]
-        if check_model.report(words)[1] == 0 and self.program.answer(["model", *words]) == 0:
+        if second_check.is_accepted(*words) and self.program.answer(["model", *words]) == 0:
             self.settle(job, goal, "refuted", lines)
 
     # ---- What the searches in Python found

@@ -16,7 +16,7 @@
     statement.problem                                 # what the second checkers read: letters, generators, ..
 
     evidence = EvidenceText.read("R.cert")            # a file or a pipe, which is read once
-    evidence.kinds()                                  # ["certificate", "basis"]: of its blocks, in their order
+    evidence.kinds                                    # ["certificate", "basis"]: of its blocks, each once
     evidence.blocks                                   # Blocks: kind, claim, line, text
     evidence.heads                                    # Heads of a report: claim, verdict, detail, line
     evidence.data                                     # the bytes, for check.Evidence(problem, evidence.data) and its like
@@ -35,10 +35,9 @@ gives it and all that stands in it. Reading is that of checkers/check.py, which 
 from opprove.checkers.check import Problem, Refusal
 from opprove.text.evidence import Block, EvidenceText, Head
 from opprove.text.expressions import Expression, Place, spelled, walk
-from opprove.text.files import content
 from opprove.text.statement import Equation, Map, SourceLine, StatementText
 
 __all__ = [
     "Block", "Equation", "EvidenceText", "Expression", "Head", "Map", "Place", "Problem", "Refusal", "SourceLine", "StatementText",
-    "content", "spelled", "walk",
+    "spelled", "walk",
 ]  # fmt: skip

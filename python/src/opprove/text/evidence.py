@@ -5,10 +5,14 @@ import functools
 import re
 from typing import Iterator, List, NamedTuple
 
-from opprove.text.files import EVIDENCE_LIMIT, content
+from opprove.checkers.check import MOST_BYTES, loaded
 
 # A head line of a report: the claim, what is said of it, and what stands after that.
 HEAD = re.compile(r"# claim (\d+) (proved|refuted|not derivable|undecided|not refuted)(?: (.*))?")
+
+
+# The words that blocks of evidence begin with.
+KINDS = ("certificate", "model", "basis", "cancellation", "chain", "rational", "star")
 
 
 class Head(NamedTuple):
@@ -38,7 +42,7 @@ class EvidenceText:
     @classmethod
     def read(cls, path: str) -> EvidenceText:
         """That of a file or a pipe."""
-        return cls(content(path, EVIDENCE_LIMIT), path)
+        return cls(loaded([path], MOST_BYTES[1:])[0], path)
 
     @functools.cached_property
     def lines(self) -> List[str]:
@@ -70,6 +74,8 @@ class EvidenceText:
         if first:
             yield Block(kind, claim, first, "".join(f"{text}\n" for text in self.lines[first - 1 :]))
 
+    @functools.cached_property
     def kinds(self) -> List[str]:
-        """Those of the blocks, in their order."""
-        return [block.kind for block in self.blocks]
+        """Those of evidence that the blocks have, each once, in the order in which they come."""
+        found = re.findall(rf"^[ \t]*({'|'.join(KINDS)})[ \t]".encode(), self.data, re.MULTILINE)
+        return list(dict.fromkeys(kind.decode() for kind in found))

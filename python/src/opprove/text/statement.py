@@ -4,9 +4,8 @@ from __future__ import annotations
 import functools
 from typing import Dict, Iterator, List, NamedTuple
 
-from opprove.checkers.check import Line, Poly, Problem, Token, read_lines, tokens_of
+from opprove.checkers.check import Line, Poly, Problem, Token, loaded, read_lines, tokens_of
 from opprove.text.expressions import Expression, Parser, Place
-from opprove.text.files import STATEMENT_LIMIT, content
 
 
 class Map(NamedTuple):
@@ -50,7 +49,7 @@ class StatementText:
     @classmethod
     def read(cls, path: str) -> StatementText:
         """That of a file or a pipe."""
-        return cls(content(path, STATEMENT_LIMIT), path)
+        return cls(loaded([path])[0], path)
 
     @functools.cached_property
     def language(self) -> int:

@@ -1,4 +1,4 @@
-"""Proofs as chains of equal expressions: to_chain.py STATEMENT EVIDENCE|CHAIN [--latex | --certificate]
+"""Proofs as chains of equal expressions
 
 For each certificate the assumptions that its proof uses, by their numbers and lines, and then the chain from the left side
 of the claim to the right side. Each step is one row: an assumption (n), the adjoint (n)' of one, or a lemma [k], at one
@@ -21,7 +21,7 @@ steps, since the letter is monic or epic, and the head says which letters have t
 --latex writes align* for a paper that loads amsmath, where \\allowdisplaybreaks lets long chains go over pages. --certificate
 writes the rows of the steps as certificates, or what was read where that has fewer rows: in format 2, and in format 1, whose rows
 `explain` takes in their order, where there are no lemmas; proofs that take letters off are written as they were read. What is wrong
-with the texts is told in one line on standard error, with status 1: codes are those of `check`, `explain` and `cancel`, and
+with the texts is told in one line on standard error: codes are those of `check`, `explain` and `cancel`, and
 `line L no step` is a `use` that is 0 or no map with the claim's ends.
 """
 from __future__ import annotations
@@ -36,9 +36,10 @@ from typing import Callable, Dict, Iterator, List, NamedTuple, Optional, Sequenc
 from opprove.checkers import cancel
 from opprove.checkers.cancel import Cancel, Cancellation, Cancellations
 from opprove.checkers.chain_text import ChainText, Lines, Texts, judge_chain
-from opprove.checkers.check import Blocks, Certificate, Line, Poly, Problem, Refusal, Row, Share, Signature, Token, Word, add, judge
-from opprove.checkers.scripts import end_quietly, put
+from opprove.checkers.check import Blocks, Certificate, Line, Poly, Problem, Refusal, Row, Share, Signature, Source, Token, Word, add, judge, loaded
+from opprove.tool import ended
 from opprove.translations.latex import letter_in_latex, lines_of
+from opprove.translations.translation import explained, of_two_files
 
 # Limits of evidence text. A lemma whose rows would have longer words in its place is a chain of its own.
 LETTERS_IN_A_WORD, LETTERS, MOST = 500, 1000000, 2**127 - 1
@@ -662,43 +663,48 @@ def judge_all(problem: Problem, texts: Texts) -> None:
         judge_chain(lines, told, f"# block {block} refused")
 
 
-def written(words: List[str]) -> Iterator[str]:
-    """The lines of the texts that the words name."""
-    paths = [word for word in words if word[:2] != "--"]
-    options = [word for word in words if word[:2] == "--"]
-    if len(paths) != 2 or options not in ([], ["--latex"], ["--certificate"]):
-        raise Refusal("# usage: to_chain.py STATEMENT EVIDENCE|CHAIN [--latex | --certificate]")
-    problem = Problem(paths[0])
-    reader = Reader(problem)
-    for block, proof in enumerate(proofs_of(reader, paths[1]), 1):
-        if options == ["--certificate"]:
-            is_cancelled = isinstance(proof.certificate, Cancellation)
-            yield from cancellation_text(problem, proof.certificate) if is_cancelled else certificate_text(problem, reader.shortened(proof))
-            continue
-        yield from [""] if block > 1 else []
-        yield from latex(reader, proof) if options else text(reader, proof)
+def written(statement: Source, evidence: Source, form: str) -> Iterator[str]:
+    """The lines of all proofs of the evidence, in a form: text, latex or certificate."""
+    reader = Reader(Problem(statement))
+    proofs = proofs_of(reader, evidence)
+    if form == "certificate":
+        yield from certificates(reader, proofs)
+        return
+    for block, proof in enumerate(proofs):
+        yield from [""] * (block > 0)
+        yield from text(reader, proof) if form == "text" else latex(reader, proof)
 
 
-def proofs_of(reader: Reader, path: str) -> List[Proof]:
+def certificates(reader: Reader, proofs: List[Proof]) -> Iterator[str]:
+    """The proofs as evidence text."""
+    for proof in proofs:
+        is_cancelled = isinstance(proof.certificate, Cancellation)
+        yield from (
+            cancellation_text(reader.problem, proof.certificate) if is_cancelled else certificate_text(reader.problem, reader.shortened(proof))
+        )
+
+
+def proofs_of(reader: Reader, evidence: Source) -> List[Proof]:
     """Those of a text, all of which have to be right."""
     problem = reader.problem
-    if Blocks(path).line.startswith("cancellation "):
-        proofs, lines = Cancellations(problem, path).proofs, Lines(problem)
+    if Blocks(evidence).line.startswith("cancellation "):
+        proofs, lines = Cancellations(problem, evidence).proofs, Lines(problem)
         polys = [cancel.judge(lines, proof, f"# block {block} refused") for block, proof in enumerate(proofs, 1)]
         return list(map(reader.cancelled, proofs, polys))
-    texts = Texts(problem, path)
+    with explained(evidence):
+        texts = Texts(problem, evidence)
     judge_all(problem, texts)
     # One of both lists is empty.
     return [*map(reader.proof, texts.certificates), *map(reader.told, texts.chains)]
 
 
 def main(words: List[str]) -> int:
-    """Writes the lines, or one line on standard error, and gives the status."""
-    try:
-        lines = list(written(words))
-    except (Refusal, MemoryError) as refusal:
-        line = str(refusal) or "# no memory"
-        sys.stderr.buffer.write(f"{line}\n".encode("utf-8", "surrogateescape"))
-        return 1
-    return 0 if put(lines) else 1
+    """Writes the chains, and gives the status."""
+    made = of_two_files("chain", __doc__)
+    form = made.add_mutually_exclusive_group()
+    form.add_argument("--latex", dest="form", action="store_const", const="latex", default="text", help="for a paper that loads amsmath")
+    form.add_argument("--certificate", dest="form", action="store_const", const="certificate", help="the rows of the steps as certificates")
+    given = made.parse_args(words)
+    return ended(lambda: written(*loaded([given.statement, given.evidence]), form=given.form))
+
 

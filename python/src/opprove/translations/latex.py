@@ -1,4 +1,4 @@
-"""Certificates as displayed formulas for LaTeX: to_latex.py STATEMENT CERTIFICATE
+"""Certificates as displayed formulas for LaTeX
 
 What is written stands in the body of a paper that loads amsmath: for each certificate the generators that are used,
 its lemmas, and the claim as their sum. Names with letters beyond ASCII stay as they are, and need LuaLaTeX or XeLaTeX.
@@ -8,7 +8,8 @@ from __future__ import annotations
 import re
 from typing import Iterator, List
 
-from opprove.translations.translation import Certificate, Poly, Problem, Row, generators_used, run
+from opprove.checkers.check import Certificate, Poly, Problem, Row
+from opprove.translations.translation import generators_used, run
 
 TERMS_IN_A_LINE = 4
 GREEK = """alpha beta gamma delta epsilon zeta eta theta iota kappa lambda mu nu xi pi rho sigma tau upsilon phi chi psi
@@ -98,4 +99,5 @@ def translate(problem: Problem, certificates: List[Certificate]) -> List[str]:
 
 
 def main(words: List[str]) -> int:
-    return run(translate, words)
+    """Writes the translation, and gives the status."""
+    return run("latex", __doc__, translate, words)

@@ -1,9 +1,9 @@
-"""The quiver of a statement as a picture: quiver.py STATEMENT [--tikz | --dot]
+"""The quiver of a statement as a picture
 
 Writes SVG, or a picture for a paper that loads tikz, or a graph for Graphviz, which places it anew. Objects stand on a grid,
 where a search finds their places that goes the same way each time: long arrows are dear, and those to the left or up, askew,
 that cross, or that run over objects. Maps with the same ends share an arrow; it is bent where there is one back, and where
-there was no way around an object. What is wrong with the statement is told in one line on standard error, with status 1.
+there was no way around an object. What is wrong with the statement is told in one line on standard error.
 """
 from __future__ import annotations
 
@@ -12,8 +12,9 @@ from math import gcd, hypot, isqrt
 from random import Random
 from typing import Callable, Dict, List, NamedTuple, Tuple
 
+from opprove.checkers.check import Problem, loaded
+from opprove.tool import ended, parser
 from opprove.translations.latex import name_in_latex
-from opprove.translations.translation import Problem, Refusal, put
 
 Cell = Tuple[int, int]  # column and row; rows go down
 Point = Tuple[float, float]
@@ -398,16 +399,13 @@ def dot(shown: Picture) -> str:
 # ---- The command
 
 
-def written(words: List[str]) -> str:
-    """The text of the picture that the words name."""
-    paths = [word for word in words if word[:2] != "--"]
-    options = [word for word in words if word[:2] == "--"]
-    writers: Dict[str, Callable[[Picture], str]] = {"--tikz": tikz, "--dot": dot}
-    if len(paths) != 1 or len(options) > 1 or not writers.keys() >= {*options}:
-        raise Refusal("# usage: quiver.py STATEMENT [--tikz | --dot]")
-    write = writers[options[0]] if options else svg
-    return write(picture_of(Problem(paths[0])))
-
-
 def main(words: List[str]) -> int:
-    return put(written, words)
+    """Writes the picture, and gives the status."""
+    made = parser("picture", __doc__)
+    made.add_argument("statement", metavar="STATEMENT", help="a statement")
+    form = made.add_mutually_exclusive_group()
+    form.add_argument("--tikz", dest="write", action="store_const", const=tikz, default=svg, help="for a paper that loads tikz")
+    form.add_argument("--dot", dest="write", action="store_const", const=dot, help="for Graphviz")
+    given = made.parse_args(words)
+    return ended(lambda: given.write(picture_of(Problem(*loaded([given.statement])))).splitlines())
+

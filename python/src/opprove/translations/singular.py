@@ -1,4 +1,4 @@
-"""Certificates as a script for Singular: to_singular.py STATEMENT CERTIFICATE
+"""Certificates as a script for Singular
 
 What is written makes a free algebra over the rational numbers (Letterplace), multiplies the rows out and prints for
 each certificate whether they are equal to the claim times the denominator, or with lemmas times the scale of the goal.
@@ -7,7 +7,8 @@ from __future__ import annotations
 
 from typing import List
 
-from opprove.translations.translation import Certificate, Poly, Problem, Templates, added_up, ascii_names, run
+from opprove.checkers.check import Certificate, Poly, Problem
+from opprove.translations.translation import Templates, added_up, ascii_names, run
 
 TEMPLATES = Templates(
     let="poly {name} = {value};",
@@ -52,4 +53,5 @@ def translate(problem: Problem, certificates: List[Certificate]) -> List[str]:
 
 
 def main(words: List[str]) -> int:
-    return run(translate, words)
+    """Writes the translation, and gives the status."""
+    return run("singular", __doc__, translate, words)

@@ -1,4 +1,4 @@
-"""Certificates as Python for SymPy: to_sympy.py STATEMENT CERTIFICATE
+"""Certificates as Python for SymPy
 
 What is written makes the letters noncommutative symbols, multiplies the rows out and prints for each certificate
 whether they are equal to the claim times the denominator, or with lemmas times the scale of the goal. It can be pasted
@@ -8,7 +8,8 @@ from __future__ import annotations
 
 from typing import List
 
-from opprove.translations.translation import Certificate, Problem, Templates, added_up, ascii_names, run
+from opprove.checkers.check import Certificate, Problem
+from opprove.translations.translation import Templates, added_up, ascii_names, run
 
 TEMPLATES = Templates(
     let="{name} = {value}",
@@ -28,4 +29,5 @@ def translate(problem: Problem, certificates: List[Certificate]) -> List[str]:
 
 
 def main(words: List[str]) -> int:
-    return run(translate, words)
+    """Writes the translation, and gives the status."""
+    return run("sympy", __doc__, translate, words)

@@ -1,17 +1,21 @@
-"""What the scripts that translate certificates share: both files, names of letters, and the steps that add up rows."""
+"""What the tools that translate certificates share: both files, names of letters, and the steps that add up rows."""
 from __future__ import annotations
 
-import sys
-from typing import Callable, Iterator, List, NamedTuple, Tuple
+import argparse
+import contextlib
+from typing import Callable, Iterator, List, NamedTuple, Optional, Tuple
 
-from opprove.checkers.check import Certificate, Evidence, Poly, Problem, Refusal, Row, judge
+from opprove.checkers.check import Certificate, Evidence, Poly, Problem, Refusal, Row, Source, content, judge, loaded
+from opprove.text import EvidenceText
+from opprove.tool import ended, parser
 
 
-def read(paths: List[str]) -> Tuple[Problem, List[Certificate]]:
+def read(statement: Source, evidence: Source) -> Tuple[Problem, List[Certificate]]:
     """The problem and the certificates, for which all tests are made but the last: whether the sums are equal is for
     the other system to say."""
-    problem = Problem(paths[0])
-    certificates = Evidence(problem, paths[1]).certificates
+    problem = Problem(statement)
+    with explained(evidence):
+        certificates = Evidence(problem, evidence).certificates
     for block, certificate in enumerate(certificates, 1):
         try:
             judge(problem, certificate, f"# block {block} refused")
@@ -21,27 +25,30 @@ def read(paths: List[str]) -> Tuple[Problem, List[Certificate]]:
     return problem, certificates
 
 
-def run(translate: Callable[[Problem, List[Certificate]], List[str]], words: List[str]) -> int:
-    """Writes the translation of the two files that are named, or one line on standard error. The status is 0 or 1."""
-
-    def translated(paths: List[str]) -> str:
-        if len(paths) != 2:
-            raise Refusal("# usage: STATEMENT CERTIFICATE")
-        return "\n".join(translate(*read(paths))) + "\n"
-
-    return put(translated, words)
-
-
-def put(written: Callable[[List[str]], str], words: List[str]) -> int:
-    """Writes the text of these words, or one line on standard error, and gives the status: 0 or 1."""
+@contextlib.contextmanager
+def explained(evidence: Source) -> Iterator[None]:
+    """Has a fault say in words that there is no proof, where there is none."""
     try:
-        text = written(words)
-    except (Refusal, MemoryError) as refusal:
-        line = str(refusal) or "# no memory"
-        sys.stderr.buffer.write(f"{line}\n".encode("utf-8", "surrogateescape"))
-        return 1
-    sys.stdout.buffer.write(text.encode())
-    return 0
+        yield
+    except Refusal as refusal:
+        if str(refusal) != "# refused K7":
+            raise
+        said = ", ".join(f"claim {head.claim} is {head.verdict}" for head in EvidenceText(content(evidence)).heads)
+        raise Refusal(f"# refused K7: there is no proof to be written{said and ': '}{said}") from None
+
+
+def run(word: str, page: Optional[str], translate: Callable[[Problem, List[Certificate]], List[str]], words: List[str]) -> int:
+    """Writes the translation of the two files that are named, and gives the status."""
+    given = of_two_files(word, page).parse_args(words)
+    return ended(lambda: translate(*read(*loaded([given.statement, given.evidence]))))
+
+
+def of_two_files(word: str, page: Optional[str]) -> argparse.ArgumentParser:
+    """For the words of a tool that reads a statement and evidence."""
+    made = parser(word, page)
+    made.add_argument("statement", metavar="STATEMENT", help="a statement")
+    made.add_argument("evidence", metavar="EVIDENCE", help="certificates, or a report that has some")
+    return made
 
 
 def ascii_names(problem: Problem) -> List[str]:

@@ -98,9 +98,8 @@ def chain_shown(asked: Asked, problem: Problem, outcome: Outcome) -> List[str]:
     """The proof as a chain where it is short; of a long one the assumptions that it uses, its steps, and the call that prints it."""
     if outcome.number("rows") > LONG_ROWS:
         return []
-    with files("", "\n".join(outcome.block) + "\n") as paths:
-        reader = chain.Reader(problem)
-        proof = chain.proofs_of(reader, paths[1])[0]
+    reader = chain.Reader(problem)
+    proof = chain.proofs_of(reader, ("\n".join(outcome.block) + "\n").encode("utf-8", "surrogateescape"))[0]
     lines = [line for line in chain.text(reader, proof) if line][1:]
     if len(lines) <= SHORT_LINES:
         return ["  " + "\n  ".join(lines)]
