@@ -454,9 +454,11 @@ def interrupts(folder: Path) -> str:
     undecided = folder / "undecided.op"
     undecided.write_text(statement.read_text().replace("claim a = b", "claim a b a = b a b\nclaim a = b"))
     for number in (signal.SIGINT, signal.SIGTERM, signal.SIGKILL):
-        process = harder(undecided, "--seconds", 100, "--only", "whole", "--jobs", 2)
+        keep = folder / f"interrupted_{number}"
+        process = harder(undecided, "--seconds", 100, "--only", "whole", "--jobs", 2, "--keep", keep)
         try:
-            time.sleep(5)  # so that a claim is settled before the others are interrupted
+            for _ in range(1000):  # until a claim is settled
+                time.sleep(0.1 if not (keep / "claim_1.certificate").exists() else 0)
             started = children(process.pid)
             process.send_signal(number)
             answer = answer_of(process)

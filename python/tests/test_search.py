@@ -113,9 +113,10 @@ class Search(unittest.TestCase):
     def test_interrupt(self) -> None:
         """What was found before is printed."""
         statement = OPEN + "claim b a b = a b a\n"
-        words = self.command(self.file(statement), "--only", "whole", "--seconds", "100", "--jobs", "2")
+        words = self.command(self.file(statement), "--only", "whole", "--seconds", "100", "--jobs", "2", "--keep", self.folder.name)
         process = subprocess.Popen(words, stdout=subprocess.PIPE, stderr=subprocess.DEVNULL, env=environment())
-        time.sleep(6)
+        for _ in range(600):  # until a claim is settled
+            time.sleep(0.1 if not Path(self.folder.name, "claim_2.certificate").exists() else 0)
         process.send_signal(signal.SIGINT)
         out = process.communicate(timeout=30)[0].decode()
         self.assertEqual(process.returncode, 12)

@@ -8,12 +8,59 @@ from __future__ import annotations
 
 from importlib import import_module
 from pathlib import Path
-from typing import Any, Callable, Iterator, List, NamedTuple, Tuple
+from typing import Any, Callable, Iterator, List, NamedTuple, Optional, Tuple
 
 from opprove.search import remote
 from opprove.search.running import WORKER, Program, Runs, Unusable
 
 DEATHS = 5  # of workers by which one run is given up
+WAIT = 10  # seconds for a scheduler to answer
+
+
+class Cluster:
+    """The workers of a scheduler."""
+
+    def __init__(self, address: str) -> None:
+        try:
+            distributed = import_module("distributed")
+            import_module("cloudpickle").register_pickle_by_value(remote)
+        except ImportError:
+            raise Unusable("--scheduler wants dask.distributed: apt-get install python3-distributed, or pip install distributed") from None
+        try:
+            self.client: Any = distributed.Client(address, timeout=WAIT, set_as_default=False)
+        except (OSError, ValueError) as what:
+            raise Unusable(f"no Dask scheduler answers at {address}: {what}") from None
+
+    def close(self) -> None:
+        self.client.close()
+
+    def threads(self) -> int:
+        """How many runs the workers make at a time."""
+        return sum(int(worker["nthreads"]) for worker in self.client.scheduler_info()["workers"].values())
+
+    def sent(self, words: List[str], text: str, seconds: int, memory: int) -> Any:
+        """The future of a run, which no other run with the same words shares."""
+        return self.client.submit(remote.run, words, text, seconds, memory, pure=False)
+
+    def outcome(self, future: Any) -> Optional[Tuple[int, bytes]]:
+        """The status and the report of a run that ended, or nothing where its worker died."""
+        try:
+            status, report = future.result()
+        except Exception as what:  # of the scheduler, which has no class for what it raises of a worker
+            if type(what).__name__ not in ("KilledWorker", "CancelledError", "CommClosedError", "TimeoutError"):
+                raise Unusable(f"a worker failed: {what}") from None
+            return None
+        if status == remote.NO_PROGRAM:
+            raise Unusable(report.decode("utf-8", "replace"))
+        return status, report
+
+    def asked(self, words: List[str], text: str, seconds: int, memory: int) -> Tuple[int, bytes]:
+        """The status and the report of a run, which is made again where its worker dies."""
+        for _ in range(DEATHS):
+            found = self.outcome(self.sent(words, text, seconds, memory))
+            if found is not None:
+                return found
+        raise Unusable(f"a run was given up after {DEATHS} workers died")
 
 
 class Sent(NamedTuple):
@@ -32,24 +79,18 @@ class ClusterRuns(Runs):
 
     def __init__(self, address: str, program: Program, folder: Path) -> None:
         super().__init__(program, folder)
-        self.sent: List[Sent] = []
-        try:
-            distributed = import_module("distributed")
-            import_module("cloudpickle").register_pickle_by_value(remote)
-        except ImportError:
-            raise Unusable("--scheduler wants dask.distributed: apt-get install python3-distributed, or pip install distributed") from None
-        try:
-            self.client = distributed.Client(address, timeout=10, set_as_default=False)
-        except (OSError, ValueError) as what:
-            raise Unusable(f"no Dask scheduler at {address}: {what}") from None
+        self.away: List[Sent] = []
+        self.cluster = Cluster(address)
 
     def __exit__(self, *what: object) -> None:
         super().__exit__(*what)
-        self.client.close()
+        self.cluster.close()
 
     def has_room(self, jobs: int) -> bool:
-        threads = sum(worker["nthreads"] for worker in self.client.scheduler_info()["workers"].values())
-        return len(self.going) < jobs + int(threads)
+        return len(self.going) < jobs or len(self.away) < self.cluster.threads()
+
+    def under_way(self) -> List[Any]:
+        return super().under_way() + [sent.job for sent in self.away]
 
     def start(self, job: Any, words: List[str], seconds: int) -> None:
         if words[0] == WORKER:
@@ -60,50 +101,28 @@ class ClusterRuns(Runs):
         self.send(Sent(job, None, [words[0], *words[2:]], text, seconds, 0))
 
     def send(self, sent: Sent) -> None:
-        seconds, memory = sent.seconds * self.program.patience, self.program.memory
-        future = self.client.submit(remote.run, sent.words, sent.text, seconds, memory, pure=False, retries=DEATHS)
-        self.sent.append(sent._replace(future=future))
-        self.mark()
-
-    def mark(self) -> None:
-        """Has `going` name what is under way, here and there."""
-        here = [run for run in self.going if not isinstance(run, Sent)]
-        self.going: List[Any] = [*here, *self.sent]
+        future = self.cluster.sent(sent.words, sent.text, sent.seconds * self.program.patience, self.program.memory)
+        self.away.append(sent._replace(future=future))
 
     def ended(self) -> Iterator[Tuple[Any, int, Path]]:
-        self.going = [run for run in self.going if not isinstance(run, Sent)]
         yield from super().ended()
-        for sent in list(self.sent):
-            if sent.future.done():
-                self.sent.remove(sent)
-                found = self.outcome(sent)
-                if found is not None:
-                    yield (sent.job, *found)
-        self.mark()
-
-    def outcome(self, sent: Sent) -> "Tuple[int, Path] | None":
-        """The status and the report of a run that ended, or nothing where it is made again."""
-        try:
-            status, report = sent.future.result()
-        except Exception as what:  # what the scheduler raises of a worker that died has no name in common
-            if sent.deaths == DEATHS:
-                raise Unusable(f"a run was given up after {DEATHS} workers died: {what}") from None
-            self.send(sent._replace(deaths=sent.deaths + 1))
-            return None
-        if status == remote.NO_PROGRAM:
-            raise Unusable(report.decode("utf-8", "replace"))
-        self.count_of_reports = getattr(self, "count_of_reports", 0) + 1
-        path = self.folder / f"{self.count_of_reports}.cluster"
-        path.write_bytes(report)
-        return status, path
+        for number, sent in enumerate([one for one in self.away if one.future.done()]):
+            self.away.remove(sent)
+            found = self.cluster.outcome(sent.future)
+            if found is None and sent.deaths == DEATHS:
+                raise Unusable(f"a run was given up after {DEATHS} workers died")
+            if found is None:
+                self.send(sent._replace(deaths=sent.deaths + 1))
+                continue
+            path = self.folder / f"away_{number}.report"
+            path.write_bytes(found[1])
+            yield sent.job, found[0], path
 
     def end(self, is_idle: Callable[[Any], bool]) -> None:
-        self.going = [run for run in self.going if not isinstance(run, Sent)]
         super().end(is_idle)
-        for sent in [one for one in self.sent if is_idle(one.job)]:
+        for sent in [one for one in self.away if is_idle(one.job)]:
             sent.future.cancel()
-            self.sent.remove(sent)
-        self.mark()
+            self.away.remove(sent)
 
 
 def runs_of(address: str, program: Program, folder: Path) -> Runs:

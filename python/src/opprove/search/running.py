@@ -89,6 +89,10 @@ class Runs:
     def has_room(self, jobs: int) -> bool:
         return len(self.going) < jobs
 
+    def under_way(self) -> List[Any]:
+        """What runs go on for."""
+        return [run.job for run in self.going]
+
     def start(self, job: Any, words: List[str], seconds: int) -> None:
         self.count += 1
         report = self.folder / f"{self.count}.report"

@@ -67,7 +67,7 @@ class Search:
             self.runs.end(lambda job: not job.is_open() or job.text in self.plan.closed)
             while self.runs.has_room(self.options.jobs) and self.start(self.plan.next_job()):
                 pass
-            if not self.runs.going:
+            if not self.runs.under_way():
                 break
             for job, status, report in self.runs.ended():
                 self.ended(job, status, report)
@@ -87,7 +87,7 @@ class Search:
     def under_way(self) -> str:
         claims = self.plan.claims
         settled = ", ".join(f"{goal.number} {goal.verdict or 'open'}" for goal in claims[:6]) + ", .." * (len(claims) > 6)
-        names = ", ".join(f"{run.job.name} level {run.job.level}" for run in self.runs.going)
+        names = ", ".join(f"{job.name} level {job.level}" for job in self.runs.under_way())
         left = len(self.plan.batches) + len(self.plan.jobs)
         return f"claims {settled}; {self.runs.count} runs, now {names}; {left} more to try, of {self.options.seconds} s"
 
@@ -174,9 +174,7 @@ class Search:
         goal, block, takes = self.plan.claims[found["claim"] - 1], found["block"], found["takes"]
         if not goal.wants(job.kind) or not findings.is_accepted(self.program, self.runs.folder, self.statement.text, block):
             return
-        kind = findings.kind_of(block)
-        self.keep_block(goal, block, kind)
-        if kind == "rational":
+        if findings.kind_of(block) == "rational":
             named = [f"{word} {' '.join(names)}" for word, names in (("monic", self.options.monic), ("epic", self.options.epic)) if names]
             self.settle(job, goal, "refuted", [f"# claim {goal.number} refuted over q" + "".join(f" {text}" for text in named), *block])
             return
@@ -185,6 +183,7 @@ class Search:
         lines = [f"# claim {goal.number} proved {block[2]} rows {rows}{granted}", *block]
         lines += self.for_matrices(goal, found["statement"], found["certificate"]) if "statement" in found else []
         if job.kind == ANY and takes:
+            self.keep_block(goal, block)
             goal.more = [f"# claim {goal.number} follows where {in_words(takes)}", *(f"#   {line}" for line in block)]
             self.progress.tell(f"claim {goal.number} follows where {in_words(takes)}", is_news=True)
         else:
@@ -200,15 +199,17 @@ class Search:
         lines = ["# for matrices, which have Moore-Penrose inverses, this statement with this certificate:"]
         return lines + [f"#   {line}" for line in [*statement.rstrip("\n").split("\n"), *certificate]]
 
-    def keep_block(self, goal: Goal, block: List[str], kind: str) -> None:
-        if self.options.keep:
-            self.write(f"claim_{goal.number}.{kind}", "\n".join(block) + "\n", self.options.keep)
+    def keep_block(self, goal: Goal, block: List[str]) -> None:
+        """Writes a block to a file, for a folder that was asked for."""
+        if self.options.keep and goal.number:
+            self.write(f"claim_{goal.number}.{findings.kind_of(block)}", "\n".join(block) + "\n", self.options.keep)
 
     # ---- The report
 
     def settle(self, job: Job, goal: Goal, verdict: str, lines: List[str]) -> None:
         before = goal.verdict
         goal.verdict, goal.lines = verdict, lines
+        self.keep_block(goal, [line for line in lines if line[0] != "#"])
         name = str(self.paths[job.text]) if self.options.keep else "VARIANT"
         name = self.options.statement if job.name == AS_IT_IS else name
         goal.found_by = [f"# found by {job.name}: opprove {job.words[0]} {name} {' '.join(job.words[1:])}"]

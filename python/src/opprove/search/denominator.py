@@ -1,0 +1,235 @@
+"""Smaller denominators: denominator STATEMENT REPORT [--seconds N] [--keep FOLDER]
+
+For each proved claim of the report whose denominator isn't 1 it looks for a certificate with a smaller one: by other orders of words
+and with the claim and lemmas in other ways, and by integer combinations of the rows that are known, as 2 and 3 times a claim give it
+once. The best certificate is printed, which `check` accepts for STATEMENT. For each prime that divides what is left it looks for
+matrices modulo that prime which make the assumptions zero and not the claim: then that prime has to divide each denominator, a line
+says so, and FOLDER gets the model. A claim that others prove is compared: the report may have several certificates of it.
+
+Statuses: 0 where each denominator is 1 or is shown to be divided by all of its primes, 12 where that isn't known (60 seconds).
+"""
+from __future__ import annotations
+
+import argparse
+import time
+from math import gcd
+from pathlib import Path
+from typing import Dict, Iterator, List, NamedTuple, Optional, Tuple
+
+from opprove import program as programs
+from opprove.checkers.check import Certificate, Evidence, Problem, Refusal, Row, Share
+from opprove.search import join, variants
+from opprove.search.findings import Answer, Finding, Words, answered, first_word, is_accepted, keep, sections
+from opprove.search.running import Program
+from opprove.search.variants import Statement
+
+USAGE = "opprove denominator STATEMENT REPORT [--seconds N] [--keep FOLDER]"
+PAIRS, PRIMES = "5000", (2, 3, 5, 7, 101, 32003, 65537)  # the moduli that a search for models may have
+SEEDS, SIDES = (1, 2, 3), (1, 2, 3)
+
+
+class Known(NamedTuple):
+    """A multiple of a claim as a sum of rows over generators alone."""
+
+    denominator: int
+    rows: List[Row]
+
+
+def expanded(certificate: Certificate) -> Known:
+    """The certificate without lemmas: rows of which a greater multiple of the claim is the sum."""
+    lemmas: List[Known] = []
+    for share in certificate.shares:
+        multiple = 1
+        for row in share.rows:
+            if row.is_lemma:
+                scale = lemmas[row.number - 1].denominator
+                multiple *= scale // gcd(multiple, scale)
+        rows: List[Row] = []
+        for row in share.rows:
+            if not row.is_lemma:
+                rows.append(row._replace(coefficient=row.coefficient * multiple))
+                continue
+            lemma = lemmas[row.number - 1]
+            by = row.coefficient * multiple // lemma.denominator
+            rows += [Row(by * one.coefficient, row.left + one.left, False, one.number, one.right + row.right) for one in lemma.rows]
+        lemmas.append(simplified(Known(share.scale * multiple, merged(rows))))
+    return lemmas[-1]
+
+
+def merged(rows: List[Row]) -> List[Row]:
+    found: Dict[Tuple[object, ...], int] = {}
+    for row in rows:
+        key = (row.left, row.number, row.right)
+        found[key] = found.get(key, 0) + row.coefficient
+    return [Row(value, left, False, number, right) for (left, number, right), value in found.items() if value]  # type: ignore[arg-type]
+
+
+def simplified(known: Known) -> Known:
+    divisor = known.denominator
+    for row in known.rows:
+        divisor = gcd(divisor, row.coefficient)
+    rows = [row._replace(coefficient=row.coefficient // divisor) for row in known.rows]
+    return Known(known.denominator // divisor, rows)
+
+
+def combined(one: Known, other: Known) -> Known:
+    """A combination with the greatest common divisor of both denominators."""
+    x, y, divisor = bezout(one.denominator, other.denominator)
+    rows = [row._replace(coefficient=x * row.coefficient) for row in one.rows]
+    rows += [row._replace(coefficient=y * row.coefficient) for row in other.rows]
+    return simplified(Known(divisor, merged(rows)))
+
+
+def bezout(one: int, other: int) -> Tuple[int, int, int]:
+    """x, y and the greatest common divisor x * one + y * other."""
+    if not other:
+        return 1, 0, one
+    x, y, divisor = bezout(other, one % other)
+    return y, x - one // other * y, divisor
+
+
+class Smaller:
+    """A search for one claim."""
+
+    def __init__(self, program: Program, folder: Path, statement: Statement, claim: int, until: float) -> None:
+        self.program, self.folder, self.statement, self.claim, self.until = program, folder, statement, claim, until
+        self.best: Optional[Known] = None
+        self.shortest: Dict[int, Certificate] = {}  # as it was found, by its denominator
+
+    def take(self, certificate: Certificate) -> None:
+        known = expanded(certificate)
+        self.shortest.setdefault(certificate.denominator, certificate)
+        self.best = known if self.best is None else combined(self.best, known)
+
+    def is_done(self) -> bool:
+        return (self.best is not None and self.best.denominator == 1) or time.monotonic() > self.until
+
+    def run(self) -> None:
+        for text, names in self.texts():
+            if self.is_done():
+                return
+            self.ask(text, names)
+
+    def texts(self) -> Iterator[Tuple[str, Dict[str, str]]]:
+        """Variants of the statement by their orders."""
+        goal = self.statement.claims[self.claim - 1]
+        chosen = self.statement.assumptions
+        orders = [order(self.statement, chosen, goal) for order in variants.ORDERS]
+        for order in [one for one in orders if one]:
+            yield variants.text_of(self.statement, chosen, [goal], order), variants.letter_names(self.statement, order)
+        for selection in variants.FEWER:
+            for _, fewer in selection(chosen, goal):
+                for order in (variants.written(self.statement, fewer, goal), variants.shown(self.statement, fewer, goal)):
+                    if order and len(fewer) < len(chosen):
+                        names = variants.letter_names(self.statement, order)
+                        yield variants.text_of(self.statement, fewer, [goal], order), names
+
+    def ask(self, text: str, names: Dict[str, str]) -> None:
+        path = self.folder / "ordered.op"
+        path.write_bytes(text.encode())
+        seconds = max(1, int(self.until - time.monotonic()))
+        _, report = self.program.report(["prove", str(path), "--no-models", "--workers", "1", "--pairs", PAIRS], seconds)
+        for _, head, block in sections(report.decode("utf-8", "replace")):
+            if not head.startswith("proved"):
+                continue
+            problem = Problem(text.encode())
+            certificates = [one._replace(claim=1) for one in Evidence(problem, ("\n".join(block) + "\n").encode()).certificates]
+            whole = join.Join(self.statement.problem)
+            try:
+                whole.add(join.Piece(problem, certificates, names))
+            except Refusal:
+                continue
+            made = whole.certificate(self.claim)
+            if made:
+                self.take(made)
+
+    def block(self) -> List[str]:
+        """The lines of the certificate: as it was found, or else the rows of the combination."""
+        assert self.best
+        certificate = self.shortest.get(self.best.denominator)
+        if certificate is None:
+            certificate = Certificate(self.claim, self.best.denominator, [Share(self.best.denominator, self.best.rows)])
+        return join.written(self.statement.problem, certificate._replace(claim=self.claim))[1:]
+
+    def model(self, prime: int) -> List[str]:
+        """The block of a model modulo the prime that breaks the claim, where one is found."""
+        lines = [line for line in self.statement.text.split("\n") if first_word(line) != "model"]
+        shapes = [f"model {prime} " + " ".join(f"{name} {side}" for name in self.statement.objects) for side in SIDES]
+        path = self.folder / "modulo.op"
+        path.write_bytes("\n".join([*lines, *shapes, ""]).encode())
+        for seed in SEEDS if prime in PRIMES else ():
+            if time.monotonic() > self.until:
+                break
+            _, report = self.program.report(["refute", str(path), "--workers", "1", "--seed", str(seed)], 20)
+            for number, head, block in sections(report.decode("utf-8", "replace")):
+                if number == self.claim and head.startswith("refuted"):
+                    return block
+        return []
+
+
+def primes_of(number: int) -> List[int]:
+    found, divisor = [], 2
+    while divisor * divisor <= number:
+        if number % divisor == 0:
+            found.append(divisor)
+            number //= divisor
+        else:
+            divisor += 1
+    return sorted(set(found + ([number] if number > 1 else [])))
+
+
+def options_of(words: List[str]) -> argparse.Namespace:
+    parser = Words(usage=USAGE, allow_abbrev=False, add_help=False)
+    parser.add_argument("statement")
+    parser.add_argument("report")
+    parser.add_argument("--seconds", type=int, default=60)
+    parser.add_argument("--keep", default="")
+    return parser.parse_args(words)
+
+
+def answer(words: List[str], folder: Path) -> Answer:
+    options = options_of(words)
+    statement = Statement(options.statement)
+    certificates = Evidence(statement.problem, options.report).certificates
+    program = Program(Path(programs.path()))
+    until = time.monotonic() + options.seconds
+    lines: List[str] = []
+    is_known = True
+    for claim in sorted({one.claim for one in certificates}):
+        search = Smaller(program, folder, statement, claim, until)
+        mine = [one for one in certificates if one.claim == claim]
+        if not is_accepted(program, folder, statement.text, join.written(statement.problem, mine[0])[1:]):
+            raise Refusal(f"# the certificate of claim {claim} is refused by `check`")
+        for one in mine:
+            search.take(one)
+        search.run()
+        told, is_least = answer_of(search, options, min(one.denominator for one in mine))
+        lines += told
+        is_known = is_known and is_least
+    return lines, 0 if is_known else 12
+
+
+def answer_of(search: Smaller, options: argparse.Namespace, before: int) -> Tuple[List[str], bool]:
+    """What is told of one claim, and whether the denominator is as small as it can be, but for powers of primes."""
+    assert search.best
+    after = min(before, search.best.denominator)
+    lines = [f"# claim {search.claim} denominator {after}" + (f", and {before} before" if after < before else "")]
+    if after < before:
+        block = search.block()
+        if is_accepted(search.program, search.folder, search.statement.text, block):
+            lines += block
+            keep(options.keep, Finding("", block, search.statement.text, f"claim_{search.claim}_denominator"))
+    is_least = True
+    for prime in primes_of(after):
+        model = search.model(prime)
+        if model and is_accepted(search.program, search.folder, search.statement.text, model):
+            lines.append(f"#   {prime} has to divide it: matrices modulo {prime} make the assumptions zero and not the claim")
+            keep(options.keep, Finding("", model, search.statement.text, f"claim_{search.claim}_modulo_{prime}"))
+        else:
+            lines.append(f"#   whether {prime} has to divide it isn't known: no matrices modulo {prime} were found")
+            is_least = False
+    return lines, is_least
+
+
+def main(words: List[str]) -> int:
+    return answered("denominator", answer, words)
