@@ -306,6 +306,14 @@ HIGHLIGHTED = [  # a text, its kind, and for some of its places, each a line and
         "5,10": "opproveNumber", "5,15": "opproveIdentity",
     }),
     ("language 2 x\n", "op", {"1,1": ""}),
+    ("a : V -> V self, b : V -> W\n13 a x, group a g # c\nclaim group a x = 1 if normal a\nequivalent: (i) a = 0 with define e = a (ii) ep a x\n", "opn", {
+        "1,12": "opnOption", "2,1": "opnWord", "2,9": "opnWord", "2,19": "opnComment", "3,1": "opnLine", "3,7": "", "3,19": "opnNumber", "3,21": "opnLine",
+        "3,24": "opnWord", "4,1": "opnLine", "4,13": "opnCase", "4,23": "opnLine", "4,28": "opnLine", "4,41": "opnCase", "4,46": "opnWord",
+    }),
+    ("use words.opn # c\nmatrices n\nrange a in b by k\nlet nil (a): a^2 = 0\n", "opn", {
+        "1,1": "opnLine", "1,5": "opnPath", "1,15": "opnComment", "2,1": "opnSetting", "3,1": "opnWord", "3,9": "opnInner", "3,14": "opnInner",
+        "4,1": "opnLine", "4,15": "opnSign",
+    }),
     ("certificate 2\nlemma 1 scale 2\nrow -1 () lemma 1 ([U])\n", "cert", {
         "1,1": "opprovecertBlock", "2,1": "opprovecertWord", "3,5": "opprovecertNumber", "3,11": "opprovecertLemma",
         "3,20": "opprovecertIdentity",
@@ -337,7 +345,7 @@ def vim(folder: Path) -> str:
     answer = run(installed("vim"), "-u", "NONE", "-es", "--cmd", "set nocompatible", "-S", "steps.vim", folder=folder)
     shown = folder / "shown"
     need(shown.exists() and shown.read_text().split("\n")[:-1] == want, (answer, shown.exists() and shown.read_text(), want))
-    return f"vim highlights {len(want)} places of statements of both languages and of evidence"
+    return f"vim highlights {len(want)} places of statements of both languages, of the notation and of evidence"
 
 
 def grammars() -> str:

@@ -1,9 +1,9 @@
 # Completion of opprove's words for bash: source editors/completions/opprove.bash
 
-# Offers files with this ending, and folders.
+# Offers files with this ending, folders, and beside statements files of the notation.
 _opprove_files() {
   compopt -o filenames
-  mapfile -t COMPREPLY < <(compgen -f -X "!*.$1" -- "$2"; compgen -d -- "$2")
+  mapfile -t COMPREPLY < <(compgen -f -X "!*.$1" -- "$2"; [ "$1" != op ] || compgen -f -X "!*.opn" -- "$2"; compgen -d -- "$2")
 }
 
 # Offers files of any name, and folders.

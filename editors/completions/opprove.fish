@@ -9,7 +9,7 @@ complete -c opprove -n __fish_use_subcommand -a bench -d 'Decide a statement tha
 complete -c opprove -n __fish_use_subcommand -a confirm -d 'Say of bases whether they are closed'
 complete -c opprove -n __fish_use_subcommand -a explain -d 'Print certificates as chains of equations'
 complete -c opprove -n __fish_use_subcommand -a cancel -d 'Check proofs that cancel monic and epic maps'
-complete -c opprove -n '__fish_seen_subcommand_from prove check refute cancel' -a '(__fish_complete_suffix .op)'
+complete -c opprove -n '__fish_seen_subcommand_from prove check refute cancel' -a '(__fish_complete_suffix .op; __fish_complete_suffix .opn)'
 complete -c opprove -n '__fish_seen_subcommand_from check cancel' -a '(__fish_complete_suffix .cert)'
 complete -c opprove -n '__fish_seen_subcommand_from model confirm explain' -F
 complete -c opprove -n '__fish_seen_subcommand_from prove' -l pairs -x -d 'Overlaps and inclusions that are treated, 1 to 1000000'

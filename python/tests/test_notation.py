@@ -3,18 +3,21 @@ from __future__ import annotations
 
 import os
 import re
+import subprocess
+import sys
 import tempfile
 import unittest
 from typing import Callable, List, Sequence, Tuple, Union
 
 from notation_rows import FILES, ROWS, SHORT, USED
 from notation_values import Written, generators_of, is_zero, values_of
-from opprove import program
+from opprove import Refused, Statement, program
 from opprove.checkers import check
 from opprove.checkers.check import Refusal
 from opprove.notation.expansion import Expansion
 from opprove.notation.shorten import Shortener
 
+ENVIRONMENT = {**os.environ, "PYTHONPATH": os.pathsep.join(sys.path)}
 COUNT = int(os.environ.get("OPPROVE_RANDOM", "100"))
 
 
@@ -65,6 +68,65 @@ class Rows(unittest.TestCase):
 
     def test_shorten(self) -> None:
         self.compare(SHORT, shortened)
+
+
+class Tools(unittest.TestCase):
+    def run_tool(self, *words: str) -> Tuple[int, str, str]:
+        done = subprocess.run([sys.executable, "-m", "opprove", *words], stdout=subprocess.PIPE, stderr=subprocess.PIPE, env=ENVIRONMENT)
+        return done.returncode, done.stdout.decode(), done.stderr.decode()
+
+    def setUp(self) -> None:
+        folder = tempfile.TemporaryDirectory()
+        self.addCleanup(folder.cleanup)
+        self.path = os.path.join(folder.name, "f.opn")
+
+    def write(self, text: str) -> None:
+        with open(self.path, "w", encoding="utf-8") as file:
+            file.write(lines(text))
+
+    def test_statements_are_printed(self) -> None:
+        self.write("a b : V -> V | range a in b | claim a = b | claim x: a = 0")
+        status, out, error = self.run_tool("expand", self.path)
+        names = [line for line in out.split("\n") if line.startswith("# statement")]
+        self.assertEqual((status, names, error), (0, ["# statement f", "# statement f-x"], "# made k line 2 column 1\n"))
+        self.assertEqual(self.run_tool("expand", self.path, "--only", "f-x")[1].split("\n")[-2], "claim a = 0")
+        self.assertEqual(self.run_tool("expand", self.path, "--only", "g")[0], 5)
+
+    def test_statements_are_written(self) -> None:
+        self.write("a b : V -> V | equivalent: (i) a = 0 (ii) b = 0")
+        place = os.path.join(os.path.dirname(self.path), "made")
+        paths = [os.path.join(place, f"f-{name}.op") for name in ("i-ii", "ii-i")]
+        told = "".join(f"# expanded {self.path}: {path}\n" for path in paths)
+        self.assertEqual(self.run_tool("expand", "--folder", place, self.path), (0, "".join(f"{path}\n" for path in paths), told))
+        self.assertEqual(self.run_tool("expand", "--folder", place, self.path)[0], 0)  # over its own statements
+        with open(paths[0], "w", encoding="utf-8") as file:
+            file.write("object V\n")
+        status, out, error = self.run_tool("expand", "--folder", place, self.path)
+        self.assertEqual((status, out, error), (5, "", f"# not written {paths[0]}: it is there, and was written by hand\n"))
+
+    def test_what_is_refused(self) -> None:
+        self.assertEqual(self.run_tool("expand", self.path), (4, "", f"# load failed {self.path}\n"))
+        self.write("a : V -> V | claim a = b")
+        self.assertEqual(self.run_tool("expand", self.path), (3, "", "# refused S6 line 2 column 11\n"))
+        self.assertEqual(self.run_tool("picture", self.path), (3, "", "# refused S6 line 2 column 11\n"))
+        self.assertEqual(self.run_tool("expand")[0], 2)
+        self.assertEqual(self.run_tool("shorten")[0], 2)
+        self.assertEqual(self.run_tool("implications", "f.op")[0], 2)
+
+    def test_tools_take_files_of_the_notation(self) -> None:
+        self.write("pinv a x | normal a | claim a x = x a")
+        status, out, error = self.run_tool("tree", self.path)
+        path = os.path.join(os.path.dirname(self.path), "f.op")
+        self.assertEqual((status, error), (0, f"# made V line 1 column 6\n# expanded {self.path}: {path}\n"))
+        self.assertEqual(out, self.run_tool("tree", path)[1])
+
+    def test_notebooks_read_them(self) -> None:
+        self.write("a b : V -> V | equivalent: (i) a = 0 (ii) b = 0")
+        self.assertEqual([*Statement.read_all(self.path)], ["f-i-ii", "f-ii-i"])
+        self.assertEqual(Statement.read(self.path, "f-i-ii").claims, ["b = 0"])
+        self.assertRaises(ValueError, Statement.read, self.path)
+        self.write("a : V -> V | claim a = b")
+        self.assertRaises(Refused, Statement.read, self.path)
 
 
 class Values(unittest.TestCase):

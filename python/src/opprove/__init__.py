@@ -11,8 +11,8 @@
 
 a * x is a after x, a.H the adjoint of a, 2 * e and e ** 3 are as usual, and an integer beside an endomorphism is so many
 identities: (1 - a * x) * a == 0. What doesn't fit together is refused at once, by NotTyped; == makes an equation, which is
-assumed or claimed and has no truth value. Statement.read(path) reads statements of both languages and str(statement) writes
-them: powers are written out, and s.eliminate(..) makes a statement one of language 2. from_sympy makes expressions of
+assumed or claimed and has no truth value. Statement.read(path) reads statements of both languages, and files of the notation (.opn)
+as what they expand to; Statement.read_all(path) reads those with several statements, by their names. str(statement) writes them: powers are written out, and s.eliminate(..) makes a statement one of language 2. from_sympy makes expressions of
 noncommutative symbols. A notebook shows a statement as its quiver and a proof as its chain.
 
 Evidence is checked again by the second checkers, and read and drawn by the tools `chain` and `picture`.

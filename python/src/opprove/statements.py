@@ -6,7 +6,8 @@ from typing import Dict, List, Optional, Tuple, Union
 
 from opprove.checkers import check
 from opprove.expressions import FACTOR, Equation, Expression, NotTyped, Object
-from opprove.program import Refused, run
+from opprove.notation import expand
+from opprove.program import Refused, files, run
 from opprove.translations import picture
 from opprove.verdicts import Verdict, verdicts
 
@@ -20,12 +21,35 @@ class Statement:
         self.names: Dict[str, Union[Object, Expression]] = {}
 
     @classmethod
-    def read(cls, path: Union[str, os.PathLike]) -> Statement:
-        """The statement of a file, with its comments."""
+    def read(cls, path: Union[str, os.PathLike], name: str = "") -> Statement:
+        """The statement of a file, with its comments; of a file of the notation (.opn) its expansion, or the one of this name where it has
+        several, which `read_all` has by their names."""
+        if os.fspath(path).endswith(expand.ENDING):
+            found = cls.read_all(path)
+            if name not in found and (name or len(found) > 1):
+                raise ValueError(f"{os.fspath(path)} has the statements {', '.join(found)}: name one")
+            return found[name or next(iter(found))]
+        return cls.read_file(os.fspath(path))
+
+    @classmethod
+    def read_all(cls, path: Union[str, os.PathLike], all_pairs: bool = False) -> Dict[str, Statement]:
+        """The statements of a file of the notation, by their names; of cases that are equivalent a circle, or all pairs."""
+        found = {}
+        try:
+            expanded = expand.read(os.fspath(path), all_pairs).statements
+        except check.Refusal as refusal:
+            raise Refused(4 if str(refusal).startswith(("# load", "# too")) else 3, str(refusal)) from None
+        for statement in expanded:
+            with files(statement.text) as paths:
+                found[statement.name] = cls.read_file(paths[0])
+        return found
+
+    @classmethod
+    def read_file(cls, path: str) -> Statement:
         made = cls()
         try:
-            problem = check.Problem(os.fspath(path))
-            made.lines = [line for _, line in check.read_lines(os.fspath(path), "")]
+            problem = check.Problem(path)
+            made.lines = [line for _, line in check.read_lines(path, "")]
         except check.Refusal as refusal:
             raise Refused(4 if str(refusal).startswith("# load failed") else 3, str(refusal)) from None
         for letter, (name, star, ends) in enumerate(zip(problem.names, problem.stars, problem.ends)):
