@@ -1,8 +1,8 @@
 """Writes a statement in the notation, and prints it: shorten STATEMENT [--eliminate]
 
 Definitions, the equations of words, chains of equations and identities are found, and declarations that the rest fixes are left out. What
-is printed has been expanded again: it has the maps, the generators and the claims of the statement, up to their order and signs. Words are
-compared as in the statement; with --eliminate definitions are put for what they are where the statement has no order of its own.
+is printed has been expanded again: it has the maps, the generators and the claims of the statement, up to the signs of these and the order
+of generators and claims. Words are compared as in the statement; with --eliminate definitions are put for what they are where the statement has no order of its own.
 """
 from __future__ import annotations
 
@@ -15,7 +15,7 @@ from typing import Dict, FrozenSet, Iterator, List, NamedTuple, Optional, Sequen
 
 from opprove.checkers import check
 from opprove.checkers.check import Line, Poly, Problem, Refusal
-from opprove.notation.expansion import NATIVE, Expansion, nodes
+from opprove.notation.expansion import Expansion, nodes
 from opprove.notation.parts import Equation, Node, Use, Word
 from opprove.notation.reader import table, written
 
@@ -187,7 +187,7 @@ class Shortener:
 
     def put_word(self, word: Word, index: int, kind: str) -> bool:
         """Puts one use of a word in the place of the first of its equations; false where there is none."""
-        polys = [(poly, number) for number, entry in enumerate(self.entries) for poly in entry.polys if self.may_hold(entry, kind)]
+        polys = [(poly, number) for number, entry in enumerate(self.entries) for poly in entry.polys if self.may_hold(word, entry, kind)]
         ways = self.matcher.find(word, index, [poly for poly, _ in polys])
         for found, places in sorted(ways, key=lambda way: [self.problem.numbers[name] for name in way[0].maps.values()]):
             numbers = sorted({polys[place][1] for place in places})
@@ -204,8 +204,10 @@ class Shortener:
         return False
 
     @staticmethod
-    def may_hold(entry: Entry, kind: str) -> bool:
-        return entry.kind == kind or (kind == "assume" and entry.kind == "word" and entry.text.split()[0] in NATIVE)
+    def may_hold(word: Word, entry: Entry, kind: str) -> bool:
+        """Whether an entry may become a part of a word: words of the language do where they stay words."""
+        stays = any(isinstance(item, Use) and entry.text.split()[0] in item.word.opening() for item in word.items)
+        return entry.kind == kind or (kind == "assume" and entry.kind == "word" and stays)
 
     # ---- Definitions
 
@@ -290,28 +292,30 @@ class Shortener:
         self.find_words("claim")
         self.shorter()
         said = {name for entry in self.entries if entry.kind == "word" for name in entry.maps} | self.defined
-        idle = {name for name in self.maps() if not any(name in entry.maps or name in entry.text.split() for entry in self.entries)}
+        idle: Set[str] = {name for name in self.maps() if not any(name in entry.maps or name in entry.text.split() for entry in self.entries)}
         for is_plain in (False, True):
-            for left_out in (said | idle, said - idle):
-                text = self.declared([name for name in self.maps() if name not in left_out or name in self.matcher.own - idle], is_plain)
+            for left_out in [idle, idle - idle]:
+                shown = [name for name in self.maps() if name not in left_out and (name not in said or name in idle | self.matcher.own)]
+                text = self.declared(shown, left_out, is_plain)
                 if text:
                     return text
         raise Refusal("# not shortened")
 
-    def declared(self, shown: List[str], is_plain: bool) -> str:
-        """The text with the signatures of these maps, and of as many more as it needs to say the same; empty where none do."""
+    def declared(self, shown: List[str], left_out: Set[str], is_plain: bool) -> str:
+        """The text with the signatures of these maps, and of as many more, but for those left out, as it needs; empty where none do."""
         while True:
             text = self.text(shown, is_plain)
             different = self.different(text)
             if not different:
                 return text
-            more = [name for name in self.maps() if name in different and name not in shown]
+            more = [name for name in self.maps() if name in different and name not in shown and name not in left_out]
             if not more:
                 return ""
             shown = [name for name in self.maps() if name in shown or name == more[0]]
 
     def different(self, text: str) -> Set[str]:
-        """Maps whose ends the text changes; all of them where it changes something else; none where it says the same."""
+        """Maps whose ends the text changes; all of them where it changes their order or can't be read; an empty name where it changes something
+        else; none where it says the same."""
         with tempfile.TemporaryDirectory() as folder:
             path, place = os.path.join(folder, "f.opn"), os.path.join(folder, "f.op")
             with open(path, "wb") as file:
@@ -325,6 +329,8 @@ class Shortener:
             other = Problem(place)
         common = [name for name in self.maps() if name in other.numbers]
         found = {name for name in common if signature_of(other, name) != signature_of(self.problem, name)}
+        if not found and common != [name for name in other.names if name in common]:  # letters have another order
+            return set(common)
         return found or (set() if says(other) == says(self.problem) and len(other.names) <= len(self.problem.names) else {""})
 
 
