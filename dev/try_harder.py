@@ -410,16 +410,18 @@ def faults(folder: Path) -> str:
         ([faulty], 3, "# refused S6 line 2 column 7\n", ""), ([folder / "missing"], 4, f"# load failed {folder / 'missing'}\n", ""),
         ([fine, "--lemmas", lemmas], 3, "", "# refused S3 line 2 column 1\n"),
         ([fine, "--lemmas", folder / "missing"], 4, "", f"# load failed {folder / 'missing'}\n"),
-        ([fine, "--only", "nothing"], 2, "", "# usage: search STATEMENT"), ([], 2, "", "# usage: search STATEMENT"),
         ([fine, "--keep", fine], 1, "", "search: "),
     ]  # fmt: skip
     for words, status, out, error in cases:
         answer = answer_of(harder(*words))
         is_line = answer.error.startswith(error) and answer.error.count("\n") == (error != "")
         need((answer.status, answer.out) == (status, out) and is_line, (words, answer))
+    for wrong in ([fine, "--only", "nothing"], []):
+        answer = answer_of(harder(*wrong))
+        need((answer.status, answer.out) == (2, "") and answer.error.startswith("usage: opprove search "), (wrong, answer))
     answer = answer_of(harder(fine, OPPROVE=str(folder / "missing")))
     need(answer.status == 1 and not answer.out and answer.error.count("\n") == 1, answer)
-    return f"{len(cases) + 1} faults of a search are told by one line"
+    return f"{len(cases) + 3} faults of a search are told by one line"
 
 
 def children(process: int) -> List[int]:

@@ -209,8 +209,9 @@ class ProveAll(Finding):
         answer = tool("prove-all", self.folder)
         self.assertEqual((answer.status, answer.out.splitlines()[0]), (12, "bad.op  # refused S15"))
         self.assertEqual(list(self.folder.glob("*.report")), [])
-        for words in ([self.folder, "--jobs", "0"], [self.folder, "--none"], []):
-            self.assertEqual(tool("prove-all", *words).status, 2)
+        self.assertEqual(tool("prove-all", self.folder, "--jobs", "0").status, 2)
+        self.assertEqual(tool("prove-all", self.folder, "--none").status, 2)
+        self.assertEqual(tool("prove-all").status, 2)
         self.assertEqual(tool("prove-all", self.folder / "none").status, 1)
 
 

@@ -127,7 +127,7 @@ class Search(unittest.TestCase):
         path = self.file(SHEAR)
         for words in (["--over", "r"], ["--seconds", "0"], ["--monic"], ["--only", "none"]):
             answer = tool("search", path, *words)
-            self.assertEqual((answer.status, answer.out, answer.error[:9]), (2, "", "# usage: "))
+            self.assertEqual((answer.status, answer.out, answer.error[:21]), (2, "", "usage: opprove search"))
         answer = tool("search", path, "--monic", "z")
         self.assertEqual((answer.status, answer.out, answer.error), (1, "", f"# no map z in {path}\n"))
         answer = tool("search", self.file(SHEAR + "claim z = a\n"))

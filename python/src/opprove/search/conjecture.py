@@ -1,8 +1,8 @@
-"""Equations between short words that follow from the assumptions: conjecture STATEMENT [--length N] [--seconds N] [--keep FOLDER]
+"""Equations between short words that follow from the assumptions
 
 Lists equations `word = word` and `word = 0` between words of at most N letters (4) with the same ends, of which each follows from the
 assumptions and none follows from those before it. The claims of the statement are left out. Behind an equation that is itself an
-assumption or its adjoint stands `# given`. It is for exploring: the list has what rules found within the time (20 seconds), and more
+assumption or its adjoint stands `# given`. It is for exploring: the list has what rules found within the time, and more
 may follow. FOLDER gets `conjecture.op`, which claims the equations that aren't given, 100 at most, to be asked of `prove`.
 
 Status 0.
@@ -14,12 +14,12 @@ import time
 from pathlib import Path
 from typing import Dict, FrozenSet, Iterator, List, NamedTuple, Set, Tuple
 
+from opprove import second_check
 from opprove.checkers.check import Problem
 from opprove.search.engine import Alphabet, Basis, Bounds, Ledger, Poly, Sum, add, started
-from opprove.search.findings import Answer, Words, answered, is_certified, marks_of, text_of, with_claims
+from opprove.search.findings import Answer, answered, marks_of, positive, text_of, with_claims, words_of
 from opprove.search.proofs import Writer, proof_of
 
-USAGE = "opprove conjecture STATEMENT [--length N] [--seconds N] [--keep FOLDER]"
 PAIRS, MOST_CLAIMS = 20000, 100
 
 
@@ -90,15 +90,9 @@ class Conjecture:
 
 
 def options_of(words: List[str]) -> argparse.Namespace:
-    parser = Words(usage=USAGE, allow_abbrev=False, add_help=False)
-    parser.add_argument("statement")
-    parser.add_argument("--length", type=int, default=4)
-    parser.add_argument("--seconds", type=int, default=20)
-    parser.add_argument("--keep", default="")
-    options = parser.parse_args(words)
-    if options.length < 1 or options.seconds < 1:
-        parser.error("")
-    return options
+    made = words_of("conjecture", __doc__, 20)
+    made.add_argument("--length", type=positive, default=4, metavar="N", help="letters of a word at most (4)")
+    return made.parse_args(words)
 
 
 def answer(words: List[str], folder: Path) -> Answer:
@@ -110,7 +104,7 @@ def answer(words: List[str], folder: Path) -> Answer:
     search = Conjecture(bare, options.length, time.monotonic() + options.seconds)
     lines = []
     for equation in search.run():
-        if equation.is_given or is_proved(search, folder, text, marks, equation):
+        if equation.is_given or is_proved(search, text, marks, equation):
             lines.append(equation.text + "  # given" * equation.is_given)
     claims = [line for line in lines if not line.endswith("# given")][:MOST_CLAIMS]
     if options.keep and claims:
@@ -119,13 +113,11 @@ def answer(words: List[str], folder: Path) -> Answer:
     return lines, 0
 
 
-def is_proved(search: Conjecture, folder: Path, text: str, marks: List[str], equation: Equation) -> bool:
+def is_proved(search: Conjecture, text: str, marks: List[str], equation: Equation) -> bool:
     """Whether the certificate of an equation is accepted by the second checker."""
     proof = proof_of(search.basis.ledger, 1, search.basis.reduce(equation.poly))
-    paths = [folder / "conjecture.op", folder / "conjecture.cert"]
-    paths[0].write_bytes(with_claims(text, [equation.text], marks).encode("utf-8", "surrogateescape"))
-    paths[1].write_text("\n".join(Writer(proof).block()) + "\n", encoding="utf-8")
-    return is_certified([str(path) for path in paths])
+    statement = with_claims(text, [equation.text], marks).encode("utf-8", "surrogateescape")
+    return second_check.is_accepted(statement, ("\n".join(Writer(proof).block()) + "\n").encode())
 
 
 def main(words: List[str]) -> int:

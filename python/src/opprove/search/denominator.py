@@ -1,4 +1,4 @@
-"""Smaller denominators: denominator STATEMENT REPORT [--seconds N] [--keep FOLDER]
+"""Smaller denominators
 
 For each proved claim of the report whose denominator isn't 1 it looks for a certificate with a smaller one: by other orders of words
 and with the claim and lemmas in other ways, and by integer combinations of the rows that are known, as 2 and 3 times a claim give it
@@ -6,7 +6,7 @@ once. The best certificate is printed, which `check` accepts for STATEMENT. For 
 matrices modulo that prime which make the assumptions zero and not the claim: then that prime has to divide each denominator, a line
 says so, and FOLDER gets the model. A claim that others prove is compared: the report may have several certificates of it.
 
-Statuses: 0 where each denominator is 1 or is shown to be divided by all of its primes, 12 where that isn't known (60 seconds).
+Statuses: 0 where each denominator is 1 or is shown to be divided by all of its primes, 12 where that isn't known.
 """
 from __future__ import annotations
 
@@ -19,11 +19,10 @@ from typing import Dict, Iterator, List, NamedTuple, Optional, Tuple
 from opprove import program as programs
 from opprove.checkers.check import Certificate, Evidence, Problem, Refusal, Row, Share
 from opprove.search import join, variants
-from opprove.search.findings import Answer, Finding, Words, answered, first_word, is_accepted, keep, sections
+from opprove.search.findings import Answer, Finding, answered, first_word, is_accepted, keep, sections, words_of
 from opprove.search.running import Program
 from opprove.search.variants import Statement
 
-USAGE = "opprove denominator STATEMENT REPORT [--seconds N] [--keep FOLDER]"
 PAIRS, PRIMES = "5000", (2, 3, 5, 7, 101, 32003, 65537)  # the moduli that a search for models may have
 SEEDS, SIDES = (1, 2, 3), (1, 2, 3)
 
@@ -114,15 +113,14 @@ class Smaller:
         """Variants of the statement by their orders."""
         goal = self.statement.claims[self.claim - 1]
         chosen = self.statement.assumptions
-        orders = [order(self.statement, chosen, goal) for order in variants.ORDERS]
-        for order in [one for one in orders if one]:
-            yield variants.text_of(self.statement, chosen, [goal], order), variants.letter_names(self.statement, order)
+        asked = [(chosen, ordering) for ordering in variants.ORDERS]
         for selection in variants.FEWER:
-            for _, fewer in selection(chosen, goal):
-                for order in (variants.written(self.statement, fewer, goal), variants.shown(self.statement, fewer, goal)):
-                    if order and len(fewer) < len(chosen):
-                        names = variants.letter_names(self.statement, order)
-                        yield variants.text_of(self.statement, fewer, [goal], order), names
+            smaller = [fewer for _, fewer in selection(chosen, goal) if len(fewer) < len(chosen)]
+            asked += [(fewer, ordering) for fewer in smaller for ordering in variants.ORDERS[:1]]
+        for fewer, ordering in asked:
+            order = ordering(self.statement, fewer, goal)
+            if order:
+                yield variants.text_of(self.statement, fewer, [goal], order), variants.letter_names(self.statement, order)
 
     def ask(self, text: str, names: Dict[str, str]) -> None:
         path = self.folder / "ordered.op"
@@ -179,12 +177,9 @@ def primes_of(number: int) -> List[int]:
 
 
 def options_of(words: List[str]) -> argparse.Namespace:
-    parser = Words(usage=USAGE, allow_abbrev=False, add_help=False)
-    parser.add_argument("statement")
-    parser.add_argument("report")
-    parser.add_argument("--seconds", type=int, default=60)
-    parser.add_argument("--keep", default="")
-    return parser.parse_args(words)
+    made = words_of("denominator", __doc__, 60)
+    made.add_argument("report", metavar="REPORT", help="certificates, or a report that has some")
+    return made.parse_args(words)
 
 
 def answer(words: List[str], folder: Path) -> Answer:

@@ -1,4 +1,4 @@
-"""Solutions k of u = v k: exists STATEMENT [--left E] [--right E] [--seconds N] [--keep FOLDER]
+"""Solutions k of u = v k
 
 That v divides u from the left, which is that there is a k with u = v k, can be claimed of a new map w with `assume w v = 0` and
 `claim w u = 0`: where that has a proof by rows, its rows give k. For each claim it finds the maps that are written so, w in front (or
@@ -8,7 +8,7 @@ it with the statement that claims `u = v k`, which doesn't mention w, and its ce
 With --left E and a statement that has no such maps it looks for k with u = E k for each claim u = 0, with --right E for u = k E, and
 with both for u = E k + l F. Where an integer other than 1 stands in front of u, it has to cancel.
 
-Statuses: 0 where each claim has its k, 12 where one has none that was found (60 seconds), or isn't written so.
+Statuses: 0 where each claim has its k, 12 where one has none that was found, or isn't written so.
 """
 from __future__ import annotations
 
@@ -17,13 +17,12 @@ from pathlib import Path
 from typing import Dict, List, NamedTuple, Optional, Sequence, Tuple
 
 from opprove import program as programs
-from opprove.checkers.check import Evidence, Poly, Problem, Row, Word, add
+from opprove.checkers.check import Certificate, Evidence, Poly, Problem, Row, Share, Word, add
 from opprove.search import join
-from opprove.search.findings import ORDER_WORDS, Answer, Finding, Words, answered, first_word, is_accepted, keep, lines_of
-from opprove.search.findings import proved_block, text_of, with_claims
+from opprove.search.findings import ORDER_WORDS, Answer, Finding, answered, first_word, is_accepted, keep, lines_of
+from opprove.search.findings import proved_block, text_of, with_claims, words_of
 from opprove.search.running import Program
 
-USAGE = "opprove exists STATEMENT [--left E] [--right E] [--seconds N] [--keep FOLDER]"
 PAIRS = "50000"
 
 
@@ -189,13 +188,10 @@ def fresh_names(problem: Problem) -> List[str]:
 
 
 def options_of(words: List[str]) -> argparse.Namespace:
-    parser = Words(usage=USAGE, allow_abbrev=False, add_help=False)
-    parser.add_argument("statement")
-    parser.add_argument("--left", default="")
-    parser.add_argument("--right", default="")
-    parser.add_argument("--seconds", type=int, default=60)
-    parser.add_argument("--keep", default="")
-    return parser.parse_args(words)
+    made = words_of("exists", __doc__, 60)
+    made.add_argument("--left", default="", metavar="E", help="the factor v of u = v k")
+    made.add_argument("--right", default="", metavar="E", help="the factor v of u = k v")
+    return made.parse_args(words)
 
 
 def answer(words: List[str], folder: Path) -> Answer:
@@ -251,7 +247,7 @@ def finding_of(problem: Problem, text: str, claim: int, witness: Witness, sides:
     rows = moved(problem, fresh, witness)
     if rows is None:
         return None
-    lines = join.written(fresh, join.Certificate(1, 1, [join.Share(1, rows)]))[1:]
+    lines = join.written(fresh, Certificate(1, 1, [Share(1, rows)]))[1:]
     names = [side for side in sides if side]
     solutions = ", ".join(f"{name} = {expression(problem, one) if one else '0'}" for name, (_, one) in zip(("k", "l") if len(names) == 2 else ("k",), witness.products))
     return Finding(f"claim {claim}: {scale}({expression(problem, witness.u)}) = {right} with {solutions}", lines, statement, f"exists_{claim}")

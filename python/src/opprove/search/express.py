@@ -1,4 +1,4 @@
-"""Formulas for maps by the others: express STATEMENT MAP.. [--by MAP,..] [--seconds N] [--keep FOLDER]
+"""Formulas for maps by the others
 
 For each MAP it looks for an equation `MAP = formula` that follows from the assumptions, in which none of the named maps stands
 on the right, and with --by no maps but those. The claims of the statement are left out. Orders in which the named maps are above
@@ -6,7 +6,7 @@ all others are tried in turn, and sums of short words; the shortest formula is p
 certificate that `check` accepts for that statement; FOLDER gets both as files. Where the rules of such an order are closed and leave
 the map as it is, there is no such equation, and the line says so.
 
-Statuses: 0 where each map has a formula, 12 where one has none that was found (20 seconds, or N).
+Statuses: 0 where each map has a formula, 12 where one has none that was found.
 """
 from __future__ import annotations
 
@@ -20,12 +20,11 @@ from typing import Dict, Iterator, List, NamedTuple, Optional, Sequence, Set
 from opprove import program as programs
 from opprove.checkers.check import Problem
 from opprove.search.engine import Alphabet, Basis, Bounds, Ledger, Poly, add, started
-from opprove.search.findings import Answer, Finding, Words, answered, is_accepted, keep, lines_of, marks_of, text_of, with_claims
+from opprove.search.findings import Answer, Finding, answered, is_accepted, keep, lines_of, marks_of, names, text_of, with_claims, words_of
 from opprove.search.proofs import Proof, Writer, poly_text, proof_of
 from opprove.search.running import Program, Unusable
 from opprove.search.spans import Span
 
-USAGE = "opprove express STATEMENT MAP.. [--by MAP,..] [--seconds N] [--keep FOLDER]"
 ABOVE, STAGES = 500, (200, 800, 3200)  # the weight of a map that is eliminated; pairs
 MOST_LENGTH, MOST_WORDS = 5, 20000  # of words that are added up
 
@@ -143,13 +142,10 @@ class Express:
 
 
 def options_of(words: List[str]) -> argparse.Namespace:
-    parser = Words(usage=USAGE, allow_abbrev=False, add_help=False)
-    parser.add_argument("statement")
-    parser.add_argument("maps", nargs="+")
-    parser.add_argument("--by", type=lambda text: text.split(","), default=[])
-    parser.add_argument("--seconds", type=int, default=20)
-    parser.add_argument("--keep", default="")
-    return parser.parse_args(words)
+    made = words_of("express", __doc__, 20)
+    made.add_argument("maps", nargs="+", metavar="MAP", help="a map, or an adjoint")
+    made.add_argument("--by", type=names, default=[], metavar="MAP,..", help="the maps that formulas may have")
+    return made.parse_args(words)
 
 
 def answer(words: List[str], folder: Path) -> Answer:

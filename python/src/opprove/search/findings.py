@@ -8,14 +8,14 @@ from __future__ import annotations
 import argparse
 import os
 import re
-import sys
 import tempfile
 from pathlib import Path
-from typing import Callable, Iterable, Iterator, List, NamedTuple, NoReturn, Optional, Sequence, Tuple
+from typing import Callable, Iterable, Iterator, List, NamedTuple, Optional, Sequence, Tuple
 
 from opprove import second_check
-from opprove.checkers.check import NO_MEMORY, NO_OUTPUT, USAGE, Problem, Refusal, status_of, written
+from opprove.checkers.check import NO_MEMORY, NO_OUTPUT, Problem, Refusal, status_of, written
 from opprove.search.running import Program, Unusable
+from opprove.tool import parser, say
 
 HEAD = re.compile(r"^# claim ([0-9]+) (.*)\n", re.MULTILINE)
 ORDER_WORDS = ("order", "eliminate")
@@ -107,11 +107,31 @@ def is_accepted(program: Program, folder: Path, statement: str, block: Sequence[
 # ---- Tools
 
 
-class Words(argparse.ArgumentParser):
-    """Words of a call; a fault is one line."""
+def positive(text: str) -> int:
+    """A number of words, from 1."""
+    if not text.isdecimal() or int(text) < 1:
+        raise argparse.ArgumentTypeError(f"{text} is no positive number")
+    return int(text)
 
-    def error(self, message: str) -> NoReturn:
-        raise Unusable(f"# usage: {self.usage}")
+
+def names(text: str) -> List[str]:
+    """Names with commas between them."""
+    return [name for name in text.split(",") if name]
+
+
+def words_of(word: str, page: Optional[str], seconds: int) -> argparse.ArgumentParser:
+    """For the words of a tool that takes a statement, so many seconds where no others are given, and a folder."""
+    made = parser(word, page)
+    made.add_argument("statement", metavar="STATEMENT", help="a statement")
+    made.add_argument("--seconds", type=positive, default=seconds, metavar="N", help=f"ends after so many ({seconds})")
+    made.add_argument("--keep", default="", metavar="FOLDER", help="gets each statement with its evidence")
+    return made
+
+
+def add_scheduler(made: argparse.ArgumentParser) -> None:
+    """The words on where runs are made."""
+    made.add_argument("--jobs", type=positive, default=os.cpu_count() or 1, metavar="N", help="runs at a time here (a processor each)")
+    made.add_argument("--scheduler", default="", metavar="ADDRESS", help="a Dask scheduler, whose workers make the runs of the program")
 
 
 def keep(folder: str, finding: Finding) -> None:
@@ -136,9 +156,9 @@ def answered(name: str, answer: Callable[[List[str], Path], Answer], words: List
     try:
         with tempfile.TemporaryDirectory(prefix="opprove-") as folder:
             lines, status = answer(words, Path(folder))
-        return status if written(lines) else NO_OUTPUT
+        return status if written(lines) else complained("# standard output failed", NO_OUTPUT)
     except Unusable as what:
-        return complained(str(what), USAGE if str(what).startswith("# usage") else 1)
+        return complained(str(what), 1)
     except Refusal as what:
         return complained(str(what), status_of(str(what)))
     except MemoryError:
@@ -148,6 +168,5 @@ def answered(name: str, answer: Callable[[List[str], Path], Answer], words: List
 
 
 def complained(line: str, status: int) -> int:
-    sys.stderr.buffer.write(f"{line}\n".encode("utf-8", "surrogateescape"))
-    sys.stderr.flush()
+    say(line)
     return status

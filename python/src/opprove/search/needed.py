@@ -1,4 +1,4 @@
-"""The least sets of assumptions from which a claim follows: needed STATEMENT [--seconds N] [--pairs N] [--jobs N] [--keep FOLDER] [..]
+"""The least sets of assumptions from which a claim follows
 
 For each claim it finds the least sets of equations from which `prove` proves it, smallest first, each with a certificate that uses no
 others and that `check` accepts for STATEMENT; which equations are in none of them, and so aren't needed; and which are in all. What
@@ -7,14 +7,12 @@ proved, told by what they leave out, each with matrices that break the claim or 
 statements with their evidence. Not all subsets are tried: what follows from fewer follows from more, and what a certificate doesn't
 use isn't needed.
 
-Each run has N pairs (5000), and all take N seconds (60) at most; --jobs N claims are looked at side by side, and with --scheduler
-ADDRESS the workers of a Dask scheduler make the runs. Statuses: 0 where the lists are complete, 12 where the time was over before
+Statuses: 0 where the lists are complete, 12 where the time was over before
 that, or where a claim isn't proved from all assumptions.
 """
 from __future__ import annotations
 
 import argparse
-import os
 import time
 from pathlib import Path
 from typing import Dict, FrozenSet, List, NamedTuple, Optional, Sequence, Set, Tuple
@@ -23,11 +21,10 @@ from opprove import program as programs
 from opprove.checkers.check import ABBREVIATIONS, Certificate, Evidence, Problem, Refusal
 from opprove.search import join, variants
 from opprove.search.asking import Asker, side_by_side
-from opprove.search.findings import Answer, Finding, Words, answered, is_accepted, keep, sections
+from opprove.search.findings import Answer, Finding, add_scheduler, answered, is_accepted, keep, positive, sections, words_of
 from opprove.search.running import Program
 from opprove.search.variants import Statement
 
-USAGE = "opprove needed STATEMENT [--seconds N] [--pairs N] [--jobs N] [--keep FOLDER] [--scheduler ADDRESS]"
 Units = FrozenSet[int]  # equations, by their numbers from 0
 
 
@@ -227,17 +224,10 @@ def label_of(statement: Statement, unit: int) -> str:
 
 
 def options_of(words: List[str]) -> argparse.Namespace:
-    parser = Words(usage=USAGE, allow_abbrev=False, add_help=False)
-    parser.add_argument("statement")
-    parser.add_argument("--seconds", type=int, default=60)
-    parser.add_argument("--pairs", type=int, default=5000)
-    parser.add_argument("--jobs", type=int, default=os.cpu_count() or 1)
-    parser.add_argument("--keep", default="")
-    parser.add_argument("--scheduler", default="")
-    options = parser.parse_args(words)
-    if min(options.seconds, options.pairs, options.jobs) < 1:
-        parser.error("")
-    return options
+    made = words_of("needed", __doc__, 60)
+    made.add_argument("--pairs", type=positive, default=5000, metavar="N", help="pairs of a run (5000)")
+    add_scheduler(made)
+    return made.parse_args(words)
 
 
 def answer(words: List[str], folder: Path) -> Answer:

@@ -13,7 +13,7 @@ PAIRS, STEPS, LIMIT, SECONDS = 500, 20_000, 1_000_000, 1  # of level 0; each lev
 # did it for another goal; models; the statement as it is; letters and stars that are taken off, those that were named or any;
 # and models of rational numbers. Cheap ones have a low rank.
 FEWER, OTHER, BOTH, ALONE, AGAIN, MODELS, AS_WRITTEN, NAMED, ANY, RATIONAL = range(10)
-RANKS = [0, 0, 1, 2, 0, 1, 0, 0, 1, 0]
+RANKS = [0, 0, 1, 2, 0, 1, 0, -1, 1, 0]
 AS_IT_IS = "the statement as it is"
 WORKER = {NAMED: "cancellations", ANY: "any cancellations", RATIONAL: "rational matrices"}  # what is run in Python
 WORKER_SECONDS = 4  # of level 0

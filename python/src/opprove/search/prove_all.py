@@ -1,12 +1,11 @@
-"""Many statements at once: prove-all FOLDER [--jobs N] [--seconds N] [--scheduler ADDRESS] [OPTION OF prove ..]
+"""Many statements at once
 
 Proves each statement `*.op` of a folder and of those in it, side by side, and writes each report beside its statement, as NAME.report.
 A report begins with a comment that has the words of the run, its status, and a digest of statement and words: where it is there and
 fits, the statement isn't proved again. What is printed is a table with a line for each statement, and one with the counts.
 
---jobs N makes N runs at a time on this machine, and --scheduler ADDRESS has them made by the workers of a Dask scheduler. A run ends
-after N seconds (600) of processor time. Other words, as `--pairs 20000`, are those of `prove`. A run whose status isn't a verdict
-leaves no report. On a terminal a line says what is done.
+Words that aren't below, as `--pairs 20000`, are those of `prove`. A run whose status isn't a verdict leaves no report. On a terminal a
+line says what is done.
 
 Statuses: 0 where each claim of all statements is proved, 12 where some claim is undecided or some run has no verdict, else 11 where
 some claim is refuted, else 10.
@@ -22,10 +21,10 @@ from typing import Dict, List, NamedTuple, Optional
 
 from opprove import program as programs
 from opprove.search.asking import Asker, side_by_side
-from opprove.search.findings import HEAD, Answer, Words, answered
+from opprove.search.findings import HEAD, Answer, add_scheduler, answered, positive
 from opprove.search.running import Program, Progress, Unusable
+from opprove.tool import parser
 
-USAGE = "opprove prove-all FOLDER [--jobs N] [--seconds N] [--scheduler ADDRESS] [OPTION OF prove ..]"
 VERDICTS = (0, 10, 11, 12)  # statuses
 WORDS = ("proved", "not derivable", "refuted", "undecided")
 CAUSES = {1: "killed or not started", 2: "wrong words", 3: "the statement is refused", 4: "not loaded", 5: "no output", 6: "no memory"}
@@ -102,15 +101,11 @@ def told(verdicts: List[str]) -> str:
 
 
 def options_of(words: List[str]) -> "tuple[argparse.Namespace, List[str]]":
-    parser = Words(usage=USAGE, allow_abbrev=False, add_help=False)
-    parser.add_argument("folder")
-    parser.add_argument("--jobs", type=int, default=os.cpu_count() or 1)
-    parser.add_argument("--seconds", type=int, default=600)
-    parser.add_argument("--scheduler", default="")
-    options, others = parser.parse_known_args(words)
-    if options.jobs < 1 or options.seconds < 1:
-        parser.error("")
-    return options, others
+    made = parser("prove-all", __doc__)
+    made.add_argument("folder", metavar="FOLDER", help="a folder of statements")
+    made.add_argument("--seconds", type=positive, default=600, metavar="N", help="of processor time, after which a run ends (600)")
+    add_scheduler(made)
+    return made.parse_known_args(words)
 
 
 def answer(words: List[str], folder: Path) -> Answer:
@@ -126,7 +121,7 @@ def answer(words: List[str], folder: Path) -> Answer:
         found = list(side_by_side(jobs, all_of.proved, paths))
         all_of.progress.clear()
     if any(one.status == 2 for one in found):
-        raise Unusable("# usage: " + USAGE)
+        return [f"# prove doesn't take {' '.join(others)}"], 2
     return lines_of(found, Path(options.folder)), status_of(found)
 
 

@@ -1,4 +1,4 @@
-"""Searches around the program: search STATEMENT [--monic LETTER,..] [--epic LETTER,..] [--complex] [--over q] [--seconds N] [..]
+"""Searches around the program
 
 Looks for evidence on each claim, side by side, until each is settled or the time is over (60 seconds, or N), and prints a report
 as `opprove prove` does, of which the program and the second checkers accept each block for the statement as it was written:
@@ -11,9 +11,7 @@ as `opprove prove` does, of which the program and the second checkers accept eac
 - with --complex, proofs by `r' r = 0 gives r = 0`, which holds for complex matrices and for operators between Hilbert spaces: as a
   `star proof 1`, which star.py reads, and for matrices as a statement with Moore-Penrose inverses and a certificate for `check`.
 
---jobs N runs so many at a time, and --scheduler ADDRESS has the runs of the program made by the workers of a Dask scheduler.
---lemmas FILE has lines `claim E = E`, which are tried first. --keep FOLDER gets the variants, and each block as a file.
---only NAME,.. leaves what has these names: of selections lemmas, inside, paired, near, light (fewer assumptions), given, whole (all
+--keep FOLDER gets the variants, and each block as a file. --only NAME,.. leaves what has these names: of selections lemmas, inside, paired, near, light (fewer assumptions), given, whole (all
 of them, without and with lemmas); of orders written, defined, eliminated, hidden, second, shown, adjoints, backwards, degree; and
 models, cancellations, rationals. On a terminal a line says what is under way; an interrupt prints what was found so far.
 
@@ -27,11 +25,9 @@ import errno
 import json
 import os
 import re
-import sys
-import tempfile
 import time
 from pathlib import Path
-from typing import Any, Dict, List, NoReturn, Optional, Set, Tuple
+from typing import Any, Dict, List, Optional, Set, Tuple
 
 from opprove import second_check
 from opprove.search import join
@@ -266,33 +262,20 @@ def shapes(polys: List[Poly]) -> Set[join.Shape]:
     return {frozenset(poly.items()) for poly in polys if poly}
 
 
-class Words(argparse.ArgumentParser):
-    def error(self, message: str) -> NoReturn:
-        raise Unusable(f"# usage: {(__doc__ or '').splitlines()[0].split(': ', 1)[1]}")
-
-
-def letters(text: str) -> List[str]:
-    return [name for name in text.split(",") if name]
-
-
 def options_of(words: List[str]) -> argparse.Namespace:
-    parser = Words(description=__doc__, formatter_class=argparse.RawDescriptionHelpFormatter, allow_abbrev=False)
-    parser.add_argument("statement")
-    parser.add_argument("--seconds", type=int, default=60)
-    parser.add_argument("--jobs", type=int, default=os.cpu_count() or 1)
-    parser.add_argument("--only", type=lambda text: text.split(","), default=[])
-    parser.add_argument("--lemmas")
-    parser.add_argument("--keep", default="")
-    parser.add_argument("--monic", type=letters, default=[])
-    parser.add_argument("--epic", type=letters, default=[])
-    parser.add_argument("--complex", action="store_true")
-    parser.add_argument("--over", choices=["q"], default="")
-    parser.add_argument("--scheduler", default="")
-    options = parser.parse_args(words)
+    made = findings.words_of("search", __doc__, 60)
+    made.add_argument("--monic", type=findings.names, default=[], metavar="LETTER,..", help="maps that are monic (injective)")
+    made.add_argument("--epic", type=findings.names, default=[], metavar="LETTER,..", help="maps that are epic (onto)")
+    made.add_argument("--complex", action="store_true", help="proofs for complex matrices and operators between Hilbert spaces")
+    made.add_argument("--over", choices=["q"], default="", help="rational matrices instead of those modulo a prime")
+    made.add_argument("--lemmas", metavar="FILE", help="lines `claim E = E`, which are tried first")
+    made.add_argument("--only", type=findings.names, default=[], metavar="NAME,..", help="what is tried, by its names")
+    findings.add_scheduler(made)
+    options = made.parse_args(words)
     # Matrices modulo a prime say nothing of complex ones, nor have they the maps monic and epic that are named so.
     options.is_special = bool(options.over or options.complex or options.monic or options.epic)
-    if options.seconds < 1 or options.jobs < 1 or not set(options.only) <= set(variants.NAMES):
-        parser.error("")
+    if not set(options.only) <= set(variants.NAMES):
+        made.error(f"--only takes {', '.join(variants.NAMES)}")
     return options
 
 
@@ -314,29 +297,14 @@ def searched(options: argparse.Namespace, folder: Path) -> Tuple[List[str], int]
     return search.report()
 
 
-def main(words: List[str]) -> int:
-    error, status = "", 1
-    try:
-        options = options_of(words)
-        if options.keep:
-            os.makedirs(options.keep, exist_ok=True)
-        with Interrupts() as options.interrupts, tempfile.TemporaryDirectory() as name:
-            lines, status = searched(options, Path(name))
-    except Unusable as what:
-        error, status = str(what), 2 if str(what).startswith("# usage") else 1
-    except Refusal as what:
-        error, status = str(what), 4 if str(what).startswith("# load") else 3
-    except (OSError, MemoryError) as what:
-        error = f"search: {what or 'no memory'}"
-    try:
-        if error:
-            sys.stderr.buffer.write(f"{error}\n".encode("utf-8", "surrogateescape"))
-        else:
-            sys.stdout.buffer.write("".join(line + "\n" for line in lines).encode("utf-8", "surrogateescape"))
-            sys.stdout.buffer.flush()
-    except OSError:
-        os.dup2(os.open(os.devnull, os.O_WRONLY), 1)  # what could not be written is not tried again
-        sys.stderr.write("# standard output failed\n")
-        return 5
-    return status
+def answer(words: List[str], folder: Path) -> findings.Answer:
+    options = options_of(words)
+    if options.keep:
+        os.makedirs(options.keep, exist_ok=True)
+    with Interrupts() as options.interrupts:
+        return searched(options, folder)
 
+
+def main(words: List[str]) -> int:
+    """Writes the report, and returns its status."""
+    return findings.answered("search", answer, words)
