@@ -115,10 +115,10 @@ class Tools(unittest.TestCase):
 
     def test_tools_take_files_of_the_notation(self) -> None:
         self.write("pinv a x | normal a | claim a x = x a")
-        status, out, error = self.run_tool("tree", self.path)
+        status, out, error = self.run_tool("picture", self.path, "--dot")
         path = os.path.join(os.path.dirname(self.path), "f.op")
         self.assertEqual((status, error), (0, f"# made V line 1 column 6\n# expanded {self.path}: {path}\n"))
-        self.assertEqual(out, self.run_tool("tree", path)[1])
+        self.assertEqual(out, self.run_tool("picture", path, "--dot")[1])
 
     def test_notebooks_read_them(self) -> None:
         self.write("a b : V -> V | equivalent: (i) a = 0 (ii) b = 0")
