@@ -10,7 +10,7 @@ export LC_ALL=C
 umask 022
 top=$(cd "$(dirname "${BASH_SOURCE[0]}")/.." && pwd)
 built=$top/out
-needed_tools=(git gcc strip objdump dpkg dpkg-deb gzip tar sha256sum)
+needed_tools=(git gcc python3 strip objdump dpkg dpkg-deb gzip tar sha256sum)
 
 stop() {
   echo "release: $*" >&2
@@ -25,8 +25,6 @@ look_at_version() {
   [ "$(head -n 1 "$top/CHANGELOG.md" 2>/dev/null)" = "# $version" ] || stop "CHANGELOG.md has to begin with the version, '# $version'"
   grep -qsFx "version: \"$version\"" "$top/CITATION.cff" || stop "CITATION.cff has to have the line 'version: \"$version\"'"
   [ "$(cat "$top/python/src/opprove/VERSION" 2>/dev/null)" = "$version" ] || stop "python/src/opprove/VERSION has to hold the version, '$version'"
-  grep -qsFx "This page is of version $version." "$top/editors/opprove.1" ||
-    stop "editors/opprove.1 has to have the line 'This page is of version $version.'"
 }
 
 # The checksum of all that the program is made of, as ./opprove keeps it.
@@ -39,7 +37,7 @@ sources() {
 
 look_at_program() {
   local kept
-  { [ -x "$built/opprove" ] && [ -f "$built/opprove.o" ] && [ -f "$built/opprove.sources" ]; } ||
+  { [ -x "$built/opprove" ] && [ -f "$built/opprove.sources" ]; } ||
     stop "the program isn't built; ./opprove build proves and builds it"
   mapfile -t kept <"$built/opprove.sources"
   kit=$(dirname "${kept[0]:-}") kit_name=${kept[1]:-} sources=${kept[2]:-}
@@ -66,9 +64,10 @@ look_at_owner() {
 
 # ---- The files
 
-# Links the static program, from the same object and archives as rt did.
+# Links the static program, from the same object and archives as rt did. There is none where rt kept the program alone.
 link_static() {
-  gcc -static -o "$tree/bin/opprove-static" "$built/opprove.o" "$kit/c/libos_c.a" "$kit/c/liblibc_c.a" -lpthread >"$room/said" 2>&1 ||
+  [ -f "$built/opprove.o" ] || return 0
+  gcc -static -o "$programs/opprove-static" "$built/opprove.o" "$kit/c/libos_c.a" "$kit/c/liblibc_c.a" -lpthread >"$room/said" 2>&1 ||
     stop "the static program can't be linked: $(head -n 1 "$room/said")"
 }
 
@@ -92,25 +91,31 @@ put() {
   cp -r "${@:2}" "$tree/$1"
 }
 
+# Writes what a tool of the package prints to a file.
+made() {
+  mkdir -p "$(dirname "$tree/$1")"
+  COLUMNS=80 SOURCE_DATE_EPOCH=$stamp python3 -IB python/src "${@:2}" >"$tree/$1" || stop "opprove ${*:2} fails"
+}
+
 fill() {
-  local source=$room/source tool
-  mkdir -p "$source" "$tree/bin" "$tree/share/man/man1"
-  git -C "$top" archive HEAD -- . ':!crates' | tar -xf - -C "$source"
-  cp "$built/opprove" "$tree/bin/opprove"
-  link_static
-  strip "$tree/bin/opprove" "$tree/bin/opprove-static"
-  chmod 755 "$tree/bin/opprove" "$tree/bin/opprove-static"
-  cd "$source/editors"
-  gzip -9n <opprove.1 >"$tree/share/man/man1/opprove.1.gz"
-  put share/bash-completion/completions completions/opprove.bash
-  mv "$tree/share/bash-completion/completions/opprove.bash" "$tree/share/bash-completion/completions/opprove"
-  put share/zsh/site-functions completions/_opprove
-  put share/fish/vendor_completions.d completions/opprove.fish
-  put share/vim/vimfiles vim/ftdetect vim/syntax
-  put share/opprove/editors textmate
+  local source=$room/source
+  programs=$tree/lib/opprove
+  mkdir -p "$source" "$tree/bin" "$programs" "$tree/share/opprove"
+  git -C "$top" archive HEAD -- . ':!crates' ':!dev' | tar -xf - -C "$source"
   cd "$source"
-  mkdir -p "$tree/share/opprove"
-  cp -rL python/src "$tree/share/opprove/python"
+  cp opprove "$tree/bin/opprove"
+  cp "$built/opprove" "$programs/opprove"
+  link_static
+  strip "$programs"/*
+  chmod 755 "$tree/bin/opprove" "$programs"/*
+  cp -r python/src "$tree/share/opprove/python"
+  made share/man/man1/opprove.1 manual
+  gzip -9n "$tree/share/man/man1/opprove.1"
+  made share/bash-completion/completions/opprove completions bash
+  made share/zsh/site-functions/_opprove completions zsh
+  made share/fish/vendor_completions.d/opprove.fish completions fish
+  put share/vim/vimfiles editors/vim/ftdetect editors/vim/syntax
+  put share/opprove/editors editors/textmate
   put share/doc/opprove README.md CHANGELOG.md CONTRIBUTING.md docs examples ${licences[@]+"${licences[@]}"}
   ((authors == 0)) || put share/doc/opprove CITATION.cff
   put share/doc/opprove/python python/README.md
@@ -159,11 +164,15 @@ proved() {
   echo "revision $revision"
   echo "kit $kit_name"
   echo "sources $sources"
-  echo "object $(sum "$built/opprove.o") out/opprove.o"
+  [ ! -f "$built/opprove.o" ] || echo "object $(sum "$built/opprove.o") out/opprove.o"
   echo "linked $(sum "$built/opprove") out/opprove by rt, dynamic"
-  echo "packed $(sum "$tree/bin/opprove") bin/opprove the same, stripped"
-  echo "packed $(sum "$tree/bin/opprove-static") bin/opprove-static from the same object by gcc -static, stripped"
-  echo "needs ${needs}with glibc $glibc or later; opprove-static needs no library"
+  echo "packed $(sum "$programs/opprove") lib/opprove/opprove the same, stripped"
+  if [ -f "$programs/opprove-static" ]; then
+    echo "packed $(sum "$programs/opprove-static") lib/opprove/opprove-static from the same object by gcc -static, stripped"
+  else
+    echo "static none"
+  fi
+  echo "needs ${needs}with glibc $glibc or later, bash, and for the tools Python 3.8 or later"
   for name in ${licences[@]+"${licences[@]}"}; do echo "licence $(sum "$tree/share/doc/opprove/$name") share/doc/opprove/$name"; done
   ((${#licences[@]})) || echo "licence none"
   ((authors)) || echo "authors none"
@@ -184,26 +193,50 @@ archive() {
     gzip -9n >"$room/$name.tar.gz"
 }
 
-debian() {
-  local deb=$room/deb
-  mkdir -p "$deb/DEBIAN" && cp -a "$tree" "$deb/usr"
-  mv "$deb/usr/share/zsh/site-functions" "$deb/usr/share/zsh/vendor-completions"
-  echo "The licence of opprove: ${licences[*]:-not said yet}. Those of what it is linked with: the folder licences beside this file." \
-    >"$deb/usr/share/doc/opprove/copyright"
+# What Debian's tools want to know of a package, beside the files of the archive.
+about_package() {
+  local deb=$1 doc=$1/usr/share/doc/opprove maintainer=${MAINTAINER:-nobody <nobody@invalid>}
+  echo "The licence of opprove: ${licences[*]:-not said yet}. Those of what it is linked with: the folder licences beside this file." >"$doc/copyright"
+  {
+    printf 'opprove (%s) unstable; urgency=medium\n\n  * Release %s; CHANGELOG.md says what it has.\n\n' "$version" "$version"
+    printf ' -- %s  %s\n' "$maintainer" "$(date -Rud "@$stamp")"
+  } | gzip -9n >"$doc/changelog.gz"
   cat >"$deb/DEBIAN/control" <<END_OF_CONTROL
 Package: opprove
 Version: $version
 Architecture: $arch
 ${MAINTAINER:+Maintainer: $MAINTAINER
 }Installed-Size: $(find "$deb/usr" -type f -printf '%s\n' | awk '{ size += int(($1 + 1023) / 1024) } END { print size }')
-Depends: libc6 (>= $glibc)
-Recommends: python3
+Depends: libc6 (>= $glibc), python3 (>= 3.8)
 Section: math
 Priority: optional
 Description: proves identities of matrices and linear operators
  Decides statements about matrices and linear operators with different
- domains and codomains, with evidence that any program can check.
+ domains and codomains, with evidence that any program can check, and
+ writes proofs as chains of equations, LaTeX, pictures and theorems for Coq.
 END_OF_CONTROL
+  cat >"$deb/DEBIAN/postinst" <<'END_OF_SCRIPT'
+#!/bin/sh
+set -e
+if [ "$1" = configure ] && command -v py3compile >/dev/null; then
+  py3compile -p opprove /usr/share/opprove/python
+fi
+END_OF_SCRIPT
+  cat >"$deb/DEBIAN/prerm" <<'END_OF_SCRIPT'
+#!/bin/sh
+set -e
+if command -v py3clean >/dev/null; then
+  py3clean -p opprove
+fi
+END_OF_SCRIPT
+  chmod 755 "$deb/DEBIAN/postinst" "$deb/DEBIAN/prerm"
+}
+
+debian() {
+  local deb=$room/deb
+  mkdir -p "$deb/DEBIAN" && cp -a "$tree" "$deb/usr"
+  mv "$deb/usr/share/zsh/site-functions" "$deb/usr/share/zsh/vendor-completions"
+  about_package "$deb"
   (cd "$deb" && find usr -type f -print0 | sort -z | xargs -0 md5sum >DEBIAN/md5sums)
   level "$deb"
   SOURCE_DATE_EPOCH=$stamp dpkg-deb --root-owner-group -Zxz --build "$deb" "$room/$package" >"$room/said" 2>&1 ||

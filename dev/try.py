@@ -35,6 +35,8 @@ import try_python
 import try_release
 import try_why
 from opprove.checkers.check import status_of
+from opprove.cli import TOOLS
+from opprove.words.calls import OPTIONS
 from trying import EXAMPLES, PROGRAM, TOP, Answer, Skipped, checker, decided, installed, is_second, need, reads_language_2, run, run_checks, tool
 
 # ---- The two checkers
@@ -282,19 +284,47 @@ def plain(folder: Path) -> str:
     return f"{len(cases)} certificates are answered right by plain.rs"
 
 
-def manual() -> str:
-    answer = run(installed("man"), "--warnings", "-E", "UTF-8", "-l", "-Tutf8", "-Z", TOP / "editors" / "opprove.1")
+def manual(folder: Path) -> str:
+    """It has a section for each tool and each option, and neither man nor mandoc complains."""
+    page = folder / "opprove.1"
+    page.write_text(run(*tool("manual")).out)
+    answer = run(installed("man"), "--warnings", "-E", "UTF-8", "-l", "-Tutf8", page)
+    shown = re.sub(".\b", "", answer.out)
     need(answer.status == 0 and not answer.error, answer)
-    return "the manual page has no warnings"
+    missing = [it.word for it in TOOLS if f"opprove {it.word}\n" not in shown] + [it for it in OPTIONS if f" {it} N" not in shown]
+    need(not missing, missing)
+    answer = run(installed("mandoc"), "-T", "lint", "-W", "warning", page)
+    need(answer == Answer(0, "", ""), answer)
+    return f"the manual page has a section for each of {len(TOOLS)} tools and no warnings"
 
 
-def shell(name: str, file: str) -> Callable[[], str]:
-    def completion() -> str:
-        answer = run(installed(name), "-n", TOP / "editors" / "completions" / file)
-        need(answer == Answer(0, "", ""), answer)
-        return f"{name} reads its completions"
+def shell(name: str, folder: Path) -> str:
+    file = folder / name
+    file.write_text(run(*tool("completions"), name).out)
+    answer = run(installed(name), "-n", file)
+    missing = [it.word for it in TOOLS if it.word not in file.read_text()]
+    need(answer == Answer(0, "", "") and not missing, (answer, missing))
+    return f"{name} reads its completions, which have each tool"
 
-    return completion
+
+COMPLETED = {  # of words, the last of which is begun, what is offered
+    "pro": {"prove", "prove-all"}, "--ver": {"--version"}, "he": {"help"}, "help cha": {"chain"}, "prove --fo": {"--format"}, "prove --format ": {"1", "2"},
+    "chain --la": {"--latex"}, "completions f": {"fish"}, "check ": {"s.op", "s.opn", "s.report", "s.cert", "folder"}, "check s.op s.c": {"s.cert"},
+    "prove --pairs ": set(),
+}  # fmt: skip
+
+
+def offered(folder: Path) -> str:
+    """What bash offers."""
+    for name in ("s.op", "s.opn", "s.report", "s.cert", "s.txt"):
+        (folder / name).touch()
+    (folder / "folder").mkdir()
+    (folder / "words.bash").write_text(run(*tool("completions"), "bash").out)
+    ask = 'source words.bash; COMP_WORDS=(opprove "$@"); COMP_CWORD=$#; _opprove; printf "%s\\n" "${COMPREPLY[@]}"'
+    for words, want in COMPLETED.items():
+        answer = run(installed("bash"), "-c", ask, "opprove", *words.split(" "), folder=folder)
+        need({*answer.out.split("\n")} - {""} == want, (words, answer))
+    return f"bash offers what it should for {len(COMPLETED)} beginnings"
 
 
 HIGHLIGHTED = [  # a text, its kind, and for some of its places, each a line and a column, what stands there for Vim
@@ -413,9 +443,8 @@ def groups(folder: Path) -> Dict[str, List[Callable[[], str]]]:
         "harder": try_harder.checks(folder, 20),
         "others": [
             lambda: try_models.example_searches(folder),
-            lambda: singular(folder), lambda: sympy(folder), cofactors, lambda: latex(folder), manual,
-            shell("bash", "opprove.bash"), shell("zsh", "_opprove"), shell("fish", "opprove.fish"),
-            lambda: vim(folder), grammars, lambda: plain(folder), gate_time, costly_files, devices,
+            lambda: singular(folder), lambda: sympy(folder), cofactors, lambda: latex(folder), lambda: manual(folder),
+            *(lambda name=name: shell(name, folder) for name in ("bash", "zsh", "fish")), lambda: offered(folder), lambda: vim(folder), grammars, lambda: plain(folder), gate_time, costly_files, devices,
         ],
     }  # fmt: skip
 

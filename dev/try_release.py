@@ -18,6 +18,7 @@ from pathlib import Path
 from typing import Callable, Dict, List, Tuple
 
 sys.dont_write_bytecode = True
+from opprove.cli import TOOLS
 from trying import TOP, Answer, Skipped, installed, need, run, run_checks
 
 STAND_IN = r"""
@@ -35,7 +36,7 @@ int main(int argc, char **argv) {
   return argc < 3 ? 2 : 12;
 }
 """
-CRATES = {"std": "core", "core": "", "clap": "std strsim", "strsim": "std", "indexmap": "std", "itoa": "", "rand_core": "std",
+CRATES = {"std": "core", "core": "", "arrayvec": "std", "clap": "std strsim", "strsim": "std", "indexmap": "std", "itoa": "", "rand_core": "std",
           "rand_pcg": "std rand_core", "thiserror": "std", "unicode_ident": "std ucd_table", "ucd_table": ""}  # fmt: skip
 KINDS = "abstract authors cff-version commit contact date-released doi identifiers keywords license license-url message"
 KINDS += " preferred-citation references repository repository-artifact repository-code title type url version"
@@ -81,11 +82,11 @@ class Checkout:
     def take_built(self) -> bool:
         """Takes over what ./opprove has built here, if it is that of these sources."""
         built = TOP / "out"
-        names = ("opprove", "opprove.o", "opprove.sources")
-        if not all((built / name).is_file() for name in names):
+        if not all((built / name).is_file() for name in ("opprove", "opprove.sources")):
             return False
-        for name in names:
-            shutil.copy2(built / name, self.out / name)
+        for name in ("opprove", "opprove.o", "opprove.sources"):
+            if (built / name).is_file():
+                shutil.copy2(built / name, self.out / name)
         return self.sources() == (self.out / "opprove.sources").read_text().split("\n")[2]
 
     def sources(self) -> str:
@@ -169,17 +170,18 @@ def archive(checkout: Checkout) -> str:
     (top,) = room.iterdir()
     inside = {name.replace("site-functions", "vendor-completions"): data for name, data in files(top).items()}
     package = files(checkout.tree / "usr")
-    package.pop("share/doc/opprove/copyright")
+    for name in ("copyright", "changelog.gz"):
+        package.pop(f"share/doc/opprove/{name}")
     need(inside == package, {*inside} ^ {*package})
-    wanted = ["bin/opprove", "bin/opprove-static", "share/man/man1/opprove.1.gz", "share/doc/opprove/PROVED", "share/doc/opprove/README.md",
+    wanted = ["bin/opprove", "lib/opprove/opprove", "lib/opprove/opprove-static", "share/man/man1/opprove.1.gz", "share/doc/opprove/PROVED", "share/doc/opprove/README.md",
               "share/bash-completion/completions/opprove", "share/zsh/vendor-completions/_opprove",
               "share/fish/vendor_completions.d/opprove.fish", "share/vim/vimfiles/ftdetect/opprove.vim",
-              "share/vim/vimfiles/syntax/opprovecert.vim", "share/opprove/editors/textmate/package.json", "share/opprove/checkers/check.py",
-              "share/opprove/checkers/check_model.py", "share/opprove/translators/to_chain.py", "share/opprove/translators/python/backend.py",
+              "share/vim/vimfiles/syntax/opprovecert.vim", "share/opprove/editors/textmate/package.json",
+              "share/opprove/python/opprove/checkers/check.py", "share/opprove/python/opprove/translations/chain.py",
               "share/doc/opprove/docs/FORMATS.md", "share/doc/opprove/examples/gallery/woodbury.op",
               "share/doc/opprove/licences/clap/LICENSE-MIT", "share/doc/opprove/licences/strsim/LICENSE-MIT"]  # fmt: skip
     missing = [name for name in wanted if name not in inside and not (checkout.is_real and "strsim" in name)]
-    odd = [name for name in inside if re.search(r"__pycache__|/try(_\w+)?\.py|\.rt$|\.antt$", name)]
+    odd = [name for name in inside if re.search(r"__pycache__|/try(_\w+)?\.py|\.rt$|\.antt$|/dev/|/tests/", name)]
     need(not missing and not odd, (missing, odd))
     links = re.findall(r"\]\(([^)#:]+)\)", inside["share/doc/opprove/README.md"].decode())
     dead = [link for link in links if f"share/doc/opprove/{link}" not in inside]
@@ -188,24 +190,26 @@ def archive(checkout: Checkout) -> str:
 
 
 def answers(checkout: Checkout) -> str:
-    """Both packed programs answer as the built one, without the toolchain."""
+    """The packed programs and the script answer as the built one, without the toolchain."""
     environment = {"PATH": "/usr/bin:/bin", "LC_ALL": "C"}
-    examples = checkout.tree / "usr" / "share" / "doc" / "opprove" / "examples"
-    calls = calls_on(examples)
+    packed = checkout.tree / "usr"
+    programs = [packed / "bin" / "opprove", packed / "lib" / "opprove" / "opprove", packed / "lib" / "opprove" / "opprove-static"]
+    calls = calls_on(packed / "share" / "doc" / "opprove" / "examples")
     for call in calls:
         found: List[Tuple[int, bytes]] = []
-        for program in (checkout.out / "opprove", *(checkout.tree / "usr" / "bin" / name for name in ("opprove", "opprove-static"))):
+        for program in (checkout.out / "opprove", *(program for program in programs if program.exists())):
             done = subprocess.run([str(program), *call], env=environment, capture_output=True, timeout=120)
             found.append((done.returncode, done.stdout))
         need(len({*found}) == 1 and found[0][1] != b"", (call, found))
-    answer = run("ldd", checkout.tree / "usr" / "bin" / "opprove-static")
-    need("not a dynamic executable" in answer.out + answer.error, answer)
-    return f"{len(calls)} calls are answered by both packed programs as by the built one"
+    if programs[2].exists():
+        answer = run("ldd", programs[2])
+        need("not a dynamic executable" in answer.out + answer.error, answer)
+    return f"{len(calls)} calls are answered by the packed programs and the script as by the built one"
 
 
 def calls_on(examples: Path) -> List[List[str]]:
     """Words for the program: all statements and certificates of the examples."""
-    calls = [["--version"]]
+    calls = [["prove"], ["prove", "missing.op"]]
     for path in sorted(examples.glob("**/*.op")):
         is_long = path.stem == "braid_relation" or path.parent.name == "harder"
         options = ["--pairs", "20", "--no-models"] if is_long else []
@@ -217,17 +221,21 @@ def calls_on(examples: Path) -> List[List[str]]:
 
 
 def tools(checkout: Checkout) -> str:
-    """The tools start from where they are packed, and check.py checks there there."""
-    share = checkout.tree / "usr" / "share"
-    tools = share / "opprove" / "python"
-    found = [line.split()[0] for line in run(sys.executable, "-I", tools, "help").out.splitlines()]
-    for word in found:
-        answer = run(sys.executable, "-I", tools, word, "missing", "missing", "missing", "missing")
-        need(answer.status > 0 and "Traceback" not in answer.error, (word, answer))
-    examples = share / "doc" / "opprove" / "examples"
-    answer = run(sys.executable, tools / "opprove" / "checkers" / "check.py", examples / "pasted_squares.op", examples / "pasted_squares.cert")
+    """Each tool has its page by the packed script, and some do their work there; check.py checks by itself."""
+    packed = checkout.tree / "usr"
+    script, examples = packed / "bin" / "opprove", packed / "share" / "doc" / "opprove" / "examples"
+    for tool in TOOLS:
+        answer = run(script, tool.word, "--help")
+        need(answer.status == 0 and answer.out != "" and not answer.error, (tool, answer))
+    squares = [examples / "pasted_squares.op", examples / "pasted_squares.cert"]
+    for words, want in ((["chain", *squares], "= b2 y a1   by (2)"), (["picture", squares[0]], "</svg>"), (["--version"], "opprove ")):
+        answer = run(script, *words)
+        need(answer.status == 0 and want in answer.out and not answer.error, (words, answer))
+    answer = run(script, "chian")
+    need(answer.status == 2 and "'chain'" in answer.error, answer)
+    answer = run(sys.executable, packed / "share" / "opprove" / "python" / "opprove" / "checkers" / "check.py", *squares)
     need(answer == Answer(0, "# block 1 accepted claim 1 denominator 1\n", ""), answer)
-    return f"{len(found)} tools start from where they are packed, and check.py checks there"
+    return f"{len(TOOLS)} tools have their pages where they are packed, and chain, picture and check.py work there"
 
 
 def manual(checkout: Checkout) -> str:
@@ -245,11 +253,11 @@ def record(checkout: Checkout) -> str:
     for match in named:
         path = checkout.top / match.group(2) if match.group(2).startswith("out/") else checkout.tree / "usr" / match.group(2)
         need(sha256(path.read_bytes()).hexdigest() == match.group(1), match.group())
-    need(len(named) == 4 and "licence none" in lines and "authors none" in lines, lines)
+    need(len(named) in (2, 4) and "licence none" in lines and "authors none" in lines, lines)
     kit = (checkout.out / "opprove.sources").read_text().split("\n")
     version, revision = (TOP / "VERSION").read_text().strip(), run("git", "-C", checkout.top, "rev-parse", "HEAD").out.strip()
     need(lines[:4] == [f"version {version}", f"revision {revision}", f"kit {kit[1]}", f"sources {kit[2].split(' ')[0]}"], lines)
-    need(any(re.match(r"needs (lib\S+ )+with glibc 2\.[0-9.]+ or later;", line) for line in lines), lines)
+    need(any(re.match(r"needs (lib\S+ )+with glibc 2\.[0-9.]+ or later,", line) for line in lines), lines)
     (checkout.folder / "gate.log").write_text("..\n3210 passed, 0 failed\n")
     other = checkout.released("gate", GATE_LOG=str(checkout.folder / "gate.log"))
     told = run("tar", "-xzOf", checkout.found(other, ".tar.gz"), "--wildcards", "*/PROVED").out.split("\n")
@@ -260,14 +268,23 @@ def record(checkout: Checkout) -> str:
 def control(checkout: Checkout) -> str:
     package = checkout.found(checkout.first, ".deb")
     told = run("dpkg-deb", "-f", package).out
-    need(re.search(r"^Depends: libc6 \(>= 2\.[0-9.]+\)$", told, re.M) and "\nMaintainer:" not in told, told)
+    need(re.search(r"^Depends: libc6 \(>= 2\.[0-9.]+\), python3 \(>= 3\.8\)$", told, re.M) and "\nMaintainer:" not in told, told)
     modes = [line.split()[:2] for line in run("dpkg-deb", "-c", package).out.split("\n") if line]
     need({owner for _, owner in modes} == {"root/root"}, modes)
     need({mode for mode, _ in modes} == {"drwxr-xr-x", "-rw-r--r--", "-rwxr-xr-x"}, modes)
+    lintian(checkout)
     other = checkout.released("named", MAINTAINER="Somebody <somebody@localhost>")
     told = run("dpkg-deb", "-f", checkout.found(other, ".deb"), "Maintainer").out
     need(told == "Somebody <somebody@localhost>\n", told)
-    return "the package depends on the C library alone, all is owned by root, and a maintainer is named only where one is said"
+    return "the package depends on the C library and Python alone, all is owned by root, and a maintainer is named only where one is said"
+
+
+def lintian(checkout: Checkout) -> None:
+    """Debian's own look at the package has no error, where a maintainer is named."""
+    if shutil.which("lintian"):
+        named = checkout.released("linted", MAINTAINER="A Maintainer <maintainer@debian.org>")
+        answer = run("lintian", "--allow-root", "--fail-on", "error", "--tag-display-limit", "0", checkout.found(named, ".deb"), seconds=300)
+        need(answer.status == 0 and not re.search("^E: ", answer.out, re.M), answer)
 
 
 # ---- What is refused, and what the owner says
@@ -296,7 +313,7 @@ def refusals(checkout: Checkout) -> str:
         kept.write_text("\n".join(lines))
         checkout.refused(message)
     kept.write_text(text)
-    for name in ("opprove", "opprove.o", "opprove.sources"):
+    for name in ("opprove", "opprove.sources"):
         (checkout.out / name).rename(checkout.out / "aside")
         checkout.refused("the program isn't built; ./opprove build proves and builds it")
         (checkout.out / "aside").rename(checkout.out / name)
@@ -307,8 +324,8 @@ def refusals(checkout: Checkout) -> str:
     version = (checkout.top / "VERSION").read_text().strip()
     message = f"CITATION.cff has to have the line 'version: \"{version}\"'"
     changed(checkout, "CITATION.cff", lambda text: text.replace("\nversion", "\nversions"), message)
-    message = f"editors/opprove.1 has to have the line 'This page is of version {version}.'"
-    changed(checkout, "editors/opprove.1", lambda text: text.replace("\nThis page is of", "\nThis is"), message)
+    message = f"python/src/opprove/VERSION has to hold the version, '{version}'"
+    changed(checkout, "python/src/opprove/VERSION", lambda text: "9.9\n", message)
     owner = "missing, and the owner's to say: a licence (the file LICENSE) and the authors' names (in CITATION.cff)"
     checkout.refused(f"{owner}; --no-licence makes a package for trial", checkout.folder / "none")
     checkout.refused("nothing can be written to /dev/null", "--no-licence", "/dev/null")

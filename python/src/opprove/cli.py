@@ -52,6 +52,7 @@ TOOLS: List[Tool] = [
     Tool("candidates", "checkers.candidates", "a second search for matrices that break a claim"),
     Tool("version", "version", "the version of the package and of the program"),
     Tool("completions", "completions", "the file that completes words in bash, zsh or fish"),
+    Tool("manual", "manual", "the manual page, for man"),
     Tool("help", "help", "the tools and commands, or the page of one"),
 ]
 BY_WORD: Dict[str, Tool] = {tool.word: tool for tool in TOOLS}
@@ -61,7 +62,7 @@ def main(words: List[str]) -> int:
     """Runs the tool that the first word names, with the others, and gives its status; 2 where there is none of that name."""
     word = {"-h": "help", "--help": "help", "--version": "version"}.get(words[0], words[0]) if words else "help"
     if word in BY_WORD:
-        return run(word, words[1:])
+        return run("help", [word]) if words[1:2] in (["--help"], ["-h"]) else run(word, words[1:])
     sys.stderr.write(f"opprove: {unknown(word)}\n")
     return usage()
 
@@ -73,12 +74,11 @@ def entry() -> int:
 
 
 def run(word: str, words: List[str]) -> int:
-    """Runs a tool, or shows its page. One that asks the program ends with MISSING where the script opprove has to build it first."""
+    """Runs a tool. One that asks the program ends with MISSING where the script opprove has to build it first."""
     tool, how = BY_WORD[word], os.environ.get("OPPROVE_HOW")
-    asks = tool.asks and words[:1] not in (["--help"], ["-h"])
-    if asks and how == "missing":
+    if tool.asks and how == "missing":
         return MISSING
-    if asks and how == "unproved":
+    if tool.asks and how == "unproved":
         sys.stderr.write("opprove: this program isn't proved on this machine\n")
     module = import_module(f"opprove.{tool.module}")
     try:

@@ -1,11 +1,14 @@
 """Lists the commands and the tools with a line each, or shows the page of one"""
 from __future__ import annotations
 
+import contextlib
+import io
 import sys
 import textwrap
+from importlib import import_module
 from typing import Iterable, List, Tuple
 
-from opprove.cli import BY_WORD, TOOLS, run, unknown
+from opprove.cli import BY_WORD, TOOLS, unknown
 from opprove.tool import parser
 from opprove.words.calls import ALL_STATUSES, COMMANDS, LIMITS, OPTIONS, SAID_OF, form
 
@@ -21,13 +24,23 @@ def main(words: List[str]) -> int:
     made = parser("help", __doc__)
     made.add_argument("word", metavar="WORD", nargs="?", help="the command or the tool whose page is wanted")
     word = made.parse_args(words).word
-    if word in BY_WORD:
-        return run(word, ["--help"])
-    if word and word not in COMMANDS:
+    if word and word not in COMMANDS and word not in BY_WORD:
         sys.stderr.write(f"opprove: {unknown(word)}\n")
         return 2
-    sys.stdout.write(command_page(word) if word else listed())
+    sys.stdout.write(page(word) if word else listed())
     return 0
+
+
+def page(word: str) -> str:
+    """The page of a command or of a tool: what it shows for --help, or its usage and what its module says."""
+    if word in COMMANDS:
+        return command_page(word)
+    module = import_module(f"opprove.{BY_WORD[word].module}")
+    shown, said = (io.TextIOWrapper(io.BytesIO(), encoding="utf-8", write_through=True) for _ in range(2))
+    with contextlib.redirect_stdout(shown), contextlib.redirect_stderr(said), contextlib.suppress(SystemExit):
+        module.main(["--help"])
+    texts = [text.buffer.getvalue().decode().strip() for text in (shown, said)]  # type: ignore[attr-defined]
+    return f"{texts[0]}\n" if texts[0] else f"{texts[1].lstrip('# ')}\n\n{(module.__doc__ or '').strip()}\n"
 
 
 def command_page(word: str) -> str:

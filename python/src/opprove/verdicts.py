@@ -7,7 +7,7 @@ from typing import Dict, Iterator, List, Optional
 
 from opprove.checkers import check, check_model
 from opprove.program import Refused, files
-from opprove.translations import chain
+from opprove.translations import chain, chain_latex
 
 HEAD = re.compile(r"^# claim (\d+) (not \w+|\w+) ?(.*)\n", re.MULTILINE)
 
@@ -117,7 +117,7 @@ class Verdict:
     def latex(self) -> str:
         """The same for a paper that loads amsmath."""
         proof = self.proof()
-        return "".join(f"{line}\n" for line in chain.latex(proof.reader, proof.shown))
+        return "".join(f"{line}\n" for line in chain_latex.latex(proof.reader, proof.shown, {}))
 
     def _repr_latex_(self) -> Optional[str]:
         return re.sub("^%.*\n", "", self.latex(), flags=re.MULTILINE) if self.kind == "proved" else None

@@ -18,11 +18,12 @@ plus the denominator times the right side; where the left side is 0 it is read f
 A text that begins with a `cancellation` is read by cancel.py. An item that takes a letter off an earlier one is a lemma with no
 steps, since the letter is monic or epic, and the head says which letters have to be.
 
---latex writes align* for a paper that loads amsmath, where \\allowdisplaybreaks lets long chains go over pages. --certificate
-writes the rows of the steps as certificates, or what was read where that has fewer rows: in format 2, and in format 1, whose rows
-`explain` takes in their order, where there are no lemmas; proofs that take letters off are written as they were read. What is wrong
-with the texts is told in one line on standard error: codes are those of `check`, `explain` and `cancel`, and
-`line L no step` is a `use` that is 0 or no map with the claim's ends.
+--latex writes claim, lemmas and proof for a paper that loads amsmath; long chains go over pages, and steps are cited by the numbers of
+assumptions and lemmas. --names FILE has a line for each map or object that LaTeX is to write otherwise. --certificate writes the
+rows of the steps as certificates, or what was read where that has fewer rows: in format 2, and in format 1, whose rows `explain` takes
+in their order, where there are no lemmas; proofs that take letters off are written as they were read. What is wrong with the texts
+is said in one line on standard error: codes are those of `check`, `explain` and `cancel`, and `line L no step` is a `use` that is 0
+or no map with the claim's ends.
 """
 from __future__ import annotations
 
@@ -36,9 +37,10 @@ from typing import Callable, Dict, Iterator, List, NamedTuple, Optional, Sequenc
 from opprove.checkers import cancel
 from opprove.checkers.cancel import Cancel, Cancellation, Cancellations
 from opprove.checkers.chain_text import ChainText, Lines, Texts, judge_chain
-from opprove.checkers.check import Blocks, Certificate, Line, Poly, Problem, Refusal, Row, Share, Signature, Source, Token, Word, add, judge, loaded
+from opprove.checkers.check import (
+    Blocks, Certificate, Line, Poly, Problem, Refusal, Row, Share, Signature, Source, Token, Word, add, content, judge, loaded,
+)  # fmt: skip
 from opprove.tool import ended
-from opprove.translations.latex import letter_in_latex, lines_of
 from opprove.translations.translation import explained, of_two_files
 
 # Limits of evidence text. A lemma whose rows would have longer words in its place is a chain of its own.
@@ -567,58 +569,6 @@ def chain_in_text(reader: Reader, writer: Writer, chain: Chain) -> Iterator[str]
         yield f"{lines[-1].ljust(width)}   by {name}"
 
 
-def latex(reader: Reader, proof: Proof) -> Iterator[str]:
-    """The proof in lines of LaTeX."""
-    power = power_in_latex if has_powers(reader.problem) else None
-    writer = Writer([letter_in_latex(name) for name in reader.problem.names], r" \, ", power)
-    claim, numbers = reader.claims[proof.certificate.claim - 1], used(reader, proof)
-    yield f"% claim {proof.certificate.claim}, denominator {proof.certificate.denominator}"
-    rows = [equation_in_latex(writer, claim, rf"\text{{claim {proof.certificate.claim}}}", "")]
-    for number in numbers:
-        other = reader.assumptions[number - 1]
-        rows.append(equation_in_latex(writer, other, f"({number})", rf" && \text{{line {other.line[0].line}}}"))
-    yield from aligned(rows)
-    conditions = granted(reader, proof, [f"${name}$" for name in writer.letters])
-    yield not_used(reader, numbers) + "." + (f" Here {listed(conditions)}." if letters_are_cancelled(proof) else "")
-    for number, chain in enumerate(proof.chains, 1):
-        if chain is not proof.chains[-1]:
-            lemma = Equation(chain.ends, chain.left, chain.right, [])
-            why = reason(chain.cancelled, [f"${name}$" for name in writer.letters]) if chain.cancelled else ""
-            yield from aligned([equation_in_latex(writer, lemma, f"[{number}]", rf" && \text{{{why}}}" if why else "")])
-        if chain.cancelled:
-            continue
-        rows = [r"  & \phantom{{} = {}} " + sum_in_latex(writer, chain.start(), chain.ends)]
-        for step in chain.steps:
-            by = rf" && \text{{by }} {label(reader, step.row, '^{*}')}"
-            rows.append(f"  & = {sum_in_latex(writer, step.total, chain.ends)}{by}")
-        yield from aligned(rows)
-    if proof.is_told and proof.certificate.denominator > 1:
-        yield f"and ${proof.certificate.denominator}$ cancels."
-
-
-def letters_are_cancelled(proof: Proof) -> bool:
-    return any(chain.cancelled for chain in proof.chains)
-
-
-def power_in_latex(letter: str, count: int) -> str:
-    return f"({letter})^{{{count}}}" if "^" in letter else f"{letter}^{{{count}}}"
-
-
-def aligned(rows: List[str]) -> List[str]:
-    return [r"\begin{align*}", " \\\\\n".join(rows), r"\end{align*}"]
-
-
-def sum_in_latex(writer: Writer, poly: Poly, ends: Signature) -> str:
-    return " \\\\\n  & \\quad ".join(lines_of(writer.terms(poly, ends)))
-
-
-def equation_in_latex(writer: Writer, equation: Equation, name: str, place: str) -> str:
-    left, right = (lines_of(writer.terms(poly, equation.ends)) for poly in (equation.left, equation.right))
-    lines = [*left, "= " + right[0], *right[1:]]
-    lines = [" ".join(lines)] if len(lines) == 2 else lines
-    return f"  {name} \\quad & " + " \\\\\n  & \\quad ".join(lines) + place
-
-
 def cancellation_text(problem: Problem, proof: Cancellation) -> Iterator[str]:
     """The proof in lines."""
     yield from ("cancellation 1", f"claim {proof.claim}", f"denominator {proof.denominator}")
@@ -663,16 +613,19 @@ def judge_all(problem: Problem, texts: Texts) -> None:
         judge_chain(lines, told, f"# block {block} refused")
 
 
-def written(statement: Source, evidence: Source, form: str) -> Iterator[str]:
-    """The lines of all proofs of the evidence, in a form: text, latex or certificate."""
+def written(statement: Source, evidence: Source, form: str, names: str = "") -> Iterator[str]:
+    """The lines of all proofs of the evidence, in a form: text, latex, with the table of names in this file, or certificate."""
+    from opprove.translations import chain_latex  # which stands on this file
+
     reader = Reader(Problem(statement))
     proofs = proofs_of(reader, evidence)
+    table = chain_latex.names_of(reader.problem, content(names).decode()) if names else {}
     if form == "certificate":
         yield from certificates(reader, proofs)
         return
     for block, proof in enumerate(proofs):
         yield from [""] * (block > 0)
-        yield from text(reader, proof) if form == "text" else latex(reader, proof)
+        yield from text(reader, proof) if form == "text" else chain_latex.latex(reader, proof, table)
 
 
 def certificates(reader: Reader, proofs: List[Proof]) -> Iterator[str]:
@@ -704,7 +657,8 @@ def main(words: List[str]) -> int:
     form = made.add_mutually_exclusive_group()
     form.add_argument("--latex", dest="form", action="store_const", const="latex", default="text", help="for a paper that loads amsmath")
     form.add_argument("--certificate", dest="form", action="store_const", const="certificate", help="the rows of the steps as certificates")
+    made.add_argument("--names", metavar="FILE", default="", help="how LaTeX has names, a line each, as `x a^{\\dagger}`")
     given = made.parse_args(words)
-    return ended(lambda: written(*loaded([given.statement, given.evidence]), form=given.form))
+    return ended(lambda: written(*loaded([given.statement, given.evidence]), form=given.form, names=given.names))
 
 

@@ -1,15 +1,14 @@
-"""opprove with its answer in words: why.py WORDS..
+"""An answer of the program, and what it means in words: why WORDS..
 
-Runs the built program with the words, passes its report and its status on as they are, and tells on standard error what
-they mean: of a statement or evidence that is refused the line, a caret and the rule; of a claim what was shown, by which
-assumptions or matrices, or what stopped the search and what may help; and what other statuses ask for.
+Runs the program with the words, passes its report and its status on as they are, and says on standard error what they mean: of a
+statement or evidence that is refused the line, a caret and the rule; of a claim what was shown, by which assumptions or matrices,
+or what stopped the search and what may help; and what other statuses ask for.
 
-why.py --editor STATEMENT [EVIDENCE] writes the first fault as FILE:LINE:COLUMN: error: CODE: .. for editors, and nothing
-where there is none; with --bytes behind --editor the column counts bytes, as Vim does. Its status is then 0, and else the
-program's. ./opprove calls why --told STATUS REPORT WORDS.. for a run that has ended, with its report in a file: it writes nothing but
-the words.
+why --editor STATEMENT [EVIDENCE] writes the first fault as FILE:LINE:COLUMN: error: CODE: .. for editors, and nothing where there is
+none; with --bytes after --editor the column counts bytes, as Vim does. Its status is then 0, and else the program's.
+The script opprove calls why --told STATUS REPORT WORDS.. for a run that has ended, with its report in a file.
 
-The program is that of this checkout, or the one that OPPROVE names. NO_COLOR is heard.
+With NO_COLOR in the environment the words have no colour.
 """
 from __future__ import annotations
 
@@ -135,9 +134,9 @@ def is_written(part: bytes) -> bool:
 
 def told_failure(error: OSError) -> int:
     if isinstance(error, FileNotFoundError):
-        say("why.py: the program isn't built; ./opprove builds it")
+        say("opprove: the program isn't there; OPPROVE may name it")
     else:
-        say(f"why.py: the program could not be run: {error.strerror}")
+        say(f"opprove: the program could not be run: {error.strerror}")
     return 1
 
 
@@ -195,7 +194,7 @@ def editor(words: List[str]) -> int:
     in_bytes = words[:1] == ["--bytes"]
     files = words[in_bytes:]
     if len(files) not in (1, 2):
-        say("why.py: --editor takes a statement, and evidence where there is some")
+        say("opprove: --editor takes a statement, and evidence where there is some")
         return 2
     call = [reader_of(files[1]), *files] if len(files) == 2 else ["prove", files[0], "--no-models", "--pairs", "1"]
     try:
@@ -230,6 +229,10 @@ def ended(status: int) -> int:
 
 
 def main(words: List[str]) -> int:
+    """Runs the program with the words, and says what it answers; or does what the first word asks for."""
+    if words[:1] in (["--help"], ["-h"]):
+        sys.stdout.write(f"usage: opprove why [--editor [--bytes]] WORDS ..\n\n{(__doc__ or '').strip()}\n")
+        return 0
     if words[:1] == ["--editor"]:
         return editor(words[1:])
     if words[:1] == ["--told"] and len(words) >= 3:

@@ -1,0 +1,109 @@
+"""The proofs of chain.py in LaTeX, for the body of a paper that loads amsmath."""
+from __future__ import annotations
+
+import re
+from typing import Dict, Iterator, List
+
+from opprove.checkers.check import Poly, Problem, Refusal, Signature
+from opprove.translations.chain import Chain, Equation, Proof, Reader, Writer, granted, has_powers, listed, not_used, reason, used
+from opprove.translations.latex import letter_in_latex, lines_of
+
+# What an abbreviation says of its maps.
+SAID = {
+    "pinv": "${x}$ is the Moore--Penrose inverse of ${a}$", "inverse": "${x}$ is the inverse of ${a}$",
+    "inner": "${x}$ is an inner inverse of ${a}$", "projection": "${x}$ is a projection",
+}  # fmt: skip
+Names = Dict[str, str]  # how maps and objects are written, by their names
+
+
+def names_of(problem: Problem, text: str) -> Names:
+    """A table of names: a line each, as `x a^{\\dagger}`. Raises a `Refusal` at a line that names no map or object."""
+    known, names = {name.strip("[']") for name in problem.names}, {}
+    for number, line in enumerate(text.split("\n"), 1):
+        words = line.split("#")[0].split(None, 1)
+        if words and (len(words) < 2 or words[0] not in known):
+            raise Refusal(f"# refused names line {number}")
+        names.update({words[0]: words[1].strip()} if words else {})
+    return names
+
+
+def letter(written: str, names: Names) -> str:
+    """A letter as the table has its name: [V] is 1_V, and an adjoint has a star."""
+    name = names.get(written.strip("[']"))
+    if name is None:
+        return letter_in_latex(written)
+    if written[0] == "[":
+        return f"1_{{{name}}}"
+    return name if written[-1] != "'" else f"({name})^{{*}}" if "^" in name else f"{name}^{{*}}"
+
+
+def latex(reader: Reader, proof: Proof, names: Names) -> Iterator[str]:
+    """The proof in lines: the claim, the assumptions that are used by their numbers, lemmas and the proof, over pages where they are long."""
+    writer = Writer([letter(name, names) for name in reader.problem.names], r" \, ", power if has_powers(reader.problem) else None)
+    number, denominator = proof.certificate.claim, proof.certificate.denominator
+    claim, numbers = reader.claims[number - 1], used(reader, proof)
+    conditions = granted(reader, proof, [f"${name}$" for name in writer.letters])
+    yield f"% claim {number}, denominator {denominator}"
+    yield r"\begingroup\allowdisplaybreaks"
+    yield rf"\noindent\textbf{{Claim {number}.}}" + (f" Where {listed(conditions)}," if conditions else "")
+    yield from aligned([equation(writer, claim, "", "")])
+    if numbers:
+        yield r"\noindent Used are"
+        yield from aligned(list(assumptions(reader, writer, numbers)))
+    yield rf"\noindent {not_used(reader, numbers)}.".replace("Not used: none", "All assumptions are used")
+    for place, chain in enumerate(proof.chains, 1):
+        yield ""
+        if chain is proof.chains[-1]:
+            yield rf"\medskip\noindent\textit{{Proof of claim {number}.}}"
+        else:
+            why = reason(chain.cancelled, [f"${name}$" for name in writer.letters]) if chain.cancelled else ""
+            why = re.sub(r"^by \[(\d+)\](.*)", r" (by Lemma \1\2)", why)
+            yield rf"\medskip\noindent\textbf{{Lemma {place}.}}{why}"
+            yield from aligned([equation(writer, Equation(chain.ends, chain.left, chain.right, []), "", "")])
+            yield from [] if chain.cancelled else [r"\noindent\textit{Proof.}"]
+        yield from [] if chain.cancelled else [*aligned(list(steps(reader, writer, chain))), r"\hfill\rule{1ex}{1ex}"]
+    if proof.is_told and denominator > 1:
+        yield f"and ${denominator}$ cancels."
+    yield r"\par\endgroup"
+
+
+def assumptions(reader: Reader, writer: Writer, numbers: List[int]) -> Iterator[str]:
+    """Each assumption that is used with its number, and at the first of an abbreviation what that says."""
+    last = 0
+    letters = dict(zip(reader.problem.names, writer.letters))
+    for number in numbers:
+        other = reader.assumptions[number - 1]
+        word, line = other.line[0].text, other.line[0].line
+        maps = [letters[token.text] for token in other.line if token.text in letters]
+        said = SAID[word].format(a=maps[0], x=maps[-1]) if word in SAID and line != last else ""
+        last = line
+        yield equation(writer, other, f"({number})", rf" && \text{{{said}}}" if said else "")
+
+
+def steps(reader: Reader, writer: Writer, chain: Chain) -> Iterator[str]:
+    """The sums of a chain, each with the number of what it is by."""
+    yield r"  & \phantom{{} = {}} " + in_lines(writer, chain.start(), chain.ends)
+    for step in chain.steps:
+        number, is_adjoint = (step.row.number, False) if step.row.is_lemma else reader.sources[step.row.number - 1]
+        by = f"Lemma {number}" if step.row.is_lemma else f"({number})" + "${}^{*}$" * is_adjoint
+        yield rf"  & = {in_lines(writer, step.total, chain.ends)} && \text{{by {by}}}"
+
+
+def power(name: str, count: int) -> str:
+    return f"({name})^{{{count}}}" if "^" in name else f"{name}^{{{count}}}"
+
+
+def aligned(rows: List[str]) -> List[str]:
+    return [r"\begin{align*}", " \\\\\n".join(rows), r"\end{align*}"]
+
+
+def in_lines(writer: Writer, poly: Poly, ends: Signature) -> str:
+    return " \\\\\n  & \\quad ".join(lines_of(writer.terms(poly, ends)))
+
+
+def equation(writer: Writer, shown: Equation, name: str, said: str) -> str:
+    """An equation after its name, with what is said of it."""
+    left, right = (lines_of(writer.terms(poly, shown.ends)) for poly in (shown.left, shown.right))
+    lines = [*left, "= " + right[0], *right[1:]]
+    lines = [" ".join(lines)] if len(lines) == 2 else lines
+    return f"  {name + ' ' if name else ''}{'' if not name else chr(92) + 'quad '}& " + " \\\\\n  & \\quad ".join(lines) + said
