@@ -134,7 +134,9 @@ def on_lines(numbers: List[str]) -> str:
 def refuted(asked: Asked, outcome: Outcome) -> Told:
     modulus = next((line.split()[1] for line in outcome.block if line.startswith("modulus ")), "")
     told = f"claim {outcome.claim} is refuted: these matrices modulo {modulus}, with transposes for adjoints, make all assumptions zero"
-    return Told(told + ", and the claim not", asked.quote(outcome.claim), tuple(values(asked, outcome)))
+    rational = ["Of complex matrices this says nothing. Rational ones that break it are looked for by"]
+    rational.append(f"  {typed(['search', *asked.call.operands[:1], '--over', 'q'])}")
+    return Told(told + ", and the claim not", asked.quote(outcome.claim), (*values(asked, outcome), *rational))
 
 
 def values(asked: Asked, outcome: Outcome) -> Iterator[str]:
@@ -217,8 +219,17 @@ def not_derivable(asked: Asked, outcome: Outcome) -> Told:
         else:
             missing.append("positivity, which the language doesn't have: a' a = 0 does not give a = 0")
         more.append(f"What may be missing: {'; or '.join(missing)}.")
-        more += searched(asked, outcome, problem)
+        more += searched(asked, outcome, problem) + beyond_rows(asked, problem)
     return Told(told, asked.quote(outcome.claim), tuple(more))
+
+
+def beyond_rows(asked: Asked, problem: Problem) -> List[str]:
+    """The calls that look for proofs which are no sums of rows."""
+    search = ["search", *asked.call.operands]
+    lines = ["Which maps have to be monic or epic for it to follow, as it may once they are cancelled, is looked for by", f"  {typed(search)}"]
+    if problem.is_starred:
+        lines += ["and proofs by `r' r = 0 gives r = 0`, which holds for complex matrices, by", f"  {typed([*search, '--complex'])}"]
+    return lines
 
 
 def searched(asked: Asked, outcome: Outcome, problem: Problem) -> List[str]:
