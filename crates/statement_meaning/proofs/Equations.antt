@@ -1,6 +1,6 @@
 -- The polynomial of an equation is zero exactly where both sides have the same value.
 use Rattle.std.proofs.Common.{◌≡◌, ℕ, ◌<◌, negsuc, Bool, true, false, cond, ◌||◌, ◌↔◌, List, [], Option, Some, None, Ok, Err, refl, sym, ap, ap₂, subst, ◌∙◌, true≢false, eqb, eqb-true, eq-eqb}
-use Rattle.definitions.specs.Category.{Structure, IsArrow, PreadditiveLaws, InvolutionLaws}
+use Rattle.definitions.specs.Category.{Structure, IsArrow, PreadditiveLaws}
 use Rattle.definitions.specs.Poly.{Poly, poly_sum, poly_multiple}
 use Rattle.definitions.specs.Quiver.{Quiver, is_path, IsTyped}
 use Rattle.definitions.specs.Representation.{Representation, Represents, value_at}
@@ -171,7 +171,7 @@ pub equations_are_read : {Object Arrow : Type 0} {s : Structure Object Arrow} �
 equations_are_read laws involution ds left right e p f equation unmarked rep =
     equation_is_read laws involution ds left right e p f equation rep (λ h. absurd (true≢false (sym h ∙ unmarked)))
 
-pub starred_equations_are_read : {Object Arrow : Type 0} {s : Structure Object Arrow} {involution : Arrow → Arrow} → PreadditiveLaws s → InvolutionLaws s involution → StarredEquationsAreRead s involution
-starred_equations_are_read {involution = involution} laws star_laws ds left right e p f equation rep =
+pub starred_equations_are_read : {Object Arrow : Type 0} {s : Structure Object Arrow} → PreadditiveLaws s → StarredEquationsAreRead s
+starred_equations_are_read laws involution star_laws ds left right e p f equation rep =
     equation_is_read laws involution ds left right e p f equation rep.represents
     (λ h u v in_u in_v x paths. value-adjoint laws star_laws (quiver_of ds) (is_quiver ds equation.declared equation.objects_first) f rep u v in_u in_v x paths)

@@ -58,7 +58,7 @@ proved_claims_hold {Object} {Arrow} {s} laws statements problem number d stated 
     let ds = problem.parts.quiver in
     record {
       by_star = λ involution star_laws f rep cancels held.
-          let read = starred_statements_are_read laws star_laws statements problem f stated rep in
+          let read = starred_statements_are_read laws involution star_laws statements problem f stated rep in
           record {
             at = λ e is. (claim_is_read s involution ds f statements problem read.claims number e is).0
                 (means.by_star.zero involution star_laws f rep cancels (zeros_from_held s involution ds f problem.parts.assumptions (assumptions_of ds statements) read.assumptions held));
@@ -77,7 +77,7 @@ refuted_claims_fail statements problem number m stated means =
     let star = transpose m.modulus in
     let ds = problem.parts.quiver in
     let f = representation_of (quiver_of ds) m in
-    let read = starred_statements_are_read (matrices_laws m.modulus) (transpose_laws m.modulus) statements problem f stated means.represents in
+    let read = starred_statements_are_read (matrices_laws m.modulus) star (transpose_laws m.modulus) statements problem f stated means.represents in
     record {
       represents = means.represents;
       assumptions = held_from_zeros s star ds f problem.parts.assumptions (assumptions_of ds statements) read.assumptions means.assumptions;

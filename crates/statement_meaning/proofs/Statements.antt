@@ -3,7 +3,7 @@ use Rattle.std.proofs.Common.{◌≡◌, true, ◌↔◌, List, [], ◌∷◌, O
 use Rattle.std.proofs.lemmas.List.Elements.{recursion_from_All}
 use Rattle.std.specs.List.{AllByRecursion, AllZip}
 use Rattle.std.specs.Option.{option_or, option_map}
-use Rattle.definitions.specs.Category.{Structure, PreadditiveLaws, InvolutionLaws}
+use Rattle.definitions.specs.Category.{Structure, PreadditiveLaws}
 use Rattle.definitions.specs.Representation.{Representation, Represents}
 use Rattle.definitions.specs.Soundness.{HasValueZero}
 use Rattle.nc_polynomial.specs.declared.poly.Poly as made
@@ -120,7 +120,7 @@ pub statements_are_read : {Object Arrow : Type 0} {s : Structure Object Arrow} �
 statements_are_read laws involution statements problem f stated unstarred rep =
     problem_is_read laws involution statements problem f stated rep (λ is. absurd (true≢false (sym is ∙ sym stated.parts.starred ∙ unstarred)))
 
-pub starred_statements_are_read : {Object Arrow : Type 0} {s : Structure Object Arrow} {involution : Arrow → Arrow} → PreadditiveLaws s → InvolutionLaws s involution → StarredStatementsAreRead s involution
-starred_statements_are_read {involution = involution} laws star_laws statements problem f stated rep =
+pub starred_statements_are_read : {Object Arrow : Type 0} {s : Structure Object Arrow} → PreadditiveLaws s → StarredStatementsAreRead s
+starred_statements_are_read laws involution star_laws statements problem f stated rep =
     problem_is_read laws involution statements problem f stated rep.represents
     (λ starred u v in_u in_v p paths. value-adjoint laws star_laws (quiver_of problem.parts.quiver) (is_quiver problem.parts.quiver problem.posed.declared problem.posed.objects_first) f rep u v in_u in_v p paths)

@@ -1,7 +1,7 @@
 -- The polynomials of equations and statements say what these mean.
 use Rattle.std.specs.Prelude.{◌≡◌, ◌↔◌, List, Ok, false, ◌||◌}
 use Rattle.std.specs.List.{AllZip}
-use Rattle.definitions.specs.Category.{Structure}
+use Rattle.definitions.specs.Category.{Structure, InvolutionLaws}
 use Rattle.definitions.specs.Poly.{Poly}
 use Rattle.definitions.specs.Representation.{Representation, Represents, StarRepresents}
 use Rattle.definitions.specs.Soundness.{HasValueZero}
@@ -38,9 +38,10 @@ EquationsAreRead {Object} {Arrow} s = (involution : Arrow → Arrow) (ds : List 
     → IsEquation ds left right e p → (has_mark left || has_mark right) ≡ false → Represents s (quiver_of ds) f
     → HasValueZero s (quiver_of ds) f p ↔ Holds (reading s involution ds f) left right
 
--- In each star representation the polynomial of an equation has the value zero exactly where both sides have the same value.
-abbrev pub StarredEquationsAreRead : {Object Arrow : Type 0} → Structure Object Arrow → (Arrow → Arrow) → Type 0
-StarredEquationsAreRead {Object} {Arrow} s involution = (ds : List Declaration) (left right : Sum) (e : Sig) (p : Poly) (f : Representation Object Arrow)
+-- Whatever the involution, in each star representation the polynomial of an equation has the value zero exactly where both sides have the same value.
+abbrev pub StarredEquationsAreRead : {Object Arrow : Type 0} → Structure Object Arrow → Type 0
+StarredEquationsAreRead {Object} {Arrow} s = (involution : Arrow → Arrow) → InvolutionLaws s involution
+    → (ds : List Declaration) (left right : Sum) (e : Sig) (p : Poly) (f : Representation Object Arrow)
     → IsEquation ds left right e p → StarRepresents s involution (quiver_of ds) f
     → HasValueZero s (quiver_of ds) f p ↔ Holds (reading s involution ds f) left right
 
@@ -58,7 +59,8 @@ abbrev pub StatementsAreRead : {Object Arrow : Type 0} → Structure Object Arro
 StatementsAreRead {Object} {Arrow} s = (involution : Arrow → Arrow) (statements : List Statement) (problem : Problem) (f : Representation Object Arrow)
     → IsProblemOf statements problem → problem.parts.starred ≡ false → Represents s (quiver_of problem.parts.quiver) f → IsRead s involution f statements problem
 
--- In each star representation those of every statement are.
-abbrev pub StarredStatementsAreRead : {Object Arrow : Type 0} → Structure Object Arrow → (Arrow → Arrow) → Type 0
-StarredStatementsAreRead {Object} {Arrow} s involution = (statements : List Statement) (problem : Problem) (f : Representation Object Arrow)
+-- Whatever the involution, in each star representation those of every statement are.
+abbrev pub StarredStatementsAreRead : {Object Arrow : Type 0} → Structure Object Arrow → Type 0
+StarredStatementsAreRead {Object} {Arrow} s = (involution : Arrow → Arrow) → InvolutionLaws s involution
+    → (statements : List Statement) (problem : Problem) (f : Representation Object Arrow)
     → IsProblemOf statements problem → StarRepresents s involution (quiver_of problem.parts.quiver) f → IsRead s involution f statements problem

@@ -16,7 +16,7 @@ use Rattle.cofactor_checker.specs.ProvedMeans.{MeansZero}
 use Rattle.model_checker.specs.Models.{representation_of}
 use Rattle.model_checker.specs.RefutedMeans.{RefutedMeans}
 use Rattle.statement_meaning.specs.Values.{Reading, Holds}
-use Rattle.statement_meaning.specs.Laws.{reading}
+use Rattle.statement_meaning.specs.Laws.{reading, StatementsAreRead, StarredStatementsAreRead}
 
 -- all assumptions of the file hold, abbreviations written out
 abbrev pub AssumptionsHold : {Object Arrow : Type 0} → Reading Object Arrow → List Statement → Type 0
@@ -60,3 +60,12 @@ ProvedClaimsHold s = (statements : List Statement) (problem : Problem) (number :
 abbrev pub RefutedClaimsFail : Type 0
 RefutedClaimsFail = (statements : List Statement) (problem : Problem) (number : ℕ) (m : Model)
     → IsProblemOf statements problem → RefutedMeans problem number m → RefutesClaim statements problem number m
+
+-- What is said of the assumptions and the claims of a problem is said of the equations of its file.
+pub record SaysEquations {Object Arrow : Type 0} (s : Structure Object Arrow) : Type 0 where
+  -- they are zero exactly where the equations hold
+  pub plain : StatementsAreRead s
+  pub by_star : StarredStatementsAreRead s
+  -- so a claim that is proved holds, and one that is refuted doesn't
+  pub proved : ProvedClaimsHold s
+  pub refuted : RefutedClaimsFail

@@ -4,6 +4,6 @@
 mod laws;
 
 pub use laws::{
-    equations_are_read, proved_claims_hold, refuted_claims_fail, starred_equations_are_read,
-    starred_statements_are_read, statements_are_read,
+    equations_are_read, proved_claims_hold, refuted_claims_fail, says_equations,
+    statements_are_read,
 };
