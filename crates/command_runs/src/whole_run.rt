@@ -12,6 +12,7 @@ ghost use Rattle.command_shape.specs.Stop.{StopsBy, EndsAs};
 ghost use Rattle.command_runs.specs.Run.{seen, IsReported, IsSinkFailure, IsCutShort, IsUsage, TellsOtherWords, IsNotLoaded, TellsMissing};
 ghost use Rattle.command_runs.specs.Run.{TellsTooLong, IsAnswered, IsComplete};
 ghost use Rattle.command_runs.specs.Headline.{MeansAsSaid};
+ghost use Rattle.statement_meaning.specs.Meanings.{SaysEquations};
 
 use crate::answers::answer;
 use crate::call::call_files;
@@ -24,6 +25,7 @@ use flow_io::{Shelf, Sink, put_all};
 use in_order_parallel::Gate;
 use lists::Listing;
 use representations::sound;
+use statement_meaning::says_equations;
 use std::alloc::{AllocError, Global};
 use std::thread::Threads;
 
@@ -136,9 +138,11 @@ pub fn run<R: Threads + Sync, C: Preadditive, L: Shelf, K: Sink, G: Gate + Sync>
     ensures complete { IsComplete words.now (seen L.file L.faults K.written K.is_finished K.faults shelf.old shelf.new sink.old sink.new) result }
     ensures meaning { MeansAsSaid (C.structure category.now) words.now
         (seen L.file L.faults K.written K.is_finished K.faults shelf.old shelf.new sink.old sink.new) result }
+    ensures equations { SaysEquations (C.structure category.now) }
 {
     sound(category);
     cancellation_sound(category);
+    says_equations(category);
     match ending_of(rt, alloc, words, shelf, gate) {
         Ok(ending) => put_ending(sink, &ending),
         Err(AllocError) => OUT_OF_MEMORY,

@@ -1,0 +1,233 @@
+-- The polynomial of an expression says its value.
+use Rattle.std.proofs.Common.{◌≡◌, ℕ, ◌<◌, ℤ, pos, negsuc, Bool, true, false, ◌||◌, List, [], ◌∷◌, Option, Some, None, Ok, refl, sym, ap, ap₂, subst, ◌∙◌}
+use Rattle.std.proofs.lemmas.Bool.{and_parts}
+use Rattle.std.specs.List.{list_any}
+use Rattle.std.specs.Option.{option_map}
+use Rattle.definitions.specs.Category.{Structure, PreadditiveLaws}
+use Rattle.definitions.specs.Poly.{Poly, SamePolynomial, poly_multiple}
+use Rattle.definitions.specs.Quiver.{Quiver, IsQuiver, letters, source, target, is_path}
+use Rattle.definitions.specs.Representation.{Representation, Represents, multiple}
+use Rattle.nc_polynomial.specs.Terms.{negated, scaled, products}
+use Rattle.nc_polynomial.specs.Arithmetic.{multiple_result}
+use Rattle.nc_polynomial.proofs.Chains.{finished-value}
+use Rattle.nc_polynomial.proofs.Values.{SamePolynomial-scaled, negated-multiple}
+use Rattle.quiver.specs.declared.named.Sig.{Sig}
+use Rattle.quiver.specs.declared.named.Named.{Named}
+use Rattle.quiver.specs.declared.named.Named.TheVariants as variant
+use Rattle.quiver.specs.Declarations.{named_in, object_count, quiver_of, identity_in, ObjectsFirst, IsDeclared}
+use Rattle.quiver.proofs.Counts.{letters-quiver_of}
+use Rattle.quiver.proofs.Found.{is_named}
+use Rattle.quiver.proofs.Identities.{identity_is, is_quiver}
+use Rattle.statement_syntax.specs.declared.tree.Number.{Number}
+use Rattle.statement_syntax.specs.declared.tree.Primary.{Primary, Letter, Identity, Bracket}
+use Rattle.statement_syntax.specs.declared.tree.Term.{Term, Term', Row_of-Factor, end_of-Factor, more_of-Factor}
+use Rattle.statement_syntax.specs.declared.tree.Sum.{Sum, Sum', Row_of-Term, end_of-Term, more_of-Term}
+use Rattle.expression_names.specs.Names.{is_map, is_object, letter_number, object_number, letter_of, object_of, are_names, are_names_of_terms, are_names_of_term, are_names_of_factors, are_names_of_primary}
+use Rattle.expression_names.specs.Occurrences.{is_adjoint, has_mark, has_mark_in_terms, has_mark_in_term, has_mark_in_factors, has_mark_in_primary}
+use Rattle.expressions.specs.Results.{◌>>=◌}
+use Rattle.expressions.specs.Signatures as signatures
+use Rattle.expressions.specs.Signatures.{Part, from_to, letter_signature, marked_signature}
+use Rattle.expressions.specs.Polynomials as polynomials
+use Rattle.expressions.specs.Polynomials.{letter_poly, marked_poly, scaled_by, Summand, signed}
+use Rattle.expressions.proofs.Sequences.{bound, same_value}
+use Rattle.expressions.proofs.TypedParts.{path-letter, IsPathOf}
+use Rattle.expressions.proofs.Typed.{typed-sum}
+use Rattle.expressions.proofs.Words.{Words, words-negated, words-multiple}
+use Rattle.expressions.proofs.Letters.{left_of, right_of}
+use Rattle.statement_meaning.specs.Values.{Reading, plus, composite, marks_value, scaled_value, signed_value, sum_value, terms_value, term_value, factor_values, primary_value}
+use Rattle.statement_meaning.proofs.Polynomials.{value_in, value-same, value-multiple, value-term}
+use Rattle.statement_meaning.proofs.Denoted.{value_of, Denotes}
+use Rattle.statement_meaning.proofs.Sums.{AreTerms, total_value, summed, total_is, denotes-summed}
+use Rattle.statement_meaning.proofs.Products.{AreFactors, denotes-product}
+use Rattle.statement_meaning.proofs.Marks.{AdjointsAre, denotes-marked}
+
+module _ {Object Arrow : Type 0} (r : Reading Object Arrow) (laws : PreadditiveLaws r.category) (declared : IsDeclared r.names) (first : ObjectsFirst r.names)
+    (rep : Represents r.category (quiver_of r.names) r.maps) where
+  abbrev q : Quiver
+  q = quiver_of r.names
+
+  abbrev s : Structure Object Arrow
+  s = r.category
+
+  abbrev f : Representation Object Arrow
+  f = r.maps
+
+  quiver : IsQuiver q
+  quiver = is_quiver r.names declared first
+
+  -- a letter
+  denotes-letter : (a : ℕ) → a < letters q → Denotes s q f (Some (letter_signature q a)) (letter_poly a) (Some (f.arrow a))
+  denotes-letter a h =
+      let u = source q a in
+      let v = target q a in
+      let in_u = quiver.source_is_object a h in
+      let in_v = quiver.target_is_object a h in
+      let path = path-letter q a h in
+      let none = s.zero (f.object u) (f.object v) in
+      let is_zero = laws.add_zero (f.object u) (f.object v) (f.arrow a) (rep.arrows a h) in
+      record {
+        source_below = in_u;
+        target_below = in_v;
+        paths = (path, tt);
+        same = ap Some (sym (value-term laws q f rep u v in_u in_v (pos 1, a ∷ []) [] path ∙ ap (λ x. s.add x none) is_zero ∙ is_zero));
+      }
+
+  denotes-map : (o : Option Named) (name : List ℕ) → named_in r.names name ≡ o → is_map o ≡ true
+      → Denotes s q f (Some (letter_signature q (letter_number o))) (letter_poly (letter_number o)) (Some (f.arrow (letter_number o)))
+  denotes-map None name e known = absurd (cc)
+  denotes-map (Some (variant.Object v)) name e known = absurd (cc)
+  denotes-map (Some (variant.Map a)) name e known = denotes-letter a.0 (subst (λ n. a.0 < n) (sym (letters-quiver_of r.names)) (is_named r.names name (variant.Map a) e).0)
+
+  -- the identity of an object
+  denotes-unit : (v : ℕ) → v < object_count r.names → Denotes s q f (Some (from_to v v)) (letter_poly (identity_in r.names v)) (Some (s.identity (f.object v)))
+  denotes-unit v below =
+      subst (λ a. Denotes s q f (Some (from_to v v)) (letter_poly a) (Some (s.identity (f.object v)))) (sym (identity_is r.names first v below))
+      (subst (λ x. Denotes s q f (Some (from_to v v)) (letter_poly v) (Some x)) (rep.identities v below)
+      (subst (λ x. Denotes s q f (Some (from_to x v)) (letter_poly v) (Some (f.arrow v))) (quiver.identity_source v below)
+      (subst (λ x. Denotes s q f (Some (from_to (source q v) x)) (letter_poly v) (Some (f.arrow v))) (quiver.identity_target v below)
+      (denotes-letter v (quiver.identity_is_letter v below)))))
+
+  denotes-identity : (o : Option Named) (name : List ℕ) → named_in r.names name ≡ o → is_object o ≡ true
+      → Denotes s q f (Some (from_to (object_number o) (object_number o))) (letter_poly (identity_in r.names (object_number o))) (Some (s.identity (f.object (object_number o))))
+  denotes-identity None name e known = absurd (cc)
+  denotes-identity (Some (variant.Object v)) name e known = denotes-unit v.0 (is_named r.names name (variant.Object v) e).0
+  denotes-identity (Some (variant.Map a)) name e known = absurd (cc)
+
+  -- multiples
+  denotes-multiple : (o : Option Sig) (k : ℤ) (p x : Poly) (a : Option Arrow) → Denotes s q f o p a → multiple_result k p ≡ Ok x → Denotes s q f o x (option_map (multiple s k) a)
+  denotes-multiple None k p x a d e = (sym (finished-value (products k []) (scaled k []) x (subst (λ y. multiple_result k y ≡ Ok x) d.0 e)), ap (option_map (multiple s k)) d.1)
+  denotes-multiple (Some i) k p x a d e = record {
+    source_below = d.source_below;
+    target_below = d.target_below;
+    paths = words-multiple (λ w. is_path q i.source.0 i.target.0 w ≡ true) k p x d.paths e;
+    same =
+        ap (option_map (multiple s k)) d.same
+        ∙ ap Some (sym (value-multiple laws q f rep i.source.0 i.target.0 d.source_below d.target_below k p))
+        ∙ ap Some (sym (value-same laws q f rep i.source.0 i.target.0 d.source_below d.target_below x (poly_multiple k p)
+        (subst (λ y. SamePolynomial y (poly_multiple k p)) (finished-value (products k p) (scaled k p) x e) (SamePolynomial-scaled k p))));
+  }
+
+  denotes-scaled : (o : Option Sig) (literal : Option Number) (p x : Poly) (a : Option Arrow) → Denotes s q f o p a → scaled_by literal p ≡ Ok x → Denotes s q f o x (scaled_value s literal a)
+  denotes-scaled o None p x a d e = subst (λ y. Denotes s q f o y a) (same_value p x e) d
+  denotes-scaled o (Some n) p x a d e = denotes-multiple o n.value p x a d e
+
+  denotes-negated : (o : Option Sig) (p : Poly) (a : Option Arrow) → Denotes s q f o p a → Denotes s q f o (negated p) (option_map s.negate a)
+  denotes-negated None p a d = (ap negated d.0, ap (option_map s.negate) d.1)
+  denotes-negated (Some i) p a d =
+      let u = i.source.0 in
+      let v = i.target.0 in
+      let x = value_of s q f i p in
+      let once = laws.add_zero (f.object u) (f.object v) x (value_in laws q f rep u v d.source_below d.target_below p) in
+      let x_in = value_in laws q f rep u v d.source_below d.target_below p in
+      let ends = ap₂ s.zero x_in.source x_in.target in
+      record {
+        source_below = d.source_below;
+        target_below = d.target_below;
+        paths = words-negated (λ w. is_path q i.source.0 i.target.0 w ≡ true) p d.paths;
+        same =
+            ap (option_map s.negate) d.same
+            ∙ ap Some (sym (ap s.negate (ap (s.add x) ends ∙ once)))
+            ∙ ap Some (sym (value-multiple laws q f rep u v d.source_below d.target_below (negsuc 0) p))
+            ∙ ap (λ y. Some (value_of s q f i y)) (sym (negated-multiple p));
+      }
+
+  denotes-signed : (o : Option Sig) (negative : Bool) (p : Poly) (a : Option Arrow) → Denotes s q f o p a → Denotes s q f o (signed (negative, p)) (signed_value s negative a)
+  denotes-signed o false p a d = d
+  denotes-signed o true p a d = denotes-negated o p a d
+
+  -- the values of terms, in a list
+  abbrev values : {m : _} → Row_of-Term m → List (Option Arrow)
+  values end_of-Term = []
+  values (more_of-Term t rest) = term_value r t ∷ values rest
+
+  values-total : {m : _} (k : Row_of-Term m) → terms_value r k ≡ total_value s (values k)
+  values-total end_of-Term = refl
+  values-total (more_of-Term t rest) = ap (plus s (term_value r t)) (values-total rest)
+
+  abbrev Adjoints : Type 0
+  Adjoints = AdjointsAre s r.involution q f
+
+  -- the sum is the polynomial of the terms one after another
+  denotes-total : (o : Option Sig) (ss : List Summand) (x : Poly) (a : Option Arrow) → Words (IsPathOf q o) x → Denotes s q f o (summed ss) a → polynomials.total ss ≡ Ok x → Denotes s q f o x a
+  denotes-total None ss [] a h d e = (refl, d.1)
+  denotes-total None ss (t ∷ x) a h d e = absurd h.0
+  denotes-total (Some i) ss x a h d e = record {
+    source_below = d.source_below;
+    target_below = d.target_below;
+    paths = h;
+    same = d.same ∙ ap Some (sym (value-same laws q f rep i.source.0 i.target.0 d.source_below d.target_below x (summed ss) (total_is ss x e)));
+  }
+
+  -- by induction on the expression; the involution counts only where there is a quote
+  mutual
+    pub denotes-sum : (k : Sum) → are_names r.names k ≡ true → (has_mark k ≡ true → Adjoints) → (o : Option Sig) → signatures.sum_signature r.names k ≡ Ok o → (x : Poly) → polynomials.sum_poly r.names k ≡ Ok x
+        → Denotes s q f o x (sum_value r k)
+    denotes-sum (Sum' at shape terms) known adjoints o e x d =
+        let parts = bound (signatures.terms_parts r.names terms) (signatures.sum_from (Ok None)) o e in
+        let polys = bound (polynomials.summands r.names terms) polynomials.total x d in
+        let whole = denotes-summed laws q f rep parts.value polys.value (values terms) o (denotes-terms terms known adjoints parts.value parts.is polys.value polys.is) parts.then in
+        subst (Denotes s q f o x) (sym (values-total terms)) (denotes-total o polys.value x (total_value s (values terms)) (typed-sum r.names declared first (Sum' at shape terms) known o e x d) whole polys.then)
+
+    denotes-terms : {m : _} (k : Row_of-Term m) → are_names_of_terms r.names k ≡ true → (has_mark_in_terms k ≡ true → Adjoints) → (parts : List Part) → signatures.terms_parts r.names k ≡ Ok parts
+        → (ss : List Summand) → polynomials.summands r.names k ≡ Ok ss → AreTerms laws q f rep parts ss (values k)
+    denotes-terms end_of-Term known adjoints parts e ss d =
+        subst (λ i. AreTerms laws q f rep i ss []) (same_value [] parts e) (subst (λ i. AreTerms laws q f rep [] i []) (same_value [] ss d) tt)
+    denotes-terms (more_of-Term t rest) known adjoints parts e ss d =
+        let names = and_parts (are_names_of_term r.names t) (are_names_of_terms r.names rest) known in
+        let part = bound _ (λ x. signatures.terms_parts r.names rest >>= λ xs. Ok (x ∷ xs)) parts e in
+        let later_parts = bound (signatures.terms_parts r.names rest) (λ xs. Ok (part.value ∷ xs)) parts part.then in
+        let signature = bound (signatures.term_signature r.names t) _ part.value part.is in
+        let summand = bound _ (λ x. polynomials.summands r.names rest >>= λ xs. Ok (x ∷ xs)) ss d in
+        let later_summands = bound (polynomials.summands r.names rest) (λ xs. Ok (summand.value ∷ xs)) ss summand.then in
+        let poly = bound (polynomials.term_poly r.names t) _ summand.value summand.is in
+        let here = denotes-term t names.0 (λ h. adjoints (left_of (has_mark_in_term t) (has_mark_in_terms rest) h)) signature.value signature.is poly.value poly.is in
+        let later = denotes-terms rest names.1 (λ h. adjoints (right_of (has_mark_in_term t) (has_mark_in_terms rest) h)) later_parts.value later_parts.is later_summands.value later_summands.is in
+        let placed : Denotes s q f part.value.1 (signed summand.value) (term_value r t) =
+        subst (λ x. Denotes s q f x.1 (signed summand.value) (term_value r t)) (same_value _ part.value signature.then) (subst (λ y. Denotes s q f signature.value (signed y) (term_value r t)) (same_value _ summand.value poly.then) here) in
+        subst (λ i. AreTerms laws q f rep i ss (term_value r t ∷ values rest)) (same_value _ parts later_parts.then)
+        (subst (λ i. AreTerms laws q f rep (part.value ∷ later_parts.value) i (term_value r t ∷ values rest)) (same_value _ ss later_summands.then) (placed, later))
+
+    -- a term, with its sign
+    denotes-term : (t : Term) → are_names_of_term r.names t ≡ true → (has_mark_in_term t ≡ true → Adjoints) → (o : Option Sig) → signatures.term_signature r.names t ≡ Ok o → (x : Poly) → polynomials.term_poly r.names t ≡ Ok x
+        → Denotes s q f o (signed (polynomials.is_negative t, x)) (term_value r t)
+    denotes-term (Term' at negative literal shape factors) known adjoints o e x d =
+        let parts = bound (signatures.factors_parts r.names factors) signatures.product_signature o e in
+        let product = bound (polynomials.factor_polys r.names factors >>= polynomials.product_poly) (scaled_by literal) x d in
+        let polys = bound (polynomials.factor_polys r.names factors) polynomials.product_poly product.value product.is in
+        let each = denotes-factors factors known adjoints parts.value parts.is polys.value polys.is in
+        let whole = denotes-product laws q f rep parts.value polys.value (factor_values r factors) o product.value each parts.then polys.then in
+        denotes-signed o negative x (scaled_value s literal (composite s (factor_values r factors))) (denotes-scaled o literal product.value x (composite s (factor_values r factors)) whole product.then)
+
+    denotes-factors : {m : _} (k : Row_of-Factor m) → are_names_of_factors r.names k ≡ true → (has_mark_in_factors k ≡ true → Adjoints) → (parts : List Part) → signatures.factors_parts r.names k ≡ Ok parts
+        → (ps : List Poly) → polynomials.factor_polys r.names k ≡ Ok ps → AreFactors laws q f rep parts ps (factor_values r k)
+    denotes-factors end_of-Factor known adjoints parts e ps d =
+        subst (λ i. AreFactors laws q f rep i ps []) (same_value [] parts e) (subst (λ i. AreFactors laws q f rep [] i []) (same_value [] ps d) tt)
+    denotes-factors (more_of-Factor at primary marks rest) known adjoints parts e ps d =
+        let names = and_parts (are_names_of_primary r.names primary) (are_names_of_factors r.names rest) known in
+        let here = has_mark_in_primary primary || list_any is_adjoint marks in
+        let part = bound _ (λ x. signatures.factors_parts r.names rest >>= λ xs. Ok (x ∷ xs)) parts e in
+        let later_parts = bound (signatures.factors_parts r.names rest) (λ xs. Ok (part.value ∷ xs)) parts part.then in
+        let marked_part = bound (signatures.primary_signature r.names primary >>= marked_signature at marks) _ part.value part.is in
+        let signature = bound (signatures.primary_signature r.names primary) (marked_signature at marks) marked_part.value marked_part.is in
+        let poly = bound _ (λ x. polynomials.factor_polys r.names rest >>= λ xs. Ok (x ∷ xs)) ps d in
+        let later_polys = bound (polynomials.factor_polys r.names rest) (λ xs. Ok (poly.value ∷ xs)) ps poly.then in
+        let inner = bound (polynomials.primary_poly r.names primary) (marked_poly q marks) poly.value poly.is in
+        let in_front = λ (h : here ≡ true). adjoints (left_of here (has_mark_in_factors rest) h) in
+        let bare = denotes-primary primary names.0 (λ h. in_front (left_of (has_mark_in_primary primary) (list_any is_adjoint marks) h)) signature.value signature.is inner.value inner.is in
+        let value = marks_value r marks (primary_value r primary) in
+        let marked : Denotes s q f marked_part.value poly.value value =
+        denotes-marked r laws q quiver rep at marks (λ h. in_front (right_of (has_mark_in_primary primary) (list_any is_adjoint marks) h)) signature.value marked_part.value inner.value poly.value (primary_value r primary) bare signature.then inner.then in
+        let placed : Denotes s q f part.value.1 poly.value value = subst (λ x. Denotes s q f x.1 poly.value value) (same_value _ part.value marked_part.then) marked in
+        let later = denotes-factors rest names.1 (λ h. adjoints (right_of here (has_mark_in_factors rest) h)) later_parts.value later_parts.is later_polys.value later_polys.is in
+        subst (λ i. AreFactors laws q f rep i ps (value ∷ factor_values r rest)) (same_value _ parts later_parts.then)
+        (subst (λ i. AreFactors laws q f rep (part.value ∷ later_parts.value) i (value ∷ factor_values r rest)) (same_value _ ps later_polys.then) (placed, later))
+
+    denotes-primary : (k : Primary) → are_names_of_primary r.names k ≡ true → (has_mark_in_primary k ≡ true → Adjoints) → (o : Option Sig) → signatures.primary_signature r.names k ≡ Ok o
+        → (x : Poly) → polynomials.primary_poly r.names k ≡ Ok x → Denotes s q f o x (primary_value r k)
+    denotes-primary (Letter n) known adjoints o e x d =
+        let a = f.arrow (letter_of r.names n) in
+        subst (λ i. Denotes s q f i x (Some a)) (same_value _ o e) (subst (λ p. Denotes s q f (Some (letter_signature q (letter_of r.names n))) p (Some a)) (same_value _ x d) (denotes-map (named_in r.names n.text) n.text refl known))
+    denotes-primary (Identity n) known adjoints o e x d =
+        let a = s.identity (f.object (object_of r.names n)) in
+        subst (λ i. Denotes s q f i x (Some a)) (same_value _ o e) (subst (λ p. Denotes s q f (Some (from_to (object_of r.names n) (object_of r.names n))) p (Some a)) (same_value _ x d) (denotes-identity (named_in r.names n.text) n.text refl known))
+    denotes-primary (Bracket k) known adjoints o e x d = denotes-sum k known adjoints o e x d

@@ -1,0 +1,86 @@
+-- What the answers on a claim say of the equations of its file.
+use Rattle.std.proofs.Common.{◌≡◌, ℕ, zero, suc, ◌↔◌, List, [], ◌∷◌, get_or, slice_get, Option, Some, subst}
+use Rattle.std.specs.List.{AllByRecursion}
+use Rattle.definitions.specs.Category.{Structure, PreadditiveLaws}
+use Rattle.definitions.specs.Representation.{Representation}
+use Rattle.definitions.specs.Soundness.{HasValueZero}
+use Rattle.nc_polynomial.specs.declared.poly.Poly as made
+use Rattle.quiver.specs.Declarations.{Declaration, quiver_of}
+use Rattle.matrix_models.specs.Matrices.{matrices, transpose}
+use Rattle.matrix_models.specs.Laws.{matrices_laws, transpose_laws}
+use Rattle.statement_syntax.specs.declared.tree.Statement.{Statement}
+use Rattle.abbreviations.specs.declared.written.Equation.{Equation}
+use Rattle.abbreviations.specs.Written.{assumptions_of, claims_of}
+use Rattle.adjoint_rules.specs.declared.problem.Problem.{Problem}
+use Rattle.adjoint_rules.specs.Problem.{polynomials}
+use Rattle.adjoint_rules.specs.Claims.{claim_at}
+use Rattle.model_checker.specs.Models.{representation_of}
+use Rattle.statement_meaning.specs.Values.{Holds}
+use Rattle.statement_meaning.specs.Laws.{reading, AreRead}
+use Rattle.statement_meaning.specs.Meanings.{IsClaim, ProvedClaimsHold, RefutedClaimsFail}
+use Rattle.statement_meaning.proofs.Statements.{statements_are_read, starred_statements_are_read}
+
+module _ {Object Arrow : Type 0} (s : Structure Object Arrow) (involution : Arrow → Arrow) (ds : List Declaration) (f : Representation Object Arrow) where
+  abbrev IsHeld : Equation → Type 0
+  IsHeld e = Holds (reading s involution ds f) e.left e.right
+
+  -- where all equations hold, all polynomials are zero, and the other way round
+  zeros_from_held : (ps : List made.Poly) (es : List Equation) → AreRead s involution ds f ps es → AllByRecursion IsHeld es → AllByRecursion (HasValueZero s (quiver_of ds) f) (polynomials ps)
+  zeros_from_held [] es read held = tt
+  zeros_from_held (p ∷ ps) [] read held = absurd read
+  zeros_from_held (p ∷ ps) (e ∷ es) read held = (read.0.1 held.0, zeros_from_held ps es read.1 held.1)
+
+  held_from_zeros : (ps : List made.Poly) (es : List Equation) → AreRead s involution ds f ps es → AllByRecursion (HasValueZero s (quiver_of ds) f) (polynomials ps) → AllByRecursion IsHeld es
+  held_from_zeros [] [] read zeros = tt
+  held_from_zeros [] (e ∷ es) read zeros = absurd read
+  held_from_zeros (p ∷ ps) [] read zeros = tt
+  held_from_zeros (p ∷ ps) (e ∷ es) read zeros = (read.0.0 zeros.0, held_from_zeros ps es read.1 zeros.1)
+
+  -- the polynomial and the equation at one place
+  read_at : (ps : List made.Poly) (es : List Equation) → AreRead s involution ds f ps es → (n : ℕ) (e : Equation) → slice_get es n ≡ Some e
+      → HasValueZero s (quiver_of ds) f (get_or (polynomials ps) n []) ↔ IsHeld e
+  read_at [] [] read n e there = absurd (cc)
+  read_at [] (x ∷ es) read n e there = absurd read
+  read_at (p ∷ ps) [] read n e there = absurd read
+  read_at (p ∷ ps) (x ∷ es) read zero e there = subst (λ y. HasValueZero s (quiver_of ds) f p.terms ↔ IsHeld y) (some_is there) read.0
+    where
+      some_is : ◌≡◌ {A = Option Equation} (Some x) (Some e) → x ≡ e
+      some_is same = cc
+  read_at (p ∷ ps) (x ∷ es) read (suc n) e there = read_at ps es read.1 n e there
+
+  claim_is_read : (statements : List Statement) (problem : Problem) → AreRead s involution ds f problem.parts.claims (claims_of statements) → (number : ℕ) (e : Equation) → IsClaim statements number e
+      → HasValueZero s (quiver_of ds) f (claim_at problem number) ↔ IsHeld e
+  claim_is_read statements problem read zero e is = absurd is
+  claim_is_read statements problem read (suc n) e is = read_at problem.parts.claims (claims_of statements) read n e is
+
+pub proved_claims_hold : {Object Arrow : Type 0} {s : Structure Object Arrow} → PreadditiveLaws s → ProvedClaimsHold s
+proved_claims_hold {Object} {Arrow} {s} laws statements problem number d stated means =
+    let ds = problem.parts.quiver in
+    record {
+      by_star = λ involution star_laws f rep cancels held.
+          let read = starred_statements_are_read laws involution star_laws statements problem f stated rep in
+          record {
+            at = λ e is. (claim_is_read s involution ds f statements problem read.claims number e is).0
+                (means.by_star.zero involution star_laws f rep cancels (zeros_from_held s involution ds f problem.parts.assumptions (assumptions_of ds statements) read.assumptions held));
+          };
+      plain = λ unstarred involution f rep cancels held.
+          let read = statements_are_read laws involution statements problem f stated unstarred rep in
+          record {
+            at = λ e is. (claim_is_read s involution ds f statements problem read.claims number e is).0
+                ((means.plain unstarred).zero f rep cancels (zeros_from_held s involution ds f problem.parts.assumptions (assumptions_of ds statements) read.assumptions held));
+          };
+    }
+
+pub refuted_claims_fail : RefutedClaimsFail
+refuted_claims_fail statements problem number m stated means =
+    let s = matrices m.modulus in
+    let star = transpose m.modulus in
+    let ds = problem.parts.quiver in
+    let f = representation_of (quiver_of ds) m in
+    let read = starred_statements_are_read (matrices_laws m.modulus) star (transpose_laws m.modulus) statements problem f stated means.represents in
+    record {
+      represents = means.represents;
+      assumptions = held_from_zeros s star ds f problem.parts.assumptions (assumptions_of ds statements) read.assumptions means.assumptions;
+      claim = λ e is held. means.claim.other
+          (((claim_is_read s star ds f statements problem read.claims number e is).1 held).at means.claim.source means.claim.target means.claim.source_is_object means.claim.target_is_object means.claim.typed);
+    }

@@ -1,0 +1,126 @@
+-- The assumptions and the claims of a statement are zero exactly where its equations hold.
+use Rattle.std.proofs.Common.{◌≡◌, true, ◌↔◌, List, [], ◌∷◌, Option, Some, None, Result, Ok, Err, refl, sym, ap, subst, ◌∙◌, true≢false}
+use Rattle.std.proofs.lemmas.List.Elements.{recursion_from_All}
+use Rattle.std.specs.List.{AllByRecursion, AllZip}
+use Rattle.std.specs.Option.{option_or, option_map}
+use Rattle.definitions.specs.Category.{Structure, PreadditiveLaws}
+use Rattle.definitions.specs.Representation.{Representation, Represents}
+use Rattle.definitions.specs.Soundness.{HasValueZero}
+use Rattle.nc_polynomial.specs.declared.poly.Poly as made
+use Rattle.quiver.specs.declared.named.Sig.{Sig}
+use Rattle.quiver.specs.Declarations.{Declaration, quiver_of}
+use Rattle.quiver.proofs.Identities.{is_quiver}
+use Rattle.statement_syntax.specs.declared.tree.Statement.{Statement}
+use Rattle.abbreviations.specs.declared.written.Equation.{Equation}
+use Rattle.abbreviations.specs.Written.{equations_of, assumptions_of, claims_in, claims_of}
+use Rattle.expressions.specs.declared.fault.SignatureFault.{SignatureFault}
+use Rattle.adjoint_rules.specs.declared.problem.Problem.{Problem}
+use Rattle.adjoint_rules.specs.Problem.{polynomials}
+use Rattle.statement_names.specs.declared.fault.NameFault.{NameFault}
+use Rattle.statement_names.specs.Faults.{name_fault_of}
+use Rattle.statement_names.specs.Numbered.{declarations_of}
+use Rattle.statement_names.specs.Marked.{is_starred}
+use Rattle.statement_names.specs.Ready.{HasNames, IsReady}
+use Rattle.statement_names.proofs.FileReady.{file_ready}
+use Rattle.signature_typing.specs.First.{first_among}
+use Rattle.signature_typing.specs.Fault.{told_signature, told_polynomial, told_name}
+use Rattle.signature_typing.specs.Typing.{signature_in, polynomial_in, polynomials_of, wrong_signature, wrong_polynomial, wrong_claims, equation_fault, fault_of, IsProblemOf}
+use Rattle.signature_typing.proofs.Each.{each_with_both}
+use Rattle.signature_typing.proofs.InPlay.{IsCounted, assumptions_counted, claims_counted}
+use Rattle.signature_typing.proofs.Values.{IsValue, AreValues, all_values, both_none, values, zipped}
+use Rattle.statement_meaning.specs.Values.{Holds}
+use Rattle.statement_meaning.specs.Laws.{reading, AreRead, IsRead, StatementsAreRead, StarredStatementsAreRead}
+use Rattle.statement_meaning.proofs.Adjoints.{value-adjoint}
+use Rattle.statement_meaning.proofs.Equations.{equation_is_read}
+use Rattle.statement_meaning.proofs.Marks.{AdjointsAre}
+
+-- the elements themselves as results
+abbrev itself : Equation → Result Equation SignatureFault
+itself e = Ok e
+
+values-itself : (es : List Equation) → values itself es ≡ es
+values-itself [] = refl
+values-itself (e ∷ es) = ap (λ rest. e ∷ rest) (values-itself es)
+
+are_values-itself : (es : List Equation) → AreValues itself es
+are_values-itself [] = tt
+are_values-itself (e ∷ es) = (tt, are_values-itself es)
+
+module _ {Object Arrow : Type 0} {s : Structure Object Arrow} (laws : PreadditiveLaws s) (involution : Arrow → Arrow) (ds : List Declaration) (statements : List Statement) (ready : IsReady ds statements)
+    (f : Representation Object Arrow) (rep : Represents s (quiver_of ds) f) (adjoints : is_starred statements ≡ true → AdjointsAre s involution (quiver_of ds) f) where
+  -- an equation of the file, with a signature
+  abbrev IsKnown : Equation → Type 0
+  IsKnown e = (HasNames ds e × IsCounted ds statements e) × IsValue (signature_in ds e)
+
+  abbrev Reads : made.Poly → Equation → Type 0
+  Reads p e = HasValueZero s (quiver_of ds) f p.terms ↔ Holds (reading s involution ds f) e.left e.right
+
+  one : (e : Equation) (p : made.Poly) → IsKnown e → polynomial_in ds e ≡ Ok p.terms → Reads p e
+  one e p known poly = go (signature_in ds e) refl known.1
+    where
+      go : (x : Result Sig SignatureFault) → signature_in ds e ≡ x → IsValue x → Reads p e
+      go (Ok t) sig fine =
+          equation_is_read laws involution ds e.left e.right t p.terms f
+          (record { declared = ready.declared; objects_first = ready.objects_first; left_names = known.0.0.left; right_names = known.0.0.right; signature = sig; polynomial = poly })
+          rep (λ mark. adjoints (known.0.1.starred mark))
+      go (Err x) sig fine = absurd fine
+
+  all : (es : List Equation) (ps : List made.Poly) → AllByRecursion (HasNames ds) es → AllByRecursion (IsCounted ds statements) es → AreValues (signature_in ds) es → AreValues (polynomial_in ds) es
+      → polynomials ps ≡ polynomials_of ds es → AreRead s involution ds f ps es
+  all es ps names counted have_signatures have_polynomials are =
+      subst (AllZip Reads ps) (values-itself es)
+      (zipped (polynomial_in ds) itself (λ p. p.terms) IsKnown Reads (λ e p y known poly same. subst (Reads p) (is e y same) (one e p known poly)) es ps
+      (each_with_both (λ e. HasNames ds e × IsCounted ds statements e) (λ e. IsValue (signature_in ds e)) es (each_with_both (HasNames ds) (IsCounted ds statements) es names counted) have_signatures)
+      have_polynomials (are_values-itself es) are)
+    where
+      is : (e y : Equation) → itself e ≡ Ok y → e ≡ y
+      is e y same = cc
+
+  pub file_is_read : (problem : Problem) → problem.parts.quiver ≡ ds → polynomials problem.parts.assumptions ≡ polynomials_of ds (assumptions_of ds statements)
+      → polynomials problem.parts.claims ≡ polynomials_of ds (claims_of statements)
+      → first_among (wrong_signature ds) statements ≡ None → first_among (wrong_polynomial ds) statements ≡ None
+      → AreRead s involution ds f problem.parts.assumptions (assumptions_of ds statements) × AreRead s involution ds f problem.parts.claims (claims_of statements)
+  file_is_read problem same assumed claimed no_signature no_polynomial =
+      let signatures = all_values (signature_in ds) (λ t. told_signature ds) (equations_of ds) (λ t. claims_in t.kind) statements no_signature in
+      let polys = all_values (polynomial_in ds) (λ t. told_polynomial t.at) (equations_of ds) (λ t. claims_in t.kind) statements no_polynomial in (
+        all (assumptions_of ds statements) problem.parts.assumptions (recursion_from_All (HasNames ds) (assumptions_of ds statements) ready.assumptions) (assumptions_counted ds statements) signatures.0 polys.0 assumed,
+        all (claims_of statements) problem.parts.claims (recursion_from_All (HasNames ds) (claims_of statements) ready.claims) (claims_counted ds statements) signatures.1 polys.1 claimed,
+      )
+
+-- what is known of a file without a fault
+module _ (statements : List Statement) (fine : fault_of statements ≡ None) where
+  clean : name_fault_of statements ≡ None
+  clean = go (name_fault_of statements) fine
+    where
+      go : (o : Option NameFault) → option_or (option_map told_name o) (equation_fault (declarations_of statements) statements) ≡ None → o ≡ None
+      go None h = refl
+      go (Some x) h = absurd cc
+
+  none_wrong : (first_among (wrong_signature (declarations_of statements)) statements ≡ None) × (first_among (wrong_polynomial (declarations_of statements)) statements ≡ None)
+  none_wrong =
+      let ds = declarations_of statements in
+      let after_names = both_none (option_map told_name (name_fault_of statements)) (equation_fault ds statements) fine in
+      let later = both_none (first_among (wrong_signature ds) statements) (option_or (first_among (wrong_polynomial ds) statements) (wrong_claims (claims_of statements))) after_names.1 in
+      (later.0, (both_none (first_among (wrong_polynomial ds) statements) (wrong_claims (claims_of statements)) later.1).0)
+
+module _ {Object Arrow : Type 0} {s : Structure Object Arrow} (laws : PreadditiveLaws s) (involution : Arrow → Arrow) (statements : List Statement) (problem : Problem)
+    (f : Representation Object Arrow) (stated : IsProblemOf statements problem) (rep : Represents s (quiver_of problem.parts.quiver) f) where
+  pub problem_is_read : (is_starred statements ≡ true → AdjointsAre s involution (quiver_of problem.parts.quiver) f) → IsRead s involution f statements problem
+  problem_is_read adjoints =
+      let parts = stated.parts in
+      let ready : IsReady problem.parts.quiver statements = subst (λ ds. IsReady ds statements) (sym parts.quiver) (file_ready statements (clean statements stated.no_fault)) in
+      let none = none_wrong statements stated.no_fault in
+      let both =
+      file_is_read laws involution problem.parts.quiver statements ready f rep adjoints problem refl parts.assumptions parts.claims
+      (subst (λ ds. first_among (wrong_signature ds) statements ≡ None) (sym parts.quiver) none.0)
+      (subst (λ ds. first_among (wrong_polynomial ds) statements ≡ None) (sym parts.quiver) none.1) in
+      record { assumptions = both.0; claims = both.1 }
+
+pub statements_are_read : {Object Arrow : Type 0} {s : Structure Object Arrow} → PreadditiveLaws s → StatementsAreRead s
+statements_are_read laws involution statements problem f stated unstarred rep =
+    problem_is_read laws involution statements problem f stated rep (λ is. absurd (true≢false (sym is ∙ sym stated.parts.starred ∙ unstarred)))
+
+pub starred_statements_are_read : {Object Arrow : Type 0} {s : Structure Object Arrow} → PreadditiveLaws s → StarredStatementsAreRead s
+starred_statements_are_read laws involution star_laws statements problem f stated rep =
+    problem_is_read laws involution statements problem f stated rep.represents
+    (λ starred u v in_u in_v p paths. value-adjoint laws star_laws (quiver_of problem.parts.quiver) (is_quiver problem.parts.quiver problem.posed.declared problem.posed.objects_first) f rep u v in_u in_v p paths)

@@ -1,0 +1,9 @@
+//! What the equations of a statement mean in a category, and that their polynomials say it.
+#![tactic(auto)]
+
+mod laws;
+
+pub use laws::{
+    equations_are_read, proved_claims_hold, refuted_claims_fail, says_equations,
+    statements_are_read,
+};
