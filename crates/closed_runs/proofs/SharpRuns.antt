@@ -25,18 +25,19 @@ use Rattle.traced_completion.specs.PlainRun.{RunState, setting_of}
 use Rattle.claim_decider.specs.Decided.{polynomials_in}
 use Rattle.outcome_laws.proofs.ProblemStates.{state_kept}
 use Rattle.basis_text.specs.declared.basis.Basis.{Basis}
-use Rattle.closed_checker.specs.Rests.{order_of, rules_of}
+use Rattle.closed_checker.specs.Rests.{order_of, rules_of, claim_of}
 use Rattle.closed_checker.proofs.ClosedMeaning.{zero_is_empty}
 use Rattle.closed_checker.proofs.ByNumber.{canonical_at, claim_over}
 use Rattle.closed_checker.proofs.PartOrder.{order_laws}
 use Rattle.normal_forms.specs.SharpMeans.{SharpMeans}
+use Rattle.normal_forms.proofs.StarSharp.{star_sharp_means}
 use Rattle.normal_category.specs.Faults.{AreSharp}
 use Rattle.normal_category.specs.Tests.{is_sharp}
 use Rattle.normal_category.proofs.Problems.{problem_is_sharp}
 use Rattle.normal_category.proofs.Tested.{sharp_rules_are_told}
 use Rattle.confirm_command.specs.Texts.{claim_closed}
 use Rattle.closed_runs.specs.Printed.{IsPrinted}
-use Rattle.closed_runs.specs.SharpBases.{PrintedBasesAreSharp, PrintedBasesMeanSharp}
+use Rattle.closed_runs.specs.SharpBases.{PrintedBasesAreSharp, PrintedBasesMeanSharp, PrintedBasesMeanStarSharp}
 use Rattle.closed_runs.proofs.ClosedRuns.{Closes}
 use Rattle.closed_runs.proofs.Printed.{run, polys_are, rules_are, names, by_closing, are_rules, resolved, generator_inside}
 
@@ -104,3 +105,7 @@ printed_bases_are_sharp problem budget form b text printed accepts =
 
 pub printed_bases_mean_sharp : PrintedBasesMeanSharp
 printed_bases_mean_sharp problem budget form b printed = means problem budget form b printed
+
+pub printed_bases_mean_star_sharp : PrintedBasesMeanStarSharp
+printed_bases_mean_star_sharp problem budget form b printed starred =
+    star_sharp_means problem.parts (rules_of problem b) (claim_of problem b) problem.posed starred (means problem budget form b printed)

@@ -1,11 +1,11 @@
 -- The bases that are printed of closed claims are sharp.
-use Rattle.std.specs.Prelude.{◌≡◌, ℕ, true, List}
+use Rattle.std.specs.Prelude.{◌≡◌, ℕ, true, List, IsTrue}
 use Rattle.traced_rows.specs.declared.evidence.Format.{Format}
 use Rattle.adjoint_rules.specs.declared.problem.Problem.{Problem}
 use Rattle.traced_completion.specs.declared.budget.Budget.{Budget}
 use Rattle.basis_text.specs.declared.basis.Basis.{Basis}
 use Rattle.closed_checker.specs.Rests.{rules_of, claim_of}
-use Rattle.normal_forms.specs.SharpMeans.{SharpMeans}
+use Rattle.normal_forms.specs.SharpMeans.{SharpMeans, StarSharpMeans}
 use Rattle.confirm_command.specs.Texts.{claim_closed}
 use Rattle.confirm_command.specs.Answers.{AcceptsBasis}
 use Rattle.closed_runs.specs.Printed.{IsPrinted}
@@ -19,3 +19,8 @@ PrintedBasesAreSharp = (problem : Problem) (budget : Budget) (form : Format) (b 
 abbrev pub PrintedBasesMeanSharp : Type 0
 PrintedBasesMeanSharp = (problem : Problem) (budget : Budget) (form : Format) (b : Basis)
     → IsPrinted problem budget form b → SharpMeans problem.parts (rules_of problem b) (claim_of problem b)
+
+-- So does what it says besides where the statement is starred.
+abbrev pub PrintedBasesMeanStarSharp : Type 0
+PrintedBasesMeanStarSharp = (problem : Problem) (budget : Budget) (form : Format) (b : Basis)
+    → IsPrinted problem budget form b → IsTrue problem.parts.starred → StarSharpMeans problem.parts (rules_of problem b) (claim_of problem b)

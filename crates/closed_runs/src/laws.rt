@@ -1,6 +1,6 @@
 //! What becomes of the bases that are printed of closed claims, as laws over the definitions.
 ghost use Rattle.closed_runs.specs.Printed.{PrintedBasesAreConfirmed};
-ghost use Rattle.closed_runs.specs.SharpBases.{PrintedBasesAreSharp, PrintedBasesMeanSharp};
+ghost use Rattle.closed_runs.specs.SharpBases.{PrintedBasesAreSharp, PrintedBasesMeanSharp, PrintedBasesMeanStarSharp};
 ghost use Rattle.closed_runs.specs.BasesReadBack.{ReportsReadBackAsBases, StatementReportsReadBackAsBases, ReportedBasesAreConfirmed};
 
 /// The basis that is printed of a claim that is closed, in whatever budget, is closed, unless an S-polynomial or a reduction of
@@ -14,6 +14,7 @@ pub fn printed_bases_are_confirmed()
 pub fn printed_bases_are_sharp()
     ensures told { PrintedBasesAreSharp }
     ensures mean { PrintedBasesMeanSharp }
+    ensures mean_starred { PrintedBasesMeanStarSharp }
 {}
 
 /// A report is read as the bases of its claims that aren't derivable, in their order. Where each claim is otherwise, it has no

@@ -17,6 +17,7 @@ use Rattle.closed_checker.specs.Laws.{ClosedMeans}
 use Rattle.closed_checker.proofs.ClosedMeaning.{closed_bases_mean_outside}
 use Rattle.closed_checker.proofs.Readable.{read_bases_are_readable}
 use Rattle.normal_forms.specs.SharpMeans.{SharpMeans}
+use Rattle.normal_forms.proofs.StarSharp.{star_sharp_means}
 use Rattle.normal_category.specs.Faults.{AreSharp}
 use Rattle.normal_category.specs.Tests.{is_sharp}
 use Rattle.normal_category.proofs.Problems.{problem_is_sharp}
@@ -56,7 +57,12 @@ module _ (problem : Problem) (b : Basis) (means : ClosedMeans problem b) where
 pub basis_means : (problem : Problem) (b : Basis) → IsReadableBasis problem.parts.quiver b → IsClosedBasis problem b → BasisMeans problem b
 basis_means problem b readable closed =
     let means = closed_bases_mean_outside problem b readable closed in
-    record { closed = means; sharp = sharp_means problem b means closed }
+    let sharp = sharp_means problem b means closed in
+    record {
+      closed = means;
+      sharp = sharp;
+      star_sharp = λ holds starred. star_sharp_means problem.parts (rules_of problem b) (claim_of problem b) problem.posed starred (sharp holds);
+    }
 
 -- they can be checked
 pub bases_are_readable : (ds : List Declaration) (bytes : List ℕ) (bases : List Basis) → IsBases ds bytes bases → All (IsReadableBasis ds) bases

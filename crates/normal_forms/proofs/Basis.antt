@@ -145,12 +145,16 @@ module _ (p : Parts) (rules : List Rule) (b : IsBasis p rules) where
   generators_rows [] typed inside = tt
   generators_rows (f ∷ fs) typed inside = (ideal_rows f typed.0 inside.0, generators_rows fs typed.1 inside.1)
 
+  generators_have_signatures : AllByRecursion (HasSignature q) (generators_in p)
+  generators_have_signatures = generators_typed q quiver p.starred (numbers p.marked) (polynomials p.assumptions) (marked_are_objects p b.posed)
+      (assumptions_have_signatures p b.posed)
+
+  generators_are_inside : AllByRecursion (InRationalIdeal (polynomials_of rules)) (generators_in p)
+  generators_are_inside = recursion_from_All (InRationalIdeal (polynomials_of rules)) (generators_in p) b.generated
+
   generators_are_rows : AllByRecursion (λ f. Span (AnyRow (word_order p rules b.are_rules) (word_rules p rules b.are_rules)) (coefficient_of f))
       (generators_in p)
-  generators_are_rows = generators_rows (generators_in p)
-      (generators_typed q quiver p.starred (numbers p.marked) (polynomials p.assumptions) (marked_are_objects p b.posed)
-      (assumptions_have_signatures p b.posed))
-      (recursion_from_All (InRationalIdeal (polynomials_of rules)) (generators_in p) b.generated)
+  generators_are_rows = generators_rows (generators_in p) generators_have_signatures generators_are_inside
 
   facts : Facts rationals (exact_ground p rules b.are_rules)
   facts = facts_of rationals (word_order p rules b.are_rules) (word_rules p rules b.are_rules) _ _ (letter_count p.quiver) q p.starred (numbers p.marked)
@@ -178,39 +182,44 @@ module _ (p : Parts) (rules : List Rule) (b : IsBasis p rules) where
   abbrev pub Plays : List Term → Type 0
   Plays f = AllByRecursion (λ t. AllPlay play t.1) f
 
-  zeros : (fs : List (List Term)) → AllByRecursion Plays fs → AllByRecursion
-      (λ f. Span (AnyRow (word_order p rules b.are_rules) (word_rules p rules b.are_rules)) (coefficient_of f)) fs
+  -- what is in the rational ideal of the rules has the value zero
+  pub inside_is_zero : (f : List Term) → Plays f → HasSignature q f → InRationalIdeal (polynomials_of rules) f
+      → HasValueZero (normal_forms p rules) q (forms_representation p rules) f
+  inside_is_zero f plays typed inside =
+      image_value_zero (exact_forms p rules b.are_rules) (normal_forms p rules) plain exact (is_image p rules b.are_rules b)
+      (normal_representation rationals (exact_ground p rules b.are_rules)) (forms_representation p rules)
+      (λ v. refl) (letter_plain p rules b.are_rules) q f
+      (ideal_zero rationals (exact_ground p rules b.are_rules) facts f plays (ideal_rows f typed inside))
+
+  zeros : (fs : List (List Term)) → AllByRecursion Plays fs → AllByRecursion (HasSignature q) fs → AllByRecursion (InRationalIdeal (polynomials_of rules)) fs
       → AllByRecursion (HasValueZero (normal_forms p rules) q (forms_representation p rules)) fs
-  zeros [] plays rows = tt
-  zeros (f ∷ fs) plays rows = (
-    image_value_zero (exact_forms p rules b.are_rules) (normal_forms p rules) plain exact (is_image p rules b.are_rules b)
-        (normal_representation rationals (exact_ground p rules b.are_rules)) (forms_representation p rules)
-        (λ v. refl) (letter_plain p rules b.are_rules) q f (ideal_zero rationals (exact_ground p rules b.are_rules) facts f plays.0 rows.0),
-    zeros fs plays.1 rows.1,
-  )
+  zeros [] plays typed inside = tt
+  zeros (f ∷ fs) plays typed inside = (inside_is_zero f plays.0 typed.0 inside.0, zeros fs plays.1 typed.1 inside.1)
 
   -- Where the letters of the generators and the claim are in play, the normal forms tell a claim outside the rational ideal of the rules from zero.
   pub sharp_means : AllByRecursion Plays (generators_in p) → (claim : List Term) → Plays claim → HasSignature q claim
       → (InRationalIdeal (polynomials_of rules) claim → ⊥) → SharpMeans p rules claim
   sharp_means generators claim plays typed outside = record {
-    laws = basis_laws;
-    cancels = λ n above. image_cancels (exact_forms p rules b.are_rules) (normal_forms p rules) plain exact (is_image p rules b.are_rules b) (pos n)
-        (normal_cancels rationals (exact_ground p rules b.are_rules) facts n above);
-    represents = image_represents (exact_forms p rules b.are_rules) (normal_forms p rules) plain exact (is_image p rules b.are_rules b)
-        (normal_representation rationals (exact_ground p rules b.are_rules)) (forms_representation p rules)
-        (λ v. refl) (letter_plain p rules b.are_rules) q (normal_represents rationals (exact_ground p rules b.are_rules) facts);
-    generators = zeros (generators_in p) generators generators_are_rows;
-    claim = record {
-      source = typed.source;
-      target = typed.target;
-      source_is_object = typed.source_is_object;
-      target_is_object = typed.target_is_object;
-      typed = typed.typed;
-      nonzero = λ none. outside
-          (rows_ideal claim
-          (zero_ideal rationals
-          (exact_ground p rules b.are_rules) facts claim typed.source typed.target typed.source_is_object typed.target_is_object plays typed.typed
-          (under none)));
+    tells = record {
+      laws = basis_laws;
+      cancels = λ n above. image_cancels (exact_forms p rules b.are_rules) (normal_forms p rules) plain exact (is_image p rules b.are_rules b) (pos n)
+          (normal_cancels rationals (exact_ground p rules b.are_rules) facts n above);
+      represents = image_represents (exact_forms p rules b.are_rules) (normal_forms p rules) plain exact (is_image p rules b.are_rules b)
+          (normal_representation rationals (exact_ground p rules b.are_rules)) (forms_representation p rules)
+          (λ v. refl) (letter_plain p rules b.are_rules) q (normal_represents rationals (exact_ground p rules b.are_rules) facts);
+      zeros = zeros (generators_in p) generators generators_have_signatures generators_are_inside;
+      claim = record {
+        source = typed.source;
+        target = typed.target;
+        source_is_object = typed.source_is_object;
+        target_is_object = typed.target_is_object;
+        typed = typed.typed;
+        nonzero = λ none. outside
+            (rows_ideal claim
+            (zero_ideal rationals
+            (exact_ground p rules b.are_rules) facts claim typed.source typed.target typed.source_is_object typed.target_is_object plays typed.typed
+            (under none)));
+      };
     };
   }
     where

@@ -61,7 +61,7 @@ square_terms = (pos 1, 2 ∷ 2 ∷ []) ∷ (negsuc 0, 2 ∷ []) ∷ []
 abbrev claim_terms : List Term
 claim_terms = (pos 1, 2 ∷ []) ∷ []
 
-one_term : (a : ℕ) → IsCanonical ((pos 1, a ∷ []) ∷ [])
+pub one_term : (a : ℕ) → IsCanonical ((pos 1, a ∷ []) ∷ [])
 one_term a = canonical_as_written ((pos 1, a ∷ []) ∷ []) (shaped_as_written ((pos 1, a ∷ []) ∷ []) (tt, tt) ((λ e. cc), tt) (omega arith, tt))
     (omega arith, tt) (omega arith)
 
@@ -70,7 +70,7 @@ square_canonical = canonical_as_written square_terms
     (shaped_as_written square_terms ((refl, tt), (tt, tt)) ((λ e. cc), ((λ e. cc), tt)) (omega arith, (omega arith, tt))) (omega arith, (omega arith, tt))
     (omega arith)
 
-abbrev at_object : ℕ → Sig
+abbrev pub at_object : ℕ → Sig
 at_object v = record { source = record { 0 = v }; target = record { 0 = v } }
 
 abbrev parts : Parts
@@ -87,7 +87,7 @@ parts = record {
   solved = [];
 }
 
-all_pairs_one : {A : Type 0} (R : A → A → Type 0) (x : A) → AllPairs R (x ∷ [])
+pub all_pairs_one : {A : Type 0} (R : A → A → Type 0) (x : A) → AllPairs R (x ∷ [])
 all_pairs_one R x = λ i j d less inside. absurd (omega (arith, less, inside))
 
 -- the names of U, V and x
@@ -100,10 +100,10 @@ v_name = 86 ∷ []
 abbrev x_name : List ℕ
 x_name = 120 ∷ []
 
-abbrev Differs : List ℕ → List ℕ → Type 0
+abbrev pub Differs : List ℕ → List ℕ → Type 0
 Differs v w = v ≢ w
 
-names_differ : (a b : ℕ) → a ≢ b → Differs (a ∷ []) (b ∷ [])
+pub names_differ : (a b : ℕ) → a ≢ b → Differs (a ∷ []) (b ∷ [])
 names_differ a b other e = other (first a b e)
   where
     first : (a b : ℕ) → ◌≡◌ {A = List ℕ} (a ∷ []) (b ∷ []) → a ≡ b

@@ -19,4 +19,7 @@ pub mod Images
 pub mod Plain
 pub mod MapSums
 pub mod Basis
+pub mod BothWays
+pub mod StarSharp
 mod Examples
+mod StarExamples

@@ -16,11 +16,11 @@ use Rattle.normal_forms.specs.Forms.{Form}
 use Rattle.normal_forms.proofs.Congruence.{lifted, AnyRow, Cong, cong_left, cong_after}
 use Rattle.normal_forms.proofs.Sharp.{ideal_like}
 
-all_front : {A : Type 0} (P : A → Type 0) (p q : List A) → AllByRecursion P (p ++ q) → AllByRecursion P p
+pub all_front : {A : Type 0} (P : A → Type 0) (p q : List A) → AllByRecursion P (p ++ q) → AllByRecursion P p
 all_front P [] q a = tt
 all_front P (x ∷ p) q a = (a.0, all_front P p q a.1)
 
-all_back : {A : Type 0} (P : A → Type 0) (p q : List A) → AllByRecursion P (p ++ q) → AllByRecursion P q
+pub all_back : {A : Type 0} (P : A → Type 0) (p q : List A) → AllByRecursion P (p ++ q) → AllByRecursion P q
 all_back P [] q a = a
 all_back P (x ∷ p) q a = all_back P p q a.1
 

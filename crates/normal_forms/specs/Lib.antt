@@ -6,4 +6,6 @@ pub mod Descents
 pub mod Maps
 pub mod NormalForms
 pub mod MapLaws
+pub mod TellsFromZero
+pub mod BothWays
 pub mod SharpMeans

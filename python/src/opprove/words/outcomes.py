@@ -210,7 +210,8 @@ def not_refuted(asked: Asked, outcome: Outcome) -> Told:
 def not_derivable(asked: Asked, outcome: Outcome) -> Told:
     told = f"claim {outcome.claim} is not derivable: no positive multiple of it is a sum of rows over the generators, whatever their words"
     problem = asked.problem()
-    more = ["This says nothing of matrices of finite size, nor of star representations: the claim may hold in all of these all the same."]
+    others = "involutions for which r' r = 0 gives r = 0" if problem and problem.is_starred else "star representations"
+    more = [f"This says nothing of matrices of finite size, nor of {others}: the claim may hold in all of these all the same."]
     if problem and asked.call.command == "prove":
         missing = ["that a map has an inverse on one side (`assume x a = [V]`), where one is to cancel it"]
         if not problem.is_starred:
@@ -378,8 +379,9 @@ def told_of_blocks(text: Text, report: str) -> List[Told]:
     if closed:
         bases = f"{len(closed):,} {'basis is' if len(closed) == 1 else 'bases are'} closed, of {claims([it[1] for it in closed])}"
         told = f"{bases}: no positive multiple of it is a sum of rows over the generators, whatever their words"
-        sharp = f"{sum(it[2] != '' for it in closed):,} of {len(closed):,} sharp: the rules make a preadditive category that tells the claim from zero."
-        return [Told(told, None, (sharp, "This says nothing of matrices of finite size, nor of star representations."))]
+        sharp = f"{sum(it[2] != '' for it in closed):,} of {len(closed):,} sharp: the rules make a preadditive category that tells the claim from zero,"
+        sharp += " and one with an involution where the file is starred."
+        return [Told(told, None, (sharp, "This says nothing of matrices of finite size, nor of involutions for which r' r = 0 gives r = 0."))]
     return []
 
 

@@ -6,3 +6,6 @@ returns-clause-told c = lemma.printed_bases_are_sharp
 
 pub returns-clause-mean : goal.returns-clause-mean
 returns-clause-mean c = lemma.printed_bases_mean_sharp
+
+pub returns-clause-mean_starred : goal.returns-clause-mean_starred
+returns-clause-mean_starred c = lemma.printed_bases_mean_star_sharp
