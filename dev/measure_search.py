@@ -16,7 +16,7 @@ import time
 from pathlib import Path
 from typing import List, Tuple
 
-from trying import PROGRAM
+from trying import PROGRAM  # which also says where the package is
 
 OPPROVE = str(PROGRAM)
 HEAD = re.compile(r"^# claim [0-9]+ (proved|refuted|not derivable|undecided)(.*)", re.MULTILINE)
@@ -67,7 +67,6 @@ def main() -> int:
     parser.add_argument("--complex", type=lambda text: text.split(","), default=[])
     parser.add_argument("folders", nargs="+", type=Path)
     options = parser.parse_args()
-    os.environ["PYTHONPATH"] = str(Path(__file__).resolve().parents[1] / "python" / "src")
     for folder in options.folders:
         for path in sorted(folder.glob("*.op")):
             row = rows(path, options)

@@ -171,7 +171,7 @@ def groups_of(lines: List[str]) -> Iterator[List[List[str]]]:
 
 def written(statement: Path, evidence: Path, form: str = "text") -> List[str]:
     """What the tool writes, in this process."""
-    return list(to_chain.written(*loaded([str(statement), str(evidence)]), form))
+    return list(to_chain.written(*loaded([str(statement), str(evidence)]), form=form))
 
 
 def is_built() -> bool:
@@ -462,7 +462,7 @@ def latex(folder: Path) -> str:
     for number, (words, text) in enumerate(CASES):
         (folder / f"typeset{number}.op").write_text(words, encoding="utf-8")
         (folder / f"typeset{number}.cert").write_text(text, encoding="utf-8")
-    statements = [*EXAMPLES.glob("**/*.op"), *folder.glob("typeset*.op")]
+    statements = [path for part in ("*", "gallery/*", "tools/*") for path in EXAMPLES.glob(f"{part}.op")] + list(folder.glob("typeset*.op"))
     statements = sorted((path for path in statements if path.read_text("utf-8").isascii()), key=lambda path: -len(path.stem))
     for evidence in sorted([*EXAMPLES.glob("*.cert"), *EXAMPLES.glob("tools/*.cert"), *folder.glob("*[0-9].cert")]):
         fitting = [path for path in statements if evidence.stem.startswith(path.stem)]

@@ -1,6 +1,6 @@
 """Runs the commands of docs/GUIDE.md, and compares what they print with what stands there: try.py guide
 
-A block of the guide that begins with `# NAME.op` is that file. In a block of commands each line that begins with `$ ` is one,
+A block of the guide that begins with `# NAME.op` or `# NAME.opn` is that file. In a block of commands each line that begins with `$ ` is one,
 and what stands below it is its output. They run in a temporary folder that has these files, the examples and the sources for
 Coq; `./opprove` is the built program there, and a tool of the package this checkout's. Where the program isn't built the tools of
 Python run all the same: what it prints into a file by `tee` is then taken from the guide.
@@ -44,7 +44,7 @@ def read(text: str) -> Guide:
     files: Dict[str, str] = {}
     commands: List[Command] = []
     for block in re.findall(r"^```\n(.*?)^```$", text, re.MULTILINE | re.DOTALL):
-        name = re.match(r"# (\w+\.op): ", block)
+        name = re.match(r"# (\w+\.opn?): ", block)
         need(bool(name) or block.startswith("$ "), f"a block of the guide: {block}")
         if name:
             need(name[1] not in files, f"{name[1]} stands twice")
@@ -59,12 +59,12 @@ def read(text: str) -> Guide:
 def as_run(line: str) -> str:
     """The line with the program, and the tools of this checkout by this Python."""
     line = re.sub(rf"\./opprove ({TOOLS})(?= )", lambda match: " ".join(map(shlex.quote, tool(match[1]))), line)
-    return line.replace("./opprove ", f"{shlex.quote(str(PROGRAM))} ")
+    return line.replace("./opprove ", f"env OPPROVE={shlex.quote(str(PROGRAM))} OPPROVE_QUIET=1 {shlex.quote(str(TOP / 'opprove'))} ")
 
 
 def has_files(line: str, folder: Path) -> bool:
     """Whether the files are there that the line reads."""
-    return all((folder / word).exists() for word in line.split() if re.fullmatch(r"[\w/]+\.(op|report|model|v)", word))
+    return all((folder / word).exists() for word in line.split() if re.fullmatch(r"[\w/]+\.(opn?|report|model|v)", word))
 
 
 def followed(folder: Path, is_wanted: Callable[[Command, Path], bool]) -> int:
@@ -82,7 +82,8 @@ def followed(folder: Path, is_wanted: Callable[[Command, Path], bool]) -> int:
         if is_wanted(command, place):
             answer = run("bash", "-c", as_run(command.line), folder=place)
             need(answer.out == command.shown, f"$ {command.line}\n{answer.out}{answer.error}and the guide has\n{command.shown}")
-            need(not answer.error or "./opprove search " in command.line, f"$ {command.line}\n{answer.error}")
+            error = "".join(line for line in answer.error.splitlines(True) if not line.startswith("# expanded "))
+            need(not error or "./opprove search " in command.line, f"$ {command.line}\n{error}")
             count += 1
         elif stored:
             (place / stored[1]).write_text(command.shown, encoding="utf-8")

@@ -21,6 +21,7 @@ from random import Random
 from typing import Callable, Dict, List, NamedTuple, Tuple
 
 sys.dont_write_bytecode = True
+from opprove import program as programs
 from opprove.checkers import check
 from trying import EXAMPLES, PROGRAM, TOP, Failed, Skipped, decided, need, run, run_checks
 
@@ -209,7 +210,7 @@ def heads(folder: Path) -> str:
 
 def confirmed(verdict: Verdict) -> bool:
     """Whether the verdict is one that is checked in Python, where it has to be accepted, and each changed one not."""
-    is_checked = verdict.kind in ("proved", "refuted")
+    is_checked = verdict.kind in ("proved", "refuted", "not derivable")
     need(verdict.recheck() is (True if is_checked else None), (verdict, verdict.block))
     need(bool(verdict) == (verdict.kind == "proved"), verdict)
     if verdict.kind == "not derivable":
@@ -232,6 +233,12 @@ def changes(block: str) -> List[str]:
     return found
 
 
+MATRICES = r"""\begin{align*}
+a &= \begin{pmatrix}1 & 0\end{pmatrix} \\
+b &= \begin{pmatrix}1 \\ 0\end{pmatrix} \pmod{2}
+\end{align*}"""
+
+
 def stored(folder: Path) -> str:
     """What verdicts are made of, from stored reports."""
     rows = [("pasted_squares", {1, 2}), ("one_sided_inverses", {1, 2}), ("pseudoinverses", {*range(1, 9)})]
@@ -250,7 +257,7 @@ def stored(folder: Path) -> str:
     text = "model 1\nclaim 1\nmodulus 2\nside U 2\nside V 1\nmap a = 1 0\nmap b = 1 ; 0\nend\n"
     refuted = Verdict(1, s.claims[0], "refuted", "", text, str(s))
     need(confirmed(refuted) and refuted.model == {"a": [[1, 0]], "b": [[1], [0]]}, refuted.model)
-    need((refuted.modulus, refuted.sides, refuted._repr_latex_()) == (2, {"U": 2, "V": 1}, None), refuted)
+    need((refuted.modulus, refuted.sides, refuted._repr_latex_()) == (2, {"U": 2, "V": 1}, MATRICES), refuted._repr_latex_())
     need(dataclasses.replace(refuted, block=text.replace("a = 1", "a = 0")).recheck() is False, refuted)
     raised(refuted.chain, ValueError, "claim 1 is refuted, and has no chain")
     return f"{len(rows) + 2} stored certificates and models are verdicts that are confirmed, and not with a change"
@@ -368,7 +375,7 @@ def raised(action: Callable[[], object], kind: type, message: str, status: int =
     try:
         found: object = action()
     except kind as error:
-        need(str(error) == message and (not status or error.status == status), (error, message))
+        need(getattr(error, "line", str(error)) == message and (not status or error.status == status), (error, message))
         return
     raise Failed(f"{message}: not raised, but {found!r}")
 
@@ -466,11 +473,12 @@ def statuses(folder: Path) -> str:
             raised(action, Refused, line, status)
     none = str(folder / "none")
     raised(lambda: s.prove(program=none), FileNotFoundError, f"[Errno 2] No such file or directory: '{none}'")
-    path = os.environ.pop("PATH")
-    named = os.environ.pop("OPPROVE", None)
+    path, built = os.environ.pop("PATH"), programs.BUILT
+    named, programs.BUILT = os.environ.pop("OPPROVE", None), folder / "none"
     try:
         raised(s.prove, FileNotFoundError, "opprove isn't in PATH: name the program by program=, or by OPPROVE")
     finally:
+        programs.BUILT = built
         os.environ.update({"PATH": path, **({"OPPROVE": named} if named else {})})
     return f"{len(cases)} statuses of a stand-in are raised with their lines"
 

@@ -2,7 +2,7 @@
 from __future__ import annotations
 
 from operator import index
-from typing import NamedTuple, Optional
+from typing import NamedTuple, Optional, SupportsIndex
 
 SUM, PRODUCT, FACTOR = 1, 2, 3  # what the text of an expression is, so that it gets brackets where it needs them
 
@@ -14,7 +14,7 @@ class NotTyped(TypeError):
 def integer(value: object) -> Optional[int]:
     """The value, if it is an integer, of whatever library."""
     try:
-        return index(value)
+        return index(value) if isinstance(value, SupportsIndex) else None
     except TypeError:
         return None
 
@@ -37,7 +37,7 @@ class Object:
 class Expression:
     """An expression of the statement language, and the objects from which and to which it leads."""
 
-    __hash__ = None  # as == makes an equation
+    __hash__ = None  # type: ignore[assignment]  # as == makes an equation
 
     def __init__(self, source: Object, target: Object, text: str, kind: int) -> None:
         self.source, self.target, self.text, self.kind = source, target, text, kind
@@ -82,15 +82,21 @@ class Expression:
 
     def joined(self, sign: str, other: object) -> Expression:
         right = self.like(other)
-        return NotImplemented if right is None else Expression(self.source, self.target, f"{self} {sign} {right.within(PRODUCT)}", SUM)
+        if right is None:
+            return NotImplemented
+        return Expression(self.source, self.target, f"{self} {sign} {right.within(PRODUCT)}", SUM)
 
     def __radd__(self, other: object) -> Expression:
         left = self.like(other)
-        return NotImplemented if left is None else left + self
+        if left is None:
+            return NotImplemented
+        return left + self
 
     def __rsub__(self, other: object) -> Expression:
         left = self.like(other)
-        return NotImplemented if left is None else left - self
+        if left is None:
+            return NotImplemented
+        return left - self
 
     def __neg__(self) -> Expression:
         return Expression(self.source, self.target, f"-{self.within(PRODUCT)}", SUM)
@@ -138,7 +144,9 @@ class Expression:
 
     def __eq__(self, other: object) -> Equation:  # type: ignore[override]
         right = self.like(other)
-        return NotImplemented if right is None else Equation(self, right)
+        if right is None:
+            return NotImplemented
+        return Equation(self, right)
 
 
 class Equation(NamedTuple):

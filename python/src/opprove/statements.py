@@ -2,14 +2,20 @@
 from __future__ import annotations
 
 import os
-from typing import Dict, List, Optional, Tuple, Union
+from html import escape
+from typing import Any, Dict, List, Optional, Tuple, Union
 
 from opprove.checkers import check
 from opprove.expressions import FACTOR, Equation, Expression, NotTyped, Object
 from opprove.notation import expand
-from opprove.program import Refused, files, run
+from opprove.program import Refused, files, in_words, run, words_of
+from opprove.text import StatementText
 from opprove.translations import picture
-from opprove.verdicts import Verdict, verdicts
+from opprove.translations.latex import formula
+from opprove.verdicts import Report, verdicts
+
+Anything = object  # which inside of Statement is the name of a method
+Number = Union[int, bool, None]
 
 
 class Statement:
@@ -17,55 +23,60 @@ class Statement:
 
     def __init__(self) -> None:
         self.lines: List[str] = []
+        self.assumptions: List[str] = []  # as text; of pinv and its like the line
         self.claims: List[str] = []
         self.names: Dict[str, Union[Object, Expression]] = {}
 
     @classmethod
-    def read(cls, path: Union[str, os.PathLike], name: str = "") -> Statement:
-        """The statement of a file, with its comments; of a file of the notation (.opn) its expansion, or the one of this name where it has
-        several, which `read_all` has by their names."""
+    def read(cls, path: Union[str, "os.PathLike[str]"], name: str = "") -> Statement:
+        """The statement of a file or a pipe, with its comments; of a file of the notation (.opn) its expansion, or the one of this name
+        where it has several, which `read_all` has by their names."""
         if os.fspath(path).endswith(expand.ENDING):
             found = cls.read_all(path)
             if name not in found and (name or len(found) > 1):
                 raise ValueError(f"{os.fspath(path)} has the statements {', '.join(found)}: name one")
             return found[name or next(iter(found))]
-        return cls.read_file(os.fspath(path))
+        try:
+            return cls.parse(check.loaded([os.fspath(path)])[0])
+        except check.Refusal as refusal:
+            raise Refused(check.NOT_LOADED, str(refusal)) from None
 
     @classmethod
-    def read_all(cls, path: Union[str, os.PathLike], all_pairs: bool = False) -> Dict[str, Statement]:
+    def read_all(cls, path: Union[str, "os.PathLike[str]"], all_pairs: bool = False) -> Dict[str, Statement]:
         """The statements of a file of the notation, by their names; of cases that are equivalent a circle, or all pairs."""
-        found = {}
         try:
             expanded = expand.read(os.fspath(path), all_pairs).statements
         except check.Refusal as refusal:
-            raise Refused(4 if str(refusal).startswith(("# load", "# too")) else 3, str(refusal)) from None
-        for statement in expanded:
-            with files(statement.text) as paths:
-                found[statement.name] = cls.read_file(paths[0])
-        return found
+            raise Refused(4 if check.status_of(str(refusal)) == check.NOT_LOADED else 3, str(refusal)) from None
+        return {statement.name: cls.parse(statement.text) for statement in expanded}
 
     @classmethod
-    def read_file(cls, path: str) -> Statement:
-        made = cls()
+    def parse(cls, text: Union[str, bytes]) -> Statement:
+        """The statement that is a text."""
+        data = text.encode() if isinstance(text, str) else text
         try:
-            problem = check.Problem(path)
-            made.lines = [line for _, line in check.read_lines(path, "")]
+            return cls._of(StatementText(data))
         except check.Refusal as refusal:
-            raise Refused(4 if str(refusal).startswith("# load failed") else 3, str(refusal)) from None
-        for letter, (name, star, ends) in enumerate(zip(problem.names, problem.stars, problem.ends)):
-            if name[0] == "[":
-                made.names[name[1:-1]] = Object(name[1:-1])
-            elif letter <= star:
-                source, target = (made.names[problem.names[end][1:-1]] for end in ends)
-                made.names[name] = Expression(source, target, name, FACTOR)
-        for line in problem.lines:
-            if line.tokens[0].text == "claim":
-                text = made.lines[line.tokens[0].line - 1]
-                made.claims.append(text[line.tokens[1].column - 1 : line.tokens[-1].column - 1])
+            with files(data.decode(errors="surrogateescape")) as paths:
+                words = in_words(["prove", *paths], 3, f"{refusal}\n")
+            raise Refused(3, str(refusal), words) from None
+
+    @classmethod
+    def _of(cls, text: StatementText) -> Statement:
+        made = cls()
+        made.lines = [line.text for line in text.lines]
         made.lines = made.lines[:-1] if made.lines[-1] == "" else made.lines
+        ends = {name: Object(name) for name in text.objects}
+        made.names.update(ends)
+        made.names.update({one.name: Expression(ends[one.source], ends[one.target], one.name, FACTOR) for one in text.maps.values()})
+        made.claims = [claim.text for claim in text.claims]
+        for line in text.lines:
+            if line.word == "assume" or line.word in check.ABBREVIATIONS:
+                first = line.tokens[1 if line.word == "assume" else 0]
+                made.assumptions.append(line.text[first.column - 1 : line.tokens[-1].column - 1])
         return made
 
-    def __getitem__(self, name: str) -> Union[Object, Expression]:
+    def __getitem__(self, name: str) -> Any:
         return self.names[name]
 
     def __str__(self) -> str:
@@ -89,6 +100,7 @@ class Statement:
         return words
 
     def objects(self, names: str) -> List[Object]:
+        """New objects with these names, between which blanks stand."""
         words = self.declare(names)
         self.lines.append(f"object {' '.join(words)}")
         made = [Object(name) for name in words]
@@ -96,10 +108,12 @@ class Statement:
         return made
 
     def object(self, name: str) -> Object:
+        """A new object."""
         (made,) = self.objects(name)
         return made
 
     def maps(self, names: str, source: Object, target: Object, self_adjoint: bool = False) -> List[Expression]:
+        """New maps with these names, between which blanks stand."""
         words = self.declare(names)
         for end in (source, target):
             self.own(end)
@@ -111,10 +125,12 @@ class Statement:
         return made
 
     def map(self, name: str, source: Object, target: Object, self_adjoint: bool = False) -> Expression:
+        """A new map."""
         (made,) = self.maps(name, source, target, self_adjoint)
         return made
 
-    def own(self, end: object) -> None:
+    def own(self, end: Anything) -> None:
+        """Raises what is no object of this statement."""
         if not isinstance(end, Object):
             raise TypeError(f"{end!r} is no object")
         if self.names.get(end.name) is not end:
@@ -131,14 +147,19 @@ class Statement:
         return [str(equation) for equation in equations]
 
     def assume(self, *equations: Equation) -> None:
-        self.lines += [f"assume {text}" for text in self.written(equations)]
+        """Adds assumptions."""
+        texts = self.written(equations)
+        self.lines += [f"assume {text}" for text in texts]
+        self.assumptions += texts
 
     def claim(self, *equations: Equation) -> None:
+        """Adds claims."""
         texts = self.written(equations)
         self.lines += [f"claim {text}" for text in texts]
         self.claims += texts
 
     def own_map(self, a: Expression) -> str:
+        """The name of a map of this statement."""
         found = self.names.get(a.text) if isinstance(a, Expression) else None
         if not isinstance(found, Expression):
             raise TypeError(f"{a!r} is no map that is declared")
@@ -150,13 +171,18 @@ class Statement:
         names = [self.own_map(a), self.own_map(x)]
         if a.source is not x.target or a.target is not x.source:
             raise NotTyped(f"{a.typed()}, but {x.typed()}")
-        self.lines.append(f"{word} {' '.join(names)}")
+        self.assumed(f"{word} {' '.join(names)}")
+
+    def assumed(self, line: str) -> None:
+        self.lines.append(line)
+        self.assumptions.append(line)
 
     def pinv(self, a: Expression, x: Expression) -> None:
         """x is the Moore-Penrose inverse of a."""
         self.abbreviation("pinv", a, x)
 
     def inverse(self, a: Expression, x: Expression) -> None:
+        """x is the inverse of a."""
         self.abbreviation("inverse", a, x)
 
     def inner(self, a: Expression, x: Expression) -> None:
@@ -167,7 +193,7 @@ class Statement:
         """p is idempotent and its own adjoint."""
         if p.source is not p.target:
             raise NotTyped(f"{p.typed()} doesn't compose with {p.typed()}")
-        self.lines.append(f"projection {self.own_map(p)}")
+        self.assumed(f"projection {self.own_map(p)}")
 
     def write(self, line: str) -> None:
         """A line of a statement as it is."""
@@ -181,13 +207,13 @@ class Statement:
 
     def eliminate(self, *maps: Expression) -> None:
         """Words with fewer of these maps and of their adjoints are smaller. The statement is then of language 2."""
-        self.lines.append(" ".join(["eliminate", *map(self.own_map, maps)]))
+        self.lines.append(" ".join(["eliminate", *(self.own_map(a) for a in maps)]))
         if all(line.split("#")[0].split()[:1] != ["language"] for line in self.lines):
             self.lines.insert(0, "language 2")
 
     def solve(self, *maps: Expression) -> None:
         """Maps that a search of models is to solve for."""
-        self.lines.append(" ".join(["solve", *map(self.own_map, maps)]))
+        self.lines.append(" ".join(["solve", *(self.own_map(a) for a in maps)]))
 
     def shape(self, modulus: int, *pairs: Tuple[Object, int]) -> None:
         """A shape for models: a modulus, and objects with their sides, which else are 1."""
@@ -197,19 +223,43 @@ class Statement:
 
     # ---- What is answered
 
-    def prove(self, *options: object, program: Optional[str] = None, seconds: Optional[float] = None) -> List[Verdict]:
-        """Has opprove prove the claims, with its options, as prove("--pairs", 10000)."""
-        return list(verdicts(str(self), self.claims, run(program, "prove", [str(self)], options, seconds)))
+    def prove(self, *words: Anything, program: Optional[str] = None, seconds: Optional[float] = None, **options: Number) -> Report:
+        """Has opprove prove the claims, with its options by their names: pairs, steps, workers, seed, format, no_models=True."""
+        return self.answered("prove", words, program, seconds, options)
 
-    def refute(self, *options: object, program: Optional[str] = None, seconds: Optional[float] = None) -> List[Verdict]:
-        """Has opprove look for matrices that break the claims."""
-        return list(verdicts(str(self), self.claims, run(program, "refute", [str(self)], options, seconds)))
+    def refute(self, *words: Anything, program: Optional[str] = None, seconds: Optional[float] = None, **options: Number) -> Report:
+        """Has opprove look for matrices that break the claims, with its options by their names: workers, seed."""
+        return self.answered("refute", words, program, seconds, options)
+
+    def answered(
+        self, command: str, words: Tuple[Anything, ...], program: Optional[str], seconds: Optional[float], options: Dict[str, Number]
+    ) -> Report:
+        """The verdicts of a command. A status that comes with no report is raised as `Refused`."""
+        report = run(program, command, [str(self)], [*words, *words_of(options)], seconds)
+        return Report(verdicts(str(self), self.claims, report))
 
     def check(self, evidence: str, program: Optional[str] = None, seconds: Optional[float] = None) -> List[str]:
         """Has opprove check certificates, and gives its lines on them if it accepts all."""
         return run(program, "check", [str(self), evidence], (), seconds).splitlines()
 
+    # ---- In a notebook
+
     def _repr_svg_(self) -> Optional[str]:
         objects = [name for name, found in self.names.items() if isinstance(found, Object)]
         maps = [(a.text, a.source.name, a.target.name) for a in self.names.values() if isinstance(a, Expression)]
         return picture.svg(picture.picture(objects, maps)) if objects else None
+
+    def _repr_html_(self) -> str:
+        rows = [("assumed", self.assumptions), ("claimed", self.claims)]
+        lines = [f"<div>{word} <code>{escape(text)}</code></div>" for word, texts in rows for text in texts]
+        return f"<div>{self._repr_svg_() or ''}{''.join(lines)}</div>"
+
+    def _repr_latex_(self) -> Optional[str]:
+        """The assumptions and the claims; none of a statement that has a fault, as one without a claim."""
+        try:
+            text = StatementText(str(self).encode())
+        except check.Refusal:
+            return None
+        rows = [("assumed", text.assumptions), ("claimed", text.claims)]
+        lines = [rf"\text{{{word}}} && {formula(one.left)} &= {formula(one.right)}" for word, found in rows for one in found]
+        return "\\begin{align*}\n" + " \\\\\n".join(lines) + "\n\\end{align*}"

@@ -2,8 +2,9 @@
 from __future__ import annotations
 
 from functools import reduce
+from importlib import import_module
 from operator import add, mul
-from typing import Dict, Union
+from typing import Any, Dict, Union
 
 from opprove.expressions import Equation, Expression, integer
 
@@ -13,7 +14,7 @@ Value = Union[int, Expression]
 def from_sympy(expression: object, maps: Dict[object, Expression]) -> Union[Value, Equation]:
     """An expression of noncommutative symbols with the maps that their names, or they themselves, stand for; or an equation,
     from Eq. An integer alone stays one."""
-    import sympy
+    sympy: Any = import_module("sympy")
 
     named = {getattr(symbol, "name", symbol): a for symbol, a in maps.items()}
 

@@ -76,7 +76,7 @@ class Equations:
 
 def numbered(matrix: Matrix) -> Iterator[Tuple[int, int, int]]:
     """The entries of a matrix, each behind its row and its column."""
-    return ((row, column, entry) for row, entries in enumerate(matrix) for column, entry in enumerate(entries))
+    return ((row, column, int(entry)) for row, entries in enumerate(matrix) for column, entry in enumerate(entries))
 
 
 class Search:
@@ -114,7 +114,7 @@ class Search:
 
     def model(self, values: List[int]) -> Model:
         """The model of these values, without a claim."""
-        maps = {}
+        maps: Dict[int, Matrix] = {}
         for letter in declared_maps(self.problem):
             rows, columns = (range(side) for side in sides_of(self.problem, self.shape.sides, letter))
             maps[letter] = [[values[self.places[letter, row, column]] for column in columns] for row in rows]

@@ -158,7 +158,8 @@ def judge_rows(lines: Lines, certificate: Certificate, refused: str) -> None:
         raise Refusal(f"{refused} C1")
     if denominator < 1:
         raise Refusal(f"{refused} C3")
-    want, total = lines.first(claim, denominator, f"{refused} C4 row 0"), {}
+    want = lines.first(claim, denominator, f"{refused} C4 row 0")
+    total: Poly = {}
     for number, row in enumerate(share.rows, 1):
         if not 1 <= row.number <= len(lines.generators):
             raise Refusal(f"{refused} C2 row {number}")
@@ -293,7 +294,7 @@ class Texts(Evidence):
         (text,) = self.take("line (.+)")
         # Signs and terms in turn.
         pieces = re.split("(?:^| )([+-]) ", text if text[:2] == "- " else f"+ {text}")[1:] if text != "0" else []
-        terms = [re.fullmatch("(?:([0-9]+)(?: |$))?(.*)", piece).groups() for piece in pieces[1::2]]
+        terms = [re.findall("^(?:([0-9]+)(?: |$))?(.*)", piece)[0] for piece in pieces[1::2]]
         if not all(letters for _, letters in terms):
             raise Refusal(f"# refused K2 line {place}")
         words = self.words(place, [letters for _, letters in terms])

@@ -16,7 +16,7 @@ import os
 import re
 import signal
 import sys
-from typing import TYPE_CHECKING, Callable, Dict, Iterable, Iterator, List, NamedTuple, NoReturn, Optional, Sequence, Tuple, TypeVar, Union
+from typing import TYPE_CHECKING, Callable, Dict, Iterable, Iterator, List, NamedTuple, NoReturn, Optional, Sequence, Set, Tuple, TypeVar, Union
 
 Word = Tuple[int, ...]  # letters are numbers
 Poly = Dict[Word, int]  # words with their coefficients, none of which is 0
@@ -158,7 +158,7 @@ class Line:
         if left_ends is None and right_ends is None:
             raise fault("S12", first)
         if left_ends and right_ends and left_ends != right_ends:
-            raise fault("S11", second, self.problem.arrows(left_ends, right_ends))
+            raise fault("S11", second, arrows(self.problem, left_ends, right_ends))
         return self.sized(add(left, -1, right))
 
     def sum(self, depth: int = 0) -> Value:
@@ -167,10 +167,11 @@ class Line:
             scale = -1 if self.is_at("-") else 1
             self.place += self.is_at("+", "-")
             terms.append((self.next(), self.term(scale, depth)))
-        signature, total = None, {}
+        signature: Optional[Signature] = None
+        total: Poly = {}
         for first, (other, poly) in terms:
             if signature and other and signature != other:
-                raise fault("S11", first, self.problem.arrows(signature, other))
+                raise fault("S11", first, arrows(self.problem, signature, other))
             signature, total = signature or other, self.sized(add(total, 1, poly))
         return signature, total
 
@@ -187,7 +188,8 @@ class Line:
 
     def too_large(self) -> Poly:
         """Has the problem keep this fault, since those of signatures come before it, and gives 0 in its place."""
-        self.problem.too_large = self.problem.too_large or fault("S14", self.tokens[0])
+        if self.problem and not self.problem.too_large:
+            self.problem.too_large = fault("S14", self.tokens[0])
         return {}
 
     def term(self, scale: int, depth: int) -> Value:
@@ -198,13 +200,14 @@ class Line:
         factors = [(self.next(), self.factor(depth))]
         while self.is_at("name", "[", "("):
             factors.append((self.next(), self.factor(depth)))
-        signature, total = None, {(): scale} if scale else {}
+        signature: Optional[Signature] = None
+        total: Poly = {(): scale} if scale else {}
         for first, (other, poly) in factors if self.problem else []:
             if other is None and len(factors) > 1:
                 raise fault("S12", first)
-            if signature and signature[0] != other[1]:
-                raise fault("S10", first, self.problem.arrows(signature, other))
-            signature = (other[0], signature[1]) if signature else other
+            if signature and other and signature[0] != other[1]:
+                raise fault("S10", first, arrows(self.problem, signature, other))
+            signature = (other[0], signature[1]) if signature and other else other
             total = self.product(total, poly)
         return signature, total
 
@@ -235,7 +238,7 @@ class Line:
         if signature is None:
             raise fault("S12", first)
         if signature[0] != signature[1]:
-            raise fault("S10", mark, self.problem.arrows(signature, signature))
+            raise fault("S10", mark, arrows(self.problem, signature, signature))
         if len(base) == 1 and exponent * len(next(iter(base))) <= 500:
             return signature, {word * exponent: coefficient**exponent for word, coefficient in base.items()}
         total = base
@@ -297,16 +300,20 @@ class Problem:
     def __init__(self, source: Source) -> None:
         self.lines = lines = lines_of(source)
         check_names(lines)
-        self.names, self.stars, self.ends = [], [], []  # of each letter: as it is written, its adjoint, its signature
+        self.names: List[str] = []  # of each letter: as it is written, its adjoint, its signature
+        self.stars: List[int] = []
+        self.ends: List[Signature] = []
         self.numbers: Dict[str, int] = {}  # of each way to write a letter
         for name in (name for line in lines for name in line.with_role("new_object")):
             self.declare(f"[{name}]", (len(self.names), len(self.names)), True)
         for line in lines:
-            ends, is_own = tuple(self.numbers[f"[{v}]"] for v in line.with_role("object")), line.with_role("self") != []
             for name in line.with_role("new_map"):
-                self.declare(name, ends, is_own)
-        self.is_starred, self.marked = any(line.with_role("self") for line in lines), set()
-        self.assumptions, self.claims = [], []
+                ends = [self.numbers[f"[{end}]"] for end in line.with_role("object")]
+                self.declare(name, (ends[0], ends[1]), line.with_role("self") != [])
+        self.is_starred = any(line.with_role("self") for line in lines)
+        self.marked: Set[int] = set()
+        self.assumptions: List[Poly] = []
+        self.claims: List[Poly] = []
         self.too_large: Optional[Refusal] = None
         for line in lines:
             polys = self.claims if line.tokens[0].text == "claim" else self.assumptions
@@ -364,8 +371,9 @@ class Problem:
         is_path = all(self.ends[left][0] == self.ends[right][1] for left, right in zip(word, word[1:]))
         return (self.ends[word[-1]][0], self.ends[word[0]][1]) if is_path else None
 
-    def arrows(self, left: Signature, right: Signature) -> str:
-        return " left {} -> {} right {} -> {}".format(*(self.names[end][1:-1] for end in left + right))
+
+def arrows(problem: Optional[Problem], left: Signature, right: Signature) -> str:
+    return " left {} -> {} right {} -> {}".format(*(problem.names[end][1:-1] for end in left + right)) if problem else ""
 
 
 # ---- Evidence text, and what is said of it
@@ -486,7 +494,8 @@ def judge(problem: Problem, certificate: Certificate, refused: str) -> None:
     for number, share in enumerate(shares, 1):
         if denominator % share.scale:
             raise Refusal(f"{refused} C10 lemma {number % len(shares)}")
-    generators, lemmas, place = problem.generators(), [], 0
+    generators, place = problem.generators(), 0
+    lemmas: List[Poly] = []
     for share in shares:
         total: Poly = {}
         for place, row in enumerate(share.rows, place + 1):

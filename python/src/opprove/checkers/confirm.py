@@ -218,7 +218,8 @@ class Rules:
 
     def normal_form(self, poly: Poly, refused: str) -> Poly:
         """Replaces the greatest word in which a leading word occurs, as long as there is one."""
-        total, multiplier, rows, overflow = dict(poly), 1, [], f"{refused} overflow"
+        total, multiplier, overflow = dict(poly), 1, f"{refused} overflow"
+        rows: List[int] = []
         waiting = list(map(self.order.rank, total))  # the words that may be replaced, among some that are gone
         heapify(waiting)
         while waiting:

@@ -16,7 +16,7 @@ assumption | claim | generator COEFFICIENT COUNT LETTER .. ..      a polynomial:
 from __future__ import annotations
 
 import itertools
-from typing import TYPE_CHECKING, Iterator, List, NamedTuple
+from typing import TYPE_CHECKING, Iterator, List, NamedTuple, Set
 
 if TYPE_CHECKING or __package__:
     from .check import DONE, USAGE, Poly, Problem, finished, loaded, script
@@ -51,7 +51,7 @@ def measures_of(problem: Problem) -> List[int]:
 
 def solved_maps(problem: Problem) -> List[int]:
     """The maps of `solve`, and the second one of each abbreviation that has two."""
-    solved = set()
+    solved: Set[int] = set()
     for line in problem.lines:
         word, maps = line.tokens[0].text, line.with_role("map")
         names = maps if word == "solve" else maps[1:] if word in ("pinv", "inverse", "inner") else []

@@ -97,6 +97,7 @@ class Reader:
     def equation(self) -> Equation:
         left, _, right = self.sum(), self.next(), self.sum()
         ends = left.ends or right.ends
+        assert ends, "check.py has found one side that isn't open"
         source, target = (self.names.place[end] for end in ends)
         term = f"Equation {source} {target} ({left.term}) ({right.term})"
         return Equation(ends, f"{left.text} = {right.text}", term)
@@ -126,6 +127,7 @@ class Reader:
         value = self.factor()
         while self.is_at("name", "[", "("):
             other = self.factor()
+            assert other.ends and value.ends, "check.py has found that no factor is open"
             text = f"{bracketed(value, 40)} ∘ {bracketed(other, 39)}"
             value = Said((other.ends[0], value.ends[1]), text, 40, f"EComp ({value.term}) ({other.term})")
         if scale is None:
@@ -256,8 +258,9 @@ class Rows:
         source, target = ends
         left = self.ends_of(row.left) if row.left else (target, target)
         right = self.ends_of(row.right) if row.right else (source, source)
-        fits = left is not None and right is not None and left[1] == target and right[0] == source
-        return (right[1], left[0]) if fits else None
+        if left is None or right is None or left[1] != target or right[0] != source:
+            return None
+        return right[1], left[0]
 
     def fitted(self, share: Share, ends: Signature) -> Iterator[Fitted]:
         """The rows of a share that say something of this signature."""

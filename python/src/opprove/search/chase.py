@@ -42,8 +42,11 @@ def maps_of(problem: Problem) -> List[int]:
 class Chase:
     """A search for the claims with these numbers."""
 
-    def __init__(self, problem: Problem, claims: Sequence[int], letters: Letters, until: float, is_small: bool = True) -> None:
-        self.problem, self.until = problem, until
+    def __init__(
+        self, problem: Problem, claims: Sequence[int], letters: Letters, until: float, is_small: bool = True, is_of_claims: bool = False
+    ) -> None:
+        """`is_small` has the letters that are taken off smallest, and `is_of_claims` takes them off claims alone."""
+        self.problem, self.until, self.is_of_claims = problem, until, is_of_claims
         self.letters = letters.closed(problem)
         small = sorted(self.letters.monic | self.letters.epic) if is_small else []
         others = [letter for letter in maps_of(problem) if letter not in small]
@@ -85,7 +88,7 @@ class Chase:
     def found(self, basis: Basis) -> List[int]:
         """The places of what can be taken off now, with adjoints, and isn't known to be zero yet."""
         places = self.off_claims(basis)
-        if not places:
+        if not places and not self.is_of_claims:
             places = self.off_members(basis)
             if self.letters.has_stars:
                 places += self.off_stars(basis)

@@ -94,6 +94,7 @@ class Join:
             number = row.number + 1 if row.number % 2 else row.number - 1
             return row._replace(left=left, number=number, right=right)
         found = self.found(self.problem.star(self.generators[row.number - 1]))
+        assert found, "adjoints of generators are generators"
         return found._replace(coefficient=row.coefficient * found.coefficient, left=left, right=right)
 
     def add(self, piece: Piece) -> None:
@@ -106,8 +107,9 @@ class Join:
         row = self.found(poly) if poly else None
         if poly and row is None:
             return None
-        is_share = row is not None and row.is_lemma and row.coefficient == 1
-        goal = self.shares[row.number - 1] if is_share else Share(1, [row] if row else [])
+        goal = Share(1, [row] if row else [])
+        if row and row.is_lemma and row.coefficient == 1:
+            goal = self.shares[row.number - 1]
         return renumbered(claim, self.shares, goal)
 
 
@@ -122,11 +124,13 @@ class Joining:
         self.rows: Dict[int, Optional[Row]] = {}  # of generators that were looked up
 
     def word(self, word: Word) -> Word:
-        letters = tuple(self.letters[letter] for letter in word)
-        if None in letters:
-            name = self.piece.problem.names[word[letters.index(None)]]
-            raise Refusal(f"# no letter {name} in the statement")
-        return letters
+        letters: List[int] = []
+        for letter in word:
+            other = self.letters[letter]
+            if other is None:
+                raise Refusal(f"# no letter {self.piece.problem.names[letter]} in the statement")
+            letters.append(other)
+        return tuple(letters)
 
     def poly(self, poly: Poly) -> Poly:
         return {self.word(word): value for word, value in poly.items()}

@@ -13,10 +13,11 @@ PAIRS, STEPS, LIMIT, SECONDS = 500, 20_000, 1_000_000, 1  # of level 0; each lev
 # did it for another goal; models; the statement as it is; letters and stars that are taken off, those that were named or any;
 # and models of rational numbers. Cheap ones have a low rank.
 FEWER, OTHER, BOTH, ALONE, AGAIN, MODELS, AS_WRITTEN, NAMED, ANY, RATIONAL = range(10)
-RANKS = [0, 0, 1, 2, 0, 1, 0, -1, 1, 0]
+RANKS = [0, 0, 1, 2, 0, 1, 0, -1, 1, 1]
 AS_IT_IS = "the statement as it is"
 WORKER = {NAMED: "cancellations", ANY: "any cancellations", RATIONAL: "rational matrices"}  # what is run in Python
 WORKER_SECONDS = 4  # of level 0
+TRIED = 1  # the level to which letters are tried for a claim that is refuted
 
 
 class Goal:
@@ -83,7 +84,7 @@ class Plan:
                 self.push(MODELS, place, 0)
         if not options.only:
             self.push(AS_WRITTEN, 0, 0)
-        if options.is_special and (not options.only or "rationals" in options.only):
+        if not options.only or "rationals" in options.only:
             self.push(RATIONAL, 0, 0)
         if not options.only or "cancellations" in options.only:
             if options.monic or options.epic or options.complex:

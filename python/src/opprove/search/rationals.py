@@ -11,8 +11,8 @@ import time
 from fractions import Fraction
 from typing import Callable, Dict, FrozenSet, Iterator, List, NamedTuple, Optional, Sequence, Tuple, Union
 
-from opprove.checkers.check import Poly, Problem, Word
-from opprove.checkers.check_model import declared_maps
+from opprove.checkers.check import MODULI, Poly, Problem, Refusal, Word
+from opprove.checkers.check_model import Model, declared_maps, judge
 
 Number = Union[int, Fraction]
 Matrix = List[List[Number]]
@@ -397,10 +397,30 @@ class Rationals:
                     yield Found(claim, candidate.sides, {letter: candidate.matrices[letter] for letter in self.maps})
 
 
-def block(problem: Problem, found: Found) -> List[str]:
-    """The lines of a rational model."""
-    lines = ["rational model 1", f"claim {found.claim}"]
+def block(problem: Problem, found: Found, modulus: int = 0) -> List[str]:
+    """The lines of a rational model, or of a model with a modulus."""
+    lines = ["model 1", f"claim {found.claim}", f"modulus {modulus}"] if modulus else ["rational model 1", f"claim {found.claim}"]
     lines += [f"side {problem.names[letter][1:-1]} {side}" for letter, side in enumerate(found.sides)]
     for letter, matrix in found.maps.items():
         lines.append(f"map {problem.names[letter]} = " + " ; ".join(" ".join(map(str, row)) for row in matrix))
     return lines + ["end"]
+
+
+def modular(problem: Problem, found: Found) -> List[str]:
+    """The lines of the model that the matrices are modulo the least prime modulo which they break the claim too, if there is one."""
+    for prime in MODULI:
+        entries = [x for matrix in found.maps.values() for row in matrix for x in row]
+        if any(Fraction(x).denominator % prime == 0 for x in entries):
+            continue
+        maps: Dict[int, Matrix] = {letter: [[residue(x, prime) for x in row] for row in matrix] for letter, matrix in found.maps.items()}
+        try:
+            judge(problem, Model(found.claim, prime, found.sides, maps), "")
+        except Refusal:
+            continue
+        return block(problem, found._replace(maps=maps), prime)
+    return []
+
+
+def residue(number: Number, prime: int) -> int:
+    fraction = Fraction(number)
+    return fraction.numerator * pow(fraction.denominator, prime - 2, prime) % prime

@@ -35,7 +35,7 @@ from opprove.search import variants
 from opprove.program import path as path_of_program
 from opprove.checkers.check import Evidence, Poly, Problem, Refusal, judge
 from opprove.search import cluster, findings
-from opprove.search.plan import ANY, AS_IT_IS, SECONDS, WORKER, WORKER_SECONDS, Goal, Job, Plan
+from opprove.search.plan import ANY, AS_IT_IS, SECONDS, TRIED, WORKER, WORKER_SECONDS, Goal, Job, Plan
 from opprove.search.running import Interrupts, Program, Progress, Runs, Unusable
 from opprove.search.variants import Statement
 
@@ -99,7 +99,7 @@ class Search:
             for line in text.splitlines():
                 self.took_off(job, json.loads(line))
             for goal in job.goals:
-                goal.is_tried = goal.is_tried or job.kind == ANY
+                goal.is_tried = goal.is_tried or (job.kind == ANY and job.level >= TRIED)
             return
         if status in (0, 2, 3, 4, 10):
             self.plan.closed.add(job.text)
@@ -172,7 +172,11 @@ class Search:
             return
         if findings.kind_of(block) == "rational":
             named = [f"{word} {' '.join(names)}" for word, names in (("monic", self.options.monic), ("epic", self.options.epic)) if names]
-            self.settle(job, goal, "refuted", [f"# claim {goal.number} refuted over q" + "".join(f" {text}" for text in named), *block])
+            lines = [f"# claim {goal.number} refuted over q" + "".join(f" {text}" for text in named), *block]
+            if not self.options.is_special:
+                lines = self.for_program(goal, found["modular"], block)
+            if lines:
+                self.settle(job, goal, "refuted", lines)
             return
         granted = f" by {takes}" if takes else ""
         rows = sum(line.startswith("row ") for line in block)
@@ -184,6 +188,14 @@ class Search:
             self.progress.tell(f"claim {goal.number} follows where {in_words(takes)}", is_news=True)
         else:
             self.settle(job, goal, "proved", lines)
+
+    def for_program(self, goal: Goal, modular: List[str], block: List[str]) -> List[str]:
+        """Rational matrices modulo a prime, which the program reads, with the rational ones as comments."""
+        if not modular or not findings.is_accepted(self.program, self.runs.folder, self.statement.text, modular):
+            return []
+        self.keep_block(goal, block)
+        lines = ["# they are these rational matrices modulo that prime, which --over q prints:"]
+        return [f"# claim {goal.number} refuted", *modular, *lines, *(f"#   {line}" for line in block)]
 
     def for_matrices(self, goal: Goal, statement: str, certificate: List[str]) -> List[str]:
         """The other piece of a star proof, as comments, where its checkers accept it."""

@@ -16,7 +16,7 @@ from typing import Dict, FrozenSet, Iterable, List, Optional
 
 from opprove.checkers.check import Problem
 from opprove.search import rationals
-from opprove.search.chase import Letters, first_of, least, maps_of
+from opprove.search.chase import Chase, Letters, first_of, least, maps_of
 from opprove.search.findings import text_of
 from opprove.search.matrices import Matrices
 from opprove.search.proofs import Proof, Writer, takes
@@ -41,16 +41,18 @@ def cancelled(text: str, problem: Problem, claims: List[int], until: float, lett
 
 
 def cancelled_by_any(text: str, problem: Problem, claims: List[int], until: float) -> None:
-    """Proofs by letters that are tried: one of them, then two, then all, of which as many are dropped as can be."""
+    """Proofs by letters that are tried: in front of the claim and behind it alone, then one letter, then all of them; of what
+    a proof takes off as much is dropped as can be."""
     letters = maps_of(problem)
-    seconds = until - time.monotonic()
+    everything = Letters(frozenset(letters), frozenset(letters))
+    share = (until - time.monotonic()) / 4
+    found = Chase(problem, claims, everything, time.monotonic() + share, is_small=False, is_of_claims=True).run()
     for claim in claims:
-        proof = by_single(problem, claim, letters, time.monotonic() + seconds / 4 / len(claims))
+        proof = found.get(claim) or by_single(problem, claim, letters, time.monotonic() + share / len(claims))
         if proof is None:
-            everything = Letters(frozenset(letters), frozenset(letters))
-            proof = first_of(problem, [claim], everything, time.monotonic() + seconds / 4 / len(claims)).get(claim)
+            proof = first_of(problem, [claim], everything, time.monotonic() + share / len(claims)).get(claim)
         if proof is not None:
-            put_proof(text, least(problem, claim, proof, seconds / 8 / len(claims)))
+            put_proof(text, least(problem, claim, proof, share / 2 / len(claims)))
 
 
 def by_single(problem: Problem, claim: int, letters: Iterable[int], until: float) -> Optional[Proof]:
@@ -76,7 +78,7 @@ def main(words: List[str]) -> int:
     sets = [frozenset(problem.numbers[name] for name in names.split(",") if name) for names in (monic, epic)]
     if kind == "rational":
         for found in rationals.Rationals(problem, claims, int(last), sets[0], sets[1]).run(until):
-            put(claim=found.claim, block=rationals.block(problem, found), takes="")
+            put(claim=found.claim, block=rationals.block(problem, found), takes="", modular=rationals.modular(problem, found))
     else:
         cancelled(text, problem, claims, until, Letters(sets[0], sets[1], last == "1"))
     return 0

@@ -44,7 +44,8 @@ class Parser:
 
     def sum(self) -> Expression:
         """A sum, or its term where it has one alone."""
-        first, terms = self.here(), []
+        first = self.here()
+        terms: List[Expression] = []
         while not terms or self.is_at("+", "-"):
             start, is_negative = self.here(), self.is_at("-")
             self.place += self.is_at("+", "-")
@@ -94,6 +95,10 @@ class Parser:
 # What may stand inside without brackets: a sum in nothing, a negative or scaled one as a term, a product as a scaled one's part.
 TIGHTNESS = {"sum": 0, "negative": 1, "scaled": 2, "zero": 2, "product": 3, "adjoint": 4, "power": 4, "map": 4, "identity": 4}
 # The least tightness of parts by the kind that they stand in.
+FORMS = {
+    "identity": "[{name}]", "zero": "0", "negative": "-{parts}", "scaled": "{number} {parts}", "product": "{parts}",
+    "adjoint": "{parts}'", "power": "{parts}^{number}",
+}  # fmt: skip
 INSIDE = {"negative": 2, "scaled": 3, "product": 4, "adjoint": 4, "power": 4}
 
 
@@ -105,17 +110,10 @@ def spelled(expression: Expression, names: Optional[Callable[[str], str]] = None
         signs = [" - " if part.kind == "negative" else " + " for part in parts]
         texts = [text[1:].lstrip() if part.kind == "negative" and place else text for place, (part, text) in enumerate(zip(parts, inner))]
         return texts[0] + "".join(sign + text for sign, text in zip(signs[1:], texts[1:]))
+    if kind == "map":
+        return names(expression.name) if names else expression.name
     texts = [text if TIGHTNESS[part.kind] >= INSIDE[kind] else f"({text})" for part, text in zip(parts, inner)]
-    return {
-        "map": lambda: names(expression.name) if names else expression.name,
-        "identity": lambda: f"[{expression.name}]",
-        "zero": lambda: "0",
-        "negative": lambda: f"-{texts[0]}",
-        "scaled": lambda: f"{expression.number} {texts[0]}",
-        "product": lambda: " ".join(texts),
-        "adjoint": lambda: f"{texts[0]}'",
-        "power": lambda: f"{texts[0]}^{expression.number}",
-    }[kind]()
+    return FORMS[kind].format(parts=" ".join(texts), name=expression.name, number=expression.number)
 
 
 def walk(expression: Expression) -> Iterator[Expression]:

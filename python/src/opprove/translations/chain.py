@@ -175,19 +175,21 @@ class Reader:
         numbers = {key: number for number, key in enumerate(sorted(found), 1)}
         parts = []
         for number, ends in sorted(found):
-            item, pairs = items[number - 1], found[number, ends]
+            item = items[number - 1]
             if isinstance(item, Cancel):
                 other = numbers[item.item, self.ends_of(polys[item.item - 1])]
                 parts.append(Part(ends, 1, [], item._replace(item=other)))
                 continue
-            rows = [row._replace(number=numbers[row.number, inner]) if row.is_lemma else row for row, inner in pairs]
+            rows = [row._replace(number=numbers[row.number, inner]) if row.is_lemma else row for row, inner in found[number, ends]]
             rows = [row._replace(left=self.bare_word(row.left), right=self.bare_word(row.right)) for row in rows]
             parts.append(Part(ends, item.scale, merged(rows)))
         return parts
 
-    def ends_of(self, poly: Poly) -> Optional[Signature]:
-        """Those of a polynomial that is typed."""
-        return next((self.problem.signature(word) for word in poly), None)
+    def ends_of(self, poly: Poly) -> Signature:
+        """Those of a polynomial that is typed, and isn't 0."""
+        ends = self.problem.signature(next(iter(poly)))
+        assert ends, "it is typed"
+        return ends
 
     def has_ends(self, row: Row, inner: Signature, items: Sequence[Union[Share, Cancel]], polys: Sequence[Poly]) -> bool:
         """Whether a row, if it is over an item without a letter, is over one that has these ends, and so isn't zero there."""
@@ -249,6 +251,8 @@ class Reader:
     def shortened(self, proof: Proof) -> Certificate:
         """The rows of the steps, and those over relations of identities that they need; or what was read, where that has
         fewer rows, or these pass a limit."""
+        read = proof.certificate
+        assert isinstance(read, Certificate), "proofs that take letters off are written as they were read"
         shares: List[Share] = []
         lemmas: List[Poly] = []
         relations = {max(poly, key=len): number for number, poly in enumerate(self.exact, 1) if number > len(self.sources)}
@@ -258,22 +262,23 @@ class Reader:
                 middle = (lemmas if row.is_lemma else self.exact)[row.number - 1]
                 add(total, row.coefficient, middle, row.left, row.right)
             if chain is proof.chains[-1]:
-                add(total, -chain.scale, self.problem.claims[proof.certificate.claim - 1])
+                add(total, -chain.scale, self.problem.claims[read.claim - 1])
             rows, rest = self.without_units(total, relations)
             # From the left side on, as `explain` goes.
             kept = chain.rows()[::-1] if chain.is_turned else chain.rows()
             shares.append(Share(chain.scale, merged(kept + rows)))
             lemmas.append({word: value // chain.scale for word, value in rest.items()})
         assert not lemmas[-1], lemmas[-1]
-        found, before = ([row for share in some for row in share.rows] for some in (shares, proof.certificate.shares))
+        found, before = ([row for share in some for row in share.rows] for some in (shares, read.shares))
         is_within = all(fits(row) and abs(row.coefficient) <= MOST for row in found)
         is_within &= len(found) <= len(before) and sum(len(row.left) + len(row.right) for row in found) <= LETTERS
-        return proof.certificate._replace(shares=shares) if is_within else proof.certificate
+        return read._replace(shares=shares) if is_within else read
 
     def without_units(self, poly: Poly, relations: Dict[Word, int]) -> Tuple[List[Row], Poly]:
         """Rows over relations, and what the polynomial and they add up to: words that are an identity, or have none."""
         rows: List[Row] = []
-        rest, left = {}, dict(poly)
+        rest: Poly = {}
+        left = dict(poly)
         while left:
             word, coefficient = left.popitem()
             place = next((place for place, letter in enumerate(word) if letter in self.units), None)
@@ -318,8 +323,8 @@ def in_place(parts: List[Part]) -> List[Part]:
     again = []
     for old in sorted(kept):
         rows = [row._replace(number=numbers[row.number]) if row.is_lemma else row for row in kept[old].rows]
-        other = kept[old].cancelled
-        again.append(kept[old]._replace(rows=rows, cancelled=other and other._replace(item=numbers[other.item])))
+        taken = kept[old].cancelled
+        again.append(kept[old]._replace(rows=rows, cancelled=taken and taken._replace(item=numbers[taken.item])))
     return again
 
 
@@ -557,7 +562,7 @@ def text(reader: Reader, proof: Proof) -> Iterator[str]:
 
 
 def chain_in_text(reader: Reader, writer: Writer, chain: Chain) -> Iterator[str]:
-    groups = []
+    groups: List[List[str]] = []
     for total in [chain.start(), *(step.total for step in chain.steps)]:
         first, *others = writer.lines(total, chain.ends, WIDTH)
         groups.append([("= " if groups else "  ") + first, *("    " + line for line in others)])
@@ -608,12 +613,13 @@ def judge_all(problem: Problem, texts: Texts) -> None:
     """Raises what is wrong with the first certificate or chain that isn't right."""
     for block, certificate in enumerate(texts.certificates, 1):
         judge(problem, certificate, f"# block {block} refused")
-    lines = Lines(problem) if texts.chains else None
-    for block, told in enumerate(texts.chains, 1):
-        judge_chain(lines, told, f"# block {block} refused")
+    if texts.chains:
+        lines = Lines(problem)
+        for block, told in enumerate(texts.chains, 1):
+            judge_chain(lines, told, f"# block {block} refused")
 
 
-def written(statement: Source, evidence: Source, form: str, names: str = "") -> Iterator[str]:
+def written(statement: Source, evidence: Source, *, form: str = "text", names: str = "") -> Iterator[str]:
     """The lines of all proofs of the evidence, in a form: text, latex, with the table of names in this file, or certificate."""
     from opprove.translations import chain_latex  # which stands on this file
 
@@ -631,10 +637,10 @@ def written(statement: Source, evidence: Source, form: str, names: str = "") -> 
 def certificates(reader: Reader, proofs: List[Proof]) -> Iterator[str]:
     """The proofs as evidence text."""
     for proof in proofs:
-        is_cancelled = isinstance(proof.certificate, Cancellation)
-        yield from (
-            cancellation_text(reader.problem, proof.certificate) if is_cancelled else certificate_text(reader.problem, reader.shortened(proof))
-        )
+        if isinstance(proof.certificate, Cancellation):
+            yield from cancellation_text(reader.problem, proof.certificate)
+        else:
+            yield from certificate_text(reader.problem, reader.shortened(proof))
 
 
 def proofs_of(reader: Reader, evidence: Source) -> List[Proof]:

@@ -9,6 +9,7 @@ import re
 from typing import Iterator, List
 
 from opprove.checkers.check import Certificate, Poly, Problem, Row
+from opprove.text.expressions import INSIDE, TIGHTNESS, Expression
 from opprove.translations.translation import generators_used, run
 
 TERMS_IN_A_LINE = 4
@@ -24,6 +25,23 @@ def name_in_latex(name: str) -> str:
     if not index:
         return base
     return f"{base}_{{{index}}}" if len(index) == 1 or index.isdigit() else rf"{base}_{{\mathit{{{escaped(index)}}}}}"
+
+
+def formula(expression: Expression) -> str:
+    """An expression of a statement; a product is written side by side."""
+    kind, parts = expression.kind, expression.parts
+    if kind == "map":
+        return name_in_latex(expression.name)
+    if kind == "identity":
+        return letter_in_latex(f"[{expression.name}]")
+    inner = [formula(part) for part in parts]
+    if kind == "sum":
+        return re.sub("[+] -", "-", " + ".join(inner))
+    texts = [text if TIGHTNESS[part.kind] >= INSIDE[kind] else f"({text})" for part, text in zip(parts, inner)]
+    body = r" \, ".join(texts)
+    forms = {"zero": "0", "negative": f"- {body}", "scaled": rf"{expression.number} \, {body}", "product": body}
+    base = f"({body})" if parts and parts[0].kind in ("adjoint", "power") else body
+    return forms.get(kind) or f"{base}^{{{'*' if kind == 'adjoint' else expression.number}}}"
 
 
 def escaped(text: str) -> str:

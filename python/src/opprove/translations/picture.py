@@ -146,7 +146,8 @@ class Layout:
 
 def cells_of(count: int, edges: List[Edge]) -> List[Cell]:
     """The best of some searches, each of which begins with moves that may cost something."""
-    random, best, least = Random(1), [], 0
+    random, least = Random(1), 0
+    best: List[int] = []
     grid = Grid(min(count, isqrt(count - 1) + 3), isqrt(count - 1) + 1)
     numbers = range(len(grid.cells))
     moves = min(100 * count**2, 1200 + 50 * count) if edges else 0
@@ -175,10 +176,10 @@ def picture(objects: List[str], maps: List[Tuple[str, str, str]]) -> Picture:
     edges = [edge for place, edge in enumerate(edges) if edge[::-1] not in edges[:place]]
     cells = cells_of(len(objects), edges)
     arrows = []
-    for (source, target), names in groups.items():
-        is_over = any(cell in cells for cell in between(cells[source], cells[target]))
-        bend = 2 if is_over else int(source != target and (target, source) in groups)
-        arrows.append(Arrow(source, target, names, bend))
+    for (start, end), names in groups.items():
+        is_over = any(cell in cells for cell in between(cells[start], cells[end]))
+        bend = 2 if is_over else int(start != end and (end, start) in groups)
+        arrows.append(Arrow(start, end, names, bend))
     return Picture(objects, cells, arrows)
 
 
@@ -186,7 +187,7 @@ def picture_of(problem: Problem) -> Picture:
     names, count = problem.names, sum(name[0] == "[" for name in problem.names)
     objects = [name[1:-1] for name in names[:count]]
     maps = [
-        (names[letter], *(objects[end] for end in problem.ends[letter]))
+        (names[letter], objects[problem.ends[letter][0]], objects[problem.ends[letter][1]])
         for letter in range(count, len(names))
         if problem.stars[letter] >= letter
     ]
@@ -316,7 +317,7 @@ class Drawing:
 
     def place(self, label: Label) -> Tuple[float, bool]:
         """Puts a label beside its arrow, where it covers least of what is drawn."""
-        found = []
+        found: List[Tuple[float, int, Box, Tuple[float, bool]]] = []
         width, height = CHARACTER * max(map(len, label.lines)), LINE * len(label.lines)
         for place in PLACES:
             (x, y), (a, b), (c, d) = label.curve[place], label.curve[place - 1], label.curve[place + 1]
@@ -407,5 +408,6 @@ def main(words: List[str]) -> int:
     form.add_argument("--tikz", dest="write", action="store_const", const=tikz, default=svg, help="for a paper that loads tikz")
     form.add_argument("--dot", dest="write", action="store_const", const=dot, help="for Graphviz")
     given = made.parse_args(words)
-    return ended(lambda: given.write(picture_of(Problem(*loaded([given.statement])))).splitlines())
+    write: Callable[[Picture], str] = given.write
+    return ended(lambda: write(picture_of(Problem(*loaded([given.statement])))).splitlines())
 

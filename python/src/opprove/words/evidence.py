@@ -70,7 +70,7 @@ class Text:
 
     def after(self, word: str, is_second: bool, is_goal: bool, lemmas: int) -> Tuple[str, ...]:
         if self.kind == "model":
-            within = ("`side NAME S`", "`map NAME = X .. ; X ..`", "`end`")
+            within: Tuple[str, ...] = ("`side NAME S`", "`map NAME = X .. ; X ..`", "`end`")
             return {"model": ("`claim N`",), "claim": ("`modulus M`",), "end": self.first()}.get(word, within)
         if self.kind == "basis":
             within = ("`rule POLYNOMIAL`", "`rest POLYNOMIAL`")
@@ -423,7 +423,8 @@ def both_sums(fault: Fault, word: str, times: str) -> Tuple[str, ...]:
 
 def sums_of_certificate(problem: Problem, fault: Fault) -> Tuple[Poly, Poly]:
     certificate = Evidence(problem, fault.text.path).certificates[fault.block - 1]
-    generators, lemmas = problem.generators(), []
+    generators = problem.generators()
+    lemmas: List[Poly] = []
     for share in certificate.shares:
         total: Poly = {}
         for row in share.rows:

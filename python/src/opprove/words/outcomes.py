@@ -186,7 +186,7 @@ def both_sides(line: Line, problem: Problem) -> List[Tuple[Optional[Tuple[int, i
 
 def value(problem: Problem, arrows: check_model.Arrows, poly: Poly, ends: Tuple[int, int]) -> check_model.Matrix:
     rows, columns = len(arrows.matrices[ends[1]]), len(arrows.matrices[ends[0]])
-    total = [[0] * columns for _ in range(rows)]
+    total: check_model.Matrix = [[0] * columns for _ in range(rows)]
     for word, coefficient in poly.items():
         matrix = arrows.value(word)
         total = [[(x + coefficient * y) % arrows.modulus for x, y in zip(*pair)] for pair in zip(total, matrix)]
