@@ -27,22 +27,22 @@ def written(tokens: Sequence[Token]) -> str:
 def table() -> Sequence[Word]:
     """The words that every file has."""
     words: List[Word] = []
-    Reader(TABLE, [TABLE], words).read()
+    Reader(TABLE, None, [TABLE], words).read()
     return words
 
 
 class Reader:
     """Reads a file, with the words of the files that it uses. `above` are the files that use this one."""
 
-    def __init__(self, path: str, above: Sequence[str] = (), words: Optional[List[Word]] = None) -> None:
-        self.path, self.above, self.file = path, [*above, os.path.realpath(path)], File()
+    def __init__(self, path: str, source: Optional[bytes] = None, above: Sequence[str] = (), words: Optional[List[Word]] = None) -> None:
+        self.path, self.source, self.above, self.file = path, source, [*above, os.path.realpath(path)], File()
         self.words: List[Word] = [*table()] if words is None else words
         self.parameters: Optional[List[str]] = None  # of the line `let` that is read
         self.case = 0  # how many cases of the line were begun, where it has cases
         self.is_first = True  # whether no line but comments was read
 
     def read(self) -> File:
-        texts = list(check.read_lines(self.path, "# refused S1 byte {}"))
+        texts = list(check.read_lines(self.path if self.source is None else self.source, "# refused S1 byte {}"))
         for self.tokens in self.joined([(self.line_tokens(text, number), text) for number, text in texts]):
             self.place = 0
             word = self.next().text if self.is_at("name") else ""
@@ -251,7 +251,7 @@ class Reader:
         if not os.path.isfile(path_used):
             raise fault("N1", word)
         try:
-            Reader(path_used, self.above, self.words).read()
+            Reader(path_used, None, self.above, self.words).read()
         except Refusal as refusal:
             if str(refusal).startswith("# load"):
                 raise fault("N1", word) from None

@@ -1,4 +1,4 @@
-"""Writes a statement in the notation, and prints it: shorten STATEMENT [--eliminate]
+"""Writes a statement in the notation
 
 Definitions, the equations of words, chains of equations and identities are found, and declarations that the rest fixes are left out. What
 is printed has been expanded again: it has the maps, the generators and the claims of the statement, up to the signs of these and the order
@@ -6,10 +6,7 @@ of generators and claims. Words are compared as in the statement; with --elimina
 """
 from __future__ import annotations
 
-import os
 import re
-import sys
-import tempfile
 from itertools import groupby
 from typing import Dict, FrozenSet, Iterator, List, NamedTuple, Optional, Sequence, Set, Tuple
 
@@ -18,6 +15,7 @@ from opprove.checkers.check import Line, Poly, Problem, Refusal
 from opprove.notation.expansion import Expansion, nodes
 from opprove.notation.parts import Equation, Node, Use, Word
 from opprove.notation.reader import table, written
+from opprove.tool import ended, parser
 
 Named = FrozenSet[Tuple[Tuple[str, ...], int]]  # a polynomial by the names of its letters
 Pattern = Tuple[Tuple[str, bool], ...]  # a product of parameters, each with or without its adjoint
@@ -144,10 +142,10 @@ class Matcher:
 class Shortener:
     """A statement as entries, which become fewer."""
 
-    def __init__(self, path: str, eliminates: bool = False) -> None:
-        self.problem = problem = Problem(path)
+    def __init__(self, source: check.Source, eliminates: bool = False) -> None:
+        self.problem = problem = Problem(source)
         self.matcher = Matcher(problem)
-        self.texts = dict(check.read_lines(path, ""))
+        self.texts = dict(check.read_lines(source, ""))
         self.lines = {line.tokens[0].line: line for line in problem.lines}
         self.eliminated = [name for line in problem.lines if line.tokens[0].text == "eliminate" for name in line.with_role("map")]
         self.keeps_order = not eliminates and not self.eliminated and all(line.tokens[0].text != "order" for line in problem.lines)
@@ -316,17 +314,10 @@ class Shortener:
     def different(self, text: str) -> Set[str]:
         """Maps whose ends the text changes; all of them where it changes their order or can't be read; an empty name where it changes something
         else; none where it says the same."""
-        with tempfile.TemporaryDirectory() as folder:
-            path, place = os.path.join(folder, "f.opn"), os.path.join(folder, "f.op")
-            with open(path, "wb") as file:
-                file.write(text.encode())
-            try:
-                statements = Expansion(path).statements()
-            except Refusal:
-                return {*self.maps(), ""}
-            with open(place, "wb") as file:
-                file.write(statements[0].text.encode())
-            other = Problem(place)
+        try:
+            other = Problem(Expansion("", text.encode()).statements()[0].text.encode())
+        except Refusal:
+            return {*self.maps(), ""}
         common = [name for name in self.maps() if name in other.numbers]
         found = {name for name in common if signature_of(other, name) != signature_of(self.problem, name)}
         if not found and common != [name for name in other.names if name in common]:  # letters have another order
@@ -351,14 +342,8 @@ def ones(line: str) -> str:
 
 def main(words: List[str]) -> int:
     """Prints the statement in the notation. The status is 0, or 2 for other words, 3 for a fault, 4 for a file that isn't loaded."""
-    paths = [word for word in words if word != "--eliminate"]
-    if len(paths) != 1 or paths[0].startswith("-"):
-        sys.stderr.write("usage: opprove shorten STATEMENT [--eliminate]\n")
-        return check.USAGE
-    try:
-        check.loaded(paths)
-        text = Shortener(paths[0], len(paths) < len(words)).written()
-    except Refusal as refusal:
-        sys.stderr.buffer.write(f"{refusal}\n".encode("utf-8", "surrogateescape"))
-        return check.status_of(str(refusal))
-    return check.DONE if check.written(text.split("\n")[:-1]) else check.NO_OUTPUT
+    made = parser("shorten", __doc__)
+    made.add_argument("statement", metavar="STATEMENT", help="a statement")
+    made.add_argument("--eliminate", action="store_true", help="put definitions for what they are, where the statement has no order of its own")
+    given = made.parse_args(words)
+    return ended(lambda: Shortener(check.loaded([given.statement])[0], given.eliminate).written().split("\n")[:-1])
