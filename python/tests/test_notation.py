@@ -18,7 +18,7 @@ from opprove.notation.expansion import Expansion
 from opprove.notation.shorten import Shortener
 
 ENVIRONMENT = {**os.environ, "PYTHONPATH": os.pathsep.join(sys.path)}
-COUNT = int(os.environ.get("OPPROVE_RANDOM", "100"))
+COUNT = int(os.environ.get("OPPROVE_RANDOM", "100"))  # of random files
 
 
 def lines(text: str) -> str:
@@ -148,7 +148,7 @@ class Tools(unittest.TestCase):
 
 class Values(unittest.TestCase):
     def test_random_files(self) -> None:
-        """Assumptions, claims and generators of random files (100, or as many as OPPROVE_RANDOM says) have the values that were computed without `expand`."""
+        """Assumptions, claims and generators of random files have the values that were computed without `expand`."""
         with tempfile.TemporaryDirectory() as folder:
             for seed in range(COUNT):
                 with self.subTest(seed):

@@ -128,7 +128,8 @@ class Expansion:
     def make(self, base: str, token: Token, others: Sequence[str] = ()) -> str:
         """A name that the file doesn't have: one of the others, or the base with a number behind it."""
         short = base.encode()[:24].decode(errors="ignore")
-        name = next(name for name in [*others, base, *(f"{short}{number}" for number in range(1, len(self.names) + 2))] if name not in self.names)
+        numbered = (f"{short}{number}" for number in range(1, len(self.names) + 2))
+        name = next(name for name in [*others, base, *numbered] if name not in self.names)
         self.names.add(name)
         self.made[name] = token
         return name
@@ -247,7 +248,8 @@ class Expansion:
                 plans.append(Plan(f"{self.stem}-{claim.label or number}", claim.token, [], claim.conditions, claim.items))
         for entry in self.equivalences():
             numbers = range(len(entry.cases))
-            for one, two in [(one, two) for one in numbers for two in numbers if (one != two if all_pairs else two == (one + 1) % len(numbers))]:
+            pairs = [(one, two) for one in numbers for two in numbers if one != two]
+            for one, two in pairs if all_pairs else [(one, (one + 1) % len(numbers)) for one in numbers]:
                 first, second = entry.cases[one], entry.cases[two]
                 name = f"{self.stem_of(entry)}-{ROMAN[one]}-{ROMAN[two]}"
                 plans.append(Plan(name, entry.token, [*first.given, *second.given], first.items, second.items))
@@ -320,10 +322,11 @@ class Statement:
         places = {token.text: token for token in reversed(whole.file.objects)}
         objects = {token.text: token for token in whole.file.objects if token.text in needed or self.is_alone}
         objects.update({name: whole.made[name] for name in whole.made if name in needed and name not in whole.maps})
-        lines: List[List[Piece]] = [[("object", None), *((f" {name}", places.get(name, token)) for name, token in objects.items())]] * bool(objects)
+        named: List[Piece] = [(f" {name}", places.get(name, token)) for name, token in objects.items()]
+        lines = [[("object", None), *named]] if named else []
         for (pair, is_own), group in groupby(kinds, key=lambda kind: kind[1:]):
-            names: List[Piece] = [(f" {name}", whole.maps[name]) for name, _, _ in group]
-            lines.append([("map", None), *names, (f" : {pair[0]} -> {pair[1]}{' self' * is_own}", names[0][1])])
+            named = [(f" {name}", whole.maps[name]) for name, _, _ in group]
+            lines.append([("map", None), *named, (f" : {pair[0]} -> {pair[1]}{' self' * is_own}", named[0][1])])
         return lines
 
     def entry(self, entry: object) -> None:

@@ -255,7 +255,8 @@ class Reader:
         except Refusal as refusal:
             if str(refusal).startswith("# load"):
                 raise fault("N1", word) from None
-            raise Refusal(re.sub(r"^(# refused \w+) (?!file )", lambda found: f"{found.group(1)} file {path.text} ", str(refusal))) from None
+            code = re.match(r"# refused \w+ (?!file )", str(refusal))
+            raise Refusal(f"{code.group()}file {path.text} {str(refusal)[code.end() :]}" if code else str(refusal)) from None
 
     def kept(self) -> None:
         """`order`, `solve` or `model`, as in language 2."""
@@ -353,7 +354,9 @@ class Reader:
     def term(self, depth: int) -> Node:
         first, number = self.next(), int(self.take("literal").text) if self.is_at("literal") else None
         factors: List[Node] = []
-        while self.is_at("name", "[", "(") and not self.is_case(self.place) and not (self.next().text in STOPS and (factors or number is not None)):
+        while self.is_at("name", "[", "(") and not self.is_case(self.place):
+            if self.next().text in STOPS and (factors or number is not None):
+                break
             factors.append(self.factor(depth))
         if not factors:
             if number is None:
