@@ -218,13 +218,17 @@ prove() {
   is_whole "$copy/crates/opprove/out/opprove" || fail "rt ci left no program"
 }
 
-# Keeps the object of the program too, for a release: where it was compiled just now, or by a gate here, whose object gives the same program.
+# Keeps the object of the program too, for a release: where it was compiled just now, or by a gate here, or is there from before, and gives
+# the same program.
 keep_object() {
-  local kit it
+  local kit object
   kit=$(kit_file) && kit=${kit%/*}
-  for it in "$copy" "$top"; do
-    "$kit/bin/rattle-link" --target x86_64-unknown-linux-gnu --toolchain "$kit/toolchain" -o "$copy/linked" "$it/crates/opprove/out/opprove.o" \
-      "$kit/c/libos_c.a" "$kit/c/liblibc_c.a" && cmp -s "$copy/linked" "$out/opprove" && cp "$it/crates/opprove/out/opprove.o" "$out" && return
+  for object in "$copy/crates/opprove/out/opprove.o" "$top/crates/opprove/out/opprove.o" "$out/opprove.o"; do
+    "$kit/bin/rattle-link" --target x86_64-unknown-linux-gnu --toolchain "$kit/toolchain" -o "$copy/linked" "$object" \
+      "$kit/c/libos_c.a" "$kit/c/liblibc_c.a" || continue
+    cmp -s "$copy/linked" "$out/opprove" || continue
+    [ "$object" = "$out/opprove.o" ] || cp "$object" "$out"
+    return
   done
   rm -f "$out/opprove.o"
 } >/dev/null 2>&1

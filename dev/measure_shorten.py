@@ -46,7 +46,8 @@ def answers(path: str, options: List[str]) -> Dict[str, str]:
 
 def has_word(word: Word, text: str) -> bool:
     opening = " ".join(word.opening())
-    return len(equations(word, 1)) > 1 and opening not in ("pinv", "inverse", "projection") and re.search(rf"(^|, |claim ){opening} ", text, re.M) is not None
+    is_new = len(equations(word, 1)) > 1 and opening not in ("pinv", "inverse", "projection")
+    return is_new and re.search(rf"(^|, |claim ){opening} ", text, re.MULTILINE) is not None
 
 
 def row(path: str, options: List[str]) -> List[str]:

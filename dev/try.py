@@ -34,6 +34,7 @@ import try_plain
 import try_python
 import try_release
 import try_why
+import trying_node
 from opprove.checkers.check import status_of
 from opprove.cli import TOOLS
 from opprove.words.calls import OPTIONS
@@ -52,6 +53,8 @@ def judged(statement: Path, evidence: Path) -> Tuple[str, bool]:
     if is_asked:
         other = run(PROGRAM, "check", statement, evidence)
         need(other == answer, (statement.read_bytes(), evidence.read_bytes(), answer, other))
+        if b"cancellation " not in evidence.read_bytes():
+            trying_node.agrees("check", statement, evidence, other)
     return line, is_asked
 
 

@@ -21,6 +21,7 @@ from trying import EXAMPLES, PROGRAM, SOURCE, TOP, Skipped, installed, need, run
 
 GUIDE = TOP / "docs" / "GUIDE.md"
 TOOLS = "|".join(tool.word for tool in cli.TOOLS)
+ASKING = "|".join(tool.word for tool in cli.TOOLS if tool.asks)  # tools that run the program
 
 
 class Command(NamedTuple):
@@ -28,7 +29,7 @@ class Command(NamedTuple):
     shown: str
 
     def asks_program(self) -> bool:
-        return re.search(rf"\./opprove (?!({TOOLS}) )|\./opprove search ", self.line) is not None
+        return re.search(rf"\./opprove (?!({TOOLS}) )|\./opprove ({ASKING}) ", self.line) is not None
 
     def asks_coq(self) -> bool:
         return self.line.startswith("coqc ")

@@ -9,6 +9,7 @@ import sys
 from pathlib import Path
 from typing import Callable, Iterator, List, Optional, Tuple
 
+import trying_node
 from opprove import tool
 from opprove.checkers import candidates
 from opprove.checkers import check_model
@@ -191,6 +192,7 @@ def said_of(statement: Path, text: Path) -> str:
         other = run(PROGRAM, "model", statement, text)
         want = Answer(status, out, "")
         need(other == want, (statement.read_bytes(), text.read_bytes(), want, other))
+    trying_node.agrees("model", statement, text, Answer(status, out, ""))
     return out
 
 

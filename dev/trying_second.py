@@ -11,6 +11,7 @@ from pathlib import Path
 from types import ModuleType
 from typing import Callable, List, NamedTuple, Optional, Sequence
 
+import trying_node
 from opprove import tool
 from opprove.checkers import check
 from measuring import OPPROVE, build
@@ -56,6 +57,7 @@ class Second:
         self.module, self.unread, self.unread_evidence = module, unread, unread_evidence
         self.name = module.__name__.split(".")[-1]
         self.tool = checker(self.name)
+        self.has_third = self.name in trying_node.COMMANDS
 
     def is_asked(self) -> bool:
         """Whether a program is built that has the command."""
@@ -63,7 +65,8 @@ class Second:
 
     def by_whom(self) -> str:
         alone = f"{self.name}.py alone, as no opprove with `{self.name}` is built"
-        return f"{self.name}.py and opprove" if self.is_asked() else alone
+        told = f"{self.name}.py and opprove" if self.is_asked() else alone
+        return f"{told}, {trying_node.by_node()}" if self.has_third else told
 
     def answered(self, files: Files) -> Answer:
         """The answer of the second program, with which the other programs have to agree."""
@@ -71,6 +74,8 @@ class Second:
         answer = Answer(status, "".join(f"{line}\n" for line in lines), "")
         others = [OPPROVE] if self.is_asked() else []
         others += [files.plain] if files.plain and status == check.DONE and self.is_plain(files) else []
+        if self.has_third:
+            trying_node.agrees(self.name, files.statement, files.evidence, answer)
         for program in others:
             other = run(program, self.name, files.statement, files.evidence, seconds=600)
             texts = files.statement.read_bytes()[:SHOWN], files.evidence.read_bytes()[:SHOWN]

@@ -53,7 +53,8 @@ ROWS: List[Tuple[str, Union[str, List[str]]]] = [
     ),
     (
         ENDS + "dual  core a c | claim a = c",
-        HEAD + "# dual core a c | assume a c a = a | assume c a c = c | assume (c a)' = c a | assume a a c = a | assume c c a = c | claim a = c",
+        HEAD + "# dual core a c | assume a c a = a | assume c a c = c | assume (c a)' = c a | assume a a c = a"
+        " | assume c c a = c | claim a = c",
     ),
     (ENDS + "reflexive a c | claim a = c", HEAD + "# reflexive a c | assume a c a = a | assume c a c = c | claim a = c"),
     (ENDS + "outer a c | claim a = c", HEAD + "# outer a c | assume c a c = c | claim a = c"),
@@ -82,11 +83,15 @@ ROWS: List[Tuple[str, Union[str, List[str]]]] = [
     ),
     (
         ENDS + "bc a b c a | claim a = c",
-        "object V | map a b c k l : V -> V | # bc a b c a | assume b a c = c | assume a a b = a | assume b = c k b | assume b = b l a | claim a = c",
+        "object V | map a b c k l : V -> V | # bc a b c a | assume b a c = c | assume a a b = a | assume b = c k b"
+        " | assume b = b l a | claim a = c",
     ),
     (ENDS + "hermitian a b | claim a = c", HEAD + "# hermitian a b | assume a' = a | assume b' = b | claim a = c"),
     (ENDS + "normal a, normal b | claim a = c", HEAD + "# normal a | assume a a' = a' a | # normal b | assume b b' = b' b | claim a = c"),
-    ("u : V -> W | unitary u | claim u = 0", "object V W | map u : V -> W | # unitary u | assume u u' = [W] | assume u' u = [V] | claim u = 0"),
+    (
+        "u : V -> W | unitary u | claim u = 0",
+        "object V W | map u : V -> W | # unitary u | assume u u' = [W] | assume u' u = [V] | claim u = 0",
+    ),
     ("u : V -> W | isometry u | claim u = 0", "object V W | map u : V -> W | # isometry u | assume u' u = [V] | claim u = 0"),
     (ENDS + "partial isometry a | claim a = c", HEAD + "# partial isometry a | assume a a' a = a | claim a = c"),
     (ENDS + "ep a b | claim a† = c", HEAD + "# ep a b | pinv a b | assume a b = b a | claim b = c"),
@@ -121,8 +126,14 @@ ROWS: List[Tuple[str, Union[str, List[str]]]] = [
     (ENDS + "claim (1)' a = -[V] + (-a)^2 (b) (c a)", HEAD + "claim ([V])' a = - [V] + (- a)^2 (b) (c a)"),
     # Chains, conditions and cases
     (ENDS + "assume a = b = c | claim a a = b b = c c", HEAD + "assume a = b | assume b = c | claim a a = b b | claim b b = c c"),
-    (ENDS + "assume a b = b a, commute a c | claim a = b, b = c", HEAD + "assume a b = b a | # commute a c | assume a c = c a | claim a = b | claim b = c"),
-    (ENDS + "assume a = b | = c | claim commute a b,| a = c", HEAD + "assume a = b | assume b = c | # commute a b | claim a b = b a | claim a = c"),
+    (
+        ENDS + "assume a b = b a, commute a c | claim a = b, b = c",
+        HEAD + "assume a b = b a | # commute a c | assume a c = c a | claim a = b | claim b = c",
+    ),
+    (
+        ENDS + "assume a = b | = c | claim commute a b,| a = c",
+        HEAD + "assume a = b | assume b = c | # commute a b | claim a b = b a | claim a = c",
+    ),
     (
         "a b : V -> V | claim a = b if normal a | c : V -> V | claim c = 0 | claim a = 0 if b = 0, a = b",
         [
@@ -131,8 +142,14 @@ ROWS: List[Tuple[str, Union[str, List[str]]]] = [
             "f-3: object V | map a b : V -> V | assume b = 0 | assume a = b | claim a = 0",
         ],
     ),
-    ("a : V -> V | claim x: a = 0 | claim y: a = 1", ["f-x: object V | map a : V -> V | claim a = 0", "f-y: object V | map a : V -> V | claim a = [V]"]),
-    ("a b : V -> V | claim a = b | if a = 0, b = 0", ["f-1: object V | map a b : V -> V | assume a = 0 | assume b = 0 | claim a = b"][0][5:]),
+    (
+        "a : V -> V | claim x: a = 0 | claim y: a = 1",
+        ["f-x: object V | map a : V -> V | claim a = 0", "f-y: object V | map a : V -> V | claim a = [V]"],
+    ),
+    (
+        "a b : V -> V | claim a = b | if a = 0, b = 0",
+        "object V | map a b : V -> V | assume a = 0 | assume b = 0 | claim a = b",
+    ),
     (
         "a b : V -> V | equivalent: | (i) a = b (ii) a a = b, commute a b | (iii) b = 0",
         [
@@ -149,17 +166,24 @@ ROWS: List[Tuple[str, Union[str, List[str]]]] = [
         ],
     ),
     # Words that are made
-    ("let half (h): h + h = 1 | h : V -> V | half h | claim h = 0", "object V | map h : V -> V | # half h | assume h + h = [V] | claim h = 0"),
+    (
+        "let half (h): h + h = 1 | h : V -> V | half h | claim h = 0",
+        "object V | map h : V -> V | # half h | assume h + h = [V] | claim h = 0",
+    ),
     (
         "let factor (a): a = f g | a : U -> V | factor a | factor a | claim a = 0",
-        "object U V W X | map a : U -> V | map f1 : W -> V | map g1 : U -> W | map f2 : X -> V | map g2 : U -> X | # factor a | assume a = f1 g1"
+        "object U V W X | map a : U -> V | map f1 : W -> V | map g1 : U -> W | map f2 : X -> V | map g2 : U -> X"
+        " | # factor a | assume a = f1 g1"
         " | # factor a | assume a = f2 g2 | claim a = 0",
     ),
     (
         "let nil (a) of index (k): a^k = 0 | let deep (a): nil a of index 3 | a : V -> V | deep a | claim a = 0",
         "object V | map a : V -> V | # deep a | assume a^3 = 0 | claim a = 0",
     ),
-    ("let equal (a) (b) ..: a = b | " + ENDS + "equal a b c | claim a = c", HEAD + "# equal a b c | assume a = b | assume a = c | assume b = c | claim a = c"),
+    (
+        "let equal (a) (b) ..: a = b | " + ENDS + "equal a b c | claim a = c",
+        HEAD + "# equal a b c | assume a = b | assume a = c | assume b = c | claim a = c",
+    ),
     # Faults: tokens and grammar
     ("a : V -> V | claim a$ = 0", "S2 2 8"),
     ("a : V -> V | claim a * a = 0", "S3 2 9"),
@@ -230,7 +254,10 @@ FILES: Dict[str, str] = {
     "bad.opn": "let same (a) (b): a b",
 }
 USED: List[Tuple[str, str]] = [
-    ("use words.opn | " + ENDS + "same a b, nilpotent c | claim a = c", HEAD + "# same a b | assume a = b | # nilpotent c | assume c c = 0 | claim a = c"),
+    (
+        "use words.opn | " + ENDS + "same a b, nilpotent c | claim a = c",
+        HEAD + "# same a b | assume a = b | # nilpotent c | assume c c = 0 | claim a = c",
+    ),
     ("use nosuch.opn | claim a = 0", "N1 1 1"),
     ("use f.opn | claim a = 0", "N2 1 1"),
     ("use loop.opn | claim a = 0", "N2 file loop.opn 1 1"),

@@ -183,7 +183,8 @@ class Written:
             number, side = self.random.randint(1, 3), self.sides[source]
             return Expression(f"{number} - {first.text}", lambda values: add(power_sum(side, number), first.value(values), -1))
         second, sign = self.term(source, target, depth), self.random.choice([1, -1])
-        return Expression(f"{first.text} {'+' if sign > 0 else '-'} {second.text}", lambda values: add(first.value(values), second.value(values), sign))
+        text = f"{first.text} {'+' if sign > 0 else '-'} {second.text}"
+        return Expression(text, lambda values: add(first.value(values), second.value(values), sign))
 
     def equation(self) -> Tuple[str, List[Function]]:
         ends = self.random.choice([*self.sides]), self.random.choice([*self.sides])

@@ -18,7 +18,7 @@ from opprove.notation.expansion import Expansion
 from opprove.notation.shorten import Shortener
 
 ENVIRONMENT = {**os.environ, "PYTHONPATH": os.pathsep.join(sys.path)}
-COUNT = int(os.environ.get("OPPROVE_RANDOM", "100"))
+COUNT = int(os.environ.get("OPPROVE_RANDOM", "100"))  # of random files
 
 
 def lines(text: str) -> str:
@@ -62,6 +62,23 @@ class Rows(unittest.TestCase):
 
     def test_rows(self) -> None:
         self.compare(ROWS)
+
+    def test_words_that_are_too_large(self) -> None:
+        doubled = "".join(f"let w{n + 1} (a): w{n} (a a) | " for n in range(20))
+        nested = "".join(f"let w{n + 1} (a): w{n} (a + 1) | " for n in range(400))
+        for text in (doubled + "w20 b", nested + "w400 b", nested[: nested.index("let w200 ")] + "w199 b"):
+            self.compare([(f"let w0 (a): a = 0 | b : V -> V | {text} | claim b = 0", f"N12 {text.count('|') + 3} 1")])
+        self.compare([(f"let w0 (a): a = 0 | b : V -> V | {nested[: nested.index('let w90 ')]} w80 b | claim b = 0", "S5 92 1")])
+
+    @unittest.skipUnless(os.access(program.path(), os.X_OK), "no program is here")
+    def test_the_program_reads_expansions(self) -> None:
+        """What `check` says of an expansion and an empty evidence text is that of the text."""
+        for text, want in ROWS:
+            if not isinstance(want, str) or want.startswith("object"):
+                with self.subTest(text), tempfile.TemporaryDirectory() as folder:
+                    for statement in Expansion(os.path.join(folder, "f.opn"), lines(text).encode()).statements():
+                        with self.assertRaisesRegex(Refused, r"\bK7\b"):
+                            program.run(None, "check", [statement.text, ""], (), 60)
 
     def test_files_that_are_used(self) -> None:
         self.compare(USED)
@@ -111,7 +128,7 @@ class Tools(unittest.TestCase):
         self.assertEqual(self.run_tool("picture", self.path), (3, "", "# refused S6 line 2 column 11\n"))
         self.assertEqual(self.run_tool("expand")[0], 2)
         self.assertEqual(self.run_tool("shorten")[0], 2)
-        self.assertEqual(self.run_tool("implications", "f.op")[0], 2)
+        self.assertEqual(self.run_tool("implications")[0], 2)
 
     def test_tools_take_files_of_the_notation(self) -> None:
         self.write("pinv a x | normal a | claim a x = x a")
@@ -131,7 +148,7 @@ class Tools(unittest.TestCase):
 
 class Values(unittest.TestCase):
     def test_random_files(self) -> None:
-        """Assumptions, claims and generators of random files (100, or as many as OPPROVE_RANDOM says) have the values that were computed without `expand`."""
+        """Assumptions, claims and generators of random files have the values that were computed without `expand`."""
         with tempfile.TemporaryDirectory() as folder:
             for seed in range(COUNT):
                 with self.subTest(seed):

@@ -546,10 +546,10 @@ def loaded(paths: List[str], limits: Sequence[int] = MOST_BYTES) -> List[bytes]:
 
 
 def status_of(line: str) -> int:
-    """Of a refusal."""
-    if line.startswith(("# load ", "# too ")):
-        return NOT_LOADED
-    return FAULTY if line.startswith("# refused S") else REFUSED
+    """Of a refusal: of a file that isn't loaded or written, of a statement or a file of the notation, or of evidence."""
+    if line.startswith(("# load ", "# too ", "# not written ")):
+        return NO_OUTPUT if line.startswith("# not ") else NOT_LOADED
+    return FAULTY if line.startswith(("# refused S", "# refused N")) else REFUSED
 
 
 def written(lines: Iterable[str]) -> bool:

@@ -11,7 +11,6 @@ from opprove.checkers.check import Refusal, Token
 from opprove.notation.ends import Ends
 from opprove.notation.parts import Cases, Claim, Definition, Equation, Given, Item, Kept, Mark, Node, Use, fault
 from opprove.notation.reader import ROMAN, Reader
-from opprove.program import files
 
 Piece = Tuple[str, Optional[Token]]  # of a line that is written, and the token of the file that it stands for
 NATIVE = {"pinv": 2, "inverse": 2, "inner": 2, "projection": 1}  # the words of the language, with the number of their maps
@@ -56,8 +55,9 @@ def nodes(node: Node) -> Iterator[Node]:
 class Expansion:
     """Statements of a file. `made` are the names that are in no file, each with the token that asked for it."""
 
-    def __init__(self, path: str) -> None:
-        self.file = Reader(path).read()
+    def __init__(self, path: str, source: Optional[bytes] = None) -> None:
+        """Of the file at a path, or of a text that is to be read as if it stood there."""
+        self.file = Reader(path, source).read()
         self.stem = os.path.splitext(os.path.basename(path))[0]
         self.names, self.size = set(self.file.names), 0
         self.made: Dict[str, Token] = {}
@@ -70,9 +70,11 @@ class Expansion:
             self.check_names(entry)
         self.facts: Dict[int, List[Fact]] = {}  # by the item
         self.ends = Ends()
-        for entry in self.entries:
-            for item in self.items(entry):
+        for item in (item for entry in self.entries for item in self.items(entry)):
+            try:
                 self.facts[id(item)] = self.facts_of(item)
+            except RecursionError:
+                raise fault("N12", item.token) from None
         self.find_ends()
 
     # ---- Names
@@ -126,7 +128,8 @@ class Expansion:
     def make(self, base: str, token: Token, others: Sequence[str] = ()) -> str:
         """A name that the file doesn't have: one of the others, or the base with a number behind it."""
         short = base.encode()[:24].decode(errors="ignore")
-        name = next(name for name in [*others, base, *(f"{short}{number}" for number in range(1, len(self.names) + 2))] if name not in self.names)
+        numbered = (f"{short}{number}" for number in range(1, len(self.names) + 2))
+        name = next(name for name in [*others, base, *numbered] if name not in self.names)
         self.names.add(name)
         self.made[name] = token
         return name
@@ -224,7 +227,10 @@ class Expansion:
             if isinstance(entry, Definition):
                 ends.equal("S11", entry.value.token, ends.maps[entry.name.text], ends.value(entry.value))
             for equation in (each for item in self.items(entry) for fact in self.facts[id(item)] for each in fact.equations):
-                ends.equation(equation.sides)
+                try:
+                    ends.equation(equation.sides)
+                except RecursionError:
+                    raise fault("N12", equation.token) from None
         for name, token in self.maps.items():
             for end in ends.maps[name]:
                 if ends.of(end) not in ends.names:
@@ -242,7 +248,8 @@ class Expansion:
                 plans.append(Plan(f"{self.stem}-{claim.label or number}", claim.token, [], claim.conditions, claim.items))
         for entry in self.equivalences():
             numbers = range(len(entry.cases))
-            for one, two in [(one, two) for one in numbers for two in numbers if (one != two if all_pairs else two == (one + 1) % len(numbers))]:
+            pairs = [(one, two) for one in numbers for two in numbers if one != two]
+            for one, two in pairs if all_pairs else [(one, (one + 1) % len(numbers)) for one in numbers]:
                 first, second = entry.cases[one], entry.cases[two]
                 name = f"{self.stem_of(entry)}-{ROMAN[one]}-{ROMAN[two]}"
                 plans.append(Plan(name, entry.token, [*first.given, *second.given], first.items, second.items))
@@ -315,10 +322,11 @@ class Statement:
         places = {token.text: token for token in reversed(whole.file.objects)}
         objects = {token.text: token for token in whole.file.objects if token.text in needed or self.is_alone}
         objects.update({name: whole.made[name] for name in whole.made if name in needed and name not in whole.maps})
-        lines: List[List[Piece]] = [[("object", None), *((f" {name}", places.get(name, token)) for name, token in objects.items())]] * bool(objects)
+        named: List[Piece] = [(f" {name}", places.get(name, token)) for name, token in objects.items()]
+        lines = [[("object", None), *named]] if named else []
         for (pair, is_own), group in groupby(kinds, key=lambda kind: kind[1:]):
-            names: List[Piece] = [(f" {name}", whole.maps[name]) for name, _, _ in group]
-            lines.append([("map", None), *names, (f" : {pair[0]} -> {pair[1]}{' self' * is_own}", names[0][1])])
+            named = [(f" {name}", whole.maps[name]) for name, _, _ in group]
+            lines.append([("map", None), *named, (f" : {pair[0]} -> {pair[1]}{' self' * is_own}", named[0][1])])
         return lines
 
     def entry(self, entry: object) -> None:
@@ -369,18 +377,17 @@ class Statement:
 
     def check(self, text: str, lines: List[List[Piece]]) -> None:
         """Refuses what the language refuses, at the place in the file that was written."""
-        with files(text) as paths:
-            try:
-                check.Problem(paths[0])
-            except Refusal as refusal:
-                found = re.match(r"(# refused \w+) line ([0-9]+) column ([0-9]+)(.*)", str(refusal))
-                if not found:
-                    raise
-                start, token = 1, Token("", "", 1, 1)
-                for piece, origin in lines[int(found.group(2)) - 1]:
-                    token = origin if origin and start <= int(found.group(3)) else token
-                    start += len(piece)
-                raise Refusal(f"{found.group(1)} line {token.line} column {token.column}{found.group(4)}") from None
+        try:
+            check.Problem(text.encode())
+        except Refusal as refusal:
+            found = re.match(r"(# refused \w+) line ([0-9]+) column ([0-9]+)(.*)", str(refusal))
+            if not found:
+                raise
+            start, token = 1, Token("", "", 1, 1)
+            for piece, origin in lines[int(found.group(2)) - 1]:
+                token = origin if origin and start <= int(found.group(3)) else token
+                start += len(piece)
+            raise Refusal(f"{found.group(1)} line {token.line} column {token.column}{found.group(4)}") from None
 
     # ---- Expressions
 

@@ -1,4 +1,4 @@
-"""Which cases of a file of the notation follow from which: implications FILE.opn [OPTIONS of prove]
+"""Which cases of a file of the notation follow from which
 
 Proves, for each line `equivalent` and each two of its cases, that the one gives the other, and prints a table for each line: a row for
 what is assumed and a column for what is claimed. yes: proved; yes/D: proved with the denominator D; no: refuted by matrices; -: not
@@ -6,17 +6,16 @@ derivable; ?: undecided. Of a case with several equations it is the worst of the
 """
 from __future__ import annotations
 
+import argparse
 import re
-import sys
 from typing import Dict, List, Tuple
 
 from opprove.checkers import check
-from opprove.checkers.check import Refusal
-from opprove.notation import expand
 from opprove.notation.expansion import Expansion
 from opprove.notation.reader import ROMAN
 from opprove.program import Refused
 from opprove.program import run as run_program
+from opprove.tool import ended, parser, say
 
 ORDER = ["yes", "yes/", "-", "no", "?"]  # from the best answer to the worst
 
@@ -33,8 +32,7 @@ def answer(report: str) -> str:
 
 def tables(path: str, options: List[str]) -> List[str]:
     """A table for each line with cases. Raises a `Refusal` of the file, or what the program refuses."""
-    check.loaded([path])
-    expansion = Expansion(path)
+    expansion = Expansion(path, *check.loaded([path]))
     texts = {statement.name: statement.text for statement in expansion.statements(True)}
     lines: List[str] = []
     for entry in expansion.equivalences():
@@ -54,13 +52,12 @@ def tables(path: str, options: List[str]) -> List[str]:
 
 def main(words: List[str]) -> int:
     """Prints the tables. The status is 0, or 2 for other words, or that of the fault."""
-    if not words or not words[0].endswith(expand.ENDING):
-        sys.stderr.write("usage: opprove implications FILE.opn [OPTIONS of prove]\n")
-        return check.USAGE
+    made = parser("implications", __doc__)
+    made.add_argument("file", metavar="FILE.opn", help="a file of the notation with lines `equivalent`")
+    made.add_argument("options", metavar="OPTIONS", nargs=argparse.REMAINDER, help="options of `prove`")
+    given = made.parse_args(words)
     try:
-        return check.DONE if check.written(tables(words[0], words[1:])) else check.NO_OUTPUT
-    except Refusal as refusal:
-        return expand.refused(refusal)
+        return ended(lambda: tables(given.file, given.options))
     except Refused as refusal:
-        expand.tell(refusal.line)
+        say(refusal.line)
         return refusal.status

@@ -13,7 +13,8 @@ SENTENCES = {
     "N5": "a literal stands for a map, or a map for an exponent", "N6": "nothing says of which object this is the identity",
     "N7": "not one assumption says which map this is", "N8": "a definition uses the map itself, or one that is defined below it",
     "N9": "no assumption has this map of a claim, and no line declares it", "N10": "there are fewer than two cases, or more than twenty",
-    "N11": "a head has a word, and parameters in brackets, none twice, with `..` behind one or two of them", "N12": "the equations are too large",
+    "N11": "a head has a word, and parameters in brackets, none twice, with `..` behind one or two of them",
+    "N12": "the equations are too large",
 }  # fmt: skip
 
 

@@ -27,22 +27,22 @@ def written(tokens: Sequence[Token]) -> str:
 def table() -> Sequence[Word]:
     """The words that every file has."""
     words: List[Word] = []
-    Reader(TABLE, [TABLE], words).read()
+    Reader(TABLE, None, [TABLE], words).read()
     return words
 
 
 class Reader:
     """Reads a file, with the words of the files that it uses. `above` are the files that use this one."""
 
-    def __init__(self, path: str, above: Sequence[str] = (), words: Optional[List[Word]] = None) -> None:
-        self.path, self.above, self.file = path, [*above, os.path.realpath(path)], File()
+    def __init__(self, path: str, source: Optional[bytes] = None, above: Sequence[str] = (), words: Optional[List[Word]] = None) -> None:
+        self.path, self.source, self.above, self.file = path, source, [*above, os.path.realpath(path)], File()
         self.words: List[Word] = [*table()] if words is None else words
         self.parameters: Optional[List[str]] = None  # of the line `let` that is read
         self.case = 0  # how many cases of the line were begun, where it has cases
         self.is_first = True  # whether no line but comments was read
 
     def read(self) -> File:
-        texts = list(check.read_lines(self.path, "# refused S1 byte {}"))
+        texts = list(check.read_lines(self.path if self.source is None else self.source, "# refused S1 byte {}"))
         for self.tokens in self.joined([(self.line_tokens(text, number), text) for number, text in texts]):
             self.place = 0
             word = self.next().text if self.is_at("name") else ""
@@ -251,11 +251,12 @@ class Reader:
         if not os.path.isfile(path_used):
             raise fault("N1", word)
         try:
-            Reader(path_used, self.above, self.words).read()
+            Reader(path_used, None, self.above, self.words).read()
         except Refusal as refusal:
             if str(refusal).startswith("# load"):
                 raise fault("N1", word) from None
-            raise Refusal(re.sub(r"^(# refused \w+) (?!file )", lambda found: f"{found.group(1)} file {path.text} ", str(refusal))) from None
+            code = re.match(r"# refused \w+ (?!file )", str(refusal))
+            raise Refusal(f"{code.group()}file {path.text} {str(refusal)[code.end() :]}" if code else str(refusal)) from None
 
     def kept(self) -> None:
         """`order`, `solve` or `model`, as in language 2."""
@@ -353,7 +354,9 @@ class Reader:
     def term(self, depth: int) -> Node:
         first, number = self.next(), int(self.take("literal").text) if self.is_at("literal") else None
         factors: List[Node] = []
-        while self.is_at("name", "[", "(") and not self.is_case(self.place) and not (self.next().text in STOPS and (factors or number is not None)):
+        while self.is_at("name", "[", "(") and not self.is_case(self.place):
+            if self.next().text in STOPS and (factors or number is not None):
+                break
             factors.append(self.factor(depth))
         if not factors:
             if number is None:

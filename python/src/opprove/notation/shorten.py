@@ -1,15 +1,12 @@
-"""Writes a statement in the notation, and prints it: shorten STATEMENT [--eliminate]
+"""Writes a statement in the notation
 
 Definitions, the equations of words, chains of equations and identities are found, and declarations that the rest fixes are left out. What
 is printed has been expanded again: it has the maps, the generators and the claims of the statement, up to the signs of these and the order
-of generators and claims. Words are compared as in the statement; with --eliminate definitions are put for what they are where the statement has no order of its own.
+of generators and claims. Words are compared as in the statement, unless --eliminate has definitions put for what they are.
 """
 from __future__ import annotations
 
-import os
 import re
-import sys
-import tempfile
 from itertools import groupby
 from typing import Dict, FrozenSet, Iterator, List, NamedTuple, Optional, Sequence, Set, Tuple
 
@@ -18,6 +15,7 @@ from opprove.checkers.check import Line, Poly, Problem, Refusal
 from opprove.notation.expansion import Expansion, nodes
 from opprove.notation.parts import Equation, Node, Use, Word
 from opprove.notation.reader import table, written
+from opprove.tool import ended, parser
 
 Named = FrozenSet[Tuple[Tuple[str, ...], int]]  # a polynomial by the names of its letters
 Pattern = Tuple[Tuple[str, bool], ...]  # a product of parameters, each with or without its adjoint
@@ -63,7 +61,8 @@ def equations(word: Word, index: int) -> List[Tuple[Optional[Pattern], Optional[
     for item in word.items:
         if isinstance(item, Use):
             names = dict(zip(item.word.parameters(), (argument.text for argument in item.arguments)))
-            found += [tuple(side and tuple((names[name], star) for name, star in side) for side in pair) for pair in equations(item.word, index)]
+            for pair in equations(item.word, index):
+                found.append(tuple(side and tuple((names[name], star) for name, star in side) for side in pair))
         else:
             found.append(tuple(pattern(side, index) for side in item.sides))
     return found  # type: ignore[return-value]
@@ -144,10 +143,10 @@ class Matcher:
 class Shortener:
     """A statement as entries, which become fewer."""
 
-    def __init__(self, path: str, eliminates: bool = False) -> None:
-        self.problem = problem = Problem(path)
+    def __init__(self, source: check.Source, eliminates: bool = False) -> None:
+        self.problem = problem = Problem(source)
         self.matcher = Matcher(problem)
-        self.texts = dict(check.read_lines(path, ""))
+        self.texts = dict(check.read_lines(source, ""))
         self.lines = {line.tokens[0].line: line for line in problem.lines}
         self.eliminated = [name for line in problem.lines if line.tokens[0].text == "eliminate" for name in line.with_role("map")]
         self.keeps_order = not eliminates and not self.eliminated and all(line.tokens[0].text != "order" for line in problem.lines)
@@ -171,7 +170,7 @@ class Shortener:
     # ---- Words
 
     def find_words(self, kind: str) -> None:
-        """Puts words in the place of their equations, those of more equations first; of claims, words of two or more that stand together."""
+        """Puts words in the place of their equations, those of more first; of claims, of two or more that stand together."""
         for word in sorted(table(), key=lambda word: -len(equations(word, 1))):
             has_index = any(mark.has_parameter for node in self.parts(word) for mark in node.marks)
             is_left_out = word.opening()[0] in LEFT_OUT or (kind == "claim" and len(equations(word, 1)) < 2)
@@ -227,7 +226,8 @@ class Shortener:
     def is_definition(self, name: str, entry: Entry, value: str, above: Set[str]) -> bool:
         (poly,) = entry.polys
         others = [word for word, _ in poly if word != (name,)]
-        is_alone = name in entry.maps and (name,) in [word for word, _ in poly] and not any(name in (letter, letter[:-1]) for word in others for letter in word)
+        letters = {letter for word in others for letter in word}
+        is_alone = name in entry.maps and len(others) < len(poly) and not {name, f"{name}'"} & letters
         is_value = len(others) > 1 or any(len(word) > 1 for word in others)
         return is_alone and is_value and name not in above and (not self.eliminated or name in self.eliminated)
 
@@ -239,8 +239,9 @@ class Shortener:
         for entry in self.entries:
             last = found[-1] if found else Entry("", "")
             text = self.joined(last.text, entry.text) if entry.kind == last.kind == "word" else ""
-            if entry.kind == last.kind and entry.kind in ("assume", "claim") and last.text.split(" = ")[-1] == entry.text.split(" = ")[0] != "0":
-                text = " = ".join([last.text, *entry.text.split(" = ")[1:]])
+            sides = entry.text.split(" = ")
+            if entry.kind == last.kind and entry.kind in ("assume", "claim") and last.text.split(" = ")[-1] == sides[0] != "0":
+                text = " = ".join([last.text, *sides[1:]])
             if text and len(text) <= WIDTH:
                 found[-1] = Entry(entry.kind, text, last.polys + entry.polys, last.maps | entry.maps)
             else:
@@ -250,7 +251,8 @@ class Shortener:
     @staticmethod
     def joined(last: str, use: str) -> str:
         """A line with uses of a word, and one more use of this word, or nothing where it is another."""
-        word = next(word for word in sorted(table(), key=lambda word: -len(word.opening())) if use.split()[: len(word.opening())] == word.opening())
+        words = sorted(table(), key=lambda word: -len(word.opening()))
+        word = next(word for word in words if use.split()[: len(word.opening())] == word.opening())
         opening = " ".join(word.opening())
         if not last.startswith(f"{opening} ") or last.split(", ")[-1].split()[: len(word.opening())] != word.opening():
             return ""
@@ -292,7 +294,8 @@ class Shortener:
         self.find_words("claim")
         self.shorter()
         said = {name for entry in self.entries if entry.kind == "word" for name in entry.maps} | self.defined
-        idle: Set[str] = {name for name in self.maps() if not any(name in entry.maps or name in entry.text.split() for entry in self.entries)}
+        named = {name for entry in self.entries for name in (*entry.maps, *entry.text.split())}
+        idle = {name for name in self.maps() if name not in named}
         for is_plain in (False, True):
             for left_out in [idle, idle - idle]:
                 shown = [name for name in self.maps() if name not in left_out and (name not in said or name in idle | self.matcher.own)]
@@ -314,19 +317,12 @@ class Shortener:
             shown = [name for name in self.maps() if name in shown or name == more[0]]
 
     def different(self, text: str) -> Set[str]:
-        """Maps whose ends the text changes; all of them where it changes their order or can't be read; an empty name where it changes something
-        else; none where it says the same."""
-        with tempfile.TemporaryDirectory() as folder:
-            path, place = os.path.join(folder, "f.opn"), os.path.join(folder, "f.op")
-            with open(path, "wb") as file:
-                file.write(text.encode())
-            try:
-                statements = Expansion(path).statements()
-            except Refusal:
-                return {*self.maps(), ""}
-            with open(place, "wb") as file:
-                file.write(statements[0].text.encode())
-            other = Problem(place)
+        """Maps whose ends the text changes; all of them where it changes their order or can't be read; an empty name where it changes
+        something else; none where it says the same."""
+        try:
+            other = Problem(Expansion("", text.encode()).statements()[0].text.encode())
+        except Refusal:
+            return {*self.maps(), ""}
         common = [name for name in self.maps() if name in other.numbers]
         found = {name for name in common if signature_of(other, name) != signature_of(self.problem, name)}
         if not found and common != [name for name in other.names if name in common]:  # letters have another order
@@ -338,10 +334,10 @@ def signature_of(problem: Problem, name: str) -> Tuple[str, ...]:
     return tuple(problem.names[end] for end in problem.ends[problem.numbers[name]])
 
 
-def says(problem: Problem) -> Tuple[List[List[Tuple[Tuple[Tuple[str, ...], int], ...]]], ...]:
+def says(problem: Problem) -> Tuple[List[Tuple[Tuple[Tuple[str, ...], int], ...]], ...]:
     """The generators and the claims by names, up to their order and signs."""
-    sorts = ([min(sorted(poly) for poly in either(named(problem, poly))) for poly in polys] for polys in (problem.generators(), problem.claims))
-    return tuple(sorted(tuple(poly) for poly in polys) for polys in sorts)  # type: ignore[misc]
+    both = (problem.generators(), problem.claims)
+    return tuple(sorted(min(tuple(sorted(one)) for one in either(named(problem, poly))) for poly in polys) for polys in both)
 
 
 def ones(line: str) -> str:
@@ -351,14 +347,8 @@ def ones(line: str) -> str:
 
 def main(words: List[str]) -> int:
     """Prints the statement in the notation. The status is 0, or 2 for other words, 3 for a fault, 4 for a file that isn't loaded."""
-    paths = [word for word in words if word != "--eliminate"]
-    if len(paths) != 1 or paths[0].startswith("-"):
-        sys.stderr.write("usage: opprove shorten STATEMENT [--eliminate]\n")
-        return check.USAGE
-    try:
-        check.loaded(paths)
-        text = Shortener(paths[0], len(paths) < len(words)).written()
-    except Refusal as refusal:
-        sys.stderr.buffer.write(f"{refusal}\n".encode("utf-8", "surrogateescape"))
-        return check.status_of(str(refusal))
-    return check.DONE if check.written(text.split("\n")[:-1]) else check.NO_OUTPUT
+    made = parser("shorten", __doc__)
+    made.add_argument("statement", metavar="STATEMENT", help="a statement")
+    made.add_argument("--eliminate", action="store_true", help="put definitions for what they are, unless the statement says an order")
+    given = made.parse_args(words)
+    return ended(lambda: Shortener(check.loaded([given.statement])[0], given.eliminate).written().split("\n")[:-1])

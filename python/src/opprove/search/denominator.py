@@ -1,7 +1,7 @@
 """Smaller denominators
 
 For each proved claim of the report whose denominator isn't 1 it looks for a certificate with a smaller one: by other orders of words
-and with the claim and lemmas in other ways, and by integer combinations of the rows that are known, as 2 and 3 times a claim give it
+and from fewer assumptions, and by integer combinations of the rows that are known, as 2 and 3 times a claim give it
 once. The best certificate is printed, which `check` accepts for STATEMENT. For each prime that divides what is left it looks for
 matrices modulo that prime which make the assumptions zero and not the claim: then that prime has to divide each denominator, a line
 says so, and FOLDER gets the model. A claim that others prove is compared: the report may have several certificates of it.
@@ -114,6 +114,7 @@ class Smaller:
         goal = self.statement.claims[self.claim - 1]
         chosen = self.statement.assumptions
         asked = [(chosen, ordering) for ordering in variants.ORDERS]
+        asked += [([one for one in chosen if one is not left_out], variants.ORDERS[0]) for left_out in chosen]
         for selection in variants.FEWER:
             smaller = [fewer for _, fewer in selection(chosen, goal) if len(fewer) < len(chosen)]
             asked += [(fewer, ordering) for fewer in smaller for ordering in variants.ORDERS[:1]]

@@ -46,7 +46,7 @@ def cancelled_by_any(text: str, problem: Problem, claims: List[int], until: floa
     letters = maps_of(problem)
     everything = Letters(frozenset(letters), frozenset(letters))
     share = (until - time.monotonic()) / 4
-    found = Chase(problem, claims, everything, time.monotonic() + share, is_small=False, is_of_claims=True).run()
+    found = Chase(problem, claims, everything, time.monotonic() + 2 * share, is_small=False, is_of_claims=True).run()
     for claim in claims:
         proof = found.get(claim) or by_single(problem, claim, letters, time.monotonic() + share / len(claims))
         if proof is None:

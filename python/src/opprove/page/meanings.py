@@ -1,0 +1,67 @@
+"""What verdicts mean, in sentences of HTML that say as much as docs/FORMATS.md does and no more."""
+from __future__ import annotations
+
+from html import escape
+from typing import List, Sequence
+
+from opprove.checkers.check import Problem
+from opprove.words.outcomes import Outcome, stopped
+
+
+def listed(texts: Sequence[str]) -> str:
+    return " and ".join([", ".join(texts[:-1])] * (len(texts) > 1) + [*texts[-1:]])
+
+
+def proved(problem: Problem, denominator: int, monic: Sequence[str] = (), epic: Sequence[str] = ()) -> List[str]:
+    """Of a certificate, or of a proof that takes off letters with these names, in HTML."""
+    conditions = []
+    if denominator != 1:
+        conditions.append(f"{denominator} cancels ({denominator} <i>m</i> = 0 only for <i>m</i> = 0)")
+    if monic:
+        conditions.append(f"{listed(monic)} {is_are(monic)} monic ({monic[0]} <i>n</i> = 0 only for <i>n</i> = 0)")
+    if epic:
+        conditions.append(f"{listed(epic)} {is_are(epic)} epic (<i>n</i> {epic[0]} = 0 only for <i>n</i> = 0)")
+    conditions.append("all assumptions hold")
+    where = "in every preadditive category with an involution" if problem.is_starred else "in every preadditive category"
+    chosen = "objects and maps are chosen as declared"
+    if problem.is_starred:
+        chosen += ", with adjoints for <sup>∗</sup>"
+    return [f"This holds {where}: whenever {chosen}, and {listed(conditions)}, the claim holds."]
+
+
+def is_are(names: Sequence[str]) -> str:
+    return "is" if len(names) == 1 else "are"
+
+
+def refuted(problem: Problem, modulus: int) -> List[str]:
+    transposes = ", with transposes for adjoints," if problem.is_starred else ""
+    return [
+        f"With these matrices modulo {modulus}{transposes} all assumptions hold and the claim doesn’t. So it doesn’t follow from them.",
+        f"It may hold under more assumptions, as that some integer cancels that has no inverse modulo {modulus}.",
+    ]
+
+
+def not_derivable(is_sharp: bool) -> List[str]:
+    told = ["No positive multiple of the claim is a sum of multiples of the assumptions, their adjoints where there are any, and relations of identities."]
+    if is_sharp:
+        told.append(
+            "This is sharp: the rules below make a preadditive category in which each positive integer cancels, where all assumptions hold and "
+            "the claim doesn’t. So nothing that holds in all preadditive categories proves it."
+        )
+    return [*told, "It says nothing of matrices of finite size, nor of categories with an involution: there the claim may hold all the same."]
+
+
+def undecided(outcome: Outcome) -> List[str]:
+    """Of a head line that ends with a cause."""
+    told = [f"Not known: {escape(stopped(outcome.rest.strip()))}."]
+    if " least " in outcome.rest:
+        word = escape(outcome.rest.split(" least ")[1])
+        told.append(f"No positive multiple of the claim is a sum of multiples of the generators in which all words are below <code>{word}</code>.")
+    if " at certificate after round " in outcome.rest:
+        told.append("Some positive multiple of the claim is a sum of multiples of the generators.")
+    return told
+
+
+def not_refuted(outcome: Outcome) -> List[str]:
+    count = outcome.number("candidates")
+    return [f"Not known: none of {count:,} candidates for matrices makes all assumptions hold and the claim not. That says nothing of the claim."]

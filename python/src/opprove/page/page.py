@@ -1,0 +1,239 @@
+"""A statement and its evidence as one HTML file that checks itself.
+
+The page loads nothing. It shows the statement and its quiver, and of each claim what was found: a proof as its chain, matrices
+with the products worked out, a closed set of rules, a proof that takes letters off, or what stopped the search. It holds the bytes
+of all files, which can be saved from it, and a checker (check.js), which reads these bytes where the page is opened. The reports are
+what `prove`, `refute` and `search` print, or other evidence that `check`, `model`, `confirm` and `cancel` read; all have to be
+accepted. Statuses are those of the commands: 2 other words, 3 a statement with a fault, 4 a file isn't loaded, 7 evidence is refused.
+"""
+from __future__ import annotations
+
+import base64
+import hashlib
+import shlex
+from html import escape
+from pathlib import Path
+from typing import Callable, Dict, Iterator, List, NamedTuple, Sequence, Tuple
+
+from opprove.checkers import cancel, check_model, confirm
+from opprove.checkers.chain_text import Lines
+from opprove.checkers.check import MOST_BYTES, Evidence, Problem, Signature, judge, loaded
+from opprove.page import meanings
+from opprove.page.formulas import HTML, MATHML, Writer, equation, math
+from opprove.page.proofs import ProofWriter
+from opprove.page.refutations import BasisWriter, ModelWriter
+from opprove.text import EvidenceText
+from opprove.tool import ended, parser
+from opprove.translations.chain import Proof, Reader, place_of
+from opprove.translations.picture import STYLE, picture_of, svg
+from opprove.words.outcomes import outcomes
+
+HERE = Path(__file__).parent
+KINDS = {"certificate": "check", "model": "model", "basis": "confirm", "cancellation": "cancel"}  # the commands that read blocks
+OPEN_LINES = 40  # a longer text of a statement is folded
+
+
+class Piece(NamedTuple):
+    """What a report has of a claim: the verdict, what that means, and lines of HTML; and the block that shows it, where there is one."""
+
+    claim: int
+    verdict: str
+    meaning: List[str]
+    lines: List[str]
+    report: int = 0
+    command: str = ""
+    block: int = 0
+
+
+# ---- Reports
+
+
+def pieces_of(reader: Reader, number: int, report: bytes) -> Iterator[Piece]:
+    """Those of a report with this number, from 0. All of its evidence has to be right."""
+    readers: Dict[str, Callable[[Reader, int, bytes], Iterator[Piece]]] = {
+        "check": certificates, "model": models, "confirm": bases, "cancel": cancellations,
+    }  # fmt: skip
+    kinds = dict.fromkeys(KINDS.get(block.kind, "check") for block in EvidenceText(report).blocks)
+    for command in kinds:
+        yield from readers[command](reader, number, report)
+    for outcome in outcomes(report.decode()):
+        if outcome.kind in ("undecided", "not refuted") and 1 <= outcome.claim <= len(reader.claims):
+            meaning = meanings.undecided(outcome) if outcome.kind == "undecided" else meanings.not_refuted(outcome)
+            yield Piece(outcome.claim, outcome.kind, meaning, [])
+
+
+def certificates(reader: Reader, number: int, report: bytes) -> Iterator[Piece]:
+    for block, certificate in enumerate(Evidence(reader.problem, report).certificates, 1):
+        judge(reader.problem, certificate, f"# block {block} refused")
+        meaning = meanings.proved(reader.problem, certificate.denominator)
+        lines = proof_lines(reader, reader.proof(certificate), number, block)
+        yield Piece(certificate.claim, "proved", meaning, lines, number, "check", block)
+
+
+def proof_lines(reader: Reader, proof: Proof, number: int, block: int) -> List[str]:
+    return list(ProofWriter(reader, proof, f"p{number}-{block}-").written())
+
+
+def cancellations(reader: Reader, number: int, report: bytes) -> Iterator[Piece]:
+    problem, lines, html = reader.problem, Lines(reader.problem), Writer(reader.problem, HTML)
+    for block, proof in enumerate(cancel.Cancellations(problem, report).proofs, 1):
+        polys = cancel.judge(lines, proof, f"# block {block} refused")
+        names = [[f'<span class="w">{html.letters[letter]}</span>' for letter in letters] for letters in (proof.monic, proof.epic)]
+        shown = proof_lines(reader, reader.cancelled(proof, polys), number, block)
+        yield Piece(proof.claim, "proved by cancelling", meanings.proved(problem, proof.denominator, *names), shown, number, "cancel", block)
+
+
+def models(reader: Reader, number: int, report: bytes) -> Iterator[Piece]:
+    for block, model in enumerate(check_model.Models(reader.problem, report).models, 1):
+        check_model.judge(reader.problem, model, f"# block {block} refused")
+        meaning, lines = meanings.refuted(reader.problem, model.modulus), list(ModelWriter(reader, model).written())
+        yield Piece(model.claim, "refuted", meaning, lines, number, "model", block)
+
+
+def bases(reader: Reader, number: int, report: bytes) -> Iterator[Piece]:
+    order = confirm.Order(reader.problem)
+    for block, basis in enumerate(confirm.Bases(reader.problem, report).bases, 1):
+        confirm.judge(reader.problem, order, basis, f"# block {block} refused")
+        meaning, lines = meanings.not_derivable(confirm.is_sharp(reader.problem, basis)), list(BasisWriter(reader, basis, number, block).written())
+        yield Piece(basis.claim, "not derivable", meaning, lines, number, "confirm", block)
+
+
+# ---- The statement
+
+
+class StatementWriter:
+    """Writes a statement: as formulas, as a quiver, and as it stands in its file."""
+
+    def __init__(self, reader: Reader, text: str) -> None:
+        self.reader, self.text = reader, text
+        self.writer = Writer(reader.problem, MATHML)
+
+    def glance(self) -> Iterator[str]:
+        """Its maps, its quiver and its assumptions."""
+        yield '<div class="beside"><div>'
+        yield from self.maps()
+        yield "</div>" + svg(picture_of(self.reader.problem)).replace(f"<style>{STYLE}</style>\n", "") + "</div>"
+        if self.reader.assumptions:
+            yield "<h3>Assumptions</h3><ol class=\"equations\">"
+            for number, found in enumerate(self.reader.assumptions, 1):
+                place = f'<a class="place" href="#L{found.line[0].line}">{escape(place_of(found))}</a>'
+                yield f'<li id="a{number}"><span>({number})</span> <span>{equation(self.writer, found.left, found.right, found.ends)}</span> {place}</li>'
+            yield "</ol>"
+
+    def written(self) -> Iterator[str]:
+        yield '<section class="statement"><h2>The statement</h2>'
+        yield from (f'<p class="about">{escape(line)}</p>' for line in self.about())
+        yield from self.glance()
+        lines = self.text.splitlines() or [""]
+        is_open = " open" if len(lines) <= OPEN_LINES else ""
+        yield f'<details{is_open}><summary>As it is written</summary><pre class="source">'
+        yield "\n".join(f'<span id="L{number}">{escape(line)}</span>' for number, line in enumerate(lines, 1)) + "</pre></details></section>"
+
+    def about(self) -> List[str]:
+        """What the comments in front of the statement say, as one paragraph."""
+        lines = [line.strip() for line in self.text.splitlines()]
+        first = next((number for number, line in enumerate(lines) if line and line[0] != "#"), len(lines))
+        told = " ".join(line.lstrip("#").strip() for line in lines[:first]).strip()
+        return [told] if told else []
+
+    def maps(self) -> Iterator[str]:
+        problem, writer = self.reader.problem, self.writer
+        objects = [name[1:-1] for name in problem.names if name[0] == "["]
+        yield f"<p>Objects {', '.join(math(writer.name(name)) for name in objects)}; maps</p><ul class=\"maps\">"
+        groups: Dict[Tuple[Signature, bool], List[int]] = {}
+        for letter in check_model.declared_maps(problem):
+            groups.setdefault((problem.ends[letter], problem.stars[letter] == letter), []).append(letter)
+        for ((source, target), is_self), letters in groups.items():
+            names = "<mo>,</mo>".join(writer.letters[letter] for letter in letters)
+            ends = f"<mo>:</mo>{writer.name(objects[source])}<mo>→</mo>{writer.name(objects[target])}"
+            own = ", each its own adjoint" if len(letters) > 1 else ", its own adjoint"
+            yield f"<li>{math(names, ends)}{own if is_self else ''}</li>"
+        yield "</ul>"
+
+
+# ---- The page
+
+
+def claim_lines(reader: Reader, number: int, pieces: Sequence[Piece]) -> Iterator[str]:
+    """The section of a claim."""
+    found = reader.claims[number - 1]
+    verdicts = list(dict.fromkeys(piece.verdict for piece in pieces)) or ["no evidence"]
+    badges = " ".join(f'<span class="verdict {verdict.split(" ")[0]}">{verdict}</span>' for verdict in verdicts)
+    yield f'<section class="claim" id="claim{number}"><h2>Claim {number} {badges}</h2>'
+    yield f'<p class="formula">{equation(Writer(reader.problem, MATHML), found.left, found.right, found.ends)}</p>'
+    for piece in pieces:
+        yield from (f'<p class="meaning">{sentence}</p>' for sentence in piece.meaning)
+        if piece.command:
+            data = f'data-report="{piece.report}" data-command="{piece.command}" data-block="{piece.block}"'
+            yield f'<p class="check" {data}>Not checked in this page: that takes JavaScript.</p>'
+        yield from piece.lines
+    if not pieces:
+        yield '<p class="meaning">The reports say nothing of this claim.</p>'
+    yield "</section>"
+
+
+def saved(path: Path, content: bytes, kind: str) -> str:
+    """A link by which the bytes of a file are saved."""
+    data = base64.b64encode(content).decode()
+    return f'<a class="file {kind}" download="{escape(path.name)}" href="data:application/octet-stream;base64,{data}">Save {escape(path.name)}</a>'
+
+
+def footer(paths: Sequence[Path], contents: Sequence[bytes], pieces: Sequence[Piece]) -> Iterator[str]:
+    """The files, of which the statement is the first, and how they are checked elsewhere."""
+    statement, *reports = paths
+    yield '<footer><h2>Files, and other checkers</h2><p class="files">'
+    yield from (saved(path, content, "report" if number else "statement") for number, (path, content) in enumerate(zip(paths, contents)))
+    yield "</p>"
+    calls = dict.fromkeys((piece.command, piece.report) for piece in pieces if piece.command)
+    if calls:
+        lines = [" ".join(map(shlex.quote, ["opprove", command, statement.name, reports[number].name])) for command, number in calls]
+        yield f"<p>The same is checked by the program <code>opprove</code>, whose answers are proved, by</p><pre>{escape(chr(10).join(lines))}</pre>"
+    yield "</footer>"
+
+
+def digest(text: str) -> str:
+    return f"'sha256-{base64.b64encode(hashlib.sha256(text.encode()).digest()).decode()}'"
+
+
+def part(name: str) -> str:
+    return (HERE / name).read_text("utf-8").strip()
+
+
+def head(title: str, style: str, scripts_of: Sequence[str]) -> str:
+    """The head of a page that loads nothing and runs these scripts alone."""
+    policy = f"default-src 'none'; script-src {' '.join(map(digest, scripts_of))}; style-src {digest(style)}; base-uri 'none'; form-action 'none'"
+    return (
+        f'<head><meta charset="utf-8"><meta http-equiv="Content-Security-Policy" content="{policy}">'
+        f'<meta name="viewport" content="width=device-width, initial-scale=1"><title>{escape(title)}</title><style>{style}</style></head>'
+    )
+
+
+def page_of(
+    statement: Path, reports: Sequence[Path], title: str = "", comment: str = "", links: Sequence[Tuple[str, str]] = ()
+) -> str:
+    """The page of a statement and its reports. Its title is the name of the statement where none is given; links, each a name and an
+    address, stand above it, and the comment in front of all. A Refusal is raised for what is wrong with the files."""
+    contents = loaded([str(path) for path in (statement, *reports)], [*MOST_BYTES[:1], *MOST_BYTES[1:] * len(reports)])
+    reader = Reader(Problem(contents[0]))
+    pieces = [piece for number, report in enumerate(contents[1:]) for piece in pieces_of(reader, number, report)]
+    shown = title or statement.stem.replace("_", " ")
+    style, programs = part("style.css"), [part("check.js"), part("view.js")]
+    lines = ["<!doctype html>"] + [f"<!-- {comment.replace('--', '- -').replace('>', '')} -->"] * bool(comment)
+    lines += [f'<html lang="en">{head(shown, style, programs)}<body>']
+    around = " ".join(f'<a href="{escape(address)}">{escape(name)}</a>' for name, address in links)
+    lines += [f"<header>{f'<nav>{around}</nav>' if links else ''}<h1>{escape(shown)}</h1><p id=\"checked\" role=\"status\"></p></header><main>"]
+    lines += StatementWriter(reader, contents[0].decode()).written()
+    for number in range(1, len(reader.claims) + 1):
+        lines += claim_lines(reader, number, [piece for piece in pieces if piece.claim == number])
+    lines += ["</main>", *footer([statement, *reports], contents, pieces)]
+    return "\n".join([*lines, *(f"<script>{program}</script>" for program in programs), "</body></html>"]) + "\n"
+
+
+def main(words: List[str]) -> int:
+    """Writes the page, and gives the status."""
+    made = parser("page", __doc__)
+    made.add_argument("statement", type=Path)
+    made.add_argument("reports", type=Path, nargs="+", metavar="report", help="what prove, refute or search printed, or other evidence")
+    made.add_argument("--title", default="", help="of the page; the name of the statement where none is given")
+    given = made.parse_args(words)
+    return ended(lambda: [page_of(given.statement, given.reports, given.title)[:-1]])
