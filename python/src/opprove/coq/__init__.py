@@ -1,0 +1,1 @@
+"""Evidence as theorems for Coq, and the library in `theories` that they stand on."""

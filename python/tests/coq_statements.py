@@ -1,0 +1,196 @@
+"""Statements and evidence for test_coq.py: of all kinds, with odd names, and random ones."""
+from __future__ import annotations
+
+import random
+from typing import Dict, Iterable, Iterator, List, Tuple
+
+from opprove.checkers.check import Poly, Problem, Row, Word, add
+from opprove.coq.names import RESERVED
+
+ODD = """C I U nat list Type conj sigs hyps claim_1 claim_1_2 claim_1_holds lemmas_1 lemma_1_1 goal_1 checked_1 cancel h1 h2 h_p theorems
+Row Share Var EVar EComp Z pair S O tt Logic x_ _x _1 __ é α𝔸 א 中文 ß x̄ ⅷ क्षि ª a· ꞹ 𐍁 㐀""".split()
+CASES = {
+    "self maps": (
+        "object U V\nmap p q : U -> U self\nmap a : U -> V\nassume p q = q p\nassume a p = a\n"
+        "claim (p q)' = p q\nclaim p a' = a'\nclaim (a p)' = p' a'\n",
+        "certificate 1\nclaim 1\ndenominator 1\nrow -1 () 1 ()\nend\ncertificate 1\nclaim 2\ndenominator 1\nrow 1 () 3 ()\nend\n"
+        "certificate 1\nclaim 3\ndenominator 1\nend\ncertificate 2\nclaim 2\ndenominator 1\ngoal scale 1\nrow 1 () 3 ()\nend\n",
+    ),
+    "a denominator": (
+        "object U V\nmap a b : U -> V\nassume 2 a = 6 b\nclaim a = 3 b\n",
+        "certificate 1\nclaim 1\ndenominator 2\nrow 1 () 1 ()\nend\n",
+    ),
+    "a denominator with lemmas": (
+        "object U\nmap p q cancel : U -> U self\nassume 2 p = 2 q\nassume 3 q = 3 cancel\nclaim p = cancel\n",
+        "certificate 2\nclaim 1\ndenominator 6\nlemma 1 scale 2\nrow 1 () 1 ()\nlemma 2 scale 3\nrow 1 () 2 ()\n"
+        "goal scale 1\nrow 1 () lemma 1 ()\nrow 1 () lemma 2 ()\nend\n",
+    ),
+    "a lemma of two signatures": (
+        "object U V\nmap a c : U -> V\nmap b d : V -> U\nassume a = c\nassume b = d\nclaim a b = c d\n",
+        "certificate 2\nclaim 1\ndenominator 1\nlemma 1 scale 1\nrow 1 () 1 ()\nrow 1 () 2 ()\ngoal scale 1\nrow 1 () lemma 1 (b)\n"
+        "row 1 (c) lemma 1 ()\nrow -1 () 2 (b)\nrow -1 (c) 1 ()\nend\n",
+    ),
+    "lemmas of two signatures on others": (
+        "object U V\nmap a c : U -> V\nmap b d : V -> U\nassume 2 a = 2 c\nassume 2 b = 2 d\nclaim a b = c d\n",
+        "certificate 2\nclaim 1\ndenominator 2\nlemma 1 scale 2\nrow 1 () 1 ()\nrow 1 () 2 ()\nlemma 2 scale 1\nrow -1 () lemma 1 ()\n"
+        "row 0 () 1 ()\ngoal scale 2\nrow -2 () lemma 2 (b)\nrow 2 (c) lemma 1 ()\nrow -1 () 2 (b)\nrow -1 (c) 1 ()\nend\n",
+    ),
+    "identities in rows": (
+        "object U V\nmap a : U -> V\nmap b : V -> U\nassume a b = [V]\nclaim [V] a b a [U] = [V] a\n",
+        "certificate 1\nclaim 1\ndenominator 1\nrow 1 ([V]) 1 (a [U])\nrow 1 () 5 (a [U])\nrow 1 ([V]) 3 ()\nend\n",
+    ),
+    "abbreviations": (
+        "object U V\nmap a : U -> V\nmap x y : V -> U\nmap p : U -> U\n"
+        "projection p\ninverse a x\ninner a y\npinv a x\nclaim p' p a' = p a'\n",
+        "certificate 1\nclaim 1\ndenominator 1\nrow 1 () 2 (p a')\nrow 1 () 1 (a')\nend\n",
+    ),
+    "zeros": (
+        "object U V\nmap a : U -> V\nassume 0 a = 00\nassume a = a\nassume a = 0\n"
+        "claim 0 = - a\nclaim - (0)' + 2 a = (a - a) + 0\nclaim (0)'' = 0 a'\n",
+        "certificate 1\nclaim 1\ndenominator 1\nrow 1 () 3 ()\nrow 7 () 1 ()\nend\ncertificate 1\nclaim 2\ndenominator 1\nrow 2 () 3 ()\n"
+        "row 5 () 2 ()\nend\ncertificate 1\nclaim 3\ndenominator 1\nend\n",
+    ),
+    "powers": (
+        "language 2\nobject U\nmap a b : U -> U\nassume a^2 = b\nassume (a + 2 a)^3 = 0\n"
+        "claim a^4 = b b\nclaim (a')^2' = a^2\nclaim (a^2)^2' - (a^4)' = 0\nclaim 27 b^1 a' = 27 a a a' + (b - a^2) a'\nclaim 27 a^3 = 0\n",
+        "certificate 1\nclaim 1\ndenominator 1\nrow 1 () 1 (a a)\nrow 1 (b) 1 ()\nend\ncertificate 1\nclaim 2\ndenominator 1\nend\n"
+        "certificate 1\nclaim 3\ndenominator 1\nend\ncertificate 1\nclaim 4\ndenominator 1\nrow -26 () 1 (a')\nend\n"
+        "certificate 1\nclaim 5\ndenominator 1\nrow 1 () 2 ()\nend\n",
+    ),
+    "stars on the right, and sums": (
+        "object U V W\nmap a : U -> V\nmap b c : U -> W\nmap d : W -> V\nassume 2 a' a + (b + c)' (b + c) = 0\nassume 3 a a' + 4 d d' = 0\n"
+        "claim a = 0\nclaim b = 0 - c\nclaim d' = 0\n",
+        "star proof 1\nclaim 1\ndenominator 1\nlemma 1 scale 1\nrow 1 () 1 ()\nroot 2 left 1\nsquare 2 a\nsquare 1 b + c\n"
+        "goal scale 1\nrow 1 () lemma 2 ()\nend\n"
+        "star proof 1\nclaim 2\ndenominator 1\nlemma 1 scale 1\nrow 1 () 1 ()\nroot 2 left 1\nsquare 1 c + b\nsquare 2 a\n"
+        "goal scale 1\nrow 1 () lemma 2 ()\nend\n"
+        "star proof 1\nclaim 3\ndenominator 1\nlemma 1 scale 1\nrow 1 () 2 ()\nroot 2 right 1\nsquare 4 d\nsquare 3 a\n"
+        "root 3 left 1\nsquare 4 d'\nsquare 3 a'\ngoal scale 1\nrow 1 () lemma 3 ()\nend\n",
+    ),
+}
+
+
+def named() -> Tuple[str, str]:
+    """A statement whose objects and maps have odd names, and two certificates of its claim."""
+    names = list(dict.fromkeys([*RESERVED, *ODD]))
+    pairs = list(zip(names, names[1:]))
+    lines = ["object ℂ𝟙 Prop_ V", f"map {' '.join(names)} : Prop_ -> Prop_"]
+    lines += [f"assume {left} {right}' = {right}' {left}" for left, right in pairs]
+    left_side, right_side = " + ".join("{0} {1}'".format(*pair) for pair in pairs), " + ".join("{1}' {0}".format(*pair) for pair in pairs)
+    rows = [f"row 1 () {number} ()" for number in range(1, len(pairs) + 1)]
+    block = "\n".join(["certificate 1", "claim 1", "denominator 1", *rows, "end", ""])
+    return "\n".join([*lines, f"claim {left_side} = {right_side}", ""]), block + block
+
+
+def expression(draw: random.Random, source: str, target: str, depth: int) -> str:
+    """A random expression of this signature over the objects U and V and a map for each pair of them."""
+    kinds = ["map", "adjoint"] + ["identity"] * (source == target) + ["sum", "product", "scaled", "bracket", "star"] * (depth > 0)
+    kind = draw.choice(kinds)
+    if kind == "map":
+        return f"{source}{target}".lower()
+    if kind == "adjoint":
+        return f"{target}{source}'".lower()
+    if kind == "identity":
+        return f"[{source}]"
+    if kind == "star":
+        return f"({expression(draw, target, source, depth - 1)})'"
+    one, other = (expression(draw, *ends, depth - 1) for ends in ((source, target), (source, target)))
+    if kind == "sum":
+        return f"({draw.choice(['', '-', '+'])} {one} {draw.choice('+-')} {other} {draw.choice(['', '+ 0', '- 0'])})"
+    if kind == "product":
+        middle = draw.choice("UV")
+        return f"({expression(draw, middle, target, depth - 1)} {expression(draw, source, middle, depth - 1)})"
+    return f"({draw.choice([0, 1, 2, 37])} {one})" if kind == "scaled" else f"({one})"
+
+
+QUIVER = ["object U V", "map uu : U -> U", "map uv : U -> V", "map vu : V -> U", "map vv : V -> V self"]
+
+
+def expressions() -> Tuple[str, str]:
+    """Claims E = E, which have no rows: that the theorem says what the checker reads is for Coq to find."""
+    draw, claims = random.Random(1), []
+    for _ in range(100):
+        one = expression(draw, draw.choice("UV"), draw.choice("UV"), 5)
+        claims.append(f"claim {one} = {one}")
+    blocks = [f"certificate 1\nclaim {number}\ndenominator 1\nend" for number in range(1, 101)]
+    return "\n".join([*QUIVER, *claims, ""]), "\n".join([*blocks, ""])
+
+
+class Proofs:
+    """Random certificates over random assumptions, whose claims are what their rows add up to."""
+
+    def __init__(self, seed: int) -> None:
+        self.draw = draw = random.Random(seed)
+        self.head = [*QUIVER, "assume [U] uu [U] = uu"]
+        for _ in range(6):
+            ends = draw.choice("UV"), draw.choice("UV")
+            self.head.append(f"assume {expression(draw, *ends, 3)} = {expression(draw, *ends, 3)}")
+        self.problem = Problem("\n".join([*self.head, "claim vv' [V] = vv", ""]).encode())
+        self.generators = self.problem.generators()
+        numbers = [number for number, poly in enumerate(self.generators, 1) if poly]
+        self.numbers = numbers + 3 * [number for number in numbers if number <= len(self.problem.assumptions)]
+
+    def path(self, source: int, target: int) -> Word:
+        """A random path between two objects, by its letters."""
+        stops = [source, *(self.draw.randrange(2) for _ in range(self.draw.randrange(2))), target]
+        ends = self.problem.ends
+        steps = [[letter for letter, pair in enumerate(ends) if pair == step] for step in zip(stops, stops[1:])]
+        word = tuple(self.draw.choice(step) for step in reversed(steps))
+        return () if source == target and self.draw.random() < 0.5 else word
+
+    def rows(self, source: int, target: int) -> List[Row]:
+        """Random rows over generators that say something of this signature."""
+        rows = []
+        for _ in range(self.draw.randrange(1, 5)):
+            number = self.draw.choice(self.numbers)
+            word = next(iter(self.generators[number - 1]))
+            left = self.path(self.problem.ends[word[0]][1], target)
+            rows.append(Row(self.draw.randrange(-3, 4), left, False, number, self.path(source, self.problem.ends[word[-1]][0])))
+        return rows
+
+    def total(self, rows: List[Row]) -> Poly:
+        total: Poly = {}
+        for row in rows:
+            add(total, row.coefficient, self.generators[row.number - 1], row.left, row.right)
+        return total
+
+    def text(self, rows: Iterable[Row], scale: int) -> Iterator[str]:
+        for row in rows:
+            left, right = self.problem.text(row.left), self.problem.text(row.right)
+            yield f"row {scale * row.coefficient} ({left}) {'lemma ' * row.is_lemma}{row.number} ({right})"
+
+    def proof(self, number: int) -> Tuple[str, List[str]]:
+        """A claim, and its certificate. With lemmas, these have rows of two signatures, and the rows of one are taken back."""
+        source, target = self.draw.randrange(2), self.draw.randrange(2)
+        goal, scale = self.rows(source, target), self.draw.choice([1, 2, 3])
+        claim, lemmas = self.total(goal), []
+        for place in range(1, self.draw.choice([1, 4])):
+            one, other = self.rows(source, target), self.rows(1 - source, target)
+            lemmas += [f"lemma {place} scale {place}", *self.text(one + other, place)]
+            factor, left = self.draw.randrange(-2, 3), self.path(target, target)
+            add(claim, factor, self.total(one), left=left)
+            goal.append(Row(factor, left, True, place, ()))
+            goal += [Row(-factor * row.coefficient, left + row.left, False, row.number, row.right) for row in other]
+        terms = [f"{'-' if claim[word] < 0 else '+'} {abs(claim[word])} {self.problem.text(word)}" for word in claim]
+        zero = f"0 {self.problem.text(self.path(source, target)) or '[' + 'UV'[source] + ']'}"
+        head = ["certificate 2" if lemmas else "certificate 1", f"claim {number}", f"denominator {6 if lemmas else scale}", *lemmas]
+        head += [f"goal scale {scale}"] * bool(lemmas)
+        return f"claim {' '.join(terms) or zero} = 0", [*head, *self.text(goal, scale), "end"]
+
+
+
+
+def random_statement(draw: random.Random) -> str:
+    """Two assumptions and two claims, over two objects; small, so that each verdict comes up."""
+    lines = ["object U V", "map a : U -> V", "map b : V -> U", "map p : U -> U"]
+    words = {"UU": ["p", "b a", "p p", "b a p", "[U]", "p b a"], "UV": ["a", "a p", "a b a", "a p p"], "VU": ["b", "p b", "b a b"], "VV": ["a b", "[V]", "a p b"]}
+    is_starred = draw.random() < 0.3
+    for word in ("assume", "assume", "claim", "claim"):
+        ends = draw.choice(list(words))
+        left, right = draw.sample(words[ends], 2)
+        scale = draw.choice(["", "", "", "2 ", "3 "])
+        if is_starred and draw.random() < 0.5:
+            left = f"({draw.choice(words[ends[::-1]])})'"
+        more = draw.choice(["", "", f" + {draw.choice(words[ends])}", f" - {draw.choice(words[ends])}"])
+        lines.append(f"{word} {scale}{left}{more} = {right}")
+    return "\n".join([*lines, ""])
