@@ -32,7 +32,7 @@ class Command(NamedTuple):
         return re.search(rf"\./opprove (?!({TOOLS}) )|\./opprove ({ASKING}) ", self.line) is not None
 
     def asks_coq(self) -> bool:
-        return self.line.startswith("coqc ")
+        return self.line.startswith("coqc ") or " coq --library " in self.line
 
 
 class Guide(NamedTuple):

@@ -8,9 +8,8 @@ import subprocess
 from pathlib import Path
 from typing import List, NamedTuple
 
-from opprove.coq.export import HEAD, THEORIES
+from opprove.coq.export import HEAD, LIBRARY, THEORIES
 
-LIBRARY = ["Definitions", "Laws", "Checker", "Modulo", "Closed"]
 CLOSED = "Closed under the global context\n"
 SECONDS = 600  # that coqc may take
 

@@ -122,8 +122,8 @@ class Exports(unittest.TestCase):
             self.coq.add(path.read_text(encoding="utf-8"), True)
         say(f"{len(list(TOOLS.glob('*.v')))} stored exports in {self.coq.run():.1f} s")
         for name, evidence in (("halved", "halved.cert"), ("normal_idempotent", "normal_idempotent.cert")):
-            status, text, error = export.answer([str(TOOLS / f"{name}.op"), str(TOOLS / evidence)])
-            self.assertEqual((status, text, error), (0, (TOOLS / f"{name}.v").read_text(encoding="utf-8"), ""))
+            text = export.exported((TOOLS / f"{name}.op").read_bytes(), [(TOOLS / evidence).read_bytes()])
+            self.assertEqual(f"{text}\n", (TOOLS / f"{name}.v").read_text(encoding="utf-8"))
 
     @unittest.skipUnless(PROGRAM, "OPPROVE names no program")
     def test_reports(self) -> None:
@@ -199,7 +199,15 @@ def is_accepted(kind: str, paths: List[str]) -> bool:
     """By the command, or where there is none by the second checker."""
     if kind in COMMANDS and PROGRAM:
         return program(COMMANDS[kind], *paths)[0] == 0
-    return export.answer(paths)[0] == 0
+    return is_exported(paths)
+
+
+def is_exported(paths: List[str]) -> bool:
+    try:
+        export.exported_files(paths[0], paths[1:])
+    except Refusal:
+        return False
+    return True
 
 
 @unittest.skipUnless(is_installed(), "coqc is not installed")
@@ -225,7 +233,7 @@ class Changes(unittest.TestCase):
                 paths = [str(path), str(coq.folder / "changed.cert")]
                 Path(paths[1]).write_text(evidence, encoding="utf-8")
                 is_right, (text, found_right) = is_accepted(kind, paths), written(statement, evidence)
-                self.assertEqual(is_right, export.answer(paths)[0] == 0, evidence)
+                self.assertEqual(is_right, is_exported(paths), evidence)
                 self.assertEqual(is_right, bool(text) and found_right, evidence)
                 what = "not exported" if not text else "accepted" if is_right else "the same proof" if text == proof else "refused by Coq"
                 counts[what] += 1

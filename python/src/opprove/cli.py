@@ -31,7 +31,7 @@ class Tool(NamedTuple):
 
 TOOLS: List[Tool] = [
     Tool("chain", "translations.chain", "a proof as a chain of equal expressions, in text or LaTeX"),
-    Tool("coq", "coq.export", "each certificate as a theorem for Coq, with its proof"),
+    Tool("coq", "coq.export", "each proof, model and basis as a theorem for Coq, with its proof"),
     Tool("latex", "translations.latex", "the sum of a certificate as displayed formulas"),
     Tool("singular", "translations.singular", "a certificate as a script that Singular adds up"),
     Tool("sympy", "translations.sympy", "a certificate as a script that SymPy adds up"),

@@ -1,32 +1,35 @@
-"""Evidence as theorems for Coq: opprove coq STATEMENT EVIDENCE..
+"""Evidence as theorems for Coq
 
 Writes a file for coqc with a theorem for each block of the evidence, in the names of the statement, and its proof, which Coq checks
-by a library that is proved. The head of the file says what each theorem says. Certificates, proofs that cancel, models and bases
-go through, mixed and in whole reports. Evidence that the second checkers refuse is refused, with their line.
+by a library that is proved. Certificates, proofs that take letters or stars off, models and bases go through, in whole reports and
+in several files. The head of the file says what each theorem says. What the second checkers refuse is refused, with their line.
 
-    coqc -Q THEORIES Opprove NAME.v
+    opprove coq --library FOLDER          copies the library for Coq to the folder, and compiles it by coqc
+    coqc -Q FOLDER Opprove NAME.v         prints "Closed under the global context": accepted, and no axiom is used
 
-prints "Closed under the global context" where Coq accepts the file, with no axioms; `opprove coq --theories` prints the folder.
-A name that is a word of Coq gets an _, and one with signs that Coq may not read a number.
+To be read are Definitions.v of the library and the theorems. Claims that a theorem names by several blocks have a number appended.
+A name that is a word of Coq gets an _, and one with signs that Coq may not read a number. Not exported are models with a side
+above 16 or many products, rational models, and for a basis equations with more than 20,000 terms when they are multiplied out.
 """
 from __future__ import annotations
 
 import os
 import re
-import sys
-from typing import Callable, Dict, Iterator, List, NamedTuple, Tuple, Union
+import shutil
+import subprocess
+from typing import Callable, Dict, Iterator, List, NamedTuple, Union
 
 from opprove.checkers import cancel, check, check_model, confirm, star
 from opprove.checkers.chain_text import Lines
-from opprove.checkers.check import Problem, Refusal
-from opprove.checkers.scripts import NO_MEMORY, NO_OUTPUT, USAGE, status_of
+from opprove.checkers.check import MOST_BYTES, Problem, Refusal, loaded
 from opprove.coq import bases, models, proofs
 from opprove.coq.layout import comment, filled
 from opprove.coq.statement import Statement
 from opprove.text import EvidenceText, StatementText
+from opprove.tool import ended, parser
 
 THEORIES = os.path.join(os.path.dirname(os.path.abspath(__file__)), "theories")
-USAGE_LINE = "# usage: coq STATEMENT EVIDENCE.. | coq --theories"
+LIBRARY = ["Definitions", "Laws", "Checker", "Modulo", "Closed"]  # in the order in which they stand on one another
 HEAD = """\
 From Coq Require Import List ZArith.
 From Opprove Require Import Definitions Checker Modulo Closed.
@@ -154,7 +157,7 @@ class Theorems:
         head += [comment(said) for said in self.said] + [comment(line) for line in self.left_out()]
         theorems = filled(f"Definition theorems := ({', '.join(self.names)}).")
         parts = [*head, HEAD, *self.statement.names.notes, "", *self.statement.definitions(), *self.rows.letters.definitions()]
-        return "\n".join([*parts, *self.lines, "", "(* What axioms they use *)", theorems, "Print Assumptions theorems.", ""])
+        return "\n".join([*parts, *self.lines, "", "(* What axioms they use *)", theorems, "Print Assumptions theorems."])
 
     def left_out(self) -> Iterator[str]:
         """A line on claims of which there is no theorem."""
@@ -187,36 +190,41 @@ def translate(statement: StatementText, blocks: List[Block]) -> str:
     return theorems.text()
 
 
-def exported(paths: List[str]) -> str:
+def exported(statement: bytes, evidence: List[bytes]) -> str:
     """The file of a statement and of evidence, which is judged first."""
-    statement = StatementText.read(paths[0])
-    blocks = read(statement.problem, [EvidenceText.read(path) for path in paths[1:]])
+    read_statement = StatementText(statement)
+    blocks = read(read_statement.problem, [EvidenceText(data) for data in evidence])
     for block in blocks:
-        judge(statement.problem, block)
-    return translate(statement, blocks)
+        judge(read_statement.problem, block)
+    return translate(read_statement, blocks)
+
+
+def exported_files(statement: str, evidence: List[str]) -> str:
+    """The same of files."""
+    texts = loaded([statement, *evidence], [MOST_BYTES[0], *[MOST_BYTES[1]] * len(evidence)])
+    return exported(texts[0], texts[1:])
+
+
+def compiled(folder: str) -> List[str]:
+    """Compiles a copy of the library in a folder. There is nothing to be said of it."""
+    try:
+        shutil.copytree(THEORIES, folder)
+        for name in LIBRARY:
+            subprocess.run(["coqc", "-q", "-Q", folder, "Opprove", os.path.join(folder, f"{name}.v")], check=True)
+    except (OSError, shutil.Error, subprocess.CalledProcessError) as error:
+        raise Refusal(f"# load failed {folder}: {error}") from None
+    return []
 
 
 def main(words: List[str]) -> int:
-    """Writes the file, or one line on standard error, and gives the status."""
-    status, text, error = answer(words)
-    try:
-        sys.stderr.buffer.write(error.encode("utf-8", "surrogateescape"))
-        sys.stdout.buffer.write(text.encode())
-        sys.stdout.buffer.flush()
-    except OSError:
-        return NO_OUTPUT
-    return status
-
-
-def answer(words: List[str]) -> Tuple[int, str, str]:
-    """The status, and what is written to standard output and to standard error."""
-    if words == ["--theories"]:
-        return 0, f"{THEORIES}\n", ""
-    if len(words) < 2:
-        return USAGE, "", f"{USAGE_LINE}\n"
-    try:
-        return 0, exported(words), ""
-    except Refusal as refusal:
-        return status_of(str(refusal)), "", f"{refusal}\n"
-    except MemoryError:
-        return NO_MEMORY, "", "# no memory\n"
+    """Writes the file, and gives the status."""
+    made = parser("coq", __doc__)
+    made.add_argument("statement", metavar="STATEMENT", nargs="?", help="a statement")
+    made.add_argument("evidence", metavar="EVIDENCE", nargs="*", help="evidence, or reports that have some")
+    made.add_argument("--library", metavar="FOLDER", help="a folder for the library, that isn't there yet")
+    given = made.parse_args(words)
+    if given.library and not given.statement:
+        return ended(lambda: compiled(given.library))
+    if given.library or not given.evidence:
+        made.error("STATEMENT and EVIDENCE are wanted, or --library FOLDER")
+    return ended(lambda: [exported_files(given.statement, given.evidence)])
