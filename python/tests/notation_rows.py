@@ -22,6 +22,7 @@ ROWS: List[Tuple[str, Union[str, List[str]]]] = [
     ("a : U -> V | pinv a x | claim a x a = a", "object U V | map a : U -> V | map x : V -> U | pinv a x | claim a x a = a"),
     ("language 2 | object V | map a : V -> V | claim a^2 = a a", "object V | map a : V -> V | claim a^2 = a a"),
     ("matrices n over C | a : V -> V | claim a = 0", "# matrices n over C | object V | map a : V -> V | claim a = 0"),
+    ("matrices with n >= 2 | operators: V -> V | claim operators = 0", "# matrices with n >= 2 | object V | map operators : V -> V | claim operators = 0"),
     ("operators | a : V -> V | claim a = 0", "# operators | object V | map a : V -> V | claim a = 0"),
     ("# one | a : V -> V # two | claim a = 0 # three", "# one | # two | object V | map a : V -> V | # three | claim a = 0"),
     ("map V : A -> B | pinv V x | map y | claim x = y V y", "object A B | map V : A -> B | map y x : B -> A | pinv V x | claim x = y V y"),
@@ -249,6 +250,7 @@ ROWS: List[Tuple[str, Union[str, List[str]]]] = [
 FILES: Dict[str, str] = {
     "words.opn": "# words | let same (a) (b): a = b | use more/words.opn",
     "more/words.opn": "let nilpotent (a): a a = 0",
+    "both.opn": "use words.opn | use more/words.opn",
     "loop.opn": "use f.opn",
     "lines.opn": "let same (a) (b): a = b | assume a = b",
     "bad.opn": "let same (a) (b): a b",
@@ -258,6 +260,7 @@ USED: List[Tuple[str, str]] = [
         "use words.opn | " + ENDS + "same a b, nilpotent c | claim a = c",
         HEAD + "# same a b | assume a = b | # nilpotent c | assume c c = 0 | claim a = c",
     ),
+    ("use both.opn | use words.opn | " + ENDS + "nilpotent c | claim a = c", HEAD + "# nilpotent c | assume c c = 0 | claim a = c"),
     ("use nosuch.opn | claim a = 0", "N1 1 1"),
     ("use f.opn | claim a = 0", "N2 1 1"),
     ("use loop.opn | claim a = 0", "N2 file loop.opn 1 1"),

@@ -52,10 +52,14 @@ def write(path: str, text: str) -> None:
         os.makedirs(os.path.dirname(path) or ".", exist_ok=True)
         if os.path.exists(path):
             with open(path, "rb") as file:
-                if file.read(len(HEAD)) != HEAD.encode():
-                    raise Refusal(f"# not written {path}: it is there, and was written by hand")
-        with open(path, "wb") as file:
-            file.write(text.encode())
+                there = file.read()
+            if not there.startswith(HEAD.encode()):
+                raise Refusal(f"# not written {path}: it is there, and was written by hand")
+            if there == text.encode():
+                return
+        with open(f"{path}.{os.getpid()}", "wb") as made:
+            made.write(text.encode())
+        os.replace(made.name, path)  # at once, for others that read it meanwhile
     except OSError as error:
         raise Refusal(f"# not written {path}: {error.strerror}") from None
 

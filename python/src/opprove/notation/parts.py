@@ -8,8 +8,8 @@ from opprove.checkers import check
 from opprove.checkers.check import Refusal, Token
 
 SENTENCES = {
-    "N1": "the file that is used can't be read", "N2": "the file that is used uses this one",
-    "N3": "a file that is used has lines `let` and `use` alone", "N4": "no word begins so, and there is no `=`",
+    "N1": "the file that is used can't be read, or is one too many", "N2": "the file that is used uses this one",
+    "N3": "a file that is used has lines `let` and `use` alone", "N4": "no word begins so, and an equation stands behind `assume` or `claim`",
     "N5": "a literal stands for a map, or a map for an exponent", "N6": "nothing says of which object this is the identity",
     "N7": "not one assumption says which map this is", "N8": "a definition uses the map itself, or one that is defined below it",
     "N9": "no assumption has this map of a claim, and no line declares it", "N10": "there are fewer than two cases, or more than twenty",

@@ -4,7 +4,7 @@ from __future__ import annotations
 import functools
 import os
 import re
-from typing import Callable, Dict, List, Optional, Sequence, Tuple, Union
+from typing import Callable, Dict, List, Optional, Sequence, Set, Tuple, Union
 
 from opprove.checkers import check
 from opprove.checkers.check import Refusal, Token
@@ -13,7 +13,7 @@ from opprove.notation.parts import Case, Cases, Claim, Definition, Equation, Fil
 SIGNS = r":=+\-()\[\]'^,*†."
 TABLE = os.path.join(os.path.dirname(os.path.abspath(__file__)), "words.opn")
 STOPS = ("if", "with")  # behind an item
-LARGEST, NESTED = 2**127 - 1, 64  # a literal, and round brackets
+LARGEST, NESTED, USED_FILES = 2**127 - 1, 64, 50  # a literal, round brackets, and files that are used
 ROMAN = "i ii iii iv v vi vii viii ix x xi xii xiii xiv xv xvi xvii xviii xix xx".split()
 
 
@@ -34,9 +34,11 @@ def table() -> Sequence[Word]:
 class Reader:
     """Reads a file, with the words of the files that it uses. `above` are the files that use this one."""
 
-    def __init__(self, path: str, source: Optional[bytes] = None, above: Sequence[str] = (), words: Optional[List[Word]] = None) -> None:
+    def __init__(self, path: str, source: Optional[bytes] = None, above: Sequence[str] = (), words: Optional[List[Word]] = None,
+                 used: Optional[Set[str]] = None) -> None:
         self.path, self.source, self.above, self.file = path, source, [*above, os.path.realpath(path)], File()
         self.words: List[Word] = [*table()] if words is None else words
+        self.used = {self.above[0]} if used is None else used
         self.parameters: Optional[List[str]] = None  # of the line `let` that is read
         self.case = 0  # how many cases of the line were begun, where it has cases
         self.is_first = True  # whether no line but comments was read
@@ -53,11 +55,12 @@ class Reader:
         return self.file
 
     def line_tokens(self, text: str, number: int) -> List[Token]:
-        """The tokens of a line without its end; of a line `use` its first token, and the path as one more."""
-        used = re.match(r"([ \t]*)use[ \t]+([^ \t:=#][^#]*?)[ \t]*(#|$)", text)
-        if used:
-            place = len(used.group(1)) + 1
-            return [Token("name", "use", number, place), Token("path", used.group(2), number, used.start(2) + 1)]
+        """The tokens of a line without its end; of a line `use`, `matrices` or `operators` its first one, and the rest as one more."""
+        found = re.match(r"[ \t]*(?:(use)[ \t]+|(matrices|operators)\b[ \t]*(?![:=]))([^ \t:=#][^#]*?)?[ \t]*(#|$)", text)
+        if found and (found.group(2) or found.group(3)):
+            word = found.group(1) or found.group(2)
+            more = [Token("text", found.group(3), number, found.start(3) + 1)] if found.group(3) else []
+            return [Token("name", word, number, found.start(2 - bool(found.group(1))) + 1), *more]
         tokens = check.tokens_of(text, number, signs=SIGNS)[:-1]
         for token in tokens:
             self.file.names.update({token.text: None} if token.kind == "name" else {})
@@ -68,14 +71,15 @@ class Reader:
     def joined(self, lines: List[Tuple[List[Token], str]]) -> List[List[Token]]:
         """The lines that have a token, with those behind them that go on. A comment is a line with the one token `#`."""
         found: List[List[Token]] = []
+        last: List[Token] = []
         for number, (tokens, text) in enumerate(lines, 1):
             if "#" in text and len(self.above) == 1:
                 found.append([Token("name", "#", number, 1), Token("comment", text.split("#", 1)[1], number, 1)])
-            last = next((line for line in reversed(found) if line[0].text != "#"), None)
             if last and tokens and (last[-1].kind in (",", ":") or tokens[0].text in ("(", "=", "+", "-", ",", *STOPS)):
                 last.extend(tokens)
             elif tokens:
                 found.append(tokens)
+                last = tokens
         return [line + [Token("end", "", line[-1].line, line[-1].column + len(line[-1].text))] for line in found]
 
     # ---- Tokens
@@ -127,7 +131,9 @@ class Reader:
         self.file.heading += self.is_first
 
     def setting(self) -> None:
-        """`matrices ..` or `operators ..`: said for the reader alone."""
+        """`matrices ..` or `operators ..`: said for the reader alone, unless it declares a map of this name."""
+        if self.tokens[1].kind not in ("text", "end"):
+            return self.other()
         self.file.entries.append(Kept([], " " + written(self.tokens)))
         self.file.heading += self.is_first
 
@@ -243,17 +249,21 @@ class Reader:
 
     def use(self) -> None:
         word, path = self.tokens[:2]
-        if path.kind != "path":
+        if path.kind != "text":
             raise fault("S3", path)
         path_used = os.path.join(os.path.dirname(self.path), path.text)
-        if os.path.realpath(path_used) in self.above:
+        real = os.path.realpath(path_used)
+        if real in self.above:
             raise fault("N2", word)
-        if not os.path.isfile(path_used):
+        if real in self.used:
+            return
+        self.used.add(real)
+        if not os.path.isfile(path_used) or len(self.used) > USED_FILES:
             raise fault("N1", word)
         try:
-            Reader(path_used, None, self.above, self.words).read()
+            Reader(path_used, check.loaded([path_used])[0], self.above, self.words, self.used).read()
         except Refusal as refusal:
-            if str(refusal).startswith("# load"):
+            if not str(refusal).startswith("# refused"):
                 raise fault("N1", word) from None
             code = re.match(r"# refused \w+ (?!file )", str(refusal))
             raise Refusal(f"{code.group()}file {path.text} {str(refusal)[code.end() :]}" if code else str(refusal)) from None
