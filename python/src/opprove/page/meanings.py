@@ -41,14 +41,16 @@ def refuted(problem: Problem, modulus: int) -> List[str]:
     ]
 
 
-def not_derivable(is_sharp: bool) -> List[str]:
+def not_derivable(problem: Problem, is_sharp: bool) -> List[str]:
     told = ["No positive multiple of the claim is a sum of multiples of the assumptions, their adjoints where there are any, and relations of identities."]
     if is_sharp:
+        others = ", or in all of them with an involution," if problem.is_starred else ""
         told.append(
             "This is sharp: the rules below make a preadditive category in which each positive integer cancels, where all assumptions hold and "
-            "the claim doesn’t. So nothing that holds in all preadditive categories proves it."
+            f"the claim doesn’t. So nothing that holds in all preadditive categories{others} proves it."
         )
-    return [*told, "It says nothing of matrices of finite size, nor of categories with an involution: there the claim may hold all the same."]
+    others = "of involutions for which r* r = 0 gives r = 0" if problem.is_starred else "of categories with an involution"
+    return [*told, f"It says nothing of matrices of finite size, nor {others}: there the claim may hold all the same."]
 
 
 def undecided(outcome: Outcome) -> List[str]:

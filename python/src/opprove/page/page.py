@@ -94,7 +94,7 @@ def bases(reader: Reader, number: int, report: bytes) -> Iterator[Piece]:
     order = confirm.Order(reader.problem)
     for block, basis in enumerate(confirm.Bases(reader.problem, report).bases, 1):
         confirm.judge(reader.problem, order, basis, f"# block {block} refused")
-        meaning, lines = meanings.not_derivable(confirm.is_sharp(reader.problem, basis)), list(BasisWriter(reader, basis, number, block).written())
+        meaning, lines = meanings.not_derivable(reader.problem, confirm.is_sharp(reader.problem, basis)), list(BasisWriter(reader, basis, number, block).written())
         yield Piece(basis.claim, "not derivable", meaning, lines, number, "confirm", block)
 
 
