@@ -231,7 +231,7 @@ class Worked(Served):
         self.assertTrue(self.browser.run("return document.getElementById('result').hidden"))
         self.browser.click("#stop")
         self.browser.wait("return / stopped[.]$/.test(document.getElementById('run').textContent)")
-        self.assertEqual([words for words in going(self.folder.name) if " serve" not in words], [])
+        self.assertEqual([words for words in going(self.folder.name) if " prove " in words], [])
         self.put(INVERSES)
         self.browser.click("#search")
         self.browser.wait("return !document.getElementById('result').hidden", seconds=120)

@@ -15,8 +15,9 @@ from opprove.translations.chain import has_powers
 from opprove.translations.latex import GREEK
 
 GREEK_SIGNS = dict(zip(GREEK, "αβγδεζηθικλμνξπρστυφχψωΓΔΘΛΞΠΣΥΦΨΩ"))
-TERMS_IN_ONE = 6  # a longer sum is broken where the window ends
+TERMS_IN_ONE = 3  # a longer formula is broken where the window ends
 MARKED = ' class="lit"'
+EQUALS = '<mo form="infix">=</mo>'
 CAME, GOES = 1, 2  # of a letter: the last step put it there; the next one takes it
 Marks = Callable[[Word], Sequence[int]]  # of the letters of a word, what of both is so of them
 
@@ -42,6 +43,12 @@ def name_in_mathml(base: str, index: str) -> str:
     return f'<msub>{word}<mi mathvariant="normal">{index}</mi></msub>' if index else word
 
 
+def sign_in_mathml(sign: str, is_first: bool) -> str:
+    """In front of all a + is left out."""
+    shown = f'<mo form="{"prefix" if is_first else "infix"}">{"−" if sign == "-" else "+"}</mo>'
+    return "" if is_first and sign == "+" else shown
+
+
 HTML = Forms(
     name_in_html,
     lambda name: f"{name}<sup>∗</sup>",
@@ -59,7 +66,7 @@ MATHML = Forms(
     if "<msup>" not in letter
     else f"<msup><mrow><mo>(</mo>{letter}<mo>)</mo></mrow><mn>{count}</mn></msup>",
     lambda number: f"<mn>{number}</mn>",
-    lambda sign, is_first: ("<mo>−</mo>" if sign == "-" else "") if is_first else f"<mo>{'−' if sign == '-' else '+'}</mo>",
+    sign_in_mathml,
     '<mspace width="0.2em"></mspace>',
 )  # fmt: skip
 
@@ -133,11 +140,11 @@ def math(*parts: str) -> str:
 
 
 def formula(*groups: Sequence[str]) -> str:
-    """Terms of MathML, by sides of an equation, as one formula; or, where these are many, one for each term, so that lines break between them."""
+    """Terms of MathML, by sides of an equation, as one formula; or, where these are many, as one each, so that lines break between them."""
     if sum(map(len, groups)) <= TERMS_IN_ONE:
-        return math("<mo>=</mo>".join("".join(group) for group in groups))
+        return math(EQUALS.join("".join(group) for group in groups))
     sides = [" ".join(map(math, group)) for group in groups]
-    return f" {math('<mo>=</mo>')} ".join(sides)
+    return f" {math(EQUALS)} ".join(sides)
 
 
 def equation(writer: Writer, left: Poly, right: Poly, ends: Signature) -> str:
@@ -148,6 +155,7 @@ def equation(writer: Writer, left: Poly, right: Poly, ends: Signature) -> str:
 def matrix(rows: Matrix, lit: Sequence[Tuple[int, int]] = ()) -> str:
     """A matrix in MathML, in which the entries at these places are marked."""
     cells = [
-        "".join(f'<mtd{MARKED if (i, j) in lit else ""}><mn>{entry}</mn></mtd>' for j, entry in enumerate(row)) for i, row in enumerate(rows)
+        "".join(f'<mtd{MARKED if (i, j) in lit else ""}><mn>{entry}</mn></mtd>' for j, entry in enumerate(row))
+        for i, row in enumerate(rows)
     ]
     return f"<mrow><mo>(</mo><mtable>{''.join(f'<mtr>{row}</mtr>' for row in cells)}</mtable><mo>)</mo></mrow>"

@@ -36,18 +36,21 @@ def is_are(names: Sequence[str]) -> str:
 def refuted(problem: Problem, modulus: int) -> List[str]:
     transposes = ", with transposes for adjoints," if problem.is_starred else ""
     return [
-        f"With these matrices modulo {modulus}{transposes} all assumptions hold and the claim doesn’t. So it doesn’t follow from them.",
+        f"With these matrices modulo {modulus}{transposes} all assumptions hold and the claim doesn’t: it doesn’t follow from them.",
         f"It may hold under more assumptions, as that some integer cancels that has no inverse modulo {modulus}.",
     ]
 
 
 def not_derivable(problem: Problem, is_sharp: bool) -> List[str]:
-    told = ["No positive multiple of the claim is a sum of multiples of the assumptions, their adjoints where there are any, and relations of identities."]
+    told = [
+        "No positive multiple of the claim is a sum of multiples of the generators, which are the assumptions, their adjoints where "
+        "adjoints occur, and what identities satisfy."
+    ]
     if is_sharp:
         others = ", or in all of them with an involution," if problem.is_starred else ""
         told.append(
-            "This is sharp: the rules below make a preadditive category in which each positive integer cancels, where all assumptions hold and "
-            f"the claim doesn’t. So nothing that holds in all preadditive categories{others} proves it."
+            "This is sharp: the rules below make a preadditive category in which each positive integer cancels, where all generators are "
+            f"zero and the claim isn’t. So nothing that holds in all preadditive categories{others} proves it, with whatever denominators."
         )
     others = "of involutions for which r* r = 0 gives r = 0" if problem.is_starred else "of categories with an involution"
     return [*told, f"It says nothing of matrices of finite size, nor {others}: there the claim may hold all the same."]
@@ -58,7 +61,8 @@ def undecided(outcome: Outcome) -> List[str]:
     told = [f"Not known: {escape(stopped(outcome.rest.strip()))}."]
     if " least " in outcome.rest:
         word = escape(outcome.rest.split(" least ")[1])
-        told.append(f"No positive multiple of the claim is a sum of multiples of the generators in which all words are below <code>{word}</code>.")
+        below = f"in which all words are below <code>{word}</code>"
+        told.append(f"No positive multiple of the claim is a sum of multiples of the generators {below}.")
     if " at certificate after round " in outcome.rest:
         told.append("Some positive multiple of the claim is a sum of multiples of the generators.")
     return told
@@ -66,4 +70,5 @@ def undecided(outcome: Outcome) -> List[str]:
 
 def not_refuted(outcome: Outcome) -> List[str]:
     count = outcome.number("candidates")
-    return [f"Not known: none of {count:,} candidates for matrices makes all assumptions hold and the claim not. That says nothing of the claim."]
+    tried = f"none of {count:,} candidates for matrices makes all assumptions hold and the claim not"
+    return [f"Not known: {tried}. That says nothing of the claim."]

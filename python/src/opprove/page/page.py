@@ -79,8 +79,9 @@ def cancellations(reader: Reader, number: int, report: bytes) -> Iterator[Piece]
     for block, proof in enumerate(cancel.Cancellations(problem, report).proofs, 1):
         polys = cancel.judge(lines, proof, f"# block {block} refused")
         names = [[f'<span class="w">{html.letters[letter]}</span>' for letter in letters] for letters in (proof.monic, proof.epic)]
+        meaning = meanings.proved(problem, proof.denominator, *names)
         shown = proof_lines(reader, reader.cancelled(proof, polys), number, block)
-        yield Piece(proof.claim, "proved by cancelling", meanings.proved(problem, proof.denominator, *names), shown, number, "cancel", block)
+        yield Piece(proof.claim, "proved by cancelling", meaning, shown, number, "cancel", block)
 
 
 def models(reader: Reader, number: int, report: bytes) -> Iterator[Piece]:
@@ -94,7 +95,8 @@ def bases(reader: Reader, number: int, report: bytes) -> Iterator[Piece]:
     order = confirm.Order(reader.problem)
     for block, basis in enumerate(confirm.Bases(reader.problem, report).bases, 1):
         confirm.judge(reader.problem, order, basis, f"# block {block} refused")
-        meaning, lines = meanings.not_derivable(reader.problem, confirm.is_sharp(reader.problem, basis)), list(BasisWriter(reader, basis, number, block).written())
+        meaning = meanings.not_derivable(reader.problem, confirm.is_sharp(reader.problem, basis))
+        lines = list(BasisWriter(reader, basis, number, block).written())
         yield Piece(basis.claim, "not derivable", meaning, lines, number, "confirm", block)
 
 
@@ -117,7 +119,8 @@ class StatementWriter:
             yield "<h3>Assumptions</h3><ol class=\"equations\">"
             for number, found in enumerate(self.reader.assumptions, 1):
                 place = f'<a class="place" href="#L{found.line[0].line}">{escape(place_of(found))}</a>'
-                yield f'<li id="a{number}"><span>({number})</span> <span>{equation(self.writer, found.left, found.right, found.ends)}</span> {place}</li>'
+                shown = equation(self.writer, found.left, found.right, found.ends)
+                yield f'<li id="a{number}"><span>({number})</span> <span>{shown}</span> {place}</li>'
             yield "</ol>"
 
     def written(self) -> Iterator[str]:
@@ -127,11 +130,12 @@ class StatementWriter:
         lines = self.text.splitlines() or [""]
         is_open = " open" if len(lines) <= OPEN_LINES else ""
         yield f'<details{is_open}><summary>As it is written</summary><pre class="source">'
-        yield "\n".join(f'<span id="L{number}">{escape(line)}</span>' for number, line in enumerate(lines, 1)) + "</pre></details></section>"
+        shown = "\n".join(f'<span id="L{number}">{escape(line)}</span>' for number, line in enumerate(lines, 1))
+        yield f"{shown}</pre></details></section>"
 
     def about(self) -> List[str]:
         """What the comments in front of the statement say, as one paragraph."""
-        lines = [line.strip() for line in self.text.splitlines()]
+        lines = [line.strip() for line in self.text.splitlines() if line.split()[:1] != ["language"]]
         first = next((number for number, line in enumerate(lines) if line and line[0] != "#"), len(lines))
         told = " ".join(line.lstrip("#").strip() for line in lines[:first]).strip()
         return [told] if told else []
@@ -174,8 +178,8 @@ def claim_lines(reader: Reader, number: int, pieces: Sequence[Piece]) -> Iterato
 
 def saved(path: Path, content: bytes, kind: str) -> str:
     """A link by which the bytes of a file are saved."""
-    data = base64.b64encode(content).decode()
-    return f'<a class="file {kind}" download="{escape(path.name)}" href="data:application/octet-stream;base64,{data}">Save {escape(path.name)}</a>'
+    name, data = escape(path.name), base64.b64encode(content).decode()
+    return f'<a class="file {kind}" download="{name}" href="data:application/octet-stream;base64,{data}">Save {name}</a>'
 
 
 def footer(paths: Sequence[Path], contents: Sequence[bytes], pieces: Sequence[Piece]) -> Iterator[str]:
@@ -187,7 +191,8 @@ def footer(paths: Sequence[Path], contents: Sequence[bytes], pieces: Sequence[Pi
     calls = dict.fromkeys((piece.command, piece.report) for piece in pieces if piece.command)
     if calls:
         lines = [" ".join(map(shlex.quote, ["opprove", command, statement.name, reports[number].name])) for command, number in calls]
-        yield f"<p>The same is checked by the program <code>opprove</code>, whose answers are proved, by</p><pre>{escape(chr(10).join(lines))}</pre>"
+        told = "The same is checked by the program <code>opprove</code>, whose answers are proved, by"
+        yield f"<p>{told}</p><pre>{escape(chr(10).join(lines))}</pre>"
     yield "</footer>"
 
 
@@ -199,9 +204,10 @@ def part(name: str) -> str:
     return (HERE / name).read_text("utf-8").strip()
 
 
-def head(title: str, style: str, scripts_of: Sequence[str]) -> str:
+def head(title: str, style: str, programs: Sequence[str]) -> str:
     """The head of a page that loads nothing and runs these scripts alone."""
-    policy = f"default-src 'none'; script-src {' '.join(map(digest, scripts_of))}; style-src {digest(style)}; base-uri 'none'; form-action 'none'"
+    allowed = f"script-src {' '.join(map(digest, programs))}; style-src {digest(style)}"
+    policy = f"default-src 'none'; {allowed}; base-uri 'none'; form-action 'none'"
     return (
         f'<head><meta charset="utf-8"><meta http-equiv="Content-Security-Policy" content="{policy}">'
         f'<meta name="viewport" content="width=device-width, initial-scale=1"><title>{escape(title)}</title><style>{style}</style></head>'
@@ -221,7 +227,8 @@ def page_of(
     lines = ["<!doctype html>"] + [f"<!-- {comment.replace('--', '- -').replace('>', '')} -->"] * bool(comment)
     lines += [f'<html lang="en">{head(shown, style, programs)}<body>']
     around = " ".join(f'<a href="{escape(address)}">{escape(name)}</a>' for name, address in links)
-    lines += [f"<header>{f'<nav>{around}</nav>' if links else ''}<h1>{escape(shown)}</h1><p id=\"checked\" role=\"status\"></p></header><main>"]
+    lines += ["<header>", *[f"<nav>{around}</nav>"] * bool(links), f"<h1>{escape(shown)}</h1>"]
+    lines += ['<p id="checked" role="status"></p></header><main>']
     lines += StatementWriter(reader, contents[0].decode()).written()
     for number in range(1, len(reader.claims) + 1):
         lines += claim_lines(reader, number, [piece for piece in pieces if piece.claim == number])

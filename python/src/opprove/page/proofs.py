@@ -90,7 +90,8 @@ class ProofWriter:
             return [GOES * (number == place) for number, _ in enumerate(word)]
 
         sides = [self.html.sum(side, before.ends, off) for side in (before.left, before.right)]
-        why = escape(reason(found, self.reader.problem.names)).replace("by [", f'by <a href="#{self.prefix}l{found.item}">[', 1).replace("]", "]</a>", 1)
+        told = escape(reason(found, self.reader.problem.names))
+        why = told.replace(f"[{found.item}]", f'<a href="#{self.prefix}l{found.item}">[{found.item}]</a>', 1)
         return f'<p class="off"><span class="w">{sides[0]} = {sides[1]}</span>, {why}</p>'
 
     def steps(self, chain: Chain) -> Iterator[str]:

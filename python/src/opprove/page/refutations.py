@@ -34,9 +34,10 @@ class ModelWriter:
         yield "</div><h3>The assumptions hold</h3>" if self.reader.assumptions else "</div>"
         for number, found in enumerate(self.reader.assumptions, 1):
             left, right = self.value(found.left, found.ends), self.value(found.right, found.ends)
-            place = f'<a class="by" href="#a{number}">({number})</a> <span class="place">{escape(place_of(found))}</span>'
-            yield f'<div class="worked"><p>{place}</p>{self.side(found.left, found.ends)} {self.side(found.right, found.ends)}<p>Both are equal.</p></div>'
             assert left == right, found
+            place = f'<a class="by" href="#a{number}">({number})</a> <span class="place">{escape(place_of(found))}</span>'
+            sides = f"{self.side(found.left, found.ends)} {self.side(found.right, found.ends)}"
+            yield f'<div class="worked"><p>{place}</p>{sides}<p>Both are equal.</p></div>'
         yield "<h3>The claim doesn’t</h3>"
         yield self.claim(self.reader.claims[self.model.claim - 1])
 

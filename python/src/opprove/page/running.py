@@ -1,4 +1,4 @@
-"""Runs for the page to work in: each with a limit of time and memory, in a folder of its own, and none left behind."""
+"""Runs for the page to work in: each with a limit of time and memory, in a group of processes of its own, and none left over."""
 from __future__ import annotations
 
 import fcntl
@@ -13,7 +13,7 @@ import termios
 import threading
 import time
 from pathlib import Path
-from typing import Dict, List, NamedTuple, Optional
+from typing import IO, Dict, List, NamedTuple, Optional, Set, Tuple, Union
 
 PATIENCE = 2  # seconds between a request to end and the end
 COLUMNS, LINES = 1000, 60  # of the terminals of runs, and of what they said
@@ -28,6 +28,31 @@ class Limits(NamedTuple):
     seconds: int
     memory: int
     runs: int
+
+
+class Call(NamedTuple):
+    """A command, the folder that it runs in, and its environment."""
+
+    command: List[str]
+    folder: Path
+    environment: Dict[str, str]
+
+
+def started(call: Call, limits: Limits, out: Union[int, IO[bytes]], told: int) -> "subprocess.Popen[bytes]":
+    """Starts a call within limits, as the first process of a group; its output and what it tells of itself go there."""
+    bounds = [str(limits.memory // 1024), str(limits.seconds)]
+    return subprocess.Popen(
+        ["/bin/sh", "-c", BOUNDED, "sh", *bounds, *call.command], stdin=subprocess.DEVNULL, stdout=out, stderr=told,
+        cwd=str(call.folder), env=call.environment, start_new_session=True,
+    )  # fmt: skip
+
+
+def send(process: "subprocess.Popen[bytes]", number: int) -> None:
+    """Sends a signal to a process and all of its group."""
+    try:
+        os.killpg(process.pid, number)
+    except (ProcessLookupError, PermissionError):
+        pass
 
 
 class Told:
@@ -65,19 +90,15 @@ class Told:
 
 
 class Run:
-    """A run of a command over a statement. Its report goes to a file of its folder."""
+    """A run over a statement. Its report goes to a file of its folder. One that is talking tells on a terminal what it does."""
 
-    def __init__(self, folder: Path, command: List[str], environment: Dict[str, str], limits: Limits, is_talking: bool) -> None:
-        self.folder, self.limits, self.told = folder, limits, Told(is_talking)
-        self.statement, self.report = folder / "statement.op", folder / "report"
+    def __init__(self, call: Call, limits: Limits, is_talking: bool) -> None:
+        self.folder, self.limits, self.told = call.folder, limits, Told(is_talking)
+        self.report = call.folder / "statement.report"
         self.start, self.end = time.monotonic(), 0.0
         self.ended_by = ""  # what ended it, if it didn't end by itself
-        bounds = [str(limits.memory // 1024), str(limits.seconds)]
         with open(self.report, "wb") as out:
-            self.process = subprocess.Popen(
-                ["/bin/sh", "-c", BOUNDED, "sh", *bounds, *command], stdin=subprocess.DEVNULL, stdout=out, stderr=self.told.theirs,
-                cwd=str(folder), env=environment, start_new_session=True,
-            )  # fmt: skip
+            self.process = started(call, limits, out, self.told.theirs)
         for work in (self.watch, self.told.read):
             threading.Thread(target=work, daemon=True).start()
 
@@ -87,36 +108,30 @@ class Run:
             self.process.wait(self.limits.seconds)
         except subprocess.TimeoutExpired:
             self.stop("time")
-        self.send(signal.SIGKILL)  # what the run may have left in its group
+        send(self.process, signal.SIGKILL)  # what the run may have left in its group
         self.end = time.monotonic()
 
     def stop(self, why: str) -> None:
         """Ends the run and all that it started, and returns when that has happened."""
-        if self.process.poll() is None:
+        if self.is_going():
             self.ended_by = self.ended_by or why
-            self.send(signal.SIGTERM)
+            send(self.process, signal.SIGTERM)
             try:
                 self.process.wait(PATIENCE)
             except subprocess.TimeoutExpired:
                 pass
-        self.send(signal.SIGKILL)
+        send(self.process, signal.SIGKILL)
         self.process.wait()
-
-    def send(self, number: int) -> None:
-        try:
-            os.killpg(self.process.pid, number)
-        except (ProcessLookupError, PermissionError):
-            pass
 
     def is_going(self) -> bool:
         return self.process.poll() is None
 
     def state(self) -> Dict[str, object]:
         """What is known of the run, for the page."""
-        lines = list(self.told.lines.values())
         seconds = (self.end or time.monotonic()) - self.start
-        found: Dict[str, object] = {"going": self.is_going(), "seconds": round(seconds, 1), "bytes": self.memory(), "told": lines}
-        if not self.is_going():
+        found: Dict[str, object] = {"seconds": round(seconds, 1), "bytes": self.memory(), "told": list(self.told.lines.values())}
+        found["going"] = self.is_going()
+        if not found["going"]:
             found.update(status=self.process.returncode, ended=self.ended_by)
         return found
 
@@ -134,17 +149,17 @@ class Run:
 
 
 class Runs:
-    """All runs of a server, by their numbers."""
+    """All runs of a server, by their numbers, and the short calls beside them."""
 
     def __init__(self, folder: Path, limits: Limits) -> None:
         self.folder, self.limits = folder, limits
-        self.lock, self.count = threading.Lock(), 0
+        self.lock, self.count, self.is_closed = threading.Lock(), 0, False
         self.runs: Dict[int, Run] = {}
-        self.is_closed = False
+        self.calls: "Set[subprocess.Popen[bytes]]" = set()
+        self.room = threading.BoundedSemaphore(limits.runs)  # for short calls
 
     def start(self, statement: bytes, command: List[str], environment: Dict[str, str], is_talking: bool) -> Optional[int]:
-        """Starts a run, whose command names the statement as statement.op, and gives its number; none where as many go on as may. One
-        that is talking tells on a terminal what it does."""
+        """Starts a run, whose command names the statement as statement.op, and gives its number; none where as many go on as may."""
         with self.lock:
             if self.is_closed or sum(run.is_going() for run in self.runs.values()) >= self.limits.runs:
                 return None
@@ -152,7 +167,7 @@ class Runs:
             folder = self.folder / str(self.count)
             folder.mkdir()
             (folder / "statement.op").write_bytes(statement)
-            self.runs[self.count] = Run(folder, command, environment, self.limits, is_talking)
+            self.runs[self.count] = Run(Call(command, folder, environment), self.limits, is_talking)
             self.forget()
             return self.count
 
@@ -169,9 +184,30 @@ class Runs:
     def get(self, number: int) -> Optional[Run]:
         return self.runs.get(number)
 
+    def answer(self, call: Call, seconds: int) -> Tuple[int, bytes, bytes]:
+        """Status, output and standard error of a short call; after so many seconds it is ended, with a status below 0."""
+        with self.room:
+            with self.lock:
+                if self.is_closed:
+                    return -signal.SIGTERM, b"", b""
+                process = started(call, self.limits._replace(seconds=seconds), subprocess.PIPE, subprocess.PIPE)
+                self.calls.add(process)
+            try:
+                out, error = process.communicate(timeout=seconds)
+            except subprocess.TimeoutExpired:
+                out = error = b""
+            finally:
+                send(process, signal.SIGKILL)
+                process.wait()
+                self.calls.discard(process)
+            return process.returncode, out, error
+
     def close(self) -> None:
-        """Ends all runs, and lets none begin."""
+        """Ends all runs and calls, and lets none begin."""
         with self.lock:
             self.is_closed = True
         for run in list(self.runs.values()):
             run.stop("end")
+        for process in list(self.calls):
+            send(process, signal.SIGKILL)
+            process.wait()

@@ -2,9 +2,9 @@
 
 Prints an address, which a browser on this machine opens, and answers there until it is interrupted. A statement is written on the
 left, its first fault is marked as one types, and its quiver is drawn anew; Prove runs the program, Search looks around it, Stop ends
-a run. Of each run time and memory are limited, and there are at most as many as processors. It listens on 127.0.0.1 alone, at a random port, and the address has a token: a request without it, with another
-host name, from another origin, of more than 1 MiB, or for anything else than the page asks for is refused. All files are in a
-temporary folder that goes with it.
+a run. Of each run time and memory are limited, and there are at most as many as processors. It listens on 127.0.0.1 alone, at a
+random port, and the address has a token: a request without it, with another host name, from another origin, of more than 1 MiB, or
+for anything else than the page asks for is refused. All files are in a temporary folder that goes with it.
 """
 from __future__ import annotations
 
@@ -14,24 +14,23 @@ import json
 import os
 import secrets
 import signal
-import subprocess
 import sys
 import tempfile
-import threading
 from http import HTTPStatus
 from http.server import BaseHTTPRequestHandler, ThreadingHTTPServer
 from pathlib import Path
 from typing import Any, Callable, Dict, List, NamedTuple, Optional, Tuple
 
 from opprove.checkers.check import DONE, MOST_BYTES, NO_OUTPUT, Refusal, loaded, status_of, written
-from opprove.page.page import digest, page_of, part
-from opprove.page.running import Limits, Runs
+from opprove.page.page import digest, part
+from opprove.page.running import Call, Limits, Runs
 from opprove.program import path as path_of_program
 from opprove.tool import parser, say
 
 BODY_LIMIT = 2**20  # bytes of a request
-LOOK_SECONDS = 20  # for a look at a statement
-GALLERY = Path(__file__).resolve().parents[4] / "examples" / "gallery"
+LOOK_SECONDS = 20  # for a look at a statement, and for a page
+ABOVE = Path(__file__).resolve().parents[4]
+GALLERIES = (ABOVE / "examples" / "gallery", ABOVE / "doc" / "opprove" / "examples" / "gallery")  # of a checkout, and of a release
 PACKAGE = str(Path(__file__).resolve().parents[2])  # where the package is found by those that are started
 # The numbers that a run of `prove` takes from the page, with their least and greatest values.
 BUDGETS = {"pairs": (1, 1000000), "steps": (1, 1000000), "seed": (0, 2**64 - 1), "format": (1, 2)}
@@ -63,7 +62,6 @@ class Desk:
 
     def __init__(self, folder: Path, limits: Limits, statement: str) -> None:
         self.runs, self.folder, self.statement = Runs(folder, limits), folder, statement
-        self.looks = threading.BoundedSemaphore(limits.runs)
 
     def environment(self) -> Dict[str, str]:
         return {**os.environ, "PYTHONPATH": os.pathsep.join([PACKAGE, os.environ.get("PYTHONPATH", "")]).rstrip(os.pathsep)}
@@ -71,16 +69,16 @@ class Desk:
     # ---- What a GET gets
 
     def page(self, number: str) -> Answer:
-        """The page of a run that has ended, or its report where there is none to be made."""
+        """The page of a run that has ended, or why there is none, and its report."""
         run = self.runs.get(int(number))
         if run is None or run.is_going():
             return NOT_FOUND
-        report = run.folder / "statement.report"
-        report.write_bytes(run.report.read_bytes())
-        try:
-            return Answer(HTTPStatus.OK, "text/html; charset=utf-8", page_of(run.statement, [report], "Statement").encode())
-        except Refusal as refusal:
-            return told(HTTPStatus.OK, str(refusal))
+        command = [sys.executable, "-m", "opprove", "page", "statement.op", "statement.report", "--title", "Statement"]
+        status, out, error = self.runs.answer(Call(command, run.folder, self.environment()), LOOK_SECONDS)
+        if status == DONE:
+            return Answer(HTTPStatus.OK, "text/html; charset=utf-8", out)
+        why = error.decode("utf-8", "replace").strip() or "the page takes too long to make"
+        return told(HTTPStatus.OK, f"{why}\n\n{run.report.read_bytes().decode('utf-8', 'replace')}")
 
     def state(self, number: str) -> Answer:
         run = self.runs.get(int(number))
@@ -91,25 +89,19 @@ class Desk:
         return Answer(HTTPStatus.OK, "text/plain; charset=utf-8", run.report.read_bytes()) if run else NOT_FOUND
 
     def gallery(self) -> Answer:
-        names = sorted(path.stem for path in GALLERY.glob("*.op"))
-        return data({"statement": self.statement, "gallery": {name: (GALLERY / f"{name}.op").read_text("utf-8") for name in names}})
+        paths = sorted(path for folder in GALLERIES for path in folder.glob("*.op"))
+        return data({"statement": self.statement, "gallery": {path.stem: path.read_text("utf-8") for path in paths}})
 
     # ---- What a POST does
 
     def look(self, asked: Dict[str, Any]) -> Answer:
         """The first fault of a statement, or how it looks."""
-        with self.looks, tempfile.TemporaryDirectory(dir=str(self.folder)) as name:
-            path = Path(name, "statement.op")
-            path.write_bytes(statement_of(asked))
-            command = [sys.executable, "-m", "opprove.page.looked", str(path)]
-            try:
-                done = subprocess.run(
-                    command, stdin=subprocess.DEVNULL, stdout=subprocess.PIPE, stderr=subprocess.DEVNULL, timeout=LOOK_SECONDS,
-                    env=self.environment(),
-                )  # fmt: skip
-            except subprocess.TimeoutExpired:
-                return data({"trouble": "the statement takes too long to look at"})
-        return Answer(HTTPStatus.OK, "application/json", done.stdout) if done.stdout else data({"trouble": "no memory"})
+        with tempfile.TemporaryDirectory(dir=str(self.folder)) as name:
+            Path(name, "statement.op").write_bytes(statement_of(asked))
+            call = Call([sys.executable, "-m", "opprove.page.looked", "statement.op"], Path(name), self.environment())
+            status, out, _ = self.runs.answer(call, LOOK_SECONDS)
+        trouble = "no memory" if status > 0 else "the statement takes too long to look at"
+        return Answer(HTTPStatus.OK, "application/json", out) if status == DONE else data({"trouble": trouble})
 
     def prove(self, asked: Dict[str, Any]) -> Answer:
         words = [word for name in BUDGETS for word in (f"--{name}", str(number_of(asked, name, *BUDGETS[name])))]

@@ -2,25 +2,25 @@
 // What a page does where scripts run: it checks its own bytes, leads along the steps of proofs by keys, folds lemmas, and reduces words.
 
 (() => {
-  const all = (selector, within = document) => [...within.querySelectorAll(selector)];
+  const found = (selector, within = document) => [...within.querySelectorAll(selector)];
   const element = (name, text = "", kind = "") => Object.assign(document.createElement(name), { textContent: text, className: kind });
 
   // ---- The bytes of the page, and what the checker says of them
 
   const bytesOf = (link) => Uint8Array.from(atob(link.getAttribute("href").split(",")[1]), (sign) => sign.charCodeAt(0));
-  const statement = bytesOf(all(".statement.file")[0]);
-  const reports = all(".report.file").map(bytesOf);
+  const statement = bytesOf(found(".statement.file")[0]);
+  const reports = found(".report.file").map(bytesOf);
   const bases = new Map(); // of each report and block, what the box reduces by
 
   const time = (milliseconds) => (milliseconds < 1 ? "under 1 ms" : `${Math.round(milliseconds)} ms`);
 
   // Says at each block of a command what the checker found. A fault of the text, or a refusal, stands for all blocks that follow.
   function check(report, command) {
-    const found = [...Opprove.judged(command, statement, reports[report])], last = found[found.length - 1];
-    const places = all(`.check[data-report="${report}"][data-command="${command}"]`);
+    const judged = [...Opprove.judged(command, statement, reports[report])], last = judged[judged.length - 1];
+    const places = found(`.check[data-report="${report}"][data-command="${command}"]`);
     for (const place of places) {
-      const number = Number(place.dataset.block), { line, status, milliseconds, block, problem } = found[number - 1] || last;
-      const isRight = number <= found.length && status === 0 && line.startsWith(`# block ${number} `);
+      const number = Number(place.dataset.block), { line, status, milliseconds, block, problem } = judged[number - 1] || last;
+      const isRight = number <= judged.length && status === 0 && line.startsWith(`# block ${number} `);
       const told = element("code", line);
       place.className = `check ${isRight ? "right" : "wrong"}`;
       place.replaceChildren(isRight ? "Checked in this page: " : "Refused in this page: ", told, isRight ? `, ${time(milliseconds)}` : "");
@@ -30,22 +30,23 @@
   }
 
   function checkAll() {
-    const places = all(".check"), start = performance.now(), box = document.getElementById("checked");
+    const places = found(".check"), start = performance.now(), box = document.getElementById("checked");
     const calls = new Set(places.map((place) => `${place.dataset.report} ${place.dataset.command}`));
     let right = 0;
     for (const [report, command] of [...calls].map((call) => call.split(" "))) right += check(Number(report), command);
-    const isRight = right === places.length, blocks = `${places.length} block${places.length === 1 ? "" : "s"}`;
+    const left = places.length - right, isRight = !left, blocks = `${places.length} block${places.length === 1 ? "" : "s"} of evidence`;
+    const all = places.length === 1 ? "which is" : "all", refused = `${left} ${left === 1 ? "isn’t" : "aren’t"} accepted`;
     box.className = !places.length ? "" : isRight ? "right" : "wrong";
     if (!places.length) box.textContent = "This page has no evidence to check.";
-    else if (isRight) box.textContent = `Checked in this page: ${blocks} of evidence, ${right === 1 ? "which is" : "all"} accepted, ${time(performance.now() - start)}.`;
-    else box.textContent = `Refused: of ${blocks} of evidence ${places.length - right} ${places.length - right === 1 ? "isn’t" : "aren’t"} accepted. What this page shows is not shown by its bytes.`;
+    else if (isRight) box.textContent = `Checked in this page: ${blocks}, ${all} accepted, ${time(performance.now() - start)}.`;
+    else box.textContent = `Refused: of ${blocks} ${refused}. What stands below is not what the bytes of this page show.`;
   }
 
   // ---- Steps by keys
 
   // One step of a chain is a stop of the Tab key; arrows, Home and End lead to the others.
   function lead(chain) {
-    const stops = all(".by", chain);
+    const stops = found(".by", chain);
     stops.forEach((stop, number) => { stop.tabIndex = number ? -1 : 0; });
     chain.addEventListener("keydown", (event) => {
       const at = stops.indexOf(document.activeElement), last = stops.length - 1;
@@ -75,7 +76,7 @@
   // ---- Folds
 
   function fold(button) {
-    const lemmas = all(".lemma", button.closest(".claim"));
+    const lemmas = found(".lemma", button.closest(".claim"));
     button.closest(".folds").hidden = false;
     button.addEventListener("click", () => {
       const isOpen = lemmas.some((lemma) => lemma.open);
@@ -86,19 +87,20 @@
 
   let folded = []; // for a while, as all of a page is printed
   window.addEventListener("beforeprint", () => {
-    folded = all("details:not([open])");
-    for (const found of folded) found.open = true;
+    folded = found("details:not([open])");
+    for (const each of folded) each.open = true;
   });
   window.addEventListener("afterprint", () => {
-    for (const found of folded) found.open = false;
+    for (const each of folded) each.open = false;
   });
 
   // ---- Words that are reduced
 
   const STEPS = 200; // that are shown
   const FAULTS = {
-    S2: "begins no letter", S3: "doesn’t fit: letters have blanks between them", S6: "isn’t declared", S10: "doesn’t compose with what stands before it",
-    S11: "has other ends than what stands before it", S12: "has no ends: a 0 by itself", S15: "", S16: "is an exponent beyond 500",
+    S2: "begins no letter", S3: "doesn’t fit: letters have blanks between them", S6: "isn’t declared",
+    S10: "doesn’t compose with what stands before it", S11: "has other ends than what stands before it",
+    S12: "has no ends: a 0 by itself", S16: "is an exponent beyond 500",
   };
 
   // The polynomial that the text stands for, as a claim of the statement would.
@@ -148,9 +150,9 @@
   }
 
   checkAll();
-  all(".chain").forEach(lead);
+  found(".chain").forEach(lead);
   listen(["mouseover", "focusin"], true);
   listen(["mouseout", "focusout"], false);
-  all(".fold").forEach(fold);
-  all(".reduce").forEach(box);
+  found(".fold").forEach(fold);
+  found(".reduce").forEach(box);
 })();

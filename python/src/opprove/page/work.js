@@ -22,7 +22,10 @@
   function coloured(line, column) {
     const shown = document.createElement("span");
     let at = 1, isFirst = true, isMet = false;
-    const add = (kind, signs, isBad) => shown.append(Object.assign(document.createElement("span"), { className: `${kind}${isBad ? " bad" : ""}`, textContent: signs }));
+    const add = (kind, signs, isBad) => {
+      const className = isBad ? `${kind} bad` : kind;
+      shown.append(Object.assign(document.createElement("span"), { className, textContent: signs }));
+    };
     for (const [signs, comment, name, number, sign] of line.matchAll(TOKENS)) {
       const isWord = name && isFirst && WORDS.includes(name), length = [...signs].length;
       const kind = comment ? "comment" : isWord ? "word" : number ? "number" : sign ? "sign" : "";
@@ -38,7 +41,8 @@
   }
 
   function paint() {
-    colours.replaceChildren(...text.value.split("\n").map((line, number) => coloured(line, marked && marked.line === number + 1 ? marked.column : 0)));
+    const column = (number) => (marked && marked.line === number ? marked.column : 0);
+    colours.replaceChildren(...text.value.split("\n").map((line, number) => coloured(line, column(number + 1))));
     scroll();
   }
 
@@ -56,7 +60,8 @@
       if (number !== looks) return; // as more was typed since
       marked = found || null;
       fault.className = shown ? "fine" : "";
-      fault.textContent = found ? `${found.line ? `Line ${found.line}, column ${found.column}: ` : ""}${found.told}` : trouble || "No fault.";
+      const place = found && found.line ? `Line ${found.line}, column ${found.column}: ` : "";
+      fault.textContent = found ? `${place}${found.told}` : trouble || "No fault.";
       if (shown) part("glance").innerHTML = shown; // which the server wrote, with all names escaped
       paint();
     } catch (error) {
@@ -65,8 +70,14 @@
   }
 
   // The address keeps the statement, as the bytes of its text.
-  const kept = (value) => btoa(String.fromCharCode(...new TextEncoder().encode(value))).replace(/\+/g, "-").replace(/\//g, "_").replace(/=+$/, "");
-  const said = (hash) => new TextDecoder().decode(Uint8Array.from(atob(hash.replace(/-/g, "+").replace(/_/g, "/")), (sign) => sign.charCodeAt(0)));
+  function kept(value) {
+    const bytes = btoa(String.fromCharCode(...new TextEncoder().encode(value)));
+    return bytes.replace(/\+/g, "-").replace(/\//g, "_").replace(/=+$/, "");
+  }
+  function said(hash) {
+    const bytes = atob(hash.replace(/-/g, "+").replace(/_/g, "/"));
+    return new TextDecoder().decode(Uint8Array.from(bytes, (sign) => sign.charCodeAt(0)));
+  }
 
   function typed() {
     marked = null;
@@ -96,7 +107,10 @@
 
   const number = (name) => Number(part(name).value);
   const ENDS = { stop: "stopped", time: "ended, as its time was over", end: "ended with the server" };
-  const STATUSES = { 0: "each claim is proved", 6: "no memory", 10: "some claim isn’t derivable", 11: "some claim is refuted", 12: "some claim is undecided" };
+  const STATUSES = {
+    0: "each claim is proved", 6: "no memory", 10: "some claim isn’t derivable", 11: "some claim is refuted",
+    12: "some claim is undecided",
+  };
 
   async function begin(word, sent) {
     if (run) return;
@@ -146,7 +160,8 @@
   window.addEventListener("hashchange", fromAddress);
   part("budgets").addEventListener("submit", (event) => {
     event.preventDefault();
-    begin("prove", { pairs: number("pairs"), steps: number("steps"), seed: number("seed"), format: number("format"), models: part("models").checked });
+    const budgets = Object.fromEntries(["pairs", "steps", "seed", "format"].map((name) => [name, number(name)]));
+    begin("prove", { ...budgets, models: part("models").checked });
   });
   part("search").addEventListener("click", () => begin("search", { seconds: number("seconds") }));
   part("stop").addEventListener("click", () => ask("stop", { run }).catch((error) => { part("run").textContent = String(error.message); }));
@@ -154,7 +169,8 @@
   part("open").addEventListener("click", () => part("file").click());
   part("file").addEventListener("change", async ({ target }) => { if (target.files[0]) put(await target.files[0].text()); });
   part("save").addEventListener("click", () => {
-    const link = Object.assign(document.createElement("a"), { download: "statement.op", href: URL.createObjectURL(new Blob([text.value])) });
+    const href = URL.createObjectURL(new Blob([text.value]));
+    const link = Object.assign(document.createElement("a"), { download: "statement.op", href });
     link.click();
     URL.revokeObjectURL(link.href);
   });
