@@ -237,6 +237,7 @@ ROWS: List[Tuple[str, Union[str, List[str]]]] = [
     ("a : U -> V, b : V -> W | claim a b = 0", "S10 2 9 left U -> V right V -> W"),
     ("a : U -> V | claim a^2 = 0", "S10 2 8 left U -> V right U -> V"),
     # Faults of the language, at the place that was written
+    (" ".join(f"a{number}" for number in range(1001)) + " : V -> V | claim a1 = 0", "S8 1 4891 limit 1000"),
     ("a : U -> V self | claim a = 0", "S9 1 1"),
     ("a : V -> V | claim 0 = 0", "S12 2 7"),
     ("a b : V -> V | claim (a + b)^20 = 0", "S14 2 7"),

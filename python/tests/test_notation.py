@@ -14,9 +14,13 @@ from notation_values import Written, generators_of, is_zero, values_of
 from opprove import Refused, Statement, program
 from opprove.checkers import check
 from opprove.checkers.check import Refusal
+from opprove.notation.expand import as_statement
 from opprove.notation.expansion import Expansion
+from opprove.notation.parts import SENTENCES
 from opprove.notation.shorten import Shortener
 
+TOP = os.path.join(os.path.dirname(os.path.abspath(__file__)), "..", "..")
+LIBRARY, FORMATS = os.path.join(TOP, "library"), os.path.join(TOP, "docs", "FORMATS.md")
 ENVIRONMENT = {**os.environ, "PYTHONPATH": os.pathsep.join(sys.path)}
 COUNT = int(os.environ.get("OPPROVE_RANDOM", "100"))  # of random files
 
@@ -62,6 +66,16 @@ class Rows(unittest.TestCase):
 
     def test_rows(self) -> None:
         self.compare(ROWS)
+
+    def test_each_fault_has_a_row(self) -> None:
+        """Each code of the page has a sentence, and each a row but S1, which no text has, S13, which is left to the program, and N12."""
+        with open(FORMATS, encoding="utf-8") as file:
+            page = set(re.findall(r"^\| (N[0-9]+) \|", file.read(), re.MULTILINE))
+        self.assertEqual(page, {code for code in SENTENCES if code[0] == "N"})
+        rows = {want.split()[0] for _, want in [*ROWS, *USED] if isinstance(want, str)}
+        self.assertEqual({*SENTENCES} - rows, {"S1", "N12"})
+        with self.assertRaisesRegex(Refusal, "^# refused S1 byte 4$"):
+            Expansion("", b"a : \xff").statements()
 
     def test_words_that_are_too_large(self) -> None:
         doubled = "".join(f"let w{n + 1} (a): w{n} (a a) | " for n in range(20))
@@ -124,8 +138,8 @@ class Tools(unittest.TestCase):
     def test_what_is_refused(self) -> None:
         self.assertEqual(self.run_tool("expand", self.path), (4, "", f"# load failed {self.path}\n"))
         self.write("a : V -> V | claim a = b")
-        self.assertEqual(self.run_tool("expand", self.path), (3, "", "# refused S6 line 2 column 11\n"))
-        self.assertEqual(self.run_tool("picture", self.path), (3, "", "# refused S6 line 2 column 11\n"))
+        self.assertEqual(self.run_tool("expand", self.path), (3, "", f"# refused S6 line 2 column 11: {SENTENCES['S6']}\n"))
+        self.assertEqual(self.run_tool("picture", self.path)[::2], (3, f"# refused S6 line 2 column 11: {SENTENCES['S6']}\n"))
         self.assertEqual(self.run_tool("expand")[0], 2)
         self.assertEqual(self.run_tool("shorten")[0], 2)
         self.assertEqual(self.run_tool("implications")[0], 2)
@@ -136,6 +150,14 @@ class Tools(unittest.TestCase):
         path = os.path.join(os.path.dirname(self.path), "f.op")
         self.assertEqual((status, error), (0, f"# made V line 1 column 6\n# expanded {self.path}: {path}\n"))
         self.assertEqual(out, self.run_tool("picture", path, "--dot")[1])
+
+    def test_texts_are_statements(self) -> None:
+        statement = "# a\n object V\nmap a : V -> V\nclaim a = 0\n"
+        self.assertEqual(as_statement(statement.encode()), statement.encode())
+        want = "# expanded from a text\nlanguage 2\nobject V\nmap a : V -> V\nclaim a = 0\n"
+        self.assertEqual(as_statement(b"a : V -> V\nclaim a = 0\n").decode(), want)
+        self.assertRaisesRegex(Refusal, "^# refused N1 line 1 column 1", as_statement, b"use words.opn\nclaim a = 0\n")
+        self.assertRaisesRegex(Refusal, "2 statements", as_statement, b"a : V -> V\nclaim a = 0\nclaim x: a = 1\n")
 
     def test_notebooks_read_them(self) -> None:
         self.write("a b : V -> V | equivalent: (i) a = 0 (ii) b = 0")
@@ -174,7 +196,6 @@ class Values(unittest.TestCase):
             self.assertEqual(values_of(problem, problem.generators(), written), generators_of(assumed) if problem.is_starred else assumed)
 
 
-LIBRARY = os.path.join(os.path.dirname(os.path.abspath(__file__)), "..", "..", "library")
 
 
 @unittest.skipUnless(os.access(program.path(), os.X_OK) and os.path.isdir(LIBRARY), "no program, or no library, is here")

@@ -8,11 +8,13 @@ from __future__ import annotations
 
 import argparse
 import os
+import re
 from typing import Callable, List, NamedTuple, Tuple
 
 from opprove.checkers import check
 from opprove.checkers.check import Refusal
 from opprove.notation.expansion import HEAD, Expanded, Expansion
+from opprove.notation.parts import in_words
 from opprove.tool import ended, parser, say
 
 ENDING = ".opn"  # of the names of files of the notation
@@ -27,8 +29,12 @@ class Read(NamedTuple):
 
 def read(path: str, all_pairs: bool = False) -> Read:
     """Reads a file of the notation. Raises a `Refusal` whose line begins with `# load failed`, `# too long` or `# refused`."""
-    expansion = Expansion(path, *check.loaded([path]))
-    statements = expansion.statements(all_pairs)
+    source = check.loaded([path])[0]
+    try:
+        expansion = Expansion(path, source)
+        statements = expansion.statements(all_pairs)
+    except Refusal as refusal:
+        raise in_words(refusal) from None
     return Read(statements, [f"# made {name} line {token.line} column {token.column}" for name, token in expansion.made.items()])
 
 
@@ -62,6 +68,21 @@ def write(path: str, text: str) -> None:
         os.replace(made.name, path)  # at once, for others that read it meanwhile
     except OSError as error:
         raise Refusal(f"# not written {path}: {error.strerror}") from None
+
+
+def as_statement(text: bytes) -> bytes:
+    """The statement that a text is, where its first word is `object` or `language`, or else stands for in the notation, without files that it
+    uses. Raises a `Refusal`."""
+    first = re.search(rb"^[ \t]*([^\s#]+)", text, re.MULTILINE)
+    if first and first.group(1) in (b"object", b"language"):
+        return text
+    try:
+        found = Expansion("", text).statements()
+    except Refusal as refusal:
+        raise in_words(refusal) from None
+    if len(found) > 1:
+        raise Refusal(f"# not written: the text stands for {len(found)} statements, and expand writes them")
+    return found[0].text.encode()
 
 
 def opened(words: List[str]) -> List[List[str]]:

@@ -11,7 +11,9 @@ import re
 from typing import Dict, List, Tuple
 
 from opprove.checkers import check
+from opprove.checkers.check import Refusal
 from opprove.notation.expansion import Expansion
+from opprove.notation.parts import in_words
 from opprove.notation.reader import ROMAN
 from opprove.program import Refused
 from opprove.program import run as run_program
@@ -32,8 +34,12 @@ def answer(report: str) -> str:
 
 def tables(path: str, options: List[str]) -> List[str]:
     """A table for each line with cases. Raises a `Refusal` of the file, or what the program refuses."""
-    expansion = Expansion(path, *check.loaded([path]))
-    texts = {statement.name: statement.text for statement in expansion.statements(True)}
+    source = check.loaded([path])[0]
+    try:
+        expansion = Expansion(path, source)
+        texts = {statement.name: statement.text for statement in expansion.statements(True)}
+    except Refusal as refusal:
+        raise in_words(refusal) from None
     lines: List[str] = []
     for entry in expansion.equivalences():
         stem, marks = expansion.stem_of(entry), ROMAN[: len(entry.cases)]

@@ -8,8 +8,15 @@ from opprove.checkers import check
 from opprove.checkers.check import Refusal, Token
 
 SENTENCES = {
+    "S1": "the file is no UTF-8", "S2": "no token begins so, or a name is longer than 32 bytes", "S3": "this doesn't fit here",
+    "S4": "the number is above 2^127 - 1", "S5": "more than 64 brackets are open",
+    "S6": "nothing declares this name, or it is of the other kind", "S7": "this is declared or said twice", "S8": "there are too many",
+    "S9": "a map that is its own adjoint leads from an object to itself", "S10": "these don't follow one another",
+    "S11": "these have different ends", "S12": "nothing says what this zero leads from and to", "S14": "multiplied out, this is too large",
+    "S15": "there is no claim", "S16": "the number isn't in its range",
     "N1": "the file that is used can't be read, or is one too many", "N2": "the file that is used uses this one",
-    "N3": "a file that is used has lines `let` and `use` alone", "N4": "no word begins so, and an equation stands behind `assume` or `claim`",
+    "N3": "a file that is used has lines `let` and `use` alone",
+    "N4": "no word begins so, and an equation stands behind `assume` or `claim`",
     "N5": "a literal stands for a map, or a map for an exponent", "N6": "nothing says of which object this is the identity",
     "N7": "not one assumption says which map this is", "N8": "a definition uses the map itself, or one that is defined below it",
     "N9": "no assumption has this map of a claim, and no line declares it", "N10": "there are fewer than two cases, or more than twenty",
@@ -20,7 +27,13 @@ SENTENCES = {
 
 def fault(code: str, token: Token, more: str = "") -> Refusal:
     """The line that refuses a file at this token."""
-    return check.fault(code, token, more + (f": {SENTENCES[code]}" if code in SENTENCES else ""))
+    return check.fault(code, token, more)
+
+
+def in_words(refusal: Refusal) -> Refusal:
+    """The same, with what its code means behind it."""
+    words = str(refusal).split()
+    return Refusal(f"{refusal}: {SENTENCES[words[2]]}" if len(words) > 2 and words[2] in SENTENCES else str(refusal))
 
 
 class Mark(NamedTuple):

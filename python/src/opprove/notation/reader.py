@@ -258,7 +258,8 @@ class Reader:
         if real in self.used:
             return
         self.used.add(real)
-        if not os.path.isfile(path_used) or len(self.used) > USED_FILES:
+        is_text = self.source is not None and not os.path.isfile(self.path)
+        if is_text or not os.path.isfile(path_used) or len(self.used) > USED_FILES:
             raise fault("N1", word)
         try:
             Reader(path_used, check.loaded([path_used])[0], self.above, self.words, self.used).read()
