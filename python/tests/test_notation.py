@@ -17,6 +17,7 @@ from opprove.checkers.check import Refusal
 from opprove.notation.expand import as_statement
 from opprove.notation.expansion import Expansion
 from opprove.notation.parts import SENTENCES
+from opprove.notation.reader import table
 from opprove.notation.shorten import Shortener
 
 TOP = os.path.join(os.path.dirname(os.path.abspath(__file__)), "..", "..")
@@ -76,6 +77,17 @@ class Rows(unittest.TestCase):
         self.assertEqual({*SENTENCES} - rows, {"S1", "N12"})
         with self.assertRaisesRegex(Refusal, "^# refused S1 byte 4$"):
             Expansion("", b"a : \xff").statements()
+
+    def test_pages_and_editors_have_each_word(self) -> None:
+        names = {" ".join(word.opening()) for word in table()}
+        with open(FORMATS, encoding="utf-8") as file:
+            page = file.read().partition("\n### Words\n")[2].partition("\n### ")[0]
+        told = {" ".join(part.split()) for part in re.findall(r"`([a-z0-9][a-z0-9 ]*?)(?: [a-z](?![a-z])|`)", page)}
+        self.assertEqual(names - told, set())
+        for path, blanks in (("vim/syntax/opprovenotation.vim", r"\s\+"), ("textmate/opn.tmLanguage.json", r"\\s+")):
+            with open(os.path.join(TOP, "editors", path), encoding="utf-8") as file:
+                text = file.read()
+            self.assertEqual([name for name in sorted(names) if name.replace(" ", blanks) not in re.split(r"[|()]|\\[|()]", text.replace("\\|", "|"))], [])
 
     def test_words_that_are_too_large(self) -> None:
         doubled = "".join(f"let w{n + 1} (a): w{n} (a a) | " for n in range(20))
