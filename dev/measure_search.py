@@ -25,7 +25,8 @@ SHORT = {"proved": "p", "refuted": "r", "not derivable": "nd", "undecided": "u"}
 
 def run(command: List[str], seconds: int) -> Tuple[str, float]:
     start = time.monotonic()
-    done = subprocess.run(command, stdout=subprocess.PIPE, stderr=subprocess.DEVNULL, timeout=seconds, env={**os.environ, "OPPROVE": OPPROVE})
+    environment = {**os.environ, "OPPROVE": OPPROVE}
+    done = subprocess.run(command, stdout=subprocess.PIPE, stderr=subprocess.DEVNULL, timeout=seconds, env=environment)
     return done.stdout.decode("utf-8", "replace"), time.monotonic() - start
 
 

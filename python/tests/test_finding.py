@@ -31,8 +31,10 @@ map x : V -> U
 map p q : R -> R
 assume a = f g
 pinv a x
-inverse f' f p
-inverse g g' q
+assume f' f p = [R]
+assume p f' f = [R]
+assume g g' q = [R]
+assume q g g' = [R]
 claim 0 x = 0
 """
 TWO = "object V\nmap a b : V -> V\nassume 2 a = 0\nassume 3 a b = 0\nclaim a b = 0\n"
@@ -65,8 +67,7 @@ class Express(Finding):
         self.assertNotRegex(answer.out.splitlines()[0].split("=")[1], "x")
 
     def test_full_rank_factorization(self) -> None:
-        text = MACDUFFEE.replace("inverse f' f p\ninverse g g' q\n", "assume f' f p = [R]\nassume p f' f = [R]\nassume g g' q = [R]\nassume q g g' = [R]\n")
-        answer = tool("express", self.file(text), "x", "--by", "f,g,p,q", "--keep", self.folder / "kept")
+        answer = tool("express", self.file(MACDUFFEE), "x", "--by", "f,g,p,q", "--keep", self.folder / "kept")
         self.assertEqual((answer.status, answer.out.splitlines()[0]), (0, "# x = g' q p f'"), answer)
         self.check_own(answer)
         kept = [self.folder / "kept" / f"express_x.{ending}" for ending in ("op", "cert")]
@@ -149,9 +150,8 @@ class Denominator(Finding):
     def test_combination(self) -> None:
         """Once is three times less twice."""
         statement = self.file(TWO)
-        report = self.file(
-            "certificate 1\nclaim 1\ndenominator 2\nrow 1 () 1 (b)\nend\ncertificate 1\nclaim 1\ndenominator 3\nrow 1 () 2 ()\nend\n", "report"
-        )
+        twice = "certificate 1\nclaim 1\ndenominator 2\nrow 1 () 1 (b)\nend\n"
+        report = self.file(f"{twice}certificate 1\nclaim 1\ndenominator 3\nrow 1 () 2 ()\nend\n", "report")
         answer = tool("denominator", statement, report)
         self.assertEqual((answer.status, answer.out.splitlines()[0]), (0, "# claim 1 denominator 1, and 2 before"), answer)
         self.assertEqual([accepted(TWO, block) for block in answer.blocks], [True])

@@ -63,7 +63,8 @@ class Planted(unittest.TestCase):
                 named = [frozenset(problem.numbers[name] for name in names.split()) for names in (monic, epic)]
                 found = first_of(problem, [1], Letters(named[0], named[1]), time.monotonic() + 20).get(1)
                 assert found is not None
-                taken = {side: set(re.findall("[mkn]", text)) for side, text in re.findall("(monic|epic) ([a-z ]+?)(?= epic|$)", takes(found))}
+                sides = re.findall("(monic|epic) ([a-z ]+?)(?= epic|$)", takes(found))
+                taken = {side: set(names.split()) for side, names in sides}
                 self.assertLessEqual(taken.get("monic", set()), set(monic.split()))
                 self.assertLessEqual(taken.get("epic", set()), set(epic.split()))
                 self.assertTrue(is_accepted(self.program, self.folder, text, Writer(found).block()))

@@ -86,7 +86,8 @@ class Search(unittest.TestCase):
         answer = tool("search", self.file(OPEN), "--monic", "b", "--only", "cancellations,whole", "--seconds", 3, "--jobs", 2)
         self.assertLess(time.monotonic() - start, 30)
         self.assertEqual(answer.status, 12)
-        self.assertRegex(answer.last, "^# ended: the 3 s are over; claim 1 is undecided, and no proof, model or step that cancels was found$")
+        left = "claim 1 is undecided, and no proof, model or step that cancels was found"
+        self.assertEqual(answer.last, f"# ended: the 3 s are over; {left}")
 
     def test_silent_in_a_pipe(self) -> None:
         answer = tool("search", self.file(NILPOTENT), "--complex", "--seconds", 20, "--jobs", 2)

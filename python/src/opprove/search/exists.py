@@ -34,6 +34,9 @@ class Side(NamedTuple):
     divisor: Poly  # what the assumption says of it: v for w v = 0
 
 
+Sides = Tuple[Optional[Side], Optional[Side]]  # in front and behind
+
+
 class Witness(NamedTuple):
     """u = v k + l z, each as a polynomial, and the rows of its certificate."""
 
@@ -75,7 +78,7 @@ class Reader:
             add(total, coefficient, {word[left is not None : len(word) - (right is not None)] or (unit,): 1})
         return total
 
-    def witness(self, claim: int, rows: List[Row], denominator: int, sides: Tuple[Optional[Side], Optional[Side]]) -> Optional[Witness]:
+    def witness(self, claim: int, rows: List[Row], denominator: int, sides: Sides) -> Optional[Witness]:
         """What the rows say once the new maps are off."""
         left, right = sides
         ends = (left.letter if left else None, right.letter if right else None)
@@ -97,14 +100,15 @@ class Reader:
                 words = self.stripped(row.left, ends[0], None), self.stripped(row.right, None, ends[1])
                 if None not in words:
                     kept.append(row._replace(left=words[0] or (), right=words[1] or ()))
-        u = self.cut(self.cut(self.problem.claims[claim - 1], ends[0], None), None, ends[1]) if right else self.cut(self.problem.claims[claim - 1], *ends)
+        whole = self.problem.claims[claim - 1]
+        u = self.cut(self.cut(whole, ends[0], None) if left else whole, None, ends[1]) if right else self.cut(whole, ends[0], None)
         products = [(side.divisor, solution) for side, solution in zip(sides, solutions) if side]
         return Witness(denominator, u, products, kept)
 
     def ends_of(self, poly: Poly) -> Tuple[int, int]:
         return self.problem.signature(next(iter(poly))) or (0, 0)
 
-    def new_letters(self, sides: Tuple[Optional[Side], Optional[Side]]) -> "set[int]":
+    def new_letters(self, sides: Sides) -> "set[int]":
         letters = {side.letter for side in sides if side}
         return letters | {self.problem.stars[letter] for letter in letters}
 
@@ -131,7 +135,10 @@ class Reader:
 
 def expression(problem: Problem, poly: Poly) -> str:
     """A polynomial as it stands in a statement."""
-    texts = [("- " if value < 0 else "+ ") + (f"{abs(value)} " if abs(value) != 1 else "") + problem.text(word) for word, value in poly.items()]
+    texts = []
+    for word, value in poly.items():
+        number = f"{abs(value)} " if abs(value) != 1 else ""
+        texts.append(f"{'-' if value < 0 else '+'} {number}{problem.text(word)}")
     text = " ".join(texts) or "0"
     return text[2:] if text[0] == "+" else text
 
@@ -181,7 +188,8 @@ def with_annihilators(text: str, options: argparse.Namespace) -> str:
 
 def fresh_names(problem: Problem) -> List[str]:
     taken = {name.strip("[]'") for name in problem.names}
-    return [next(name for number in range(1000) for name in [letter + str(number or "")] if name not in taken) for letter in ("w", "v", "Z")]
+    tried = [[letter, *(f"{letter}{number}" for number in range(1, 1000))] for letter in ("w", "v", "Z")]
+    return [next(name for name in names if name not in taken) for names in tried]
 
 
 # ---- The tool
@@ -210,7 +218,9 @@ def answer(words: List[str], folder: Path) -> Answer:
     return lines, 0 if count == len(problem.claims) else 12
 
 
-def found(program: Program, folder: Path, problem: Problem, text: str, claim: int, options: argparse.Namespace) -> Tuple[Optional[Finding], str]:
+def found(
+    program: Program, folder: Path, problem: Problem, text: str, claim: int, options: argparse.Namespace
+) -> Tuple[Optional[Finding], str]:
     """The solution for one claim, or why there is none."""
     reader = Reader(problem)
     poly = problem.claims[claim - 1]
@@ -234,7 +244,7 @@ def found(program: Program, folder: Path, problem: Problem, text: str, claim: in
     return finding, ""
 
 
-def finding_of(problem: Problem, text: str, claim: int, witness: Witness, sides: Tuple[Optional[Side], Optional[Side]]) -> Optional[Finding]:
+def finding_of(problem: Problem, text: str, claim: int, witness: Witness, sides: Sides) -> Optional[Finding]:
     """The statement that claims what was found, with the rows of its certificate."""
     scale = f"{witness.denominator} " if witness.denominator != 1 else ""
     texts = []
@@ -248,9 +258,9 @@ def finding_of(problem: Problem, text: str, claim: int, witness: Witness, sides:
     if rows is None:
         return None
     lines = join.written(fresh, Certificate(1, 1, [Share(1, rows)]))[1:]
-    names = [side for side in sides if side]
-    solutions = ", ".join(f"{name} = {expression(problem, one) if one else '0'}" for name, (_, one) in zip(("k", "l") if len(names) == 2 else ("k",), witness.products))
-    return Finding(f"claim {claim}: {scale}({expression(problem, witness.u)}) = {right} with {solutions}", lines, statement, f"exists_{claim}")
+    solutions = ", ".join(f"{name} = {expression(problem, one)}" for name, (_, one) in zip("kl", witness.products))
+    title = f"claim {claim}: {scale}({expression(problem, witness.u)}) = {right} with {solutions}"
+    return Finding(title, lines, statement, f"exists_{claim}")
 
 
 def moved(problem: Problem, fresh: Problem, witness: Witness) -> Optional[List[Row]]:

@@ -115,9 +115,8 @@ class Matrices:
         self.alphabet = Alphabet(self.problem)
         self.ledger = Ledger(self.alphabet)
         old = proof.ledger.alphabet
-        self.moved = {
-            character: self.alphabet.characters[self.problem.numbers[old.problem.names[letter]]] for character, letter in old.letters.items()
-        }
+        names = {character: old.problem.names[letter] for character, letter in old.letters.items()}
+        self.moved = {character: self.alphabet.characters[self.problem.numbers[name]] for character, name in names.items()}
         self.places: Dict[int, int] = {}  # of the polynomials of the star proof
         self.roots: Dict[Tuple[int, int], int] = {}
 

@@ -17,7 +17,7 @@ RANKS = [0, 0, 1, 2, 0, 1, 0, -1, 1, 1]
 AS_IT_IS = "the statement as it is"
 WORKER = {NAMED: "cancellations", ANY: "any cancellations", RATIONAL: "rational matrices"}  # what is run in Python
 WORKER_SECONDS = 4  # of level 0
-TRIED = 2  # the level to which letters are tried for a claim that is refuted
+TRIED = 1  # the level to which letters are tried for a claim that is refuted
 
 
 class Goal:

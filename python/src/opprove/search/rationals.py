@@ -152,7 +152,7 @@ def orthogonal(draws: random.Random, side: int) -> Matrix:
     norm = sum(x * x for x in vector)
     if not norm:
         return identity(side)
-    return [[simple(Fraction(int(row == column)) - Fraction(2 * x * y, norm)) for column, y in enumerate(vector)] for row, x in enumerate(vector)]
+    return [[simple(int(row == column) - Fraction(2 * x * y, norm)) for column, y in enumerate(vector)] for row, x in enumerate(vector)]
 
 
 def symmetric(draws: random.Random, rows: int, columns: int) -> Matrix:
@@ -326,7 +326,8 @@ class Candidate:
                 continue
             is_star = word[place] != letter
             ends = self.problem.ends[word[place]]
-            left, right = self.value(word[:place]) or identity(self.sides[ends[1]]), self.value(word[place + 1 :]) or identity(self.sides[ends[0]])
+            left = self.value(word[:place]) or identity(self.sides[ends[1]])
+            right = self.value(word[place + 1 :]) or identity(self.sides[ends[0]])
             for number, line in enumerate(lines):
                 for first, x in enumerate(left[number // width]):
                     for second in range(len(right)) if x else ():

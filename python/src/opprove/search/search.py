@@ -11,8 +11,8 @@ as `opprove prove` does, of which the program and the second checkers accept eac
 - with --complex, proofs by `r' r = 0 gives r = 0`, which holds for complex matrices and for operators between Hilbert spaces: as a
   `star proof 1`, which star.py reads, and for matrices as a statement with Moore-Penrose inverses and a certificate for `check`.
 
---keep FOLDER gets the variants, and each block as a file. --only NAME,.. leaves what has these names: of selections lemmas, inside, paired, near, light (fewer assumptions), given, whole (all
-of them, without and with lemmas); of orders written, defined, eliminated, hidden, second, shown, adjoints, backwards, degree; and
+--keep FOLDER gets the variants, and each block as a file. --only NAME,.. leaves what has these names: of selections lemmas, inside,
+paired, near, light (fewer assumptions), given, whole (all of them, without and with lemmas); of orders written, defined, eliminated, hidden, second, shown, adjoints, backwards, degree; and
 models, cancellations, rationals. On a terminal a line says what is under way; an interrupt prints what was found so far.
 
 The last line says why the search ended. Statuses are those of `opprove prove`, where a claim is proved too that follows from what
@@ -247,7 +247,8 @@ class Search:
     def why_ended(self) -> str:
         """The last line: why the search ended, and what it leaves."""
         claims = self.plan.claims
-        left = [f"claim {goal.number} is {goal.verdict or 'undecided'}" for goal in claims if goal.verdict in ("", "not derivable") and not goal.more]
+        open_claims = [goal for goal in claims if goal.verdict in ("", "not derivable") and not goal.more]
+        left = [f"claim {goal.number} is {goal.verdict or 'undecided'}" for goal in open_claims]
         if not left:
             return "# ended: each claim is settled"
         why = "nothing is left to try"

@@ -35,7 +35,8 @@ def parts_of(alphabet: Alphabet, poly: Poly, is_left: bool) -> Optional[Tuple[in
         key = (alphabet.star_word(first), second) if is_left else (first, alphabet.star_word(second))
         gram[key] = Fraction(coefficient)
     words = sorted({one for pair in gram for one in pair})
-    if any((word, word) not in gram for word in words) or any(gram.get((second, first)) != value for (first, second), value in gram.items()):
+    is_symmetric = all(gram.get((second, first)) == value for (first, second), value in gram.items())
+    if not is_symmetric or any((word, word) not in gram for word in words):
         return None
     sign = 1 if gram[words[0], words[0]] > 0 else -1
     gram = {pair: sign * value for pair, value in gram.items()}

@@ -4,8 +4,9 @@
     python3 -m opprove.search.worker STATEMENT rational SECONDS CLAIMS MONIC EPIC SEED
 
 CLAIMS, MONIC and EPIC are numbers and letters with commas between them, MONIC is `*` where all letters are tried, and STARS is 1
-where stars may be taken off. Rational matrices of monic maps have full column rank, those of epic ones full row rank. Each line has the number of a claim, a block of evidence, and what it takes for granted; a star proof
-has its statement for matrices and the certificate for that besides.
+where stars may be taken off. Rational matrices of monic maps have full column rank, those of epic ones full row rank. Each line
+has the number of a claim, a block of evidence, and what it takes for granted; a star proof has its statement for matrices and the
+certificate for that besides, and rational matrices have the model that they are modulo a prime.
 """
 from __future__ import annotations
 
