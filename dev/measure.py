@@ -1,4 +1,4 @@
-#!/usr/bin/env -S PYTHONPATH=python/src python3
+#!/usr/bin/env -S PYTHONPATH=python/src:python/tests python3
 """Measures opprove beside plain programs: measure.py [WORD | TABLE [NAME] ..], with prove, counts, workers, refute, explain, confirm
 or cancel for TABLE
 

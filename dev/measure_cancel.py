@@ -13,7 +13,7 @@ from functools import partial
 from pathlib import Path
 from typing import Callable, List, NamedTuple, Optional, Tuple
 
-import try_cancel_rows
+import cancel_rows
 from measuring import OPPROVE, Text, bound, build, growing, least_by, quotient_text, told, write
 
 FINE = 0
@@ -54,7 +54,7 @@ def copied() -> Text:
 
 def large_statement() -> str:
     """That of row 53, with its assumption as a second claim."""
-    text = try_cancel_rows.large()
+    text = cancel_rows.large()
     assumption = next(line for line in text.split("\n") if line.startswith("assume "))
     return text + assumption.replace("assume ", "claim ", 1) + "\n"
 

@@ -13,7 +13,7 @@ from functools import partial
 from pathlib import Path
 from typing import Callable, List, NamedTuple, Tuple
 
-import try_explain_rows
+import explain_rows
 from measuring import NO_MEMORY, OPPROVE, Text, Usage, bound, build, growing, least_by, quotient_text, told, write
 
 FINE = 0
@@ -21,8 +21,8 @@ TEN = list("abcdefghij")
 SUM = f"({'+'.join(TEN)})"
 TERMS = f"object U\nmap {' '.join(TEN)} : U -> U\nassume {SUM * 3} = 0\nassume a = b\nclaim a = a\n"  # the first has 1,000
 THIRD = "object U\nmap x y z : U -> U\nassume x = z\nassume z = x\nassume x = y\nclaim x = y\n"
-PRODUCT = f"{try_explain_rows.SUMS[0]} {try_explain_rows.SUMS[1]}{try_explain_rows.LAST}"  # 10,000,000 letters
-LONG = f"object P\nmap {' '.join(try_explain_rows.MANY)} : P -> P\nassume {PRODUCT} = 0\nclaim {PRODUCT} = 0\n"
+PRODUCT = f"{explain_rows.SUMS[0]} {explain_rows.SUMS[1]}{explain_rows.LAST}"  # 10,000,000 letters
+LONG = f"object P\nmap {' '.join(explain_rows.MANY)} : P -> P\nassume {PRODUCT} = 0\nclaim {PRODUCT} = 0\n"
 OTHERS = "object U V\nmap a b : U -> V\nmap c d e f g h i j : V -> U\nassume a = b\nclaim a = b\n"
 START, END = "certificate 1\nclaim 1\ndenominator 1\n", "end\n"
 

@@ -7,9 +7,10 @@ import time
 from pathlib import Path
 from typing import Callable, Iterable, Iterator, List, NamedTuple, Sequence, Tuple
 
-from trying import PROGRAM, TOP, Failed, installed, need, run
+from trying import PROGRAM as OPPROVE
+from trying import Failed, build, installed, need, run
 
-OPPROVE = Path(os.environ.get("OPPROVE", PROGRAM))
+__all__ = ["OPPROVE", "build"]  # beside what stands here
 RUNS, PATIENCE, MEMORY_LIMIT = 3, 10, 8 * 10**9
 NO_MEMORY = 6
 
@@ -21,14 +22,6 @@ class Usage(NamedTuple):
     seconds: float  # of processors
     megabytes: float
     wall: float
-
-
-def build(name: str, folder: Path) -> str:
-    """A plain program, built by rustc, which a busy machine may keep for minutes."""
-    program = folder / name
-    answer = run(installed("rustc"), "--edition", "2021", "-O", TOP / "dev" / f"{name}.rs", "-o", program, seconds=600)
-    need(answer.status == 0, answer.error)
-    return str(program)
 
 
 def bound() -> None:

@@ -1,4 +1,4 @@
-#!/usr/bin/env -S PYTHONPATH=python/src python3
+#!/usr/bin/env -S PYTHONPATH=python/src:python/tests python3
 """Tries the program from outside, over devices that fail: try_devices.py [--long] [PROGRAM]
 
 Gives PROGRAM, or the one that the variable OPPROVE names, or the one that is built, files that can't be read or change while they

@@ -1,7 +1,7 @@
-#!/usr/bin/env -S PYTHONPATH=python/src python3
+#!/usr/bin/env -S PYTHONPATH=python/src:python/tests python3
 """Tries the plain programs plain_run.rs and plain_models.rs: try_plain.py [COUNT]
 
-Compares plain_models.rs with candidates.py, byte for byte, on the searches of try_models.py, on the examples and on
+Compares plain_models.rs with candidates.py, byte for byte, on the searches of test_models.py, on the examples and on
 COUNT random statements (500) of both languages: full and drawn, over all moduli, with self maps, adjoints, powers,
 abbreviations, maps that are solved for, several claims and shapes, and three seeds. Of searches that would try
 thousands of candidates in Python to the end one in five is made. Compares plain_run.rs with itself, where it looks for
@@ -25,8 +25,8 @@ from opprove.checkers import candidates
 import presentations
 from opprove.checkers import tree
 import try_guide
-import try_models
-import try_why
+import test_models
+import test_words
 from opprove.checkers.check import MODULI, Problem, Refusal
 from measuring import OPPROVE, build
 from trying import EXAMPLES, TOP, Answer, checker, is_second, need, reads_language_2, run, run_checks
@@ -171,7 +171,7 @@ def refusal(statement: Path) -> str:
 
 def texts(count: int) -> Iterator[Tuple[str, int]]:
     """Statements, each with a seed."""
-    yield from ((text, seed) for text, seeds in try_models.SEARCHED for seed in seeds)
+    yield from ((text, seed) for text, seeds in test_models.SEARCHED for seed in seeds)
     yield from ((path.read_text(encoding="utf-8"), 1) for path in EXAMPLE_FILES)
     maker = Maker(1)
     yield from ((maker.statement(), SEEDS[number % 3]) for number in range(count))
@@ -265,9 +265,9 @@ def words_kept(line: str) -> List[str]:
 
 def told_runs() -> Iterator[Told]:
     """Those of examples/words.txt and of the guide, with the files that stand there."""
-    for case in try_why.cases():
-        if case.words[:1] == ["prove"] and "s.op" in case.files and case.name not in try_why.NOT_RUN:
-            yield Told(try_why.expanded(case.files["s.op"]), words_kept(" ".join(case.words)), case.report)
+    for case in test_words.cases():
+        if case.words[:1] == ["prove"] and "s.op" in case.files and case.name not in test_words.NOT_RUN:
+            yield Told(test_words.expanded(case.files["s.op"]), words_kept(" ".join(case.words)), case.report)
     guide = try_guide.read(try_guide.GUIDE.read_text(encoding="utf-8"))
     for command in guide.commands:
         name = re.match(r"\./opprove prove (\S+\.op)", command.line)

@@ -1,4 +1,4 @@
-#!/usr/bin/env -S PYTHONPATH=python/src python3
+#!/usr/bin/env -S PYTHONPATH=python/src:python/tests python3
 """Tries release.sh, in a clone of this checkout with what is changed here.
 
 Where ./opprove has built the program of these sources, and its object is there, that is what is released; else a stand-in in C,

@@ -2,7 +2,7 @@
 
 A case is a name, the words, the files s.op and e.cert as far as it has them, the program's status and report, and what is
 told. In files `{{TEXT|N}}` stands for N times the text, each # in it being the number of the time, and `{{0xNN}}` for a byte.
-`python3 try_why.py --write` writes what is told anew, and the reports where the program is built.
+`python3 test_words.py --write` writes what is told anew, and the reports where the program is built.
 """
 from __future__ import annotations
 
@@ -11,6 +11,7 @@ import os
 import random
 import re
 import sys
+import tempfile
 from pathlib import Path
 from typing import Callable, Dict, Iterator, List, NamedTuple, Tuple
 
@@ -19,7 +20,7 @@ from opprove.words import why
 from opprove.words import outcomes as why_outcomes
 from opprove.words import statement as why_statement
 from opprove.checkers.check import Problem, Refusal
-from trying import PROGRAM, SOURCE, TOP, Answer, Skipped, decided, installed, need, reads_language_2, run, tool
+from trying import Answer, PROGRAM, SOURCE, Skipped, TOP, decided, installed, main, need, reads_language_2, run, tool
 from opprove.words.parts import Screen, on_screen
 
 DATA = TOP / "python" / "tests" / "data"
@@ -260,10 +261,7 @@ def stored_words(folder: Path) -> str:
 CHECKS: List[Callable[[Path], str]] = [stored_words, typed_mistakes, edits, editor]
 
 if __name__ == "__main__":
-    import tempfile
-
-    with tempfile.TemporaryDirectory() as name:
-        if sys.argv[1:] == ["--write"]:
+    if sys.argv[1:] == ["--write"]:
+        with tempfile.TemporaryDirectory() as name:
             write(Path(name))
-        for check in CHECKS:
-            print(check(Path(name)))
+    sys.exit(main(CHECKS))

@@ -1,4 +1,4 @@
-"""What try_explain.py, try_confirm.py and try_cancel.py share: a command and its second program, which have to answer by the same bytes."""
+"""What test_explain.py, test_confirm.py and test_cancel.py share: a command and its second program, which have to answer by the same bytes."""
 from __future__ import annotations
 
 import functools
@@ -6,7 +6,6 @@ import os
 import re
 import subprocess
 import sys
-import tempfile
 from pathlib import Path
 from types import ModuleType
 from typing import Callable, List, NamedTuple, Optional, Sequence
@@ -14,8 +13,8 @@ from typing import Callable, List, NamedTuple, Optional, Sequence
 import trying_node
 from opprove import tool
 from opprove.checkers import check
-from measuring import OPPROVE, build
-from trying import Answer, Skipped, checker, need, run, run_checks
+from trying import PROGRAM as OPPROVE
+from trying import Answer, Skipped, build, checker, need, run
 
 SHOWN = 3000  # characters of a text that a failure shows
 # What plain.rs has no letters for, in a statement and in evidence.
@@ -113,8 +112,3 @@ class Second:
 def has_command(name: str) -> bool:
     return os.access(OPPROVE, os.X_OK) and re.search(rf"\b{name}\b", run(OPPROVE).out) is not None
 
-
-def main(checks: List[Callable[[Path], str]]) -> int:
-    """Makes checks in a folder of their own, to the first that fails."""
-    with tempfile.TemporaryDirectory() as name:
-        return run_checks("try", (functools.partial(check, Path(name)) for check in checks))

@@ -1,4 +1,4 @@
-"""Runs of `cancel` whose reports were worked out by hand, for try_cancel.py: statements, texts of proofs and what is printed of them."""
+"""Runs of `cancel` whose reports were worked out by hand, for test_cancel.py: statements, texts of proofs and what is printed of them."""
 from __future__ import annotations
 
 from typing import List, NamedTuple, Tuple

@@ -1,7 +1,6 @@
-#!/usr/bin/env -S PYTHONPATH=python/src python3
-"""Tries harder.py, join.py and their variants: try_harder.py [COUNT | table]
+"""Tries harder.py, join.py and their variants: test_harder.py [COUNT | table]
 
-COUNT (500) random pairs of a lemma and a claim are joined, and changed ones; try.py does 20. What asks opprove is skipped
+COUNT (20) random pairs of a lemma and a claim are joined, and changed ones. What asks opprove is skipped
 where that is not built; OPPROVE names another one than this checkout's. The table is that of examples/README.md.
 """
 from __future__ import annotations
@@ -510,7 +509,7 @@ def main(words: List[str]) -> int:
         if words == ["table"]:
             table(Path(name))
             return 0
-        return run_checks("try", checks(Path(name), int(words[0]) if words else 500))
+        return run_checks("ok", checks(Path(name), int(words[0]) if words else 20))
 
 
 if __name__ == "__main__":

@@ -1,4 +1,4 @@
-"""What try.py and the other try_*.py share: programs that are run, and what is needed of them."""
+"""What tests share: programs that are run, what is needed of them, and checks that are made one after another."""
 from __future__ import annotations
 
 import functools
@@ -6,14 +6,15 @@ import os
 import shutil
 import subprocess
 import sys
+import tempfile
 from pathlib import Path
-from typing import Callable, Iterable, List, NamedTuple
+from typing import Callable, Iterable, Iterator, List, NamedTuple, Tuple
 
 from opprove.checkers.check import Refusal
 
-TOP = Path(__file__).resolve().parents[1]
-EXAMPLES, SOURCE = TOP / "examples", TOP / "python" / "src"
-os.environ["PYTHONPATH"] = str(SOURCE)  # for the scripts that are run
+TOP = Path(__file__).resolve().parents[2]
+EXAMPLES, SOURCE, TESTS = TOP / "examples", TOP / "python" / "src", TOP / "python" / "tests"
+os.environ["PYTHONPATH"] = f"{SOURCE}:{TESTS}"  # for the scripts that are run
 # The program that OPPROVE names, and else that of a gate here, or of `./opprove build`.
 BUILT = [TOP / "crates" / "opprove" / "out" / "opprove", TOP / "out" / "opprove"]
 PROGRAM = Path(os.environ.get("OPPROVE") or next((path for path in BUILT if path.exists()), BUILT[1])).resolve()
@@ -62,6 +63,13 @@ def decided() -> List[Path]:
     return [path for path in statements if reads_language_2() or not is_second(path)]
 
 
+def stored() -> Iterator[Tuple[Path, Path]]:
+    """The certificates of both folders of examples, each with its statement, whose name its own begins with."""
+    statements = sorted([*EXAMPLES.glob("*.op"), *EXAMPLES.glob("tools/*.op")], key=lambda path: -len(path.stem))
+    for evidence in sorted([*EXAMPLES.glob("*.cert"), *EXAMPLES.glob("tools/*.cert")]):
+        yield next(path for path in statements if evidence.stem.startswith(path.stem)), evidence
+
+
 def tool(word: str) -> List[str]:
     """The call of the tool with this word."""
     return [sys.executable, "-IB", str(SOURCE), word]
@@ -77,6 +85,14 @@ def need(condition: bool, what: object) -> None:
         raise Failed(str(what))
 
 
+def build(name: str, folder: Path) -> str:
+    """A plain program of dev/, built by rustc, which a busy machine may keep for minutes."""
+    program = folder / name
+    answer = run(installed("rustc"), "--edition", "2021", "-O", TOP / "dev" / f"{name}.rs", "-o", program, seconds=600)
+    need(answer.status == 0, answer.error)
+    return str(program)
+
+
 def installed(name: str) -> str:
     path = shutil.which(name)
     if not path:
@@ -90,8 +106,14 @@ def run_checks(name: str, checks: Iterable[Callable[[], str]]) -> int:
         try:
             print(f"{name}: {check()}", flush=True)
         except Skipped as what:
-            print(f"{name}: skipped, {what}", flush=True)
+            print(f"skipped: {what}", flush=True)
         except (Failed, Refusal, OSError, subprocess.TimeoutExpired) as what:
-            print(f"{name}: failed, {what}", flush=True)
+            print(f"failed: {what}", flush=True)
             return 1
     return 0
+
+
+def main(checks: Iterable[Callable[[Path], str]]) -> int:
+    """Makes checks in a folder of their own, to the first that fails, and gives the status."""
+    with tempfile.TemporaryDirectory() as name:
+        return run_checks("ok", (functools.partial(check, Path(name)) for check in checks))

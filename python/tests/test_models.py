@@ -14,7 +14,7 @@ from opprove import tool
 from opprove.checkers import candidates
 from opprove.checkers import check_model
 from opprove.checkers.check import Problem, Refusal
-from trying import EXAMPLES, PROGRAM, Answer, Skipped, checker, decided, need, run
+from trying import Answer, EXAMPLES, PROGRAM, Skipped, checker, decided, main, need, run
 
 MAPS = b"object U V\nmap p : U -> U self\nmap a : U -> V\nclaim a = 0\n"
 RIGHT = b"object U V\nmap a : U -> V\nmap b : V -> U\nassume a b = [V]\nclaim b a = [U]\n"
@@ -327,3 +327,6 @@ def greedy_solutions(folder: Path) -> str:
 
 
 CHECKS: List[Callable[[Path], str]] = [models, changed_models, searches, greedy_solutions]
+
+if __name__ == "__main__":
+    sys.exit(main(CHECKS))

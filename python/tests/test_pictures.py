@@ -12,7 +12,7 @@ from typing import Callable, List
 
 from opprove.translations import picture as quiver
 from opprove.checkers.check import Problem
-from trying import EXAMPLES, Answer, Skipped, installed, need, run, tool
+from trying import Answer, EXAMPLES, Skipped, installed, main, need, run, tool
 
 STATEMENTS = sorted(EXAMPLES.glob("**/*.op"))
 
@@ -119,3 +119,6 @@ def tikz(folder: Path) -> str:
 
 
 CHECKS: List[Callable[[Path], str]] = [drawn, lambda folder: known(), lambda folder: twelve(), graphviz, tikz]
+
+if __name__ == "__main__":
+    sys.exit(main(CHECKS))

@@ -1,5 +1,4 @@
-#!/usr/bin/env -S PYTHONPATH=python/src python3
-"""Tries the package of Python: try_python.py [PYTHON ..]
+"""Tries the package of Python: test_package.py [PYTHON ..]
 
 The package is installed by pip, without network, into a fresh venv of this Python, and of each other one that is named, and
 what stands below is tried there. The program is that of OPPROVE or the built one; what needs one is skipped where there is none.
@@ -23,9 +22,10 @@ from typing import Callable, Dict, List, NamedTuple, Tuple
 sys.dont_write_bytecode = True
 from opprove import program as programs
 from opprove.checkers import check
-from trying import EXAMPLES, PROGRAM, TOP, Failed, Skipped, decided, need, run, run_checks
+import trying
+from opprove import Expression, NotTyped, Object, Refused, Statement, Verdict, from_sympy
+from trying import EXAMPLES, PROGRAM, TESTS, TOP, Failed, Skipped, decided, need, run, tool
 
-HERE = Path(__file__).resolve()
 NAMED = os.environ.get("OPPROVE") or str(PROGRAM)
 
 
@@ -532,52 +532,47 @@ CHECKS: List[Callable[[Path], str]] = [gallery, expressions, refusals, stored, s
 # ---- In a fresh venv
 
 ALONE = """
-import opprove, sys
+import opprove
 from pathlib import Path
-names = {name.split(".")[0] for name in sys.modules if "check" in name or "chain" in name or "quiver" in name or "la" "tex" in name}
-top = {path.name for path in Path(opprove.__file__).parents[1].iterdir() if "opprove" in path.name or path.suffix == ".py"}
-print(sorted(names), sorted(name.split("-")[0] for name in top))
+print(*sorted(path.name.split("-")[0] for path in Path(opprove.__file__).parents[1].iterdir() if "opprove" in path.name or path.suffix == ".py"))
 """
 
 
-def in_venv(python: str, folder: Path) -> str:
-    """Installs the package for this Python, and tries it there."""
+def builder() -> str:
+    """A Python that has setuptools and wheel, with which pip needs no network: this one, or that of the system."""
+    for python in (sys.executable, "/usr/bin/python3"):
+        if os.access(python, os.X_OK) and run(python, "-c", "import setuptools, wheel, venv").status == 0:
+            return python
+    raise Skipped("no Python has setuptools and wheel")
+
+
+def in_venv(folder: Path, python: str = "") -> str:
+    """Installs the package, and tries it there."""
     room = folder / "venv"
     own = room / "bin" / "python"
-    options = ("--no-index", "--no-build-isolation", "--quiet", "--disable-pip-version-check")
-    patiently(python, "-m", "venv", "--system-site-packages", room)
-    patiently(own, "-m", "pip", "install", *options, TOP / "python")
+    patiently(python or builder(), "-m", "venv", "--system-site-packages", room)
+    source = shutil.copytree(TOP / "python", folder / "source", ignore=shutil.ignore_patterns("tests", "build", "*.egg-info"))
+    patiently(own, "-m", "pip", "install", "--no-index", "--no-build-isolation", "--quiet", "--disable-pip-version-check", source)
     answer = run(own, "-I", "-c", ALONE, folder=folder)
-    need(answer.status == 0 and answer.out == "['opprove'] ['opprove', 'opprove']\n", answer)
-    patiently(own, HERE, "here")
+    need(answer.status == 0 and answer.out == "opprove opprove\n", answer)
+    answer = run(room / "bin" / "opprove-tools", "chain", EXAMPLES / "pseudoinverses.op", EXAMPLES / "pseudoinverses.cert")
+    need(answer == run(*tool("chain"), EXAMPLES / "pseudoinverses.op", EXAMPLES / "pseudoinverses.cert"), answer)
+    patiently(own, "-B", Path(__file__), "here", PYTHONPATH=str(TESTS))
     version = run(own, "--version").out.strip()
     return f"{version} has the package from pip, with no network and no other name"
 
 
-def package(folder: Path) -> str:
-    """All of it for this Python."""
-    return in_venv(sys.executable, folder)
-
-
-def patiently(*words: object) -> None:
+def patiently(*words: object, **more: str) -> None:
     """A command that may take longer than two minutes on a busy machine."""
-    done = subprocess.run([str(word) for word in words], timeout=1200)
+    done = subprocess.run([str(word) for word in words], timeout=1200, env={**os.environ, **more})
     need(done.returncode == 0, words)
 
 
-def in_folder(check: Callable[[Path], str]) -> str:
-    """The check in a folder of its own."""
-    with tempfile.TemporaryDirectory() as name:
-        return check(Path(name))
-
-
 def main(words: List[str]) -> int:
-    pythons = [functools.partial(in_venv, python) for python in [sys.executable, *words]]
-    checks = CHECKS if words == ["here"] else pythons
-    return run_checks("python", (functools.partial(in_folder, check) for check in checks))
+    """Tries the package as it is found, and installed: for Python with setuptools, or for those that are named."""
+    there = [functools.partial(in_venv, python=python) for python in words] or [in_venv]
+    return trying.main(CHECKS if words == ["here"] else [*(CHECKS if not words else []), *there])
 
 
 if __name__ == "__main__":
-    if sys.argv[1:] == ["here"]:
-        from opprove import Expression, NotTyped, Object, Refused, Statement, Verdict, from_sympy
     sys.exit(main(sys.argv[1:]))

@@ -14,7 +14,7 @@ from typing import Callable, Dict, Iterator, List, NamedTuple, Optional, Set, Tu
 
 from opprove.translations import chain as to_chain
 from opprove.checkers.check import Certificate, Evidence, Line, Poly, Problem, Row, Share, Signature, Value, Word, add, judge, loaded, tokens_of
-from trying import EXAMPLES, PROGRAM, Answer, Skipped, decided, installed, need, run, tool
+from trying import Answer, EXAMPLES, PROGRAM, Skipped, decided, installed, main, need, run, tool
 
 TOOL = tool("chain")
 STORED = {"pseudoinverses": EXAMPLES / "pseudoinverses.cert", "halved": EXAMPLES / "tools" / "halved.cert"}
@@ -476,3 +476,6 @@ def latex(folder: Path) -> str:
 
 
 CHECKS: List[Callable[[Path], str]] = [stored, cases, random_certificates, reports, latex]
+
+if __name__ == "__main__":
+    sys.exit(main(CHECKS))

@@ -11,9 +11,9 @@ import sys
 from pathlib import Path
 from typing import Callable, Iterator, List, NamedTuple, Optional
 
-import try_why
+import test_words
 from opprove.checkers.check import Problem, Refusal
-from trying import EXAMPLES, PROGRAM, Answer, checker, is_second, need, reads_language_2, run
+from trying import Answer, EXAMPLES, PROGRAM, checker, is_second, main, need, reads_language_2, run
 
 ZERO = "certificate 2 / claim 1 / denominator 1 / goal scale 1 / end"
 ACCEPTED = "# block 1 accepted claim 1 denominator 1"
@@ -251,13 +251,13 @@ def further_down(said: object, bytes_more: int) -> object:
 def statements_of_language_1() -> Iterator[bytes]:
     """Those of the examples, those of the words on faults, and random edits of both."""
     texts = [path.read_bytes() for path in [*EXAMPLES.glob("**/*.op")] if not is_second(path)]
-    texts += [try_why.expanded(case.files["s.op"]) for case in try_why.cases() if "s.op" in case.files]
+    texts += [test_words.expanded(case.files["s.op"]) for case in test_words.cases() if "s.op" in case.files]
     texts = [text for text in texts if len(text) < 20000 and not re.search(rb"\^|language|eliminate|m201", text)]
     yield from texts
     chance = random.Random(1)
     for _ in range(500):
         text = chance.choice(texts).decode(errors="replace")
-        yield try_why.edited(text, chance).encode() if re.search("[a-z]", text) else b""
+        yield test_words.edited(text, chance).encode() if re.search("[a-z]", text) else b""
 
 
 def in_front(folder: Path) -> str:
@@ -290,3 +290,6 @@ def reports_in_front(folder: Path) -> str:
 
 
 CHECKS: List[Callable[[Path], str]] = [rows, in_front, reports_in_front]
+
+if __name__ == "__main__":
+    sys.exit(main(CHECKS))

@@ -1,7 +1,6 @@
-#!/usr/bin/env -S PYTHONPATH=python/src python3
-"""Tries explain.py, to_chain.py on text of chains, and `explain` of plain.rs: try_explain.py
+"""Tries explain.py, to_chain.py on text of chains, and `explain` of plain.rs: test_explain.py
 
-The reports that try_explain_rows.py has are asked of explain.py, and with them go the stored certificates, the proofs of the examples
+The reports that explain_rows.py has are asked of explain.py, and with them go the stored certificates, the proofs of the examples
 in format 1, random certificates and changed ones. Each of their chains is read by to_chain.py, whose text is read back, and whose
 certificate is explained again; with a changed line it has to be refused by the number of that line. Where opprove is built and has
 `explain`, or the variable OPPROVE names such a program, it prints the same bytes; so does plain.rs, of statements that it reads,
@@ -18,16 +17,16 @@ from typing import Callable, Iterator, List, Tuple
 
 sys.dont_write_bytecode = True
 from opprove.checkers import explain
-import try_explain_rows
+import explain_rows
 from opprove.translations import chain as to_chain
-import try_chains
+import test_chains
 from opprove.checkers.check import Certificate, Evidence, Poly, Problem, Refusal, Share, add, judge
 from opprove.checkers.chain_text import Texts
 from opprove.checkers.check import DONE, FAULTY, REFUSED, status_of
-from measuring import OPPROVE
-from try_explain_rows import Run
-from trying import EXAMPLES, Answer, Skipped, installed, need, run, tool
-from trying_second import UNREAD, Files, Second, files_in, main
+from explain_rows import Run
+from trying import PROGRAM as OPPROVE
+from trying import Answer, EXAMPLES, Skipped, installed, main, need, run, tool
+from trying_second import UNREAD, Files, Second, files_in
 
 COUNT = 60  # random certificates
 LARGE = 2**16  # bytes of a report that isn't read as a chain
@@ -41,14 +40,14 @@ explained, by_whom = SECOND.answered, SECOND.by_whom
 def set_text(statement: Path, chain: Path, *options: str) -> Answer:
     """What to_chain.py answers, in this process."""
     try:
-        lines = try_chains.written(statement, chain, options[0][2:] if options else "text")
+        lines = test_chains.written(statement, chain, options[0][2:] if options else "text")
     except Refusal as refusal:
         return Answer(status_of(str(refusal)), "", f"{refusal}\n")
     return Answer(0, "".join(f"{line}\n" for line in lines), "")
 
 
 def as_certificate(lines: List[str]) -> List[List[str]]:
-    """The groups of lines of a chain that was read, as try_chains.py reads them: with what cancels in the head lines."""
+    """The groups of lines of a chain that was read, as test_chains.py reads them: with what cancels in the head lines."""
     groups = [group.split("\n") for group in "\n".join(lines).split("\n\n")]
     last = re.fullmatch("and ([0-9]+) cancels", groups[-1][-1])
     if last:
@@ -74,7 +73,7 @@ def told(files: Files, report: str) -> int:
     for number, text in enumerate(texts.chains, 1):
         proof = reader.told(text)
         is_turned = reader.claims[text.claim - 1].left == {}
-        try_chains.read_proof(problem, as_certificate(list(to_chain.text(reader, proof))), is_turned)
+        test_chains.read_proof(problem, as_certificate(list(to_chain.text(reader, proof))), is_turned)
         judge(problem, reader.shortened(proof), f"chain {number}")
         files.evidence.write_text("\n".join(to_chain.certificate_text(problem, reader.shortened(proof))), encoding="utf-8")
         again = explained(files)
@@ -108,7 +107,7 @@ def evidence_of(row: Run, files: Files) -> str:
 
 def rows(folder: Path) -> str:
     """The reports that were worked out by hand."""
-    files, chains, found = files_in(folder), 0, try_explain_rows.runs()
+    files, chains, found = files_in(folder), 0, explain_rows.runs()
     for row in found:
         files.write(row.statement, row.evidence)
         files.evidence.write_bytes(evidence_of(row, files).encode())
@@ -121,7 +120,7 @@ def rows(folder: Path) -> str:
 
 
 def calls(folder: Path) -> str:
-    return SECOND.calls(folder, try_explain_rows.PAIR, try_explain_rows.block(try_explain_rows.FIVE), ["--format", 1])
+    return SECOND.calls(folder, explain_rows.PAIR, explain_rows.block(explain_rows.FIVE), ["--format", 1])
 
 
 FIRST_TEXT = """Claim 1: f = g
@@ -155,9 +154,9 @@ def texts(folder: Path) -> str:
     """What to_chain.py writes of two chains, and that it reads one kind of block alone."""
     files, chain = Files(folder, None), folder / "told.chain"
     for statement, rows_of_it, denominator, text in (
-        (try_explain_rows.PAIR, try_explain_rows.FIVE, 1, FIRST_TEXT), (ZERO, ["-1 () 1 ()"], 2, ZERO_TEXT),
+        (explain_rows.PAIR, explain_rows.FIVE, 1, FIRST_TEXT), (ZERO, ["-1 () 1 ()"], 2, ZERO_TEXT),
     ):  # fmt: skip
-        files.write(statement, try_explain_rows.block(rows_of_it, 1, denominator))
+        files.write(statement, explain_rows.block(rows_of_it, 1, denominator))
         report = explained(files).out
         chain.write_text(report)
         answer = run(*tool("chain"), files.statement, chain)
@@ -173,7 +172,7 @@ def texts(folder: Path) -> str:
 
 # ---- Faults of chains
 
-CHAIN = try_explain_rows.told(*try_explain_rows.EIGHT, 1, 6)
+CHAIN = explain_rows.told(*explain_rows.EIGHT, 1, 6)
 FAULTS: List[Tuple[str, str, str]] = [  # what is put in the place of what in a chain, and the line
     ("claim 1\nd", "claim 3\nd", "# block 1 refused C1"),
     ("denominator 6\nl", "denominator 0\nl", "# block 1 refused C3"),
@@ -188,10 +187,10 @@ FAULTS: List[Tuple[str, str, str]] = [  # what is put in the place of what in a 
     ("use 2 () 1 ()", "use 3 () 1 ()", "# block 1 refused line 7 word u want -3 got 0"),
     ("use 2 () 1 ()", "use 2 () 3 ()", "# block 1 refused C2 line 6"),
     ("use 2 () 1 ()", "use 0 () 1 ()", "# block 1 refused line 6 no step"),
-    ("use 2 () 1 ()", f"use {try_explain_rows.GREATEST} () 1 ()", f"# block 1 refused E2 line 6 -{try_explain_rows.GREATEST} times -2"),
-    ("use 2 () 1 ()", f"use 2 ({try_explain_rows.u(500)}) 1 ()", "# block 1 refused E3 line 6"),
-    ("use 2 () 1 ()", f"use 2 ({try_explain_rows.u(501)}) 1 ()", "# refused K5 line 6 limit 500"),
-    ("use 2 () 1 ()", f"use {try_explain_rows.GREATEST + 1} () 1 ()", "# refused K4 line 6"),
+    ("use 2 () 1 ()", f"use {explain_rows.GREATEST} () 1 ()", f"# block 1 refused E2 line 6 -{explain_rows.GREATEST} times -2"),
+    ("use 2 () 1 ()", f"use 2 ({explain_rows.u(500)}) 1 ()", "# block 1 refused E3 line 6"),
+    ("use 2 () 1 ()", f"use 2 ({explain_rows.u(501)}) 1 ()", "# refused K5 line 6 limit 500"),
+    ("use 2 () 1 ()", f"use {explain_rows.GREATEST + 1} () 1 ()", "# refused K4 line 6"),
     ("use 2 () 1 ()", "use 2 () 4294967296 ()", "# refused K4 line 6"),
     ("use 2 () 1 ()", "use 2 (t) 1 ()", "# refused K3 line 6"),
     ("use 2 () 1 ()", "use 2 (u'') 1 ()", "# refused K2 line 6"),
@@ -199,8 +198,8 @@ FAULTS: List[Tuple[str, str, str]] = [  # what is put in the place of what in a 
     ("use 2 () 1 ()", "row 2 () 1 ()", "# refused K2 line 6"),
     ("claim 1\nd", "claim 4294967296\nd", "# refused K4 line 3"),
     ("- 6 u u + 4 v", "- 6 u t + 4 v", "# refused K3 line 7"),
-    ("- 6 u u + 4 v", f"- 6 u u + {try_explain_rows.GREATEST + 1} v", "# refused K4 line 7"),
-    ("- 6 u u + 4 v", f"- 6 {try_explain_rows.u(501)} + 4 v", "# refused K5 line 7 limit 500"),
+    ("- 6 u u + 4 v", f"- 6 u u + {explain_rows.GREATEST + 1} v", "# refused K4 line 7"),
+    ("- 6 u u + 4 v", f"- 6 {explain_rows.u(501)} + 4 v", "# refused K5 line 7 limit 500"),
     ("- 6 u u + 4 v", "+ u" * 20001, "# refused K2 line 7"),
     ("- 6 u u + 4 v", " + ".join(["u"] * 20001), "# refused K5 line 7 limit 20000"),
     *(("- 6 u u + 4 v", text, "# refused K2 line 7") for text in ("6", "- 6 u u + 4", "- - u", "u +", "-", "u + + u", "0 + u", "(u)", "")),
@@ -214,14 +213,14 @@ FAULTS: List[Tuple[str, str, str]] = [  # what is put in the place of what in a 
 def faults(folder: Path) -> str:
     """Chains that something is wrong with."""
     files, chain = Files(folder, None), folder / "faulty.chain"
-    files.write(try_explain_rows.MULTIPLES, "")
+    files.write(explain_rows.MULTIPLES, "")
     for old, new, line in FAULTS:
         need(CHAIN.count(old) >= 1, old)
         chain.write_text(CHAIN.replace(old, new, 1))
         found = set_text(files.statement, chain).error
         need(found == (line and line + "\n"), (old, new[:200], line, found))
-    untyped = try_explain_rows.told(["1 () 1 ()", *try_explain_rows.FIVE], ["- g + f", *try_explain_rows.FIVE_LINES])
-    files.write(try_explain_rows.PAIR, untyped)
+    untyped = explain_rows.told(["1 () 1 ()", *explain_rows.FIVE], ["- g + f", *explain_rows.FIVE_LINES])
+    files.write(explain_rows.PAIR, untyped)
     answer = set_text(files.statement, files.evidence)
     need(answer == Answer(7, "", "# block 1 refused line 6 no step\n"), answer)
     return f"{len(FAULTS) + 1} chains are answered by the line that was worked out by hand"
@@ -296,7 +295,7 @@ def proofs(folder: Path) -> str:
     if not os.access(OPPROVE, os.X_OK):
         raise Skipped("opprove is not built, and its proofs are not explained")
     files, chains, lines = files_in(folder), 0, 0
-    for statement in try_chains.decided():
+    for statement in test_chains.decided():
         report = run(OPPROVE, "prove", statement, "--pairs", 2000, "--format", 1).out
         if "\ncertificate " in report:
             files.write(statement.read_text("utf-8"), report)
@@ -320,7 +319,7 @@ assume d = c e
 """
 
 
-def random_rows(maker: try_chains.Maker) -> Tuple[str, Certificate]:
+def random_rows(maker: test_chains.Maker) -> Tuple[str, Certificate]:
     """A claim, and a certificate of rows with some that are no steps."""
     random, ends = maker.random, (maker.random.randrange(2), maker.random.randrange(2))
     goal = maker.share(ends)[1]
@@ -334,7 +333,7 @@ def random_rows(maker: try_chains.Maker) -> Tuple[str, Certificate]:
     left: Poly = {word: value // goal.scale for word, value in total.items() if random.random() < 0.6}
     right = {word: -value // goal.scale for word, value in total.items() if word not in left}
     writer = to_chain.Writer(maker.problem.names, " ")
-    text = f"{writer.sum(left, ends) if left else try_chains.ZEROS[ends]} = {writer.sum(right, ends)}"
+    text = f"{writer.sum(left, ends) if left else test_chains.ZEROS[ends]} = {writer.sum(right, ends)}"
     return text, Certificate(1, goal.scale, [Share(goal.scale, rows)])
 
 
@@ -342,8 +341,8 @@ def random_certificates(folder: Path, count: int = COUNT) -> str:
     files, random = files_in(folder), Random(1)
     chains = changes = 0
     for number in range(count):
-        template = PLAIN if number % 3 == 0 else try_chains.RANDOM
-        maker = try_chains.Maker(random, files.statement, template)
+        template = PLAIN if number % 3 == 0 else test_chains.RANDOM
+        maker = test_chains.Maker(random, files.statement, template)
         claim, made = random_rows(maker)
         text = "\n".join(to_chain.certificate_text(maker.problem, made))
         statement = f"{maker.text}claim {claim}\n"
@@ -359,7 +358,7 @@ def random_certificates(folder: Path, count: int = COUNT) -> str:
 def latex(folder: Path) -> str:
     """The chains of the rows and of the examples, as pdflatex sets them."""
     program, files, bodies = installed("pdflatex"), Files(folder, None), []
-    cases = [(row.statement, row.evidence) for row in try_explain_rows.runs() if len(row.report) < LARGE and row.report.endswith("end\n")]
+    cases = [(row.statement, row.evidence) for row in explain_rows.runs() if len(row.report) < LARGE and row.report.endswith("end\n")]
     for statement, evidence in stored():
         text = plainly(statement, evidence) if "refused" not in evidence.stem else "certificate 2"
         cases += [] if "certificate 2" in text else [(statement.read_text("utf-8"), text)]

@@ -1,4 +1,4 @@
-"""Runs of `confirm` whose reports were worked out by hand, for try_confirm.py: statements, texts of bases and what is printed of them."""
+"""Runs of `confirm` whose reports were worked out by hand, for test_confirm.py: statements, texts of bases and what is printed of them."""
 from __future__ import annotations
 
 import itertools

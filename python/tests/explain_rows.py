@@ -1,4 +1,4 @@
-"""Runs of `explain` whose reports were worked out by hand, for try_explain.py: statements, evidence and what is printed of them."""
+"""Runs of `explain` whose reports were worked out by hand, for test_explain.py: statements, evidence and what is printed of them."""
 from __future__ import annotations
 
 from itertools import chain

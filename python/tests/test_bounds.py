@@ -1,7 +1,7 @@
 """Tries each bound of docs/FORMATS.md at its last value and at the next one, by check.py and, where it is built, by opprove.
 
 check.py has no bounds on numbers and on sums of rows: there it has to take the next value, which opprove refuses. The bounds
-of models are in the table of try_models.py.
+of models are in the table of test_models.py.
 """
 from __future__ import annotations
 
@@ -10,7 +10,7 @@ import sys
 from pathlib import Path
 from typing import Callable, Iterator, List, NamedTuple, Optional, Tuple
 
-from trying import PROGRAM, checker, need, run
+from trying import PROGRAM, checker, main, need, run
 
 MOST = 2**127 - 1  # of coefficients
 ACCEPTED = "# block 1 accepted claim 1 denominator 1"
@@ -228,3 +228,6 @@ def bounds(folder: Path) -> str:
 
 
 CHECKS: List[Callable[[Path], str]] = [bounds]
+
+if __name__ == "__main__":
+    sys.exit(main(CHECKS))

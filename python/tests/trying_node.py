@@ -1,4 +1,4 @@
-"""check.js under node, for the try_*.py: in one process, asked of the files that the other programs are asked of."""
+"""check.js under node, for the tests: in one process, asked of the files that the other programs are asked of."""
 from __future__ import annotations
 
 import atexit

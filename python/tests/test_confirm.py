@@ -1,7 +1,6 @@
-#!/usr/bin/env -S PYTHONPATH=python/src python3
-"""Tries confirm.py: try_confirm.py
+"""Tries confirm.py: test_confirm.py
 
-The reports that try_confirm_rows.py has are asked of confirm.py, and with them go changed bases, those of random statements while
+The reports that confirm_rows.py has are asked of confirm.py, and with them go changed bases, those of random statements while
 these are completed, and the reports of `prove` on the examples. Where opprove is built and has `confirm`, or the variable OPPROVE
 names such a program, it prints the same bytes; so does plain.rs, of bases that are closed, where rustc is.
 """
@@ -16,13 +15,13 @@ from typing import Callable, Dict, Iterator, List
 
 sys.dont_write_bytecode = True
 from opprove.checkers import confirm
-import try_confirm_rows
+import confirm_rows
 from opprove.checkers.check import Problem, Refusal
 from opprove.checkers.confirm import Bases, Order, Poly, Rules, as_texts, gcd_of, text_of
-from measuring import OPPROVE
 from opprove.checkers.check import DONE
-from trying import Answer, Skipped, decided, need, run
-from trying_second import UNREAD_EVIDENCE, Files, Second, files_in, main
+from trying import PROGRAM as OPPROVE
+from trying import Answer, Skipped, decided, main, need, run
+from trying_second import UNREAD_EVIDENCE, Files, Second, files_in
 
 COUNT = 40  # random statements
 SMALL = 2**10  # bytes of a row that is changed
@@ -43,7 +42,7 @@ def confirmed(files: Files) -> Answer:
 # ---- What is tried
 
 
-def basis_of(row: try_confirm_rows.Run, files: Files) -> str:
+def basis_of(row: confirm_rows.Run, files: Files) -> str:
     """That of a row: where opprove is there, the report of its own run."""
     if not row.is_proved or not os.access(OPPROVE, os.X_OK):
         return row.basis
@@ -54,7 +53,7 @@ def basis_of(row: try_confirm_rows.Run, files: Files) -> str:
 
 def rows(folder: Path) -> str:
     """The reports that were worked out by hand."""
-    files, found = files_in(folder), try_confirm_rows.runs()
+    files, found = files_in(folder), confirm_rows.runs()
     for row in found:
         files.write(row.statement, row.basis)
         files.write(row.statement, basis_of(row, files))
@@ -64,7 +63,7 @@ def rows(folder: Path) -> str:
 
 
 def calls(folder: Path) -> str:
-    return SECOND.calls(folder, try_confirm_rows.P, try_confirm_rows.GOOD, ["--workers", 2])
+    return SECOND.calls(folder, confirm_rows.P, confirm_rows.GOOD, ["--workers", 2])
 
 
 def changed(text: str, letters: List[str]) -> Iterator[str]:
@@ -90,7 +89,7 @@ def changed(text: str, letters: List[str]) -> Iterator[str]:
 def changes(folder: Path) -> str:
     """Changed bases of the rows."""
     files, count, closed = files_in(folder), 0, 0
-    for row in try_confirm_rows.rows_of_judgements() + try_confirm_rows.rows_of_reports():
+    for row in confirm_rows.rows_of_judgements() + confirm_rows.rows_of_reports():
         if row.status == 0 and len(row.basis) < SMALL:
             files.write(row.statement, row.basis)
             for text in changed(row.basis, Problem(str(files.statement)).names):
@@ -200,13 +199,13 @@ def random_bases(folder: Path, count: int = COUNT) -> str:
 def read_back(folder: Path) -> str:
     """Polynomials that are written and read."""
     files, random, count = Files(folder, None), Random(3), 0
-    files.write(try_confirm_rows.L, "")
+    files.write(confirm_rows.L, "")
     problem = Problem(str(files.statement))
     letters = [chr(confirm.FIRST - letter) for letter in range(len(problem.names))]
     for _ in range(500):
         words = {"".join(random.choice(letters) for _ in range(random.randrange(1, 5))) for _ in range(random.randrange(6))}
         poly = {word: random.choice([1, -1, 2, -7, 2**127 - 1]) for word in words}
-        files.write(try_confirm_rows.L, f"basis 1\nclaim 1\nrest {text_of(problem, poly)}\nend\n")
+        files.write(confirm_rows.L, f"basis 1\nclaim 1\nrest {text_of(problem, poly)}\nend\n")
         (basis,) = Bases(problem, str(files.evidence)).bases
         need(basis.rest == poly, (poly, basis))
         count += 1

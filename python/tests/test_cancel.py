@@ -1,7 +1,6 @@
-#!/usr/bin/env -S PYTHONPATH=python/src python3
-"""Tries cancel.py, and to_chain.py on proofs that take letters off: try_cancel.py
+"""Tries cancel.py, and to_chain.py on proofs that take letters off: test_cancel.py
 
-The reports that try_cancel_rows.py has are asked of cancel.py, and with them go the proofs of the gallery, random proofs and changed
+The reports that cancel_rows.py has are asked of cancel.py, and with them go the proofs of the gallery, random proofs and changed
 ones; check.py has to answer by the same line where no number is too large. Where opprove is built and has `cancel`, or the variable
 OPPROVE names such a program, it prints the same bytes; so does plain.rs, of proofs that it reads, where rustc is.
 """
@@ -16,12 +15,13 @@ from typing import Callable, Dict, Iterator, List, Tuple
 sys.dont_write_bytecode = True
 from opprove.checkers import cancel
 from opprove.translations import chain as to_chain
-import try_cancel_rows
-import try_chains
+import cancel_rows
+import test_chains
 from opprove.checkers.check import Problem
 from opprove.checkers.check import DONE, REFUSED
-from trying import EXAMPLES, Answer, checker, need, run, tool
-from trying_second import Files, Second, files_in, main
+from trying import PROGRAM as OPPROVE
+from trying import Answer, EXAMPLES, checker, main, need, run, tool
+from trying_second import Files, Second, files_in
 
 COUNT = 60  # random proofs
 LARGE = 2**16  # bytes of a text that is asked of other scripts
@@ -38,7 +38,7 @@ def cancelled(files: Files) -> Answer:
 
 def rows(folder: Path) -> str:
     """The reports that were worked out by hand."""
-    files, found = files_in(folder), try_cancel_rows.runs()
+    files, found = files_in(folder), cancel_rows.runs()
     for row in found:
         files.write(row.statement, row.proof)
         answer = cancelled(files)
@@ -49,10 +49,10 @@ def rows(folder: Path) -> str:
 def told(files: Files) -> int:
     """Fails unless to_chain.py writes text that is read back, and the same proofs. Gives the number of proofs."""
     words, problem = [str(files.statement), str(files.evidence)], Problem(str(files.statement))
-    found = list(try_chains.groups_of(try_chains.written(files.statement, files.evidence)))
+    found = list(test_chains.groups_of(test_chains.written(files.statement, files.evidence)))
     for groups in found:
-        try_chains.read_proof(problem, groups)
-    report, text = cancelled(files), "\n".join(try_chains.written(files.statement, files.evidence, "certificate")) + "\n"
+        test_chains.read_proof(problem, groups)
+    report, text = cancelled(files), "\n".join(test_chains.written(files.statement, files.evidence, "certificate")) + "\n"
     files.evidence.write_text(text, encoding="utf-8")
     need(cancelled(files) == report, (text, report))
     return len(found)
@@ -61,17 +61,17 @@ def told(files: Files) -> int:
 def chains(folder: Path) -> str:
     """What to_chain.py makes of the rows and the gallery."""
     files, count = Files(folder, None), 0
-    cases = [(row.statement, row.proof) for row in try_cancel_rows.runs() if " refused " not in row.report and len(row.proof) < LARGE]
+    cases = [(row.statement, row.proof) for row in cancel_rows.runs() if " refused " not in row.report and len(row.proof) < LARGE]
     for evidence in sorted(EXAMPLES.glob("gallery/*.cert")):
         cases.append((evidence.with_suffix(".op").read_text("utf-8"), evidence.read_text("utf-8")))
     for statement, proof in cases:
         if len(statement) < LARGE and "m200" not in statement:
             files.write(statement, proof)
             count += told(files)
-    files.write(try_cancel_rows.J, try_cancel_rows.proof(try_cancel_rows.J1))
+    files.write(cancel_rows.J, cancel_rows.proof(cancel_rows.J1))
     answer = run(*tool("chain"), files.statement, files.evidence)
     need(answer == Answer(0, TEXT, ""), answer)
-    files.write(try_cancel_rows.J, try_cancel_rows.proof(try_cancel_rows.edited(try_cancel_rows.J1, "monic k =>")))
+    files.write(cancel_rows.J, cancel_rows.proof(cancel_rows.edited(cancel_rows.J1, "monic k =>")))
     answer = run(*tool("chain"), files.statement, files.evidence)
     need(answer == Answer(7, "", "# block 1 refused X2 item 3\n"), answer)
     return f"{count} proofs that take letters off are written as chains and read back"
@@ -98,13 +98,13 @@ Proof
 
 
 def calls(folder: Path) -> str:
-    return SECOND.calls(folder, try_cancel_rows.J, try_cancel_rows.proof(try_cancel_rows.J1), ["--workers", 2])
+    return SECOND.calls(folder, cancel_rows.J, cancel_rows.proof(cancel_rows.J1), ["--workers", 2])
 
 
 def others(folder: Path) -> str:
     """What other scripts make of the text: check.py checks it, and explain.py, confirm.py and check_model.py read others."""
     files = Files(folder, None)
-    files.write(try_cancel_rows.J, try_cancel_rows.proof(try_cancel_rows.J1))
+    files.write(cancel_rows.J, cancel_rows.proof(cancel_rows.J1))
     want = {"check": (0, "# block 1 accepted claim 1 denominator 1 monic m k\n"), "confirm": (7, "# refused K7\n")}
     for name, status in (("check", 0), ("explain", 7), ("confirm", 7), ("check_model", 7)):
         answer = run(*checker(name), files.statement, files.evidence)
@@ -149,7 +149,7 @@ def changed(text: str, letters: List[str]) -> Iterator[str]:
 def changes(folder: Path) -> str:
     """Changed proofs of the rows that are accepted."""
     files, count, accepted = files_in(folder), 0, 0
-    for row in [row for row in try_cancel_rows.runs() if " refused " not in row.report and len(row.proof) < 400][::3]:
+    for row in [row for row in cancel_rows.runs() if " refused " not in row.report and len(row.proof) < 400][::3]:
         files.write(row.statement, row.proof)
         letters = Problem(str(files.statement)).names
         for text in list(changed(row.proof, letters))[::2]:
