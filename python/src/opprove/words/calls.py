@@ -144,7 +144,7 @@ def call_of(words: List[str]) -> Call:
 
 
 def option_fault(call: Call, word: str, rest: List[str]) -> str:
-    """Takes an option, and its value from the words behind it, and says what is wrong."""
+    """Takes an option, and its value from the words after it, and says what is wrong."""
     command = COMMANDS[call.command]
     name, equals, value = word.partition("=")
     known = command.options + command.flags
@@ -159,7 +159,7 @@ def option_fault(call: Call, word: str, rest: List[str]) -> str:
         call.options[name] = ""
         return f"{name} takes no value" if equals else ""
     if not equals and not rest:
-        return f"{name} has no number behind it"
+        return f"{name} has no number after it"
     value = value if equals else rest.pop(0)
     call.options[name] = value
     return number_fault(name, value, OPTIONS[name])

@@ -167,7 +167,7 @@ def detail(fault: Fault, entry: Entry) -> Tuple[int, str]:
     if words[0] == "row":
         for place in letters_of(words):
             if not is_letter(words[place]):
-                return place, f": `{short(words[place], 30)}` is no letter, which is a name, [NAME], or one of them with ' behind it"
+                return place, f": `{short(words[place], 30)}` is no letter, which is a name, [NAME], or one of them with ' after it"
     if words[0] in ("rule", "rest"):
         return polynomial_detail(fault, words)
     if words[0] in ("monic", "epic", "cancel"):
@@ -190,7 +190,7 @@ def letter_detail(fault: Fault, entry: Entry) -> Tuple[int, str]:
     """A letter that isn't one of a map, or that has such a line already."""
     words, place = entry.words, letter_place(entry.words)
     if len(words) > place and (words[place][0] == "[" or not is_letter(words[place])):
-        return place, f": `{short(words[place], 30)}` is no map or adjoint, which is a name, or one with ' behind it"
+        return place, f": `{short(words[place], 30)}` is no map or adjoint, which is a name, or one with ' after it"
     numbers = fault.problem().numbers if words[0] != "cancel" else {}
     letter = numbers.get(words[place]) if len(words) == 2 else None
     earlier = [it.line for it in fault.text.of_block(entry.block, words[0]) if it.line < entry.line and numbers.get(it.words[-1]) == letter]
@@ -208,7 +208,7 @@ def polynomial_detail(fault: Fault, words: List[str]) -> Tuple[int, str]:
     for place in range(begins, len(words) + 1):
         if place < len(words) and words[place] not in ("+", "-"):
             if not is_number(words[place]) and not confirm.is_written(words[place]):
-                return place, f": `{short(words[place], 30)}` is no letter as it is written, which is a name, a name with ' behind it, or [NAME]"
+                return place, f": `{short(words[place], 30)}` is no letter as it is written, which is a name, a name with ' after it, or [NAME]"
             if is_number(words[place]) and (place > begins or words[place].lstrip("0") in ("", "1")):
                 return place, f": `{short(words[place], 30)}` stands here, and a number is above 1, in front of its letters alone"
             continue
@@ -314,7 +314,7 @@ def polynomial_limit(fault: Fault, entry: Entry, most: int) -> Told:
 def unended(fault: Fault) -> Told:
     last = fault.text.entries[-1]
     line = fault.text.quote(last.begins)
-    return Told("the text ends inside the block that begins here: the line `end` behind it is missing", line)
+    return Told("the text ends inside the block that begins here: the line `end` after it is missing", line)
 
 
 def none_there(fault: Fault) -> Told:
@@ -379,16 +379,16 @@ def has_lemmas(fault: Fault) -> Told:
 
 def chain_overflow(fault: Fault) -> Told:
     operation = re.search("-?[0-9]+ (times|plus) -?[0-9]+", fault.rest).group()  # type: ignore[union-attr]
-    return fault.told(f"in the line behind row {fault.number('row')} {operation} leaves ±(2^127 - 1); {OTHER_ORDER}", fault.row())
+    return fault.told(f"in the line after row {fault.number('row')} {operation} leaves ±(2^127 - 1); {OTHER_ORDER}", fault.row())
 
 
 def chain_size(fault: Fault) -> Told:
-    told = f"row {fault.number('row')} has a word of more than 500 letters, or the line behind it has more than 20,000 terms"
+    told = f"row {fault.number('row')} has a word of more than 500 letters, or the line after it has more than 20,000 terms"
     return fault.told(f"{told}; {OTHER_ORDER}", fault.row())
 
 
 def chain_letters(fault: Fault) -> Told:
-    told = f"the lines up to that behind row {fault.number('row')} have more than 10,000,000 letters"
+    told = f"the lines up to that after row {fault.number('row')} have more than 10,000,000 letters"
     return fault.told(f"{told}; {OTHER_ORDER}", fault.row())
 
 
@@ -661,7 +661,7 @@ def no_item(fault: Fault) -> Told:
 
 def not_declared(fault: Fault) -> Told:
     entry = item_entry(fault)
-    letter, (where, word, other) = entry.words[2], (("in front", "monic", "epic") if entry.words[3] == "left" else ("behind", "epic", "monic"))
+    letter, (where, word, other) = entry.words[2], (("in front", "monic", "epic") if entry.words[3] == "left" else ("at the end", "epic", "monic"))
     numbers = fault.problem().numbers
     has_other = any(numbers.get(it.words[1]) == numbers[letter] for it in fault.text.of_block(fault.block, other))
     more = f"; `{other}` says it of the other side" if has_other else ""
@@ -725,7 +725,7 @@ RULES = {  # the rule alone, for where no more can be told
     "B6": "the rules reduce the claim to zero",
     "B7": "a reduction stops at a limit",
     "X1": "a letter is taken off what is no earlier item",
-    "X2": "a letter is taken off in front that has no line `monic`, or behind that has no line `epic`",
+    "X2": "a letter is taken off in front that has no line `monic`, or at the end that has no line `epic`",
     "X3": "a letter is taken off an item whose words aren't all maps with the same ends",
     "X4": "a word doesn't begin or end with the letter that is taken off, or is that letter alone",
 }

@@ -20,7 +20,7 @@ class Quote(NamedTuple):
 
 
 class Told(NamedTuple):
-    """What is told: a line of a file where there is one, a sentence, and paragraphs behind it."""
+    """What is told: a line of a file where there is one, a sentence, and paragraphs after it."""
 
     sentence: str
     quote: Optional[Quote] = None

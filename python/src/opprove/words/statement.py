@@ -47,7 +47,7 @@ class Statement:
         return Quote(self.path, line, self.texts[line - 1], column) if 1 <= line <= len(self.texts) else None
 
     def tokens(self, line: int) -> List[Token]:
-        """The tokens of a line with an "end" behind them; none where check.py reads none."""
+        """The tokens of a line with an "end" after them; none where check.py reads none."""
         try:
             return tokens_of(self.texts[line - 1], line, self.language)
         except (Refusal, IndexError):
@@ -225,7 +225,7 @@ def first_word(token: Token, found: str, language: int) -> str:
 
 
 def hint(tokens: List[Token], place: int, word: str, wanted: str) -> str:
-    """What may be meant, in words behind the sentence."""
+    """What may be meant, in words after the sentence."""
     before, token = tokens[place - 1], tokens[place]
     if before.kind == "^":
         return ": an exponent is from 1 to 500, and an inverse is a map of its own, which `inverse a x` declares to be one"
@@ -343,7 +343,7 @@ def primary_end(tokens: List[Token], place: int) -> int:
 
 
 def factor_end(tokens: List[Token], place: int) -> int:
-    """The same, with the marks behind it."""
+    """The same, with the marks after it."""
     end = primary_end(tokens, place)
     while tokens[end].kind in ("'", "^"):
         end += 1 if tokens[end].kind == "'" else 2
@@ -380,7 +380,7 @@ def composed(fault: Fault) -> str:
         return f"{base}^{tokens[place + 1].text}: a power asks for a map from one object to itself, and {base} goes {leads(left)}"
     start = term_start(tokens, place)
     front, factor = fault.text(start, place), fault.text(place, factor_end(tokens, place))
-    goes = f"{front} goes {leads(left)}, so the one behind it has to end at {left[0]}, and {factor} ends at {right[1]}"
+    goes = f"{front} goes {leads(left)}, so the one after it has to end at {left[0]}, and {factor} ends at {right[1]}"
     return f"{short(f'{front} {factor}')}: {goes}"
 
 
@@ -463,7 +463,7 @@ RULES = {  # the rule alone, for where no more can be told
     "S7": "a name is declared once; a file has one line `order` or `eliminate`; and a name stands once in these, `solve` or `model`",
     "S8": "a file has at most 64 objects, 200 maps (1,000 in language 2), 500 assumptions, 100 claims and 16 shapes",
     "S9": "a map that is its own adjoint has one object at both ends",
-    "S10": "in a product, and so in a power, the source of each part is the target of the one behind it",
+    "S10": "in a product, and so in a power, the source of each part is the target of the one after it",
     "S11": "the terms of a sum, and both sides of an equation, have one source and one target",
     "S12": "a 0 alone has no source and target of its own, and can't be a factor or the base of a power, or stand on both sides",
     "S13": "a coefficient leaves ±(2^127 - 1)",
