@@ -19,7 +19,7 @@ from typing import Callable, Dict, List, NamedTuple
 from opprove import cli
 from trying import EXAMPLES, PROGRAM, SOURCE, TOP, Skipped, installed, need, run, tool
 
-GUIDE = TOP / "docs" / "GUIDE.md"
+GUIDE, README = TOP / "docs" / "GUIDE.md", TOP / "README.md"
 TOOLS = "|".join(tool.word for tool in cli.TOOLS)
 ASKING = "|".join(tool.word for tool in cli.TOOLS if tool.asks)  # tools that run the program
 
@@ -118,4 +118,38 @@ def coq(folder: Path) -> str:
     return "the theorem of the guide is accepted by coqc"
 
 
-CHECKS: List[Callable[[Path], str]] = [alone, built, coq]
+def readme(folder: Path) -> str:
+    """The commands of README, whose statement is an example."""
+    if not os.access(PROGRAM, os.X_OK):
+        raise Skipped("opprove is not built, and the commands of README are not run")
+    blocks = re.findall(r"^```\n(.*?)^```$", README.read_text(encoding="utf-8"), re.MULTILINE | re.DOTALL)
+    statement = (EXAMPLES / "pseudoinverses.op").read_text(encoding="utf-8")
+    need(blocks[0] in statement, "the statement of README")
+    place = Path(tempfile.mkdtemp(dir=folder))
+    (place / "examples").symlink_to(EXAMPLES)
+    parts = [part.partition("\n") for block in blocks if block[:2] == "$ " for part in re.split(r"^\$ ", block, flags=re.MULTILINE)[1:]]
+    for line, _, shown in parts:
+        answer = run("bash", "-c", as_run(line), folder=place)
+        need(answer.out == shown and not answer.error, (line, answer))
+    need(len(parts) == 2, parts)
+    return f"{len(parts)} commands of README print what stands there"
+
+
+def table(folder: Path) -> str:
+    """Each call of the table of tools runs, and each tool is in the table; serve, which doesn't end, has trials of its own."""
+    calls = re.findall(r"^\|.*\| `(.*)` \|$", (TOP / "docs" / "TOOLS.md").read_text(encoding="utf-8"), re.MULTILINE)
+    words = {call.split()[1] for call in calls}
+    need(words == {it.word for it in cli.TOOLS}, words ^ {it.word for it in cli.TOOLS})
+    if not os.access(PROGRAM, os.X_OK):
+        raise Skipped("opprove is not built, and the calls of the table of tools are not made")
+    place = Path(tempfile.mkdtemp(dir=folder))
+    for name in ("examples", "library"):
+        shutil.copytree(TOP / name, place / name)
+    for call in calls:
+        if call != "./opprove serve":
+            answer = run("bash", "-c", as_run(call), folder=place, seconds=300)
+            need(answer.status in (0, 10, 11, 12, 13) and answer.out != "" and "Traceback" not in answer.error, (call, answer))
+    return f"{len(calls)} calls of the table of tools are made as they stand there"
+
+
+CHECKS: List[Callable[[Path], str]] = [alone, built, coq, readme, table]
