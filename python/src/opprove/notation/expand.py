@@ -71,8 +71,8 @@ def write(path: str, text: str) -> None:
 
 
 def as_statement(text: bytes) -> bytes:
-    """The statement that a text is, where its first word is `object` or `language`, or else stands for in the notation, without files that it
-    uses. Raises a `Refusal`."""
+    """The statement that a text is, where its first word is `object` or `language`, or else stands for in the notation, where it uses no
+    files. Raises a `Refusal`."""
     first = re.search(rb"^[ \t]*([^\s#]+)", text, re.MULTILINE)
     if first and first.group(1) in (b"object", b"language"):
         return text

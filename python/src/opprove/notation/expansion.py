@@ -309,7 +309,8 @@ class Statement:
     def heading(self) -> List[List[Piece]]:
         """The comments that stand in front of everything, and the language."""
         notes = [entry.text for entry in self.entries[: self.whole.file.heading] if isinstance(entry, Kept)]
-        return [[(line, None)] for line in [f"{HEAD}{self.whole.stem or 'a text'}{'.opn' * bool(self.whole.stem)}", *(f"#{note}" for note in notes), "language 2"]]
+        name = f"{self.whole.stem}.opn" if self.whole.stem else "a text"
+        return [[(line, None)] for line in [f"{HEAD}{name}", *(f"#{note}" for note in notes), "language 2"]]
 
     def declarations(self) -> List[List[Piece]]:
         """Objects and maps of this statement: a file with one statement has all its maps, and others have those that they use."""
