@@ -22,7 +22,7 @@ ROWS: List[Tuple[str, Union[str, List[str]]]] = [
     ("a : U -> V | pinv a x | claim a x a = a", "object U V | map a : U -> V | map x : V -> U | pinv a x | claim a x a = a"),
     ("language 2 | object V | map a : V -> V | claim a^2 = a a", "object V | map a : V -> V | claim a^2 = a a"),
     ("matrices n over C | a : V -> V | claim a = 0", "# matrices n over C | object V | map a : V -> V | claim a = 0"),
-    ("matrices >= 2 | operators : V -> V | claim operators = 0", "# matrices >= 2 | object V | map operators : V -> V | claim operators = 0"),
+    ("matrices > | operators : V -> V | claim operators = 0", "# matrices > | object V | map operators : V -> V | claim operators = 0"),
     ("operators | a : V -> V | claim a = 0", "# operators | object V | map a : V -> V | claim a = 0"),
     ("# one | a : V -> V # two | claim a = 0 # three", "# one | # two | object V | map a : V -> V | # three | claim a = 0"),
     ("map V : A -> B | pinv V x | map y | claim x = y V y", "object A B | map V : A -> B | map y x : B -> A | pinv V x | claim x = y V y"),

@@ -92,10 +92,11 @@ class Rows(unittest.TestCase):
 
     def test_words_that_are_too_large(self) -> None:
         doubled = "".join(f"let w{n + 1} (a): w{n} (a a) | " for n in range(20))
+        deep = "".join(f"let w{n + 1} (a): w{n} a | " for n in range(400))
         nested = "".join(f"let w{n + 1} (a): w{n} (a + 1) | " for n in range(400))
-        for text in (doubled + "w20 b", nested + "w400 b", nested[: nested.index("let w200 ")] + "w199 b"):
-            self.compare([(f"let w0 (a): a = 0 | b : V -> V | {text} | claim b = 0", f"N12 {text.count('|') + 3} 1")])
-        self.compare([(f"let w0 (a): a = 0 | b : V -> V | {nested[: nested.index('let w90 ')]} w80 b | claim b = 0", "S5 92 1")])
+        for text, want in ((doubled + "w20 b", "N12 23 1"), (deep + "w100 b", "N12 403 1"), (nested + "w65 b", "S5 403 1")):
+            self.compare([(f"let w0 (a): a = 0 | b : V -> V | {text} | claim b = 0", want)])
+        self.compare([(f"let w0 (a): a = 0 | b : V -> V | {deep}w99 b | claim b", "N4 404 7")])
 
     @unittest.skipUnless(os.access(program.path(), os.X_OK), "no program is here")
     def test_the_program_reads_expansions(self) -> None:

@@ -10,13 +10,13 @@ from opprove.checkers import check
 from opprove.checkers.check import Refusal, Token
 from opprove.notation.ends import Ends
 from opprove.notation.parts import Cases, Claim, Definition, Equation, Given, Item, Kept, Mark, Node, Use, fault
-from opprove.notation.reader import ROMAN, Reader
+from opprove.notation.reader import NESTED, ROMAN, Reader
 
 Piece = Tuple[str, Optional[Token]]  # of a line that is written, and the token of the file that it stands for
 NATIVE = {"pinv": 2, "inverse": 2, "inner": 2, "projection": 1}  # the words of the language, with the number of their maps
 OBJECTS = "V W U X Y Z".split()  # the first names that are made for objects
 HEAD = "# expanded from "  # how each statement begins
-SIZE = 100000  # parts of expressions that all words together stand for
+SIZE, LEVELS = 100000, 100  # parts of expressions that all words together stand for, and words of words
 
 
 class Fact(NamedTuple):
@@ -52,6 +52,11 @@ def nodes(node: Node) -> Iterator[Node]:
         yield from nodes(part)
 
 
+def depth(node: Node) -> int:
+    """How many sums stand in one another."""
+    return (node.kind == "sum") + max(map(depth, node.parts), default=0)
+
+
 class Expansion:
     """Statements of a file. `made` are the names that are in no file, each with the token that asked for it."""
 
@@ -59,7 +64,7 @@ class Expansion:
         """Of the file at a path, or of a text that is to be read as if it stood there."""
         self.file = Reader(path, source).read()
         self.stem = os.path.splitext(os.path.basename(path))[0]
-        self.names, self.size = set(self.file.names), 0
+        self.names, self.size, self.level = set(self.file.names), 0, 0
         self.made: Dict[str, Token] = {}
         self.maps: Dict[str, Token] = {}  # in the order in which they stand in statements
         self.entries = [part for entry in self.file.entries for part in self.parts(entry)]
@@ -71,10 +76,7 @@ class Expansion:
         self.facts: Dict[int, List[Fact]] = {}  # by the item
         self.ends = Ends()
         for item in (item for entry in self.entries for item in self.items(entry)):
-            try:
-                self.facts[id(item)] = self.facts_of(item)
-            except RecursionError:
-                raise fault("N12", item.token) from None
+            self.facts[id(item)] = self.facts_of(item)
         self.find_ends()
 
     # ---- Names
@@ -151,14 +153,19 @@ class Expansion:
         lists: Sequence[Sequence[Node]] = [arguments]
         if use.word.is_many:
             lists = list(combinations(arguments, len(parameters)))
-        return [fact for given in lists for fact in self.applied_once(use, dict(zip(parameters, given)))]
+        self.level += 1
+        if self.level > LEVELS:
+            raise fault("N12", use.token)
+        found = [fact for given in lists for fact in self.applied_once(use, dict(zip(parameters, given)))]
+        self.level -= 1
+        return found
 
     def applied_once(self, use: Use, given: Dict[str, Node]) -> List[Fact]:
         local: Dict[str, Node] = {}
         found: List[Fact] = []
         for item in use.word.items:
             if isinstance(item, Equation):
-                sides = [self.put(side, given, local, use.token) for side in item.sides]
+                sides = [self.put_side(side, given, local, use.token) for side in item.sides]
                 found += [Fact(use.token, [Equation(use.token, list(pair))]) for pair in zip(sides, sides[1:])]
             else:
                 arguments = [self.put_argument(argument, given, local, use.token) for argument in item.arguments]
@@ -191,7 +198,14 @@ class Expansion:
     def put_argument(self, node: Node, given: Dict[str, Node], local: Dict[str, Node], token: Token) -> Node:
         """An argument of a word in the equations of a word, which may be a literal."""
         value = given.get(node.text) if node.kind == "map" else node
-        return value if value and value.kind == "number" else self.put(node, given, local, token)
+        return value if value and value.kind == "number" else self.put_side(node, given, local, token)
+
+    def put_side(self, node: Node, given: Dict[str, Node], local: Dict[str, Node], token: Token) -> Node:
+        """An expression of an equation of a word; refused where it nests too many brackets."""
+        value = self.put(node, given, local, token)
+        if depth(value) > NESTED + 1:
+            raise fault("S5", token)
+        return value
 
     def spliced(self, part: Node) -> Sequence[Node]:
         """The factors of a bracket that is a product and no more."""
@@ -227,10 +241,7 @@ class Expansion:
             if isinstance(entry, Definition):
                 ends.equal("S11", entry.value.token, ends.maps[entry.name.text], ends.value(entry.value))
             for equation in (each for item in self.items(entry) for fact in self.facts[id(item)] for each in fact.equations):
-                try:
-                    ends.equation(equation.sides)
-                except RecursionError:
-                    raise fault("N12", equation.token) from None
+                ends.equation(equation.sides)
         for name, token in self.maps.items():
             for end in ends.maps[name]:
                 if ends.of(end) not in ends.names:
