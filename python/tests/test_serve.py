@@ -147,6 +147,17 @@ class Runs(Served):
         self.assertIn("<svg", shown)
         self.assertNotIn("<script", self.told("look", {"statement": "# <script>\n" + INVERSES})["shown"])
 
+    def test_texts_of_the_notation(self) -> None:
+        text = "pinv a x\nnormal a\nclaim a x = x a\n"
+        self.assertIn("<svg", self.told("look", {"statement": text})["shown"])
+        found = self.told("look", {"statement": text + "claim a y = 0\n"})["fault"]
+        self.assertEqual((found["line"], found["column"], found["told"][:4]), (4, 9, "S6: "))
+        self.assertEqual(self.told("look", {"statement": "a : V -> V\n"})["fault"]["told"][:5], "S15: ")
+        self.assertEqual(self.ended(self.told("prove", {"statement": text, **BUDGETS, "models": True})["run"])["status"], 0)
+        path = urlsplit(self.address).path
+        status, body = self.ask("POST", path + "prove", {"statement": "use words.opn\nclaim a = 0\n", **BUDGETS, "models": True})
+        self.assertEqual((status, body[:13]), (422, b"# refused N1 "))
+
     def test_prove_and_its_page(self) -> None:
         state = self.ended(self.told("prove", {"statement": INVERSES, **BUDGETS, "models": True})["run"])
         self.assertEqual((state["status"], state["ended"]), (10, ""))

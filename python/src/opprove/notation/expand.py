@@ -70,11 +70,15 @@ def write(path: str, text: str) -> None:
         raise Refusal(f"# not written {path}: {error.strerror}") from None
 
 
-def as_statement(text: bytes) -> bytes:
-    """The statement that a text is, where its first word is `object` or `language`, or else stands for in the notation, where it uses no
-    files. Raises a `Refusal`."""
+def is_statement(text: bytes) -> bool:
+    """Whether the first word of a text is `object` or `language`, so that it is read as a statement and not in the notation."""
     first = re.search(rb"^[ \t]*([^\s#]+)", text, re.MULTILINE)
-    if first and first.group(1) in (b"object", b"language"):
+    return first is not None and first.group(1) in (b"object", b"language")
+
+
+def as_statement(text: bytes) -> bytes:
+    """The statement that a text is, or else stands for in the notation, where it uses no files. Raises a `Refusal`."""
+    if is_statement(text):
         return text
     try:
         found = Expansion("", text).statements()

@@ -1,9 +1,9 @@
 """A page to work in, on this machine alone.
 
 Prints an address, which a browser on this machine opens, and answers there until it is interrupted. A statement is written on the
-left, its first fault is marked as one types, and its quiver is drawn anew; Prove runs the program, Search looks around it, Stop ends
-a run. Of each run time and memory are limited, and there are at most as many as processors. It listens on 127.0.0.1 alone, at a
-random port, and the address has a token: a request without it, with another host name, from another origin, of more than 1 MiB, or
+left, or a text of the notation that stands for one; its first fault is marked as one types, and its quiver is drawn anew; Prove runs
+the program, Search looks around it, Stop ends a run. Of each run time and memory are limited, and there are at most as many as
+processors. It listens on 127.0.0.1 alone, at a random port, and the address has a token: a request without it, with another host name, from another origin, of more than 1 MiB, or
 for anything else than the page asks for is refused. All files are in a temporary folder that goes with it.
 """
 from __future__ import annotations
@@ -22,6 +22,7 @@ from pathlib import Path
 from typing import Any, Callable, Dict, List, NamedTuple, Optional, Tuple
 
 from opprove.checkers.check import DONE, MOST_BYTES, NO_OUTPUT, Refusal, loaded, status_of, written
+from opprove.notation.expand import is_statement
 from opprove.page.page import digest, part
 from opprove.page.running import Call, Limits, Runs
 from opprove.program import path as path_of_program
@@ -96,12 +97,16 @@ class Desk:
 
     def look(self, asked: Dict[str, Any]) -> Answer:
         """The first fault of a statement, or how it looks."""
-        with tempfile.TemporaryDirectory(dir=str(self.folder)) as name:
-            Path(name, "statement.op").write_bytes(statement_of(asked))
-            call = Call([sys.executable, "-m", "opprove.page.looked", "statement.op"], Path(name), self.environment())
-            status, out, _ = self.runs.answer(call, LOOK_SECONDS)
+        status, out, _ = self.asked_of_looked(statement_of(asked))
         trouble = "no memory" if status > 0 else "the statement takes too long to look at"
         return Answer(HTTPStatus.OK, "application/json", out) if status == DONE else data({"trouble": trouble})
+
+    def asked_of_looked(self, text: bytes, *options: str) -> Tuple[int, bytes, bytes]:
+        """The status, output and standard error of a look at a text."""
+        with tempfile.TemporaryDirectory(dir=str(self.folder)) as name:
+            Path(name, "statement.op").write_bytes(text)
+            call = Call([sys.executable, "-m", "opprove.page.looked", *options, "statement.op"], Path(name), self.environment())
+            return self.runs.answer(call, LOOK_SECONDS)
 
     def prove(self, asked: Dict[str, Any]) -> Answer:
         words = [word for name in BUDGETS for word in (f"--{name}", str(number_of(asked, name, *BUDGETS[name])))]
@@ -114,7 +119,12 @@ class Desk:
         return self.start(asked, command, is_talking=True)
 
     def start(self, asked: Dict[str, Any], command: List[str], is_talking: bool = False) -> Answer:
-        number = self.runs.start(statement_of(asked), command, self.environment(), is_talking)
+        text = statement_of(asked)
+        if not is_statement(text):
+            status, text, error = self.asked_of_looked(text, "--expand")
+            if status != DONE:
+                return told(HTTPStatus.UNPROCESSABLE_ENTITY, error.decode("utf-8", "replace").strip() or "it takes too long to expand")
+        number = self.runs.start(text, command, self.environment(), is_talking)
         return BUSY if number is None else data({"run": number})
 
     def stop(self, asked: Dict[str, Any]) -> Answer:

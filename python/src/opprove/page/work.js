@@ -15,7 +15,9 @@
 
   // ---- The editor
 
-  const WORDS = "language object map assume claim pinv inverse inner projection order solve model eliminate".split(" ");
+  const WORDS = ("language object map assume claim pinv inverse inner projection order solve model eliminate "
+    + "define equivalent let use outer reflexive weighted group drazin core dual along bc bott hermitian normal unitary isometry partial ep "
+    + "idempotent commute orthogonal range kernel").split(" ");
   const TOKENS = /(#.*)|([\p{XID_Start}_]\p{XID_Continue}*)|([0-9]+)|([^\s])|(\s+)/gu;
 
   // A line of the statement, in the colours of its tokens, with the fault where it is.
