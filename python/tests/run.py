@@ -16,7 +16,7 @@ from pathlib import Path
 from typing import List
 
 TESTS = Path(__file__).resolve().parent
-QUICK = ["check", "models", "language", "types", "text", "notation", "star"]
+QUICK = ["check", "models", "language", "types", "tools", "text", "notation", "star"]
 
 
 def run(name: str) -> bool:

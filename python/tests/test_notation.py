@@ -22,7 +22,7 @@ from opprove.notation.shorten import Shortener
 
 TOP = os.path.join(os.path.dirname(os.path.abspath(__file__)), "..", "..")
 LIBRARY, FORMATS = os.path.join(TOP, "library"), os.path.join(TOP, "docs", "FORMATS.md")
-ENVIRONMENT = {**os.environ, "PYTHONPATH": os.pathsep.join(sys.path)}
+ENVIRONMENT = {**os.environ, "PYTHONPATH": os.environ.get("PYTHONPATH", "")}
 COUNT = int(os.environ.get("OPPROVE_RANDOM", "100"))  # of random files
 
 

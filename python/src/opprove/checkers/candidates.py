@@ -7,6 +7,7 @@ makes all assumptions zero and not the claim, or that none does: the report of `
 
 It is written from docs/FORMATS.md and shares nothing with opprove. Statements are read by check.py, with the limits that
 it doesn't look at.
+A referee reads 1,133 lines: this file, check.py, check_model.py and tree.py, and no other but Python's own library.
 """
 from __future__ import annotations
 
@@ -188,7 +189,7 @@ def report(statement: Source, seed: int) -> Tuple[List[str], int]:
 
 def main(words: List[str]) -> int:
     """Writes the report, and gives the status."""
-    parser = argparse.ArgumentParser(description="A second search for models")
+    parser = argparse.ArgumentParser(prog="candidates", description="A second search for models")
     parser.add_argument("statement")
     parser.add_argument("--seed", type=int, default=1, help="from 0 to 2^64 - 1; 1 if left out")
     options = parser.parse_args(words)

@@ -9,6 +9,7 @@ the statement, 4 where a file can't be loaded, 7 for a fault of the evidence or 
 It is written from docs/FORMATS.md and shares nothing with opprove; codes and places are those of that page. It reads both
 languages of statements. Numbers and sums of rows have any size: S4, S13, K4, C4, C5, C9 and C11 are not looked at. Names
 follow this Python's version of Unicode. A text that begins with a `cancellation` is checked by cancel.py, beside this file.
+A referee reads 600 lines, which are this file, and no other but Python's own library.
 """
 from __future__ import annotations
 

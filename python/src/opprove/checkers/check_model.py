@@ -9,6 +9,7 @@ and is computed with exactly.
 
 It is written from docs/FORMATS.md and shares nothing with opprove; codes and places are those of that page. Statements
 are read by check.py, with the limits that it doesn't look at; those of models are all looked at.
+A referee reads 824 lines: this file and check.py, and no other but Python's own library.
 """
 from __future__ import annotations
 

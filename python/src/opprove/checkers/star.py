@@ -7,6 +7,7 @@ squares, which holds where it is positive (r1' r1 + .. + rn' rn = 0 gives r1 = 0
 and what it takes for granted: `positive` or `proper`, and the letters that it calls monic and epic; or the first thing that is
 wrong ends the report. No command of the program reads such proofs. The form, the tests and their codes stand in docs/FORMATS.md,
 and the statuses are those of `cancel`.
+A referee reads 1,298 lines: this file, cancel.py, check.py and chain_text.py, and no other but Python's own library.
 """
 from __future__ import annotations
 
