@@ -152,6 +152,19 @@ class Pages(Shown):
         for words in ("undecided", "as many overlaps and inclusions of leading words are treated as --pairs says, 2", "below b a b."):
             self.assertIn(words, told)
 
+    def test_evidence_that_the_checker_does_not_read(self) -> None:
+        squares = "object U V W\nmap a : U -> V\nmap b : U -> W\nassume 2 a' a + b' b = 0\nclaim a = 0\n"
+        proof = "star proof 1\nclaim 1\ndenominator 1\nlemma 1 scale 1\nrow 1 () 1 ()\nroot 2 left 1\nsquare 2 a\nsquare 1 b\ngoal scale 1\n"
+        matrices = "rational model 1\nclaim 1\nside U 2\nside V 1\nmap a = 1/2 0\nmap b = 2 ; -1/3\nend\n"
+        for statement, report, words in (
+            (squares, proof + "row 1 () lemma 2 ()\nend\n", ["an involution that is positive", "[2] a = 0, since [1] is 2 (a)∗ (a) + (b)∗ (b)"]),
+            (INVERSES, matrices, ["matrices of rational numbers", "They differ in row 2, column 1: -1/6 and 0."]),
+        ):
+            self.show(self.page(statement, report))
+            self.assertEqual([kind for kind, _ in self.checks()], ["check"])
+            for said in ["whose checker doesn’t read evidence of this kind", *words]:
+                self.assertIn(said, self.browser.run("return document.querySelector('.claim').textContent"))
+
     def test_several_reports(self) -> None:
         self.show(self.page(RULES, BASIS, BASIS.replace("claim 1", "claim 3").replace("h g\nend", "- h g + h f\nend"), UNDECIDED.replace("1 ", "2 ", 1)))
         self.all_right(2)

@@ -17,7 +17,8 @@ from opprove.translations.latex import GREEK
 GREEK_SIGNS = dict(zip(GREEK, "αβγδεζηθικλμνξπρστυφχψωΓΔΘΛΞΠΣΥΦΨΩ"))
 TERMS_IN_ONE = 3  # a longer formula is broken where the window ends
 MARKED = ' class="lit"'
-EQUALS = '<mo form="infix">=</mo>'
+SPACED = 'form="infix" lspace="{0}" rspace="{0}"'  # of a sign, even where it begins a formula that is broken
+EQUALS = f"<mo {SPACED.format('0.28em')}>=</mo>"
 CAME, GOES = 1, 2  # of a letter: the last step put it there; the next one takes it
 Marks = Callable[[Word], Sequence[int]]  # of the letters of a word, what of both is so of them
 
@@ -45,7 +46,8 @@ def name_in_mathml(base: str, index: str) -> str:
 
 def sign_in_mathml(sign: str, is_first: bool) -> str:
     """In front of all a + is left out."""
-    shown = f'<mo form="{"prefix" if is_first else "infix"}">{"−" if sign == "-" else "+"}</mo>'
+    form = 'form="prefix"' if is_first else SPACED.format("0.22em")
+    shown = f"<mo {form}>{'−' if sign == '-' else '+'}</mo>"
     return "" if is_first and sign == "+" else shown
 
 

@@ -15,12 +15,12 @@ from html import escape
 from pathlib import Path
 from typing import Callable, Dict, Iterator, List, NamedTuple, Sequence, Tuple
 
-from opprove.checkers import cancel, check_model, confirm
+from opprove.checkers import cancel, check_model, confirm, star
 from opprove.checkers.chain_text import Lines
 from opprove.checkers.check import MOST_BYTES, Evidence, Problem, Signature, judge, loaded
 from opprove.page import meanings
 from opprove.page.formulas import HTML, MATHML, Writer, equation, math
-from opprove.page.proofs import ProofWriter
+from opprove.page.proofs import ProofWriter, StarWriter
 from opprove.page.refutations import BasisWriter, ModelWriter
 from opprove.text import EvidenceText
 from opprove.tool import ended, parser
@@ -29,7 +29,9 @@ from opprove.translations.picture import STYLE, picture_of, svg
 from opprove.words.outcomes import outcomes
 
 HERE = Path(__file__).parent
-KINDS = {"certificate": "check", "model": "model", "basis": "confirm", "cancellation": "cancel"}  # the commands that read blocks
+# What reads blocks: a command of the program, or a second program.
+KINDS = {"certificate": "check", "model": "model", "basis": "confirm", "cancellation": "cancel", "star": "star", "rational": "rational"}
+COMMANDS = ("check", "model", "confirm", "cancel")  # those that check.js has too
 OPEN_LINES = 40  # a longer text of a statement is folded
 
 
@@ -51,7 +53,7 @@ class Piece(NamedTuple):
 def pieces_of(reader: Reader, number: int, report: bytes) -> Iterator[Piece]:
     """Those of a report with this number, from 0. All of its evidence has to be right."""
     readers: Dict[str, Callable[[Reader, int, bytes], Iterator[Piece]]] = {
-        "check": certificates, "model": models, "confirm": bases, "cancel": cancellations,
+        "check": certificates, "model": models, "confirm": bases, "cancel": cancellations, "star": star_proofs, "rational": rational_models,
     }  # fmt: skip
     kinds = dict.fromkeys(KINDS.get(block.kind, "check") for block in EvidenceText(report).blocks)
     for command in kinds:
@@ -79,7 +81,7 @@ def cancellations(reader: Reader, number: int, report: bytes) -> Iterator[Piece]
     for block, proof in enumerate(cancel.Cancellations(problem, report).proofs, 1):
         polys = cancel.judge(lines, proof, f"# block {block} refused")
         names = [[f'<span class="w">{html.letters[letter]}</span>' for letter in letters] for letters in (proof.monic, proof.epic)]
-        meaning = meanings.proved(problem, proof.denominator, *names)
+        meaning = meanings.proved(problem, proof.denominator, names[0], names[1])
         shown = proof_lines(reader, reader.cancelled(proof, polys), number, block)
         yield Piece(proof.claim, "proved by cancelling", meaning, shown, number, "cancel", block)
 
@@ -89,6 +91,23 @@ def models(reader: Reader, number: int, report: bytes) -> Iterator[Piece]:
         check_model.judge(reader.problem, model, f"# block {block} refused")
         meaning, lines = meanings.refuted(reader.problem, model.modulus), list(ModelWriter(reader, model).written())
         yield Piece(model.claim, "refuted", meaning, lines, number, "model", block)
+
+
+def star_proofs(reader: Reader, number: int, report: bytes) -> Iterator[Piece]:
+    problem, lines, html = reader.problem, Lines(reader.problem), Writer(reader.problem, HTML)
+    for block, proof in enumerate(star.StarProofs(problem, report).proofs, 1):
+        polys = cancel.judge(lines, proof, f"# block {block} refused", star.StarItems)
+        names = [[f'<span class="w">{html.letters[letter]}</span>' for letter in letters] for letters in (proof.monic, proof.epic)]
+        meaning = meanings.proved(problem, proof.denominator, names[0], names[1], star.granted(proof).strip())
+        shown = list(StarWriter(reader, proof, polys, f"p{number}-{block}-").written())
+        yield Piece(proof.claim, "proved by taking stars off", meaning, shown, number, "star", block)
+
+
+def rational_models(reader: Reader, number: int, report: bytes) -> Iterator[Piece]:
+    for block, model in enumerate(check_model.RationalModels(reader.problem, report).models, 1):
+        check_model.judge(reader.problem, model, f"# block {block} refused")
+        meaning, lines = meanings.refuted(reader.problem, 0), list(ModelWriter(reader, model).written())
+        yield Piece(model.claim, "refuted", meaning, lines, number, "rational", block)
 
 
 def bases(reader: Reader, number: int, report: bytes) -> Iterator[Piece]:
@@ -167,9 +186,11 @@ def claim_lines(reader: Reader, number: int, pieces: Sequence[Piece]) -> Iterato
     yield f'<p class="formula">{equation(Writer(reader.problem, MATHML), found.left, found.right, found.ends)}</p>'
     for piece in pieces:
         yield from (f'<p class="meaning">{sentence}</p>' for sentence in piece.meaning)
-        if piece.command:
+        if piece.command in COMMANDS:
             data = f'data-report="{piece.report}" data-command="{piece.command}" data-block="{piece.block}"'
             yield f'<p class="check" {data}>Not checked in this page: that takes JavaScript.</p>'
+        elif piece.command:
+            yield '<p class="check">Not checked in this page, whose checker doesn’t read evidence of this kind.</p>'
         yield from piece.lines
     if not pieces:
         yield '<p class="meaning">The reports say nothing of this claim.</p>'
@@ -190,8 +211,9 @@ def footer(paths: Sequence[Path], contents: Sequence[bytes], pieces: Sequence[Pi
     yield "</p>"
     calls = dict.fromkeys((piece.command, piece.report) for piece in pieces if piece.command)
     if calls:
-        lines = [" ".join(map(shlex.quote, ["opprove", command, statement.name, reports[number].name])) for command, number in calls]
-        told = "The same is checked by the program <code>opprove</code>, whose answers are proved, by"
+        words = [[command if command in COMMANDS else "second-check", statement.name, reports[number].name] for command, number in calls]
+        lines = [" ".join(map(shlex.quote, ["opprove", *call])) for call in words]
+        told = "The program <code>opprove</code> checks the same; all of its commands are proved but <code>second-check</code>:"
         yield f"<p>{told}</p><pre>{escape(chr(10).join(lines))}</pre>"
     yield "</footer>"
 

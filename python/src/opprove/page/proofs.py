@@ -4,10 +4,14 @@ from __future__ import annotations
 from html import escape
 from typing import Dict, Iterator, List, NamedTuple, Sequence, Tuple
 
-from opprove.checkers.cancel import Cancel
-from opprove.checkers.check import Poly, Row, Word
+from opprove.checkers.cancel import Cancel, Cancellation
+from opprove.checkers.check import Poly, Row, Share, Word
+from opprove.checkers.star import Root
 from opprove.page.formulas import CAME, GOES, HTML, MATHML, Marks, Writer, equation
-from opprove.translations.chain import Chain, Equation, Proof, Reader, label, place_of, reason, used
+from opprove.translations.chain import Chain, Equation, Proof, Reader, label, listed, place_of, reason, used
+
+
+SHORT, MIDDLE = 8, 18  # letters, and twice the terms, of sums that are as wide as a column of that kind
 
 
 class Replaced(NamedTuple):
@@ -43,6 +47,36 @@ def replaced(reader: Reader, proof: Proof, row: Row) -> Replaced:
     used_equation = equation_of(reader, proof, row)
     middles = {**used_equation.left, **used_equation.right}
     return Replaced({row.left + middle + row.right: (len(row.left), len(middle)) for middle in middles})
+
+
+class StarWriter:
+    """Writes a proof that takes stars off, item by item: what each says, and by what."""
+
+    def __init__(self, reader: Reader, proof: Cancellation, polys: Sequence[Poly], prefix: str) -> None:
+        self.reader, self.proof, self.polys, self.prefix = reader, proof, polys, prefix
+        self.html = Writer(reader.problem, HTML)
+
+    def written(self) -> Iterator[str]:
+        for number, (item, poly) in enumerate(zip(self.proof.items, self.polys), 1):
+            shown = f'<span class="w">{self.html.sum(poly, (0, 0))} = 0</span>'
+            yield f'<p class="off" id="{self.prefix}l{number}">[{number}] {shown}, {self.why(item)}</p>'
+        yield f'<p class="off">The claim {self.why(self.proof.items[-1])}</p>'
+
+    def link(self, number: int) -> str:
+        return f'<a href="#{self.prefix}l{number}">[{number}]</a>'
+
+    def why(self, item: object) -> str:
+        """By what an item holds."""
+        if isinstance(item, Cancel):
+            letter, kind = self.html.letters[item.letter], "monic" if item.is_left else "epic"
+            return f'by {self.link(item.item)}, since <span class="w">{letter}</span> is {kind}'
+        if isinstance(item, Root):
+            form = "{0}({1})<sup>∗</sup> ({1})" if item.is_left else "{0}({1}) ({1})<sup>∗</sup>"
+            squares = [form.format(f"<b>{scale}</b> " * (scale > 1), self.html.sum(poly, (0, 0))) for scale, poly in item.squares]
+            return f'since {self.link(item.item)} is <span class="w">{" + ".join(squares)}</span>'
+        rows = item.rows if isinstance(item, Share) else []
+        names = [self.link(row.number) if row.is_lemma else label(self.reader, row, "<sup>∗</sup>") for row in rows if row.coefficient]
+        return f"by {listed(list(dict.fromkeys(names)))}" if names else "by nothing"
 
 
 class ProofWriter:
@@ -98,7 +132,9 @@ class ProofWriter:
         """The lines of a chain."""
         spans = [NOTHING, *(replaced(self.reader, self.proof, step.row) for step in chain.steps), NOTHING]
         totals = [chain.start(), *(step.total for step in chain.steps)]
-        yield '<div class="chain" role="list">'
+        longest = max(sum(map(len, total)) + 2 * len(total) for total in totals)
+        kind = "chain" + (" long" if longest > MIDDLE else " middle" if longest > SHORT else "")
+        yield f'<div class="{kind}" role="list">'
         for number, total in enumerate(totals):
             before, after = spans[number], spans[number + 1]
             other = totals[number + 1] if number < len(chain.steps) else total
@@ -139,5 +175,5 @@ class ProofWriter:
         factor = "" if abs(row.coefficient) == 1 else f"<b>{abs(row.coefficient)}</b> "
         between = [f'before it <span class="w">{left}</span>'] * bool(left) + [f'behind it <span class="w">{right}</span>'] * bool(right)
         times = f"{factor}times, " if factor else ""
-        return f'{name} <span class="w">{sides}</span>, {where}; {times}{" and ".join(between) or "alone"}'
+        return f'{name} <span class="w">{sides}</span>, {where}; {times}{" and ".join(between) or "it is the whole term"}'
 

@@ -9,7 +9,6 @@ from opprove.checkers.check import Poly, Signature
 from opprove.checkers.check_model import Arrows, Matrix, Model, declared_maps
 from opprove.page.formulas import HTML, MATHML, Writer, math, matrix
 from opprove.translations.chain import Equation, Reader, place_of
-from opprove.words.outcomes import value
 
 SHOWN_SIDE, SHOWN_LETTERS = 4, 6  # products of larger matrices, or of more, are given by their value alone
 
@@ -27,7 +26,7 @@ class ModelWriter:
     def written(self) -> Iterator[str]:
         """The matrices, and the values of both sides of each equation, in lines of HTML."""
         problem, writer = self.reader.problem, self.writer
-        yield f"<h3>Matrices modulo {self.model.modulus}</h3>"
+        yield f"<h3>Matrices {f'modulo {self.model.modulus}' if self.model.modulus else 'of rational numbers'}</h3>"
         yield '<div class="matrices">'
         for letter in declared_maps(problem):
             yield math(writer.letters[letter], "<mo>=</mo>", matrix(self.arrows.matrices[letter]))
@@ -53,7 +52,12 @@ class ModelWriter:
 
     def value(self, poly: Poly, ends: Signature) -> Matrix:
         """The value of a sum without identities, whose empty word is the identity."""
-        return value(self.reader.problem, self.arrows, {word or ends[:1]: poly[word] for word in poly}, ends)
+        rows, columns = len(self.arrows.matrices[ends[1]]), len(self.arrows.matrices[ends[0]])
+        total: Matrix = [[0] * columns for _ in range(rows)]
+        for word, coefficient in poly.items():
+            total = [[x + coefficient * y for x, y in zip(*pair)] for pair in zip(total, self.arrows.value(word or ends[:1]))]
+        modulus = self.model.modulus
+        return [[entry % modulus if modulus else entry for entry in row] for row in total]
 
     def side(self, poly: Poly, ends: Signature, lit: List[Tuple[int, int]] = []) -> str:
         """A side of an equation, the matrices of its letters where these are few and small, and its value."""

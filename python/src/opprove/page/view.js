@@ -30,14 +30,14 @@
   }
 
   function checkAll() {
-    const places = found(".check"), start = performance.now(), box = document.getElementById("checked");
+    const places = found(".check[data-command]"), start = performance.now(), box = document.getElementById("checked");
     const calls = new Set(places.map((place) => `${place.dataset.report} ${place.dataset.command}`));
     let right = 0;
     for (const [report, command] of [...calls].map((call) => call.split(" "))) right += check(Number(report), command);
     const left = places.length - right, isRight = !left, blocks = `${places.length} block${places.length === 1 ? "" : "s"} of evidence`;
     const all = places.length === 1 ? "which is" : "all", refused = `${left} ${left === 1 ? "isn’t" : "aren’t"} accepted`;
     box.className = !places.length ? "" : isRight ? "right" : "wrong";
-    if (!places.length) box.textContent = "This page has no evidence to check.";
+    if (!places.length) box.textContent = "This page has no evidence that it checks itself.";
     else if (isRight) box.textContent = `Checked in this page: ${blocks}, ${all} accepted, ${time(performance.now() - start)}.`;
     else box.textContent = `Refused: of ${blocks} ${refused}. What stands below is not what the bytes of this page show.`;
   }
