@@ -68,7 +68,9 @@ def not_derivable(problem: Problem, is_sharp: bool) -> List[str]:
             f"zero and the claim isn’t. So nothing that holds in all preadditive categories{others} proves it, whatever cancels."
         )
     others = "of involutions for which r* r = 0 gives r = 0" if problem.is_starred else "of categories with an involution"
-    return [*told, f"It says nothing of matrices of finite size, nor {others}: there the claim may hold all the same."]
+    told.append(f"It says nothing of matrices of finite size, nor {others}: there the claim may hold all the same.")
+    stars = ", and with <code>--complex</code> for those that do by r* r = 0" if problem.is_starred else ""
+    return [*told, f"<code>opprove search</code> looks for proofs that take off what is monic or epic{stars}."]
 
 
 def undecided(outcome: Outcome) -> List[str]:
