@@ -11,12 +11,13 @@ from opprove.search.variants import Equation, Order, Statement
 PAIRS, STEPS, LIMIT, SECONDS = 500, 20_000, 1_000_000, 1  # of level 0; each level has twice as much, to the limit
 # What a batch tries: fewer assumptions; other orders for all goals in one run; both; other orders for a goal alone; what
 # did it for another goal; models; the statement as it is; letters and stars that are taken off, those that were named or any;
-# and models of rational numbers. Cheap ones have a low rank.
-FEWER, OTHER, BOTH, ALONE, AGAIN, MODELS, AS_WRITTEN, NAMED, ANY, RATIONAL = range(10)
-RANKS = [0, 0, 1, 2, 0, 1, 0, -1, 1, 1]
-AS_IT_IS = "the statement as it is"
+# models of rational numbers; and the statement as it is with many pairs, once. Cheap ones have a low rank.
+FEWER, OTHER, BOTH, ALONE, AGAIN, MODELS, AS_WRITTEN, NAMED, ANY, RATIONAL, LARGE = range(11)
+RANKS = [0, 0, 1, 2, 0, 1, 0, -1, 1, 1, 0]
+AS_IT_IS, LARGER = "the statement as it is", "the statement with many pairs"
+LARGE_LEVEL, LARGE_SECONDS = 7, 6  # the pairs of that level, for some seconds
 WORKER = {NAMED: "cancellations", ANY: "any cancellations", RATIONAL: "rational matrices"}  # what is run in Python
-WORKER_SECONDS = 4  # of level 0
+WORKER_SECONDS = 2  # of level 0
 TRIED = 1  # the level to which letters are tried for a claim that is refuted
 
 
@@ -84,6 +85,7 @@ class Plan:
                 self.push(MODELS, place, 0)
         if not options.only:
             self.push(AS_WRITTEN, 0, 0)
+            self.push(LARGE, 0, 0)
         if not options.only or "rationals" in options.only:
             self.push(RATIONAL, 0, 0)
         if not options.only or "cancellations" in options.only:
@@ -134,12 +136,14 @@ class Plan:
         goals = [self.goals[place - 1]] if place else self.goals
         found = [job for job in self.batch(goals, kind, level) if job.goals and job.is_open() and job.text not in self.closed]
         self.jobs = found[::-1]
-        if found and kind != AGAIN and PAIRS << level < LIMIT:
+        if found and kind not in (AGAIN, LARGE) and PAIRS << level < LIMIT:
             self.push(kind, place, level + 1)
 
     def batch(self, goals: List[Goal], kind: int, level: int) -> Iterator[Job]:
         if kind == AS_WRITTEN:
             yield Job(AS_IT_IS, self.claims, self.statement.text, budget(level), level, Order([]))
+        elif kind == LARGE:
+            yield Job(LARGER, self.claims, f"{self.statement.text}# {LARGER}\n", budget(LARGE_LEVEL), level, Order([]), LARGE)
         elif kind == MODELS:
             text = variants.model_text(self.statement, goals[0].number, level)
             yield Job("models", goals, text, ["refute", "--workers", "1", "--seed", str(level + 1)], level, Order([]), MODELS)

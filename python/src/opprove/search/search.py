@@ -35,7 +35,7 @@ from opprove.search import variants
 from opprove.program import path as path_of_program
 from opprove.checkers.check import Evidence, Poly, Problem, Refusal, judge
 from opprove.search import cluster, findings
-from opprove.search.plan import ANY, AS_IT_IS, SECONDS, TRIED, WORKER, WORKER_SECONDS, Goal, Job, Plan
+from opprove.search.plan import ANY, AS_IT_IS, LARGE, LARGE_SECONDS, SECONDS, TRIED, WORKER, WORKER_SECONDS, Goal, Job, Plan
 from opprove.search.running import Interrupts, Program, Progress, Runs, Unusable
 from opprove.search.variants import Statement
 
@@ -76,7 +76,7 @@ class Search:
             name = re.sub("[^a-z0-9]+", "_", f"{job.goals[0].number if len(job.goals) == 1 else 'all'} {job.name}")
             path = self.write(f"{name}_{job.level}_{self.runs.count + 1}.op", job.text, self.options.keep)
             self.paths[job.text] = path
-            seconds = 3 * WORKER_SECONDS << job.level if job.kind in WORKER else SECONDS << job.level
+            seconds = LARGE_SECONDS if job.kind == LARGE else (3 * WORKER_SECONDS if job.kind in WORKER else SECONDS) << job.level
             self.runs.start(job, [job.words[0], str(path), *job.words[1:]], min(seconds, 1 << 20))
         return job is not None
 
