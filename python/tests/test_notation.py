@@ -17,7 +17,7 @@ from opprove.checkers.check import Refusal
 from opprove.notation.expand import as_statement
 from opprove.notation.expansion import Expansion
 from opprove.notation.parts import SENTENCES
-from opprove.notation.reader import table
+from opprove.notation.reader import TABLE, table
 from opprove.notation.shorten import Shortener
 
 TOP = os.path.join(os.path.dirname(os.path.abspath(__file__)), "..", "..")
@@ -136,6 +136,16 @@ class Tools(unittest.TestCase):
         self.assertEqual((status, names, error), (0, ["# statement f", "# statement f-x"], "# made k line 2 column 1\n"))
         self.assertEqual(self.run_tool("expand", self.path, "--only", "f-x")[1].split("\n")[-2], "claim a = 0")
         self.assertEqual(self.run_tool("expand", self.path, "--only", "g")[0], 5)
+
+    def test_the_table_is_a_file_that_is_used(self) -> None:
+        self.write(f"use {TABLE} | a b : V -> V | commute a b | claim a = b")
+        self.assertEqual(self.run_tool("expand", self.path)[0], 0)
+        with open(TABLE, encoding="utf-8") as file:
+            self.assertEqual(self.run_tool("expand", "--words"), (0, file.read(), ""))
+
+    def test_many_statements(self) -> None:
+        self.write("a : V -> V | " + " | ".join(f"claim l{number}: a = 0" for number in range(401)))
+        self.assertRegex(self.run_tool("expand", self.path)[2], "^# refused S8 line 402 column 1 limit 400: ")
 
     def test_statements_are_written(self) -> None:
         self.write("a b : V -> V | equivalent: (i) a = 0 (ii) b = 0")

@@ -15,6 +15,7 @@ from opprove.checkers import check
 from opprove.checkers.check import Refusal
 from opprove.notation.expansion import HEAD, Expanded, Expansion
 from opprove.notation.parts import in_words
+from opprove.notation.reader import TABLE
 from opprove.tool import ended, parser, say
 
 ENDING = ".opn"  # of the names of files of the notation
@@ -116,6 +117,8 @@ def run_on(words: List[str], run: Callable[[List[str]], int]) -> int:
 
 def lines(given: argparse.Namespace) -> List[str]:
     """What is printed."""
+    if given.words:
+        return [text for _, text in check.read_lines(TABLE, "")][:-1]
     if given.beside or given.folder:
         return [path for path, _ in expanded(given.file, given.folder, given.pairs)]
     found = read(given.file, given.pairs)
@@ -130,11 +133,14 @@ def lines(given: argparse.Namespace) -> List[str]:
 def main(words: List[str]) -> int:
     """Runs the tool. The status is 0, or 2 for other words, 3 for a fault, 4 for a file that isn't loaded, 5 for one that isn't written."""
     made = parser("expand", __doc__)
-    made.add_argument("file", metavar="FILE.opn", help="a file of the notation")
+    made.add_argument("file", metavar="FILE.opn", nargs="?", help="a file of the notation")
     place = made.add_mutually_exclusive_group()
     place.add_argument("--beside", action="store_true", help="write the statements beside the file, and print their paths")
     place.add_argument("--folder", metavar="DIR", default="", help="write them into this folder, and print their paths")
     place.add_argument("--only", metavar="NAME", default="", help="print the statement of this name alone")
     made.add_argument("--pairs", action="store_true", help="of cases that are equivalent, all pairs instead of a circle")
+    made.add_argument("--words", action="store_true", help="print the file of the words that every file has")
     given = made.parse_args(words)
+    if not given.words and not given.file:
+        made.error("the following arguments are required: FILE.opn")
     return ended(lambda: lines(given))

@@ -4,7 +4,7 @@ from __future__ import annotations
 import os
 import re
 from itertools import combinations, count, groupby
-from typing import Dict, Iterator, List, NamedTuple, Optional, Sequence, Set, Tuple, Union
+from typing import Dict, Iterable, Iterator, List, NamedTuple, Optional, Sequence, Set, Tuple, Union
 
 from opprove.checkers import check
 from opprove.checkers.check import Refusal, Token
@@ -16,6 +16,7 @@ Piece = Tuple[str, Optional[Token]]  # of a line that is written, and the token 
 NATIVE = {"pinv": 2, "inverse": 2, "inner": 2, "projection": 1}  # the words of the language, with the number of their maps
 OBJECTS = "V W U X Y Z".split()  # the first names that are made for objects
 HEAD = "# expanded from "  # how each statement begins
+STATEMENTS = 400  # of a file, which is more than those of all pairs of twenty cases
 SIZE, LEVELS = 100000, 100  # parts of expressions that all words together stand for, and words of words
 
 
@@ -71,8 +72,9 @@ class Expansion:
         self.definitions = [entry for entry in self.entries if isinstance(entry, Definition)]
         self.check_declarations()
         self.introduce()
+        objects = {token.text for token in self.file.objects}
         for entry in self.entries:
-            self.check_names(entry)
+            self.check_names(entry, objects)
         self.facts: Dict[int, List[Fact]] = {}  # by the item
         self.ends = Ends()
         for item in (item for entry in self.entries for item in self.items(entry)):
@@ -112,9 +114,8 @@ class Expansion:
             return entry.items + entry.conditions
         return entry.items if isinstance(entry, Given) else []
 
-    def check_names(self, entry: object) -> None:
+    def check_names(self, entry: object, objects: Set[str]) -> None:
         """Refuses what isn't declared, or is of the other kind, and definitions that go round."""
-        objects = {token.text for token in self.file.objects}
         expressions = [entry.value] if isinstance(entry, Definition) else []
         for item in self.items(entry):
             expressions += item.sides if isinstance(item, Equation) else item.arguments
@@ -149,10 +150,7 @@ class Expansion:
     def applied(self, use: Use) -> List[Fact]:
         """What a word stands for; with more arguments than parameters, for each of them, or for each two."""
         parameters, arguments = use.word.parameters(), use.arguments
-        given = arguments
-        lists: Sequence[Sequence[Node]] = [arguments]
-        if use.word.is_many:
-            lists = list(combinations(arguments, len(parameters)))
+        lists: Iterable[Sequence[Node]] = combinations(arguments, len(parameters)) if use.word.is_many else [arguments]
         self.level += 1
         if self.level > LEVELS:
             raise fault("N12", use.token)
@@ -266,9 +264,13 @@ class Expansion:
                 plans.append(Plan(name, entry.token, [*first.given, *second.given], first.items, second.items))
         if not plans:
             raise Refusal("# refused S15")
-        for place, plan in enumerate(plans):
-            if plan.name in [other.name for other in plans[:place]]:
+        names: Set[str] = set()
+        for plan in plans:
+            if plan.name in names:
                 raise fault("S7", plan.token)
+            names.add(plan.name)
+            if len(names) > STATEMENTS:
+                raise fault("S8", plan.token, f" limit {STATEMENTS}")
         return [Statement(self, plan, len(plans) == 1, plan.claims is plain).expanded() for plan in plans]
 
     def claims(self) -> List[Claim]:

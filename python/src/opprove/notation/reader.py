@@ -38,7 +38,7 @@ class Reader:
                  used: Optional[Set[str]] = None) -> None:
         self.path, self.source, self.above, self.file = path, source, [*above, os.path.realpath(path)], File()
         self.words: List[Word] = [*table()] if words is None else words
-        self.used = {self.above[0]} if used is None else used
+        self.used = {self.above[0], os.path.realpath(TABLE)} if used is None else used
         self.parameters: Optional[List[str]] = None  # of the line `let` that is read
         self.case = 0  # how many cases of the line were begun, where it has cases
         self.is_first = True  # whether no line but comments was read
@@ -316,7 +316,7 @@ class Reader:
 
     def use_of(self) -> Use:
         start, first, furthest = self.place, self.next(), None
-        texts = [token.text for token in self.tokens[start:]]
+        texts = [token.text for token in self.tokens[start : start + max(len(word.head) for word in self.words)]]
         words = [word for word in self.words if word.opening() == texts[: len(word.opening())]]
         longest = max((len(word.opening()) for word in words), default=0)
         for word in [word for word in words if len(word.opening()) == longest]:
