@@ -193,7 +193,10 @@ class Reader:
 
     def has_ends(self, row: Row, inner: Signature, items: Sequence[Union[Share, Cancel]], polys: Sequence[Poly]) -> bool:
         """Whether a row, if it is over an item without a letter, is over one that has these ends, and so isn't zero there."""
-        return not row.is_lemma or isinstance(items[row.number - 1], Share) or self.ends_of(polys[row.number - 1]) == inner
+        if not row.is_lemma or isinstance(items[row.number - 1], Share):
+            return True
+        poly = polys[row.number - 1]
+        return bool(poly) and self.ends_of(poly) == inner
 
     def proof(self, certificate: Certificate) -> Proof:
         return self.in_parts(certificate, self.typed(certificate.claim, certificate.shares, []))
