@@ -293,6 +293,10 @@ SHORT: List[Tuple[str, str]] = [
     ),
     ("object U V | map a b c : U -> V | assume a = b | assume b = c | claim c = a", "a b c : U -> V | assume a = b = c | claim c = a"),
     ("object V | map a x : V -> V | claim x a x = x | claim a x a = a | claim x a = a x", "a x : V -> V | claim group a x"),
+    (
+        "object V | map a b c d : V -> V | assume a b = b a | assume c d = d c | assume c a = a c | assume b c = c b | claim a = d",
+        "commute a b c, commute c d | claim a = d",
+    ),
     ("object U V | map a : U -> V self | claim a = 0", "S9 2 5"),
     ("object V W | map h : V -> V self | map a : V -> W | claim a h = a", "h : V -> V self, a : V -> W | claim a h = a"),
 ]

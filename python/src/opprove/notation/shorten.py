@@ -7,7 +7,7 @@ of generators and claims. Words are compared as in the statement, unless --elimi
 from __future__ import annotations
 
 import re
-from itertools import groupby
+from itertools import combinations, groupby
 from typing import Dict, FrozenSet, Iterator, List, NamedTuple, Optional, Sequence, Set, Tuple
 
 from opprove.checkers import check
@@ -208,6 +208,27 @@ class Shortener:
         stays = any(isinstance(item, Use) and entry.text.split()[0] in item.word.opening() for item in word.items)
         return entry.kind == kind or (kind == "assume" and entry.kind == "word" and stays)
 
+    def join_pairs(self) -> None:
+        """Puts one use of a word of pairs in the place of those of all pairs of some maps."""
+        for word in (word for word in table() if word.is_many and len(word.parameters()) == 2):
+            pairs = {}
+            for number, entry in enumerate(self.entries):
+                if entry.kind == "word" and entry.text.split()[: len(word.opening())] == word.opening():
+                    pairs[entry.maps] = number
+            for first in list(pairs):
+                clique = set(first) if first in pairs else set()
+                for name in self.maps() if clique else ():
+                    if name not in clique and all(frozenset([name, other]) in pairs for other in clique):
+                        clique.add(name)
+                numbers = sorted(pairs.pop(frozenset(pair)) for pair in combinations(clique, 2))
+                if len(numbers) > 1:
+                    text = " ".join([*word.opening(), *(name for name in self.maps() if name in clique)])
+                    polys = tuple(poly for number in numbers for poly in self.entries[number].polys)
+                    self.entries[numbers[0]] = Entry("word", text, polys, frozenset(clique))
+                    for number in numbers[1:]:
+                        self.entries[number] = Entry("joined", "")
+        self.entries = [entry for entry in self.entries if entry.kind != "joined"]
+
     # ---- Definitions
 
     def find_definitions(self) -> None:
@@ -290,6 +311,7 @@ class Shortener:
     def written(self) -> str:
         """The shortest text that expands to what the statement says."""
         self.find_words("assume")
+        self.join_pairs()
         self.find_definitions()
         self.find_words("claim")
         self.shorter()
