@@ -22,6 +22,7 @@ from opprove.notation.shorten import Shortener
 
 TOP = os.path.join(os.path.dirname(os.path.abspath(__file__)), "..", "..")
 LIBRARY, FORMATS = os.path.join(TOP, "library"), os.path.join(TOP, "docs", "FORMATS.md")
+SCRIPT = os.path.join(TOP, "opprove")
 ENVIRONMENT = {**os.environ, "PYTHONPATH": os.environ.get("PYTHONPATH", "")}
 COUNT = int(os.environ.get("OPPROVE_RANDOM", "100"))  # of random files
 
@@ -142,6 +143,40 @@ class Tools(unittest.TestCase):
         self.assertEqual(self.run_tool("expand", self.path)[0], 0)
         with open(TABLE, encoding="utf-8") as file:
             self.assertEqual(self.run_tool("expand", "--words"), (0, file.read(), ""))
+
+    @unittest.skipUnless(os.access(program.path(), os.X_OK), "no program is here")
+    def test_commands_take_files_of_the_notation(self) -> None:
+        self.write("pinv a x | normal a | claim a x = x a")
+        folder = os.path.dirname(self.path)
+        environment = {**ENVIRONMENT, "OPPROVE": program.path(), "OPPROVE_QUIET": "1"}
+
+        def run(*words: str) -> Tuple[int, List[str], List[str]]:
+            done = subprocess.run([SCRIPT, *words], stdout=subprocess.PIPE, stderr=subprocess.PIPE, env=environment, cwd=folder)
+            return done.returncode, done.stdout.decode().splitlines(), done.stderr.decode().splitlines()
+
+        status, report, told = run("prove", "f.opn")
+        self.assertEqual((status, report[0]), (0, "# claim 1 proved denominator 1 rows 22"))
+        self.assertEqual(told, ["# made V line 1 column 6", "# expanded f.opn: f.op"])
+        with open(os.path.join(folder, "report"), "w", encoding="utf-8") as file:
+            file.write("\n".join(report) + "\n")
+        self.assertEqual(run("check", "f.opn", "report")[:2], (0, ["# block 1 accepted claim 1 denominator 1"]))
+        self.write("a b : V -> V | claim a = 0 if a = b, b = 0 | claim a = b if a = 0 | claim b = 0 if a = b")
+        status, report, told = run("prove", "--no-models", "f.opn", "--pairs", "10")
+        heads = [line for line in report if line.startswith("# statement") or line.startswith("# claim")]
+        self.assertEqual(heads[::2], ["# statement f-1.op", "# statement f-2.op", "# statement f-3.op"])
+        self.assertEqual((status, [head.split()[3] for head in heads[1::2]]), (10, ["proved", "not", "not"]))
+        self.write("a : V -> V | claim a = b")
+        self.assertEqual(run("prove", "f.opn"), (3, [], [f"# refused S6 line 2 column 11: {SENTENCES['S6']}"]))
+
+    def test_many_files(self) -> None:
+        for number in range(51):
+            with open(os.path.join(os.path.dirname(self.path), f"w{number}.opn"), "w", encoding="utf-8") as file:
+                file.write(f"let w{number} (a): a = 0\n")
+        used = " | ".join(f"use w{number}.opn" for number in range(51))
+        self.write(f"{used} | w0 b | claim b = 0")
+        self.assertRegex(self.run_tool("expand", self.path)[2], "^# refused N1 line 51 column 1: ")
+        self.write(f"{used[:-12]} | w49 b | claim b = 0")
+        self.assertEqual(self.run_tool("expand", self.path)[0], 0)
 
     def test_many_statements(self) -> None:
         self.write("a : V -> V | " + " | ".join(f"claim l{number}: a = 0" for number in range(401)))

@@ -259,7 +259,7 @@ class Reader:
             return
         self.used.add(real)
         is_text = self.source is not None and not os.path.isfile(self.path)
-        if is_text or not os.path.isfile(path_used) or len(self.used) > USED_FILES:
+        if is_text or not os.path.isfile(path_used) or len(self.used) > USED_FILES + 2:
             raise fault("N1", word)
         try:
             Reader(path_used, check.loaded([path_used])[0], self.above, self.words, self.used).read()
