@@ -1,4 +1,4 @@
-"""Tries cancel.py, and to_chain.py on proofs that take letters off: test_cancel.py
+"""Tries cancel.py, and `opprove chain` on proofs that take letters off: test_cancel.py
 
 The reports that cancel_rows.py has are asked of cancel.py, and with them go the proofs of the gallery, random proofs and changed
 ones; check.py has to answer by the same line where no number is too large. Where opprove is built and has `cancel`, or the variable
@@ -27,7 +27,7 @@ COUNT = 60  # random proofs
 LARGE = 2**16  # bytes of a text that is asked of other scripts
 UNREAD_EVIDENCE = re.compile(rb"\[|'|^[ \t]*#|\r|^(?:model|basis|certificate) ", re.MULTILINE)
 SECOND = Second(cancel, unread_evidence=UNREAD_EVIDENCE)
-BOUNDS = re.compile("refused (?:K4|C4|C5|C9|C11) ")  # what check.py and to_chain.py don't look at
+BOUNDS = re.compile("refused (?:K4|C4|C5|C9|C11) ")  # what check.py and `opprove chain` don't look at
 
 
 def cancelled(files: Files) -> Answer:
@@ -47,7 +47,7 @@ def rows(folder: Path) -> str:
 
 
 def told(files: Files) -> int:
-    """Fails unless to_chain.py writes text that is read back, and the same proofs. Gives the number of proofs."""
+    """Fails unless `opprove chain` writes text that is read back, and the same proofs. Gives the number of proofs."""
     words, problem = [str(files.statement), str(files.evidence)], Problem(str(files.statement))
     found = list(test_chains.groups_of(test_chains.written(files.statement, files.evidence)))
     for groups in found:
@@ -59,7 +59,7 @@ def told(files: Files) -> int:
 
 
 def chains(folder: Path) -> str:
-    """What to_chain.py makes of the rows and the gallery."""
+    """What `opprove chain` makes of the rows and the gallery."""
     files, count = Files(folder, None), 0
     cases = [(row.statement, row.proof) for row in cancel_rows.runs() if " refused " not in row.report and len(row.proof) < LARGE]
     for evidence in sorted(EXAMPLES.glob("gallery/*.cert")):

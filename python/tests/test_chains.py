@@ -1,4 +1,4 @@
-"""Tries to_chain.py: reads its texts back, and has its certificates checked and its LaTeX typeset.
+"""Tries `opprove chain`: reads its texts back, and has its certificates checked and its LaTeX typeset.
 
 What is read back is read by check.py alone. Each chain has to lead from one side of its claim or lemma to the other, and each
 step has to be the assumption, the adjoint or the lemma that it names, at one place and times an integer.

@@ -1,7 +1,7 @@
-"""Tries explain.py, to_chain.py on text of chains, and `explain` of plain.rs: test_explain.py
+"""Tries explain.py, `opprove chain` on text of chains, and `explain` of plain.rs: test_explain.py
 
 The reports that explain_rows.py has are asked of explain.py, and with them go the stored certificates, the proofs of the examples
-in format 1, random certificates and changed ones. Each of their chains is read by to_chain.py, whose text is read back, and whose
+in format 1, random certificates and changed ones. Each of their chains is read by `opprove chain`, whose text is read back, and whose
 certificate is explained again; with a changed line it has to be refused by the number of that line. Where opprove is built and has
 `explain`, or the variable OPPROVE names such a program, it prints the same bytes; so does plain.rs, of statements that it reads,
 where rustc is.
@@ -38,7 +38,7 @@ explained, by_whom = SECOND.answered, SECOND.by_whom
 
 
 def set_text(statement: Path, chain: Path, *options: str) -> Answer:
-    """What to_chain.py answers, in this process."""
+    """What `opprove chain` answers, in this process."""
     try:
         lines = test_chains.written(statement, chain, options[0][2:] if options else "text")
     except Refusal as refusal:
@@ -64,7 +64,7 @@ def sums_of(proof: to_chain.Proof) -> List[Poly]:
 
 
 def told(files: Files, report: str) -> int:
-    """Fails unless to_chain.py reads the chains of a report, writes text that is read back, and a certificate that explains the
+    """Fails unless `opprove chain` reads the chains of a report, writes text that is read back, and a certificate that explains the
     same sums, unless rows of it are merged. Gives the number of the chains."""
     chains = files.folder / "explained.chain"
     chains.write_bytes(report.encode())
@@ -151,7 +151,7 @@ and 2 cancels
 
 
 def texts(folder: Path) -> str:
-    """What to_chain.py writes of two chains, and that it reads one kind of block alone."""
+    """What `opprove chain` writes of two chains, and that it reads one kind of block alone."""
     files, chain = Files(folder, None), folder / "told.chain"
     for statement, rows_of_it, denominator, text in (
         (explain_rows.PAIR, explain_rows.FIVE, 1, FIRST_TEXT), (ZERO, ["-1 () 1 ()"], 2, ZERO_TEXT),

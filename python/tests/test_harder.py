@@ -1,4 +1,4 @@
-"""Tries harder.py, join.py and their variants: test_harder.py [COUNT | table]
+"""Tries `opprove search`, join.py and their variants: test_harder.py [COUNT | table]
 
 COUNT (20) random pairs of a lemma and a claim are joined, and changed ones. What asks opprove is skipped
 where that is not built; OPPROVE names another one than this checkout's. The table is that of examples/README.md.
@@ -303,7 +303,7 @@ def answer_of(process: "subprocess.Popen[str]") -> Answer:
     return Answer(process.returncode, out, error)
 
 
-# The statements of examples/harder, each with the status of harder.py.
+# The statements of examples/harder, each with the status of `opprove search`.
 SETTLED = {
     "commuting_inverses": 0, "common_solution": 0, "halved_lemma": 0, "normal_pseudoinverse": 0, "one_sided_beside": 10,
     "pseudoinverse_chain": 0, "pseudoinverse_of_row": 0, "twice_a_braid": 11,

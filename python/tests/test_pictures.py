@@ -1,4 +1,4 @@
-"""Tries quiver.py: that pictures are as they should be, and that browsers' XML, Graphviz and TikZ read them."""
+"""Tries `opprove picture`: that pictures are as they should be, and that browsers' XML, Graphviz and TikZ read them."""
 from __future__ import annotations
 
 import re

@@ -1,4 +1,4 @@
-"""Tries why.py: each case of examples/words.txt, random edits of the gallery, its line for editors, and ./opprove on a terminal.
+"""Tries `opprove why`: each case of data/words.txt, random edits of the gallery, its line for editors, and ./opprove on a terminal.
 
 A case is a name, the words, the files s.op and e.cert as far as it has them, the program's status and report, and what is
 told. In files `{{TEXT|N}}` stands for N times the text, each # in it being the number of the time, and `{{0xNN}}` for a byte.

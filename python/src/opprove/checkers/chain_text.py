@@ -1,4 +1,4 @@
-"""Chains of equations and their text, for explain.py, which makes them of certificates, and to_chain.py, which reads them.
+"""Chains of equations and their text, for explain.py, which makes them of certificates, and `opprove chain`, which reads them.
 
 `explained` is the text of the chain of a certificate as `opprove explain` prints it, or the first reason why there is none.
 `Texts` reads a text of certificates or one of chains, and `judge_chain` makes the lines of a chain anew from its `use` lines.
