@@ -194,3 +194,39 @@ def random_statement(draw: random.Random) -> str:
         more = draw.choice(["", "", f" + {draw.choice(words[ends])}", f" - {draw.choice(words[ends])}"])
         lines.append(f"{word} {scale}{left}{more} = {right}")
     return "\n".join([*lines, ""])
+
+
+def many_rows() -> Tuple[str, str]:
+    """10,000 rows: between all pairs of ten maps to the left and ten to the right, x1 to x101 are the same."""
+    left, right, middle = ([f"{name}{number}" for number in range(1, count + 1)] for name, count in (("l", 10), ("r", 10), ("x", 101)))
+    lines = ["object U", f"map {' '.join(left + right + middle)} : U -> U"]
+    lines += [f"assume {one} = {other}" for one, other in zip(middle, middle[1:])]
+    lines += [f"claim ({' + '.join(left)}) x1 ({' + '.join(right)}) = ({' + '.join(left)}) x101 ({' + '.join(right)})", ""]
+    rows = [f"row 1 ({one}) {number} ({other})" for number in range(1, 101) for one in left for other in right]
+    return "\n".join(lines), "\n".join(["certificate 1", "claim 1", "denominator 1", *rows, "end", ""])
+
+
+def right_inverses(size: int) -> Tuple[str, str]:
+    """The statement of `bench`, a chain of maps with right inverses, and the closed rules by which the last isn't a left inverse too."""
+    places = range(1, size + 1)
+    lines = [f"object {' '.join(f'O{place}' for place in range(size + 1))}"]
+    lines += [line for place in places for line in (f"map a{place} : O{place} -> O{place - 1}", f"map r{place} : O{place - 1} -> O{place}")]
+    lines += [f"assume a{place} r{place} = [O{place - 1}]" for place in places]
+    rules = [f"[O{place}] [O{place}] - [O{place}]" for place in range(size + 1)]
+    for place in places:
+        rules += [f"[O{place - 1}] a{place} - a{place}", f"a{place} [O{place}] - a{place}", f"[O{place}] r{place} - r{place}"]
+        rules += [f"r{place} [O{place - 1}] - r{place}", f"a{place} r{place} - [O{place - 1}]"]
+    block = ["basis 1", "claim 1", *(f"rule {rule}" for rule in rules), f"rest r{size} a{size} - [O{size}]", "end", ""]
+    return "\n".join([*lines, f"claim r{size} a{size} = [O{size}]", ""]), "\n".join(block)
+
+
+def large_model(side: int, modulus: int) -> Tuple[str, str]:
+    """A matrix with a right inverse that is no left one, and assumptions that multiply random matrices."""
+    draw, less = random.Random(side), side - 1
+    lines = ["object U V", "map a : U -> V", "map b : V -> U", "map p q r : V -> V", "assume a b = [V]", "assume p q r = (p q) r", "assume a b p = p"]
+    unit = [[int(row == column) for column in range(side)] for row in range(less)]
+    squares = {name: [[draw.randrange(modulus) for _ in range(less)] for _ in range(less)] for name in "pqr"}
+    matrices = {"a": unit, "b": [list(column) for column in zip(*unit)], **squares}
+    maps = [f"map {name} = {' ; '.join(' '.join(map(str, row)) for row in rows)}" for name, rows in matrices.items()]
+    block = ["model 1", "claim 1", f"modulus {modulus}", f"side U {side}", f"side V {less}", *maps, "end", ""]
+    return "\n".join([*lines, "claim b a = [U]", ""]), "\n".join(block)

@@ -19,7 +19,7 @@ from pathlib import Path
 from typing import Iterator, List, Optional, Tuple
 
 from coq_batches import CLOSED, Coq, has_mathcomp, is_installed
-from coq_statements import CASES, Proofs, expressions, named, random_statement
+from coq_statements import CASES, Proofs, expressions, large_model, many_rows, named, random_statement, right_inverses
 from opprove.checkers.check import Refusal
 from opprove.coq import export
 from opprove.text import EvidenceText, StatementText
@@ -182,6 +182,24 @@ class Exports(unittest.TestCase):
             path.write_text("\n".join([*source.head, *(claim for claim, _ in found), ""]))
             self.add(path, "\n".join(["\n".join(lines) for _, lines in found] + [""]))
         say(f"90 random certificates in {self.coq.run():.1f} s")
+
+
+    def test_large_evidence(self) -> None:
+        """Within twice the seconds that a processor with nothing else to do takes, as others may be busy too."""
+        cases = {
+            "10,000 rows": (many_rows(), 8), "a basis of 361 rules": (right_inverses(60), 60), "one of 37 rules": (right_inverses(6), 3),
+            "a model of side 6": (large_model(6, 65537), 4), "one of side 16": (large_model(16, 2**31 - 1), 30),
+        }  # fmt: skip
+        for name, ((text, evidence), limit) in cases.items():
+            path = Path(self.coq.folder, "large.op")
+            path.write_text(text)
+            self.add(path, evidence)
+            seconds = self.coq.run()
+            say(f"{name} in {seconds:.1f} s")
+            self.assertLess(seconds, limit, name)
+        text, evidence = large_model(17, 5)
+        with self.assertRaisesRegex(Refusal, "# block 1 isn't exported: a side of the model is above 16"):
+            export.exported(text.encode(), [evidence.encode()])
 
 
 # Statements and evidence of each kind, and the command that judges it.

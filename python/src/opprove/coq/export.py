@@ -9,7 +9,7 @@ in several files. The head of the file says what each theorem says. What the sec
 
 To be read are Definitions.v of the library and the theorems. Claims that a theorem names by several blocks have a number appended.
 A name that is a word of Coq gets an _, and one with signs that Coq may not read a number. Not exported are models with a side
-above 16 or many products, rational models, and for a basis equations with more than 20,000 terms when they are multiplied out.
+above 16 or more than 500,000 products of numbers, rational models, and for a basis equations with more than 20,000 terms when they are multiplied out.
 """
 from __future__ import annotations
 
@@ -132,7 +132,7 @@ class Theorems:
     def model(self, name: str, tag: str, block: Block) -> Iterator[str]:
         model = block.evidence
         assert isinstance(model, check_model.Model)
-        models.require_small(model, f"# block {block.number} isn't exported")
+        models.require_small(self.statement, model, f"# block {block.number} isn't exported")
         stars = " with transposes as adjoints" * self.problem.is_starred
         self.said.append(
             f"{name}: no theorem can say claim {model.claim} of all preadditive categories in which an integer prime to {model.modulus} "

@@ -1,6 +1,7 @@
 """Models as theorems for Coq: matrices modulo m in which all assumptions hold, and the claim doesn't."""
 from __future__ import annotations
 
+import re
 from typing import Iterator, List
 
 from opprove.checkers.check import Refusal
@@ -9,12 +10,22 @@ from opprove.coq.layout import filled
 from opprove.coq.statement import Statement, for_all
 
 SIDES = 16  # the greatest side that is exported, since Coq takes long to multiply larger matrices
+PRODUCTS = 500000  # of numbers, in all products of matrices of that side
 
 
-def require_small(model: Model, refused: str) -> None:
+def require_small(statement: Statement, model: Model, refused: str) -> None:
     """Raises that the model is too large for Coq, where it is."""
-    if max(model.sides) > SIDES:
+    side = max(model.sides)
+    if side > SIDES:
         raise Refusal(f"{refused}: a side of the model is above {SIDES}, and Coq would take too long")
+    equations = [statement.claims[model.claim - 1], *(equation for _, equation in statement.hypotheses)]
+    if side**3 * sum(products_of(equation.term) for equation in equations) > PRODUCTS:
+        raise Refusal(f"{refused}: the model has more than {PRODUCTS} products of numbers, and Coq would take too long")
+
+
+def products_of(term: str) -> int:
+    """How many products of matrices an equation has, as the checker reads it."""
+    return term.count("EComp ") + sum(int(exponent) - 1 for exponent in re.findall("EPow ([0-9]+)", term))
 
 
 def rows_of(matrix: Matrix) -> str:
