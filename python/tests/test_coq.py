@@ -49,7 +49,7 @@ def written(statement: StatementText, evidence: str) -> Tuple[str, bool]:
                     raise
                 is_right = False
         return export.translate(statement, blocks), is_right
-    except Refusal:
+    except (Refusal, IndexError):  # a row after a root that is wrong may name no item
         return "", False
 
 
@@ -239,6 +239,10 @@ class Changes(unittest.TestCase):
             for block in EvidenceText.read(str(evidence)).blocks:
                 if block.kind == kind:
                     yield statement, block.text
+        if kind == "model":
+            path, (statement_text, model) = compiled().folder / "model.op", large_model(3, 101)
+            path.write_text(statement_text)
+            yield path, model
 
     def compare(self, kind: str) -> None:
         coq, draw, counts = compiled(), random.Random(kind), {"accepted": 0, "refused by Coq": 0, "not exported": 0, "the same proof": 0}

@@ -50,6 +50,7 @@ class BasisTheorem:
 
     def __init__(self, statement: Statement, name: str, tag: str, basis: Basis, refused: str) -> None:
         self.statement, self.name, self.tag, self.basis = statement, name, tag, basis
+        self.multiple = 1  # of the claim, in the steps that reduce it
         self.claim = statement.claims[basis.claim - 1]
         self.numbers = numbers_of(statement)
         if max([self.claim.size, *(equation.size for _, equation in statement.hypotheses)]) > TERMS:
@@ -70,12 +71,12 @@ class BasisTheorem:
             links.append(f"rule_of {self.word(rule.lead)} {rule.leading} {self.poly(tail)}")
         yield from chained(f"rules_{tag}", "list rule", links, "nil")
         yield f"Definition rest_{tag} : poly := {self.poly(iter(terms_of(self.basis.rest)))}."
-        multiple, steps, _ = reduced(rules, as_texts(self.statement.problem.claims[self.basis.claim - 1]))
+        self.multiple, steps, _ = reduced(rules, as_texts(self.statement.problem.claims[self.basis.claim - 1]))
         links = [f"step_of {integer(step.factor)} {self.word(step.left)} {step.rule} {self.word(step.right)}" for step in steps]
         yield from chained(f"steps_{tag}", "list step", links, "nil")
-        yield from self.theorem(multiple)
+        yield from self.theorem()
 
-    def theorem(self, multiple: int) -> Iterator[str]:
+    def theorem(self) -> Iterator[str]:
         statement, tag = self.statement, self.tag
         yield f"Theorem {self.name} :"
         yield from lets(statement)
@@ -85,7 +86,7 @@ class BasisTheorem:
         yield filled(f"({self.claim.text('≡')})%element.", "    ")
         yield "Proof."
         count = len(statement.names.objects)
-        yield f"  cbv zeta. apply (by_rules {count} less rules_{tag} rest_{tag} (Witness {multiple} steps_{tag}) less_order)."
+        yield f"  cbv zeta. apply (by_rules {count} less rules_{tag} rest_{tag} (Witness {self.multiple} steps_{tag}) less_order)."
         yield "  vm_cast_no_check (eq_refl true)."
         yield "Qed."
 

@@ -17,22 +17,23 @@ import os
 import re
 import shutil
 import subprocess
-from typing import Callable, Dict, Iterator, List, NamedTuple, Union
+from typing import Callable, Dict, Iterator, List, NamedTuple, Optional, Union
 
 from opprove.checkers import cancel, check, check_model, confirm, star
 from opprove.checkers.chain_text import Lines
 from opprove.checkers.check import MOST_BYTES, Problem, Refusal, loaded
 from opprove.coq import bases, models, proofs
 from opprove.coq.layout import comment, filled
+from opprove.coq.sharp import Sharp
 from opprove.coq.statement import Statement
 from opprove.text import EvidenceText, StatementText
 from opprove.tool import ended, parser
 
 THEORIES = os.path.join(os.path.dirname(os.path.abspath(__file__)), "theories")
-LIBRARY = ["Definitions", "Laws", "Checker", "Modulo", "Closed"]  # in the order in which they stand on one another
+LIBRARY = ["Definitions", "Laws", "Checker", "Modulo", "Closed", "Sharp"]  # in the order in which they stand on one another
 HEAD = """\
 From Coq Require Import List ZArith.
-From Opprove Require Import Definitions Checker Modulo Closed.
+From Opprove Require Import Definitions Checker Modulo Closed Sharp.
 Import ListNotations.
 Local Open Scope positive_scope.
 Local Open Scope hom_scope."""
@@ -106,8 +107,10 @@ class Theorems:
         self.rows = proofs.Rows(self.statement)
         self.lines: List[str] = []
         self.names: List[str] = []
+        self.besides: List[str] = []  # theorems that blocks have besides
         self.said: List[str] = []  # of each theorem, in words
         self.has_bases = False
+        self.sharp: Optional[Sharp] = None
 
     def add(self, block: Block) -> None:
         count = sum(name.startswith(f"claim_{block.evidence.claim}_") for name in self.names)
@@ -150,12 +153,29 @@ class Theorems:
         if not self.has_bases:
             yield from bases.order_definitions(self.statement)
             self.has_bases = True
-        yield from bases.BasisTheorem(self.statement, name, tag, basis, f"# block {block.number} isn't exported").written()
+        theorem = bases.BasisTheorem(self.statement, name, tag, basis, f"# block {block.number} isn't exported")
+        yield from theorem.written()
+        if confirm.is_sharp(self.problem, basis):
+            yield from self.of_sharp(theorem)
+
+    def of_sharp(self, theorem: bases.BasisTheorem) -> Iterator[str]:
+        """What is said besides of a basis whose rules are typed and in play."""
+        claim, name = theorem.basis.claim, f"{theorem.name}_sharp"
+        stars = ", with adjoints of maps as maps by themselves" * self.problem.is_starred
+        self.said.append(
+            f"{name}: no theorem can say claim {claim} of all preadditive categories in which each positive integer cancels{stars}: "
+            f"in that of the normal forms all generators are zero, and claim {claim} isn't."
+        )
+        self.besides.append(name)
+        if self.sharp is None:
+            self.sharp = Sharp(self.statement)
+            yield from self.sharp.definitions(theorem.numbers)
+        yield from self.sharp.theorem(theorem.name, theorem.tag, claim, theorem.multiple)
 
     def text(self) -> str:
         head = [comment("Written by `opprove coq`. What the theorems say needs no more than the file Definitions.v of the library.")]
         head += [comment(said) for said in self.said] + [comment(line) for line in self.left_out()]
-        theorems = filled(f"Definition theorems := ({', '.join(self.names)}).")
+        theorems = filled(f"Definition theorems := ({', '.join(self.names + self.besides)}).")
         parts = [*head, HEAD, *self.statement.names.notes, "", *self.statement.definitions(), *self.rows.letters.definitions()]
         return "\n".join([*parts, *self.lines, "", "(* What axioms they use *)", theorems, "Print Assumptions theorems."])
 

@@ -2,7 +2,8 @@
 from __future__ import annotations
 
 import functools
-from typing import Iterator, List, NamedTuple, Tuple
+import itertools
+from typing import Iterator, List, NamedTuple, Optional, Tuple
 
 from opprove import text
 from opprove.checkers.check import Problem, Signature
@@ -17,6 +18,7 @@ class Said(NamedTuple):
     level: int
     term: str
     size: int = 1  # how many terms it has when it is multiplied out, and none are put together
+    negated: Optional[Said] = None  # what stands behind its minus, where it has one
 
     def within(self, level: int) -> str:
         """Where a text of this level stands, in brackets if it needs them."""
@@ -41,46 +43,48 @@ class Reader:
         self.names, self.numbers = names, problem.numbers
 
     def equation(self, equation: text.Equation) -> Equation:
-        left, right = self.said(equation.left), self.said(equation.right)
         ends = equation.left.ends or equation.right.ends
         assert ends is not None
         source, target = (self.numbers[f"[{end}]"] for end in ends)
-        places = f"{self.names.place[source]} {self.names.place[target]}"
-        return Equation((source, target), left.text, right.text, f"Equation {places} ({left.term}) ({right.term})", left.size + right.size)
+        return self.between((source, target), self.said(equation.left), self.said(equation.right))
+
+    def between(self, ends: Signature, left: Said, right: Said) -> Equation:
+        """An equation with these ends."""
+        source, target = (self.names.place[end] for end in ends)
+        return Equation(ends, left.text, right.text, f"Equation {source} {target} ({left.term}) ({right.term})", left.size + right.size)
 
     def said(self, expression: text.Expression) -> Said:
-        kind, number = expression.kind, expression.number
-        if kind == "map":
+        if expression.kind == "map":
             letter = self.numbers[expression.name]
             return Said(self.names.of[letter], 0, f"Var {self.names.place[letter]}")
+        return self.composed(expression, [self.said(part) for part in expression.parts])
+
+    def composed(self, expression: text.Expression, parts: List[Said]) -> Said:
+        """An expression that is no map, by its parts."""
+        kind, number = expression.kind, expression.number
         if kind == "identity":
             letter = self.numbers[f"[{expression.name}]"]
             return Said(f"𝟙 {self.names.of[letter]}", 10, f"EOne {self.names.place[letter]}")
         if kind == "zero":
             return Said("0", 0, "EZero")
         if kind == "sum":
-            return self.sum(expression.parts)
-        parts = [self.said(part) for part in expression.parts]
-        first = parts[0]
+            return functools.reduce(self.sum, parts)
         if kind == "product":
             return functools.reduce(self.product, parts)
+        first = parts[0]
         if kind == "negative":
-            return Said(f"- {first.within(35)}", 35, f"EOpp ({first.term})", first.size)
+            return Said(f"- {first.within(35)}", 35, f"EOpp ({first.term})", first.size, first)
         if kind == "scaled":
             return Said(f"{number} • {first.within(45)}", 45, f"EScale {number} ({first.term})", first.size)
         if kind == "adjoint":
             return Said(f"{first.within(2)}†", 2, f"EAdj ({first.term})", first.size)
         return self.power(first, number)
 
-    def sum(self, parts: Tuple[text.Expression, ...]) -> Said:
-        total = self.said(parts[0])
-        for part in parts[1:]:
-            is_negative = part.kind == "negative"
-            other = self.said(part.parts[0] if is_negative else part)
-            sign, constructor = ("-", "EMinus") if is_negative else ("+", "EPlus")
-            term = f"{constructor} ({total.term}) ({other.term})"
-            total = Said(f"{total.within(50)} {sign} {other.within(49)}", 50, term, total.size + other.size)
-        return total
+    def sum(self, total: Said, part: Said) -> Said:
+        other = part.negated or part
+        sign, constructor = ("-", "EMinus") if part.negated else ("+", "EPlus")
+        term = f"{constructor} ({total.term}) ({other.term})"
+        return Said(f"{total.within(50)} {sign} {other.within(49)}", 50, term, total.size + other.size)
 
     def product(self, left: Said, right: Said) -> Said:
         return Said(f"{left.within(40)} ∘ {right.within(39)}", 40, f"EComp ({left.term}) ({right.term})", left.size * right.size)
@@ -95,7 +99,8 @@ class Statement:
     """What the theorems of a statement have in common."""
 
     def __init__(self, statement: text.StatementText) -> None:
-        self.problem = problem = statement.problem
+        self.text, self.problem = statement, statement.problem
+        problem = self.problem
         self.names = names = Names(problem)
         self.category, self.involution = names.fresh("C"), names.fresh("I")
         reader = Reader(problem, names)
@@ -128,16 +133,9 @@ class Statement:
         objects = " ".join(self.names.of[letter] for letter in self.names.objects)
         return f"({self.category} : preadditive){involution} ({objects} : {self.category})"
 
-    def map_binders(self) -> Iterator[str]:
-        """The maps with their ends, those together that stand side by side and have the same."""
-        groups: List[Tuple[Tuple[str, str], List[str]]] = []
-        for letter in self.names.maps:
-            ends = self.ends_of(letter)
-            if not groups or groups[-1][0] != ends:
-                groups.append((ends, []))
-            groups[-1][1].append(self.names.of[letter])
-        for (source, target), names in groups:
-            yield f"({' '.join(names)} : {source} ⟶ {target})"
+    def map_binders(self) -> List[str]:
+        """The maps with their ends."""
+        return grouped([(self.names.of[letter], self.ends_of(letter)) for letter in self.names.maps])
 
     def assumptions(self) -> List[str]:
         """That maps are their own adjoints, and the assumptions."""
@@ -147,6 +145,12 @@ class Statement:
     def premise_names(self) -> List[str]:
         """What proofs call these."""
         return [*self.self_names, *(name for name, _ in self.hypotheses)]
+
+
+def grouped(maps: List[Tuple[str, Tuple[str, str]]]) -> List[str]:
+    """Binders of maps with their sources and targets, those together that stand side by side and have the same."""
+    groups = itertools.groupby(maps, key=lambda one: one[1])
+    return [f"({' '.join(name for name, _ in found)} : {source} ⟶ {target})" for (source, target), found in groups]
 
 
 def for_all(binders: List[str], premises: List[str], claim: str) -> Iterator[str]:
