@@ -298,5 +298,6 @@ SHORT: List[Tuple[str, str]] = [
         "commute a b c, commute c d | claim a = d",
     ),
     ("object U V | map a : U -> V self | claim a = 0", "S9 2 5"),
+    ("object V | map a if : V -> V | claim a if = 0", "# not written in the notation"),
     ("object V W | map h : V -> V self | map a : V -> W | claim a h = a", "h : V -> V self, a : V -> W | claim a h = a"),
 ]

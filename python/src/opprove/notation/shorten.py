@@ -324,7 +324,7 @@ class Shortener:
                 text = self.declared(shown, left_out, is_plain)
                 if text:
                     return text
-        raise Refusal("# not shortened")
+        raise Refusal("# not written in the notation: a map is named `if` or `with`")
 
     def declared(self, shown: List[str], left_out: Set[str], is_plain: bool) -> str:
         """The text with the signatures of these maps, and of as many more, but for those left out, as it needs; empty where none do."""
