@@ -7,7 +7,11 @@
 from __future__ import annotations
 
 import argparse
+import functools
+import re
+import shutil
 import sys
+import textwrap
 from typing import Callable, Iterable, List, Optional, Tuple
 
 from opprove.cli import BY_WORD
@@ -25,9 +29,17 @@ class Words(argparse.ArgumentParser):
         return f"{self.prog}: {self.summary}\n\n{super().format_help()}"
 
 
+def filled(text: str) -> str:
+    """The paragraphs in lines as long as the terminal has them; one in which a line begins with a blank stays as it is."""
+    width = min(shutil.get_terminal_size().columns, 120) - 2
+    parts = re.split(r"\n\n+", text.strip())
+    fill = functools.partial(textwrap.fill, width=width, break_on_hyphens=False, break_long_words=False)
+    return "\n\n".join(part if re.search("(?m)^[ |]", part) else fill(" ".join(part.split())) for part in parts)
+
+
 def parser(word: str, page: Optional[str]) -> argparse.ArgumentParser:
-    """For the words of a tool. Its page has the line of the table, and what its module says behind the first line."""
-    text = (page or "").partition("\n")[2].strip()
+    """For the words of a tool. Its page has the line of the table, and what its module says after the first line."""
+    text = filled((page or "").partition("\n")[2])
     made = Words(prog=f"opprove {word}", description=text or None, formatter_class=argparse.RawDescriptionHelpFormatter)
     made.summary = BY_WORD[word].summary
     return made
