@@ -166,6 +166,22 @@ ROWS: List[Tuple[str, Union[str, List[str]]]] = [
             "f-ab-ii-i: object V | map a b i : V -> V | assume a i = 0 | assume b = 0 | claim a = 0",
         ],
     ),
+    (
+        "a b c : V -> V | eliminate c | claim a = b if c = a | claim b = 0 if a = 0",
+        [
+            "f-1: object V | map a b c : V -> V | assume c = a | claim a = b | eliminate c",
+            "f-2: object V | map a b : V -> V | assume a = 0 | claim b = 0",
+        ],
+    ),
+    (
+        "a : V -> V | equivalent: (i) a = 0 with define e = a a, pinv e x | (ii) a a = 0 | (iii) a = -a with a a a = 0",
+        [
+            "f-i-ii: object V | map a e x : V -> V | assume e = a a | pinv e x | assume a = 0 | claim a a = 0 | eliminate e",
+            "f-ii-iii: object V | map a : V -> V | assume a a a = 0 | assume a a = 0 | claim a = - a",
+            "f-iii-i: object V | map a e x : V -> V | assume a a a = 0 | assume e = a a | pinv e x | assume a = - a | claim a = 0"
+            " | eliminate e",
+        ],
+    ),
     # Words that are made
     (
         "let half (h): h + h = 1 | h : V -> V | half h | claim h = 0",
@@ -245,6 +261,8 @@ ROWS: List[Tuple[str, Union[str, List[str]]]] = [
     ("a : V -> V | model 4 | claim a = 0", "S16 2 7"),
     ("a : V -> V | assume a = 0", "S15"),
     ("a : V -> V | order degree | order degree | claim a = 0", "S7 3 1"),
+    ("a : V -> V | order degree | eliminate a | claim a = 0", "S7 3 1"),
+    ("a b : V -> V | eliminate a | eliminate b | claim a = 0", "S7 3 1"),
 ]
 
 # Files that are used: by their names, and rows as above.

@@ -84,7 +84,10 @@ class Expansion:
     # ---- Names
 
     def check_declarations(self) -> None:
-        """Refuses what is declared twice, or as an object and a map."""
+        """Refuses what is declared twice, or as an object and a map, and a second order of words."""
+        orders = [entry.tokens[0] for entry in self.entries if isinstance(entry, Kept) and entry.tokens]
+        for token in [token for token in orders if token.text in ("order", "eliminate")][1:2]:
+            raise fault("S7", token)
         seen: Set[str] = set()
         objects = {token.text for token in self.file.objects}
         for tokens in (self.file.declared, [token for token, _ in self.file.maps], [entry.name for entry in self.definitions]):
@@ -311,6 +314,7 @@ class Statement:
         self.claims([item for item in self.plan.claims if not self.is_plain])
         self.check_claims()
         named = [token for tokens in kept if tokens[0].text == "eliminate" for token in tokens[1:]]
+        named = [token for token in named if self.is_alone or token.text in self.used]
         names = defined + [token for token in named if token.text not in [name.text for name in defined]]
         if names and not any(tokens[0].text == "order" for tokens in kept):
             self.body.append([("eliminate", names[0]), *((f" {token.text}", token) for token in names)])
