@@ -8,7 +8,7 @@ from pathlib import Path
 from typing import Callable, Iterable, Iterator, List, NamedTuple, Sequence, Tuple
 
 from trying import PROGRAM as OPPROVE
-from trying import Failed, build, installed, need, run
+from trying import Failed, build
 
 __all__ = ["OPPROVE", "build"]  # beside what stands here
 RUNS, PATIENCE, MEMORY_LIMIT = 3, 10, 8 * 10**9

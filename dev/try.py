@@ -14,7 +14,7 @@ import subprocess
 import sys
 import tempfile
 from pathlib import Path
-from typing import Callable, Dict, Iterator, List, Tuple
+from typing import Callable, Dict, List
 
 sys.dont_write_bytecode = True
 import measure
@@ -24,7 +24,7 @@ import try_plain
 import try_release
 from opprove.cli import TOOLS
 from opprove.words.calls import OPTIONS
-from trying import EXAMPLES, PROGRAM, SOURCE, TESTS, TOP, Answer, Skipped, installed, need, run, run_checks, stored, tool
+from trying import PROGRAM, TESTS, TOP, Answer, Skipped, installed, need, run, run_checks, stored, tool
 
 def plain(folder: Path) -> str:
     """The program that opprove is measured by, and a row of the table where opprove is built."""

@@ -2,7 +2,7 @@
 from __future__ import annotations
 
 import random
-from typing import Dict, Iterable, Iterator, List, Tuple
+from typing import Iterable, Iterator, List, Tuple
 
 from opprove.checkers.check import Poly, Problem, Row, Word, add
 from opprove.coq.names import RESERVED

@@ -14,12 +14,10 @@ from typing import Callable, Dict, Iterator, List, Tuple
 
 sys.dont_write_bytecode = True
 from opprove.checkers import cancel
-from opprove.translations import chain as to_chain
 import cancel_rows
 import test_chains
 from opprove.checkers.check import Problem
 from opprove.checkers.check import DONE, REFUSED
-from trying import PROGRAM as OPPROVE
 from trying import Answer, EXAMPLES, checker, main, need, run, tool
 from trying_second import Files, Second, files_in
 

@@ -16,7 +16,7 @@ import unittest
 from pathlib import Path
 from typing import Dict, List, Optional
 
-from searching import PROGRAM, ROOT, Answer, environment, needs_program, tool
+from searching import PROGRAM, Answer, environment, needs_program, tool
 
 COUNT, WORKERS = 16, 4
 # Far from closed after so many pairs, which take about a second.

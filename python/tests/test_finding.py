@@ -8,7 +8,7 @@ import tempfile
 import unittest
 from pathlib import Path
 
-from searching import ROOT, Answer, accepted, needs_program, own_statement, tool
+from searching import Answer, accepted, needs_program, own_statement, tool
 
 NORMAL = "object V\nmap a x : V -> V\npinv a x\nassume a a' = a' a\nclaim a x = x a\n"
 # Urquhart: the pseudoinverse by a {1,4}-inverse g and a {1,3}-inverse h

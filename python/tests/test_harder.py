@@ -17,7 +17,6 @@ from pathlib import Path
 from typing import Callable, List, NamedTuple, Optional, Tuple
 
 sys.dont_write_bytecode = True
-from opprove.checkers import check_model
 from opprove.search import join
 from opprove.search import variants
 from opprove.checkers.check import Certificate, Evidence, Poly, Problem, Refusal, Row, Share, add, judge

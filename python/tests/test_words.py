@@ -17,7 +17,6 @@ from typing import Callable, Dict, Iterator, List, NamedTuple, Tuple
 
 sys.dont_write_bytecode = True
 from opprove.words import why
-from opprove.words import outcomes as why_outcomes
 from opprove.words import statement as why_statement
 from opprove.checkers.check import Problem, Refusal
 from trying import Answer, PROGRAM, SOURCE, Skipped, TOP, decided, installed, main, need, reads_language_2, run, tool

@@ -5,10 +5,9 @@ import functools
 import os
 import re
 import subprocess
-import sys
 from pathlib import Path
 from types import ModuleType
-from typing import Callable, List, NamedTuple, Optional, Sequence
+from typing import NamedTuple, Optional, Sequence
 
 import trying_node
 from opprove import tool

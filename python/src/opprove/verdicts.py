@@ -9,10 +9,10 @@ from typing import Dict, Iterable, Iterator, List, Optional
 from opprove import second_check
 from opprove.checkers import check
 from opprove.program import Refused
+from opprove.text import sections
 from opprove.translations import chain, chain_latex
 from opprove.translations.latex import name_in_latex
 
-HEAD = re.compile(r"^# claim (\d+) (not \w+|\w+) ?(.*)\n", re.MULTILINE)
 MARKS = {"proved": "#1a7f37", "refuted": "#b3261e", "not derivable": "#8a5a00"}  # colours of verdicts on a page
 
 
@@ -192,6 +192,5 @@ def matrix_in_latex(rows: List[List[int]]) -> str:
 
 def verdicts(statement: str, claims: List[str], report: str) -> Iterator[Verdict]:
     """Those of a report on a statement with these claims."""
-    parts = HEAD.split(report)[1:]
-    for number, kind, detail, block in zip(*(parts[place::4] for place in range(4))):
-        yield Verdict(int(number), claims[int(number) - 1], kind, detail, block, statement)
+    for head, block in sections(report):
+        yield Verdict(head.claim, claims[head.claim - 1], head.verdict, head.detail, block, statement)

@@ -13,7 +13,7 @@ from __future__ import annotations
 
 import argparse
 from collections import defaultdict
-from typing import TYPE_CHECKING, DefaultDict, Dict, Iterator, List, NamedTuple, Optional, Set, Tuple
+from typing import TYPE_CHECKING, DefaultDict, Dict, Iterator, List, Optional, Tuple
 
 if TYPE_CHECKING or __package__:
     from .check import Poly, Problem, Source, Word, finished, loaded, script

@@ -7,8 +7,8 @@ from typing import Dict, Iterator, List, NamedTuple, Tuple
 from opprove.checkers.check import Refusal
 from opprove.checkers.confirm import FIRST, Basis, Order, Poly, Rules, as_texts, terms_of
 from opprove.checkers.tree import measures_of
-from opprove.coq.layout import chained, filled, integer, listed, word
-from opprove.coq.statement import Equation, Statement
+from opprove.coq.layout import chained, filled, integer, word
+from opprove.coq.statement import Statement
 
 TERMS = 20000  # of an equation that is multiplied out, and no terms are put together
 

@@ -3,7 +3,7 @@ from __future__ import annotations
 
 import os
 import re
-from itertools import combinations, count, groupby
+from itertools import combinations, groupby
 from typing import Dict, Iterable, Iterator, List, NamedTuple, Optional, Sequence, Set, Tuple, Union
 
 from opprove.checkers import check

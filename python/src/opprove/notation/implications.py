@@ -17,6 +17,7 @@ from opprove.notation.parts import in_words
 from opprove.notation.reader import ROMAN
 from opprove.program import Refused
 from opprove.program import run as run_program
+from opprove.text import sections
 from opprove.tool import ended, parser, say
 
 ORDER = ["yes", "yes/", "-", "no", "?"]  # from the best answer to the worst
@@ -25,9 +26,9 @@ ORDER = ["yes", "yes/", "-", "no", "?"]  # from the best answer to the worst
 def answer(report: str) -> str:
     """What a report of `prove` says of all its claims together."""
     found = []
-    for head in re.findall(r"^# claim [0-9]+ (.*)", report, re.MULTILINE):
-        denominator = re.match(r"proved denominator ([0-9]+)", head)
-        words = {"not": "-", "refuted": "no"}.get(head.split()[0], "?")
+    for head, _ in sections(report):
+        denominator = re.match(r"proved denominator ([0-9]+)", head.said)
+        words = {"not derivable": "-", "refuted": "no"}.get(head.verdict, "?")
         found.append(words if not denominator else "yes" if denominator.group(1) == "1" else f"yes/{denominator.group(1)}")
     return max(found, key=lambda each: (ORDER.index(re.sub(r"[0-9]+", "", each)), len(each), each))
 

@@ -15,7 +15,7 @@ import time
 from fractions import Fraction
 from math import gcd
 from pathlib import Path
-from typing import Dict, Iterator, List, NamedTuple, Optional, Sequence, Set
+from typing import Dict, Iterator, List, NamedTuple, Sequence, Set
 
 from opprove import program as programs
 from opprove.checkers.check import Problem

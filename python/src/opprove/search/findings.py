@@ -7,7 +7,6 @@ from __future__ import annotations
 
 import argparse
 import os
-import re
 import tempfile
 from pathlib import Path
 from typing import Callable, Iterable, Iterator, List, NamedTuple, Optional, Sequence, Tuple
@@ -15,9 +14,9 @@ from typing import Callable, Iterable, Iterator, List, NamedTuple, Optional, Seq
 from opprove import second_check
 from opprove.checkers.check import NO_MEMORY, NO_OUTPUT, Problem, Refusal, status_of, written
 from opprove.search.running import Program, Unusable
+from opprove.text import evidence as text_of_evidence
 from opprove.tool import parser, say
 
-HEAD = re.compile(r"^# claim ([0-9]+) (.*)\n", re.MULTILINE)
 ORDER_WORDS = ("order", "eliminate")
 
 
@@ -69,10 +68,8 @@ def text_of(path: str) -> str:
 
 def sections(report: str) -> Iterator[Tuple[int, str, List[str]]]:
     """For each claim of a report its number, the head line behind that, and the lines of its block."""
-    parts = HEAD.split(report)[1:]
-    for place in range(0, len(parts), 3):
-        block = [line for line in parts[place + 2].split("\n") if line and line[0] != "#"]
-        yield int(parts[place]), parts[place + 1], block
+    for head, text in text_of_evidence.sections(report):
+        yield head.claim, head.said, [line for line in text.split("\n") if line and line[0] != "#"]
 
 
 def proved_block(program: Program, folder: Path, text: str, words: Sequence[str] = (), seconds: int = 60) -> List[str]:

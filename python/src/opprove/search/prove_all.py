@@ -21,8 +21,9 @@ from typing import Dict, List, NamedTuple, Optional
 
 from opprove import program as programs
 from opprove.search.asking import Asker, side_by_side
-from opprove.search.findings import HEAD, Answer, add_scheduler, answered, positive
+from opprove.search.findings import Answer, add_scheduler, answered, positive
 from opprove.search.running import Program, Progress, Unusable
+from opprove.text import sections
 from opprove.tool import parser
 
 VERDICTS = (0, 10, 11, 12)  # statuses
@@ -91,7 +92,7 @@ def verdicts_of(found: Proved) -> List[str]:
     if found.status not in VERDICTS:
         line = next((line for line in found.report.splitlines() if line), "")
         return [line or CAUSES.get(found.status, f"status {found.status}")]
-    heads = [head for _, head in HEAD.findall(found.report)]
+    heads = [head.said for head, _ in sections(found.report)]
     return [next((word for word in WORDS if head.startswith(word)), head) for head in heads]
 
 

@@ -38,6 +38,7 @@ from opprove.search import cluster, findings
 from opprove.search.plan import ANY, AS_IT_IS, LARGE, LARGE_SECONDS, SECONDS, TRIED, WORKER, WORKER_SECONDS, Goal, Job, Plan
 from opprove.search.running import Interrupts, Program, Progress, Runs, Unusable
 from opprove.search.variants import Statement
+from opprove.text import sections
 
 
 class Search:
@@ -103,11 +104,9 @@ class Search:
             return
         if status in (0, 2, 3, 4, 10):
             self.plan.closed.add(job.text)
-        sections = re.split(r"^# claim ([0-9]+) (.*)\n", text, flags=re.MULTILINE)[1:]
-        for place in range(0, len(sections), 3):
-            number, head, block = int(sections[place]), sections[place + 1], sections[place + 2]
-            if job.goals[number - 1].wants(job.kind):
-                self.judge(job, job.goals[number - 1], number, head, block)
+        for head, block in sections(text):
+            if job.goals[head.claim - 1].wants(job.kind):
+                self.judge(job, job.goals[head.claim - 1], head.claim, head.said, block)
 
     def judge(self, job: Job, goal: Goal, number: int, head: str, block: str) -> None:
         """Takes over what a run says of a goal, where that stands for the statement as it was written."""

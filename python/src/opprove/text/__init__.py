@@ -19,6 +19,7 @@
     evidence.kinds                                    # ["certificate", "basis"]: of its blocks, each once
     evidence.blocks                                   # Blocks: kind, claim, line, text
     evidence.heads                                    # Heads of a report: claim, verdict, detail, line
+    sections(report)                                  # Sections of a report that is a text: head, text of the evidence
     evidence.data                                     # the bytes, for check.Evidence(problem, evidence.data) and its like
 
 An `Expression` has a kind, parts (expressions), a name, a number, its ends (source and target; none of an open zero) and a place:
@@ -33,11 +34,11 @@ An `Expression` has a kind, parts (expressions), a name, a number, its ends (sou
 gives it and all that stands in it. Reading is that of checkers/check.py, which alone says what is a fault.
 """
 from opprove.checkers.check import Problem, Refusal
-from opprove.text.evidence import Block, EvidenceText, Head
+from opprove.text.evidence import Block, EvidenceText, Head, Section, sections
 from opprove.text.expressions import Expression, Place, spelled, walk
 from opprove.text.statement import Equation, Map, SourceLine, StatementText
 
 __all__ = [
-    "Block", "Equation", "EvidenceText", "Expression", "Head", "Map", "Place", "Problem", "Refusal", "SourceLine", "StatementText",
-    "spelled", "walk",
+    "Block", "Equation", "EvidenceText", "Expression", "Head", "Map", "Place", "Problem", "Refusal", "Section", "SourceLine", "StatementText",
+    "sections", "spelled", "walk",
 ]  # fmt: skip

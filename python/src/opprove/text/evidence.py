@@ -3,7 +3,7 @@ from __future__ import annotations
 
 import functools
 import re
-from typing import Iterator, List, NamedTuple
+from typing import Iterator, List, NamedTuple, Tuple
 
 from opprove.checkers.check import MOST_BYTES, loaded
 
@@ -22,6 +22,30 @@ class Head(NamedTuple):
     verdict: str  # proved, refuted, not derivable, undecided, and of a mere search not refuted
     detail: str  # what stands after that in the line
     line: int
+
+    @property
+    def said(self) -> str:
+        """The verdict with what stands after it."""
+        return f"{self.verdict} {self.detail}".rstrip()
+
+
+class Section(NamedTuple):
+    """What a report says of a claim, and the text of its evidence."""
+
+    head: Head
+    text: str
+
+
+def sections(report: str) -> List[Section]:
+    """Those of a report, in their order: each head line, and what stands between it and the next one."""
+    found: List[Tuple[Head, List[str]]] = []
+    for number, line in enumerate(re.split("\r?\n", report), 1):
+        match = HEAD.fullmatch(line)
+        if match:
+            found.append((Head(int(match[1]), match[2], match[3] or "", number), []))
+        elif found:
+            found[-1][1].append(line)
+    return [Section(head, "\n".join(lines)) for head, lines in found]
 
 
 class Block(NamedTuple):
@@ -51,8 +75,7 @@ class EvidenceText:
     @functools.cached_property
     def heads(self) -> List[Head]:
         """What the head lines say, in their order."""
-        matches = ((number, HEAD.fullmatch(line)) for number, line in enumerate(self.lines, 1))
-        return [Head(int(match[1]), match[2], match[3] or "", number) for number, match in matches if match]
+        return [section.head for section in sections(self.data.decode(errors="surrogateescape"))]
 
     @functools.cached_property
     def blocks(self) -> List[Block]:

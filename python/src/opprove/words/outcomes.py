@@ -9,6 +9,7 @@ from typing import Callable, Dict, Iterator, List, NamedTuple, Optional, Tuple
 from opprove.checkers import check_model
 from opprove.checkers.check import Line, Poly, Problem, Refusal, add
 from opprove.program import files, path
+from opprove.text import sections
 from opprove.translations import chain
 from opprove.words.calls import Call, typed
 from opprove.words.evidence import Text, matrices
@@ -19,7 +20,6 @@ SMALL_OBJECTS, SMALL_MAPS, SEARCH_SECONDS = 4, 10, 3  # of statements for which 
 SHAPES = ((1, (2, 3, 5, 7)), (2, (2, 3)))  # sides, and moduli for them
 MODULI_TRIED = "2, 3, 5 and 7"
 SHORT_LINES, LONG_ROWS = 14, 500  # of chains that are shown whole, and of certificates whose chain isn't made
-HEAD = re.compile(r"# claim ([0-9]+) (proved|not derivable|refuted|not refuted|undecided)(.*)")
 
 
 class Outcome(NamedTuple):
@@ -35,14 +35,8 @@ class Outcome(NamedTuple):
 
 
 def outcomes(report: str) -> List[Outcome]:
-    found: List[Tuple[str, List[str]]] = []
-    for line in report.split("\n"):
-        if HEAD.fullmatch(line):
-            found.append((line, []))
-        elif found and line:
-            found[-1][1].append(line)
-    matches = [(HEAD.fullmatch(head), block) for head, block in found]
-    return [Outcome(int(match[1]), match[2], match[3], tuple(block)) for match, block in matches if match]
+    """What a report says of its claims."""
+    return [Outcome(head.claim, head.verdict, head.detail, tuple(filter(None, text.split("\n")))) for head, text in sections(report)]
 
 
 class Asked(NamedTuple):

@@ -13,13 +13,13 @@ With NO_COLOR in the environment the words have no colour.
 from __future__ import annotations
 
 import os
-import re
 import signal
 import subprocess
 import sys
 from typing import List, NamedTuple, Optional, Tuple
 
 from opprove.program import path as path_of_program
+from opprove.text import EvidenceText
 from opprove.words import calls, evidence, outcomes, statement
 from opprove.words.parts import Screen, Told, on_screen
 
@@ -214,10 +214,9 @@ def editor(words: List[str]) -> int:
 def reader_of(path: str) -> str:
     """The command that reads it: cancel where it has proofs that cancel, model where it has models and no certificate, and confirm where it
     has bases alone."""
-    data = content(path)
-    kinds = (b"certificate", b"model", b"basis", b"cancellation")
-    has = [re.search(rb"^[ \t]*%s[ \t]" % kind, data, re.MULTILINE) is not None for kind in kinds]
-    return "cancel" if has[3] else "check" if has[0] or not any(has) else "model" if has[1] else "confirm"
+    kinds = EvidenceText(content(path)).kinds
+    readers = {"cancellation": "cancel", "certificate": "check", "model": "model", "basis": "confirm"}
+    return next((reader for kind, reader in readers.items() if kind in kinds), "check")
 
 
 def ended(status: int) -> int:
