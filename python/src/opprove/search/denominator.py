@@ -20,7 +20,7 @@ from opprove import program as programs
 from opprove.checkers.check import Certificate, Evidence, Problem, Refusal, Row, Share
 from opprove.search import join, variants
 from opprove.search.findings import Answer, Finding, answered, first_word, is_accepted, keep, sections, words_of
-from opprove.search.running import Program
+from opprove.search.running import Program, Progress
 from opprove.search.variants import Statement
 
 PAIRS, PRIMES = "5000", (2, 3, 5, 7, 101, 32003, 65537)  # the moduli that a search for models may have
@@ -92,6 +92,7 @@ class Smaller:
 
     def __init__(self, program: Program, folder: Path, statement: Statement, claim: int, until: float) -> None:
         self.program, self.folder, self.statement, self.claim, self.until = program, folder, statement, claim, until
+        self.progress = Progress("denominator")
         self.best: Optional[Known] = None
         self.shortest: Dict[int, Certificate] = {}  # as it was found, by its denominator
 
@@ -104,9 +105,11 @@ class Smaller:
         return (self.best is not None and self.best.denominator == 1) or time.monotonic() > self.until
 
     def run(self) -> None:
-        for text, names in self.texts():
+        for count, (text, names) in enumerate(self.texts(), 1):
             if self.is_done():
                 return
+            best = self.best.denominator if self.best else "none"
+            self.progress.tell(f"claim {self.claim}: denominator {best}, run {count}")
             self.ask(text, names)
 
     def texts(self) -> Iterator[Tuple[str, Dict[str, str]]]:
@@ -199,6 +202,7 @@ def answer(words: List[str], folder: Path) -> Answer:
         for one in mine:
             search.take(one)
         search.run()
+        search.progress.clear()
         told, is_least = answer_of(search, options, min(one.denominator for one in mine))
         lines += told
         is_known = is_known and is_least

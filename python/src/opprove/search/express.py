@@ -22,7 +22,7 @@ from opprove.checkers.check import Problem
 from opprove.search.engine import Alphabet, Basis, Bounds, Ledger, Poly, add, started
 from opprove.search.findings import Answer, Finding, answered, is_accepted, keep, lines_of, marks_of, names, text_of, with_claims, words_of
 from opprove.search.proofs import Proof, Writer, poly_text, proof_of
-from opprove.search.running import Program, Unusable
+from opprove.search.running import Program, Progress, Unusable
 from opprove.search.spans import Span
 
 ABOVE, STAGES = 500, (200, 800, 3200)  # the weight of a map that is eliminated; pairs
@@ -41,8 +41,8 @@ class Formula(NamedTuple):
 class Express:
     """A search for formulas."""
 
-    def __init__(self, problem: Problem, names: Sequence[str], by: Sequence[str], until: float) -> None:
-        self.problem, self.until = problem, until
+    def __init__(self, problem: Problem, names: Sequence[str], by: Sequence[str], until: float, progress: Progress) -> None:
+        self.problem, self.until, self.progress = problem, until, progress
         self.wanted = [self.letter(name) for name in names]
         kept = {self.letter(name) for name in by}
         maps = [letter for letter, name in enumerate(problem.names) if name[0] != "["]
@@ -69,6 +69,7 @@ class Express:
         for alphabet in self.alphabets():
             basis = started(Ledger(alphabet))
             for pairs in STAGES:
+                self.progress.tell(f"{len(self.found)} of {len(self.wanted)} formulas found, now {pairs} pairs of {len(self.above)} letters above")
                 is_closed = basis.complete(Bounds(pairs, self.until))
                 for letter in self.wanted:
                     self.look(basis, letter)
@@ -156,8 +157,10 @@ def answer(words: List[str], folder: Path) -> Answer:
     marks = marks_of(problem)
     first = options.maps[0]
     stripped = Problem(with_claims(text, [f"0 {first} = 0"], marks).encode()) if first in problem.numbers else problem
-    search = Express(stripped, options.maps, options.by, time.monotonic() + options.seconds)
+    progress = Progress("express")
+    search = Express(stripped, options.maps, options.by, time.monotonic() + options.seconds, progress)
     search.run()
+    progress.clear()
     lines: List[str] = []
     for name, letter in zip(options.maps, search.wanted):
         formula = search.found.get(letter)

@@ -22,9 +22,10 @@ from opprove.checkers.check import ABBREVIATIONS, Certificate, Evidence, Problem
 from opprove.search import join, variants
 from opprove.search.asking import Asker, side_by_side
 from opprove.search.findings import Answer, Finding, add_scheduler, answered, is_accepted, keep, positive, sections, words_of
-from opprove.search.running import Program
+from opprove.search.running import Program, Progress
 from opprove.search.variants import Statement
 
+SHARE = 0.75  # of the time, which goes to the sets; the rest to what shows that the greatest ones don't do
 Units = FrozenSet[int]  # equations, by their numbers from 0
 
 
@@ -41,8 +42,8 @@ class Tested(NamedTuple):
 class Marco:
     """The least sets that pass a test which is closed upwards, and the greatest that don't, each found once."""
 
-    def __init__(self, claim: "Claim", count: int, until: float) -> None:
-        self.claim, self.all, self.until = claim, frozenset(range(count)), until
+    def __init__(self, claim: "Claim", units: Units, until: float) -> None:
+        self.claim, self.all, self.until = claim, units, until
         self.least: List[Units] = []
         self.greatest: List[Units] = []
         self.is_complete = False
@@ -105,12 +106,16 @@ class Marco:
 class Claim:
     """A claim, asked of sets of equations."""
 
-    def __init__(self, asker: Asker, statement: Statement, number: int, options: argparse.Namespace, until: float) -> None:
-        self.asker, self.statement, self.number, self.options = asker, statement, number, options
+    def __init__(self, asker: Asker, statement: Statement, number: int, options: argparse.Namespace, progress: Progress) -> None:
+        self.asker, self.statement, self.number, self.options, self.progress = asker, statement, number, options, progress
+        until = time.monotonic() + SHARE * options.seconds
         self.goal = statement.claims[number - 1]
         self.keys = [join.shape(equation.poly)[0] if equation.poly else None for equation in statement.assumptions]
         self.tests: Dict[Units, Tested] = {}
-        self.marco = Marco(self, len(statement.assumptions), until)
+        every = frozenset(range(len(statement.assumptions)))
+        among = frozenset(unit for unit in every if line_of(statement, unit)[1].startswith(options.among))
+        self.fixed = every - among  # equations that aren't asked about
+        self.marco = Marco(self, among, until)
 
     def text(self, units: Units) -> str:
         chosen = [self.statement.assumptions[unit] for unit in sorted(units)]
@@ -119,17 +124,19 @@ class Claim:
 
     def test(self, units: Units) -> Tested:
         if units not in self.tests:
-            self.tests[units] = self.tested(units)
+            self.tests[units] = self.tested(units | self.fixed)
         return self.tests[units]
 
     def tested(self, units: Units) -> Tested:
         text = self.text(units)
         seconds = max(1, int(self.marco.until - time.monotonic()) + 1)
+        sets = f"{len(self.marco.least)} least sets, {len(self.marco.greatest)} greatest that don't do"
+        self.progress.tell(f"claim {self.number}: {sets}, {self.asker.count} runs, of {self.options.seconds} s")
         words = ["prove", "--no-models", "--workers", "1", "--pairs", str(self.options.pairs)]
         _, report = self.asker.ask(words, text, seconds)
         for _, head, block in sections(report.decode("utf-8", "replace")):
             if head.startswith("proved"):
-                return Tested(True, self.used(text, block), text, head, block)
+                return Tested(True, self.used(text, block) - self.fixed, text, head, block)
             return Tested(False, frozenset(), text, head, block)
         return Tested(False, frozenset(), text, "undecided", [])
 
@@ -171,7 +178,8 @@ class Claim:
         """What shows that the claim doesn't follow from these equations, as comments; FOLDER gets it."""
         tested = self.test(units)
         kind, block = tested.verdict.split(" rules")[0], tested.block
-        status, report = self.asker.ask(["refute", "--workers", "1"], tested.text, 10)
+        left = int(self.options.seconds - self.progress.seconds())
+        status, report = self.asker.ask(["refute", "--workers", "1"], tested.text, min(10, left)) if left > 0 else (1, b"")
         if status == 11:
             kind, block = "refuted", next(found for _, _, found in sections(report.decode()))
         if block and is_accepted(self.asker.program, folder, tested.text, block):
@@ -189,7 +197,7 @@ class Claim:
         for place, units in enumerate(sorted(marco.least, key=lambda units: (len(units), sorted(units))), 1):
             block = self.certificate(units)
             if block and is_accepted(self.asker.program, folder, self.statement.text, block[1:]):
-                lines += [f"# follows from {self.labels(units)}", *block[1:]]
+                lines += [f"# follows from {self.labels(units)}" + ", with the others" * bool(self.fixed), *block[1:]]
                 keep(self.options.keep, Finding("", block[1:], self.statement.text, f"{name}_{self.number}_from_{place}"))
         used = frozenset(unit for units in marco.least for unit in units)
         if marco.is_complete and marco.least:
@@ -213,19 +221,26 @@ def certificates(problem: Problem, block: List[str]) -> List[Certificate]:
 
 def label_of(statement: Statement, unit: int) -> str:
     """An equation in the words of its line."""
+    number, text = line_of(statement, unit)
+    return f"({number}) of `{text}`" if number else f"`{text}`"
+
+
+def line_of(statement: Statement, unit: int) -> Tuple[int, str]:
+    """The text of the line that an equation stands in, and which one it is where the line has several."""
     for line in statement.problem.lines:
         word = line.tokens[0].text
         count = len(ABBREVIATIONS.get(word, [""])) if word in ABBREVIATIONS or word == "assume" else 0
         if unit < count:
             text = variants.spelled(tuple(token.text for token in line.tokens[:-1]), ())
-            return f"`{text}`" if count == 1 else f"({unit + 1}) of `{text}`"
+            return (0 if count == 1 else unit + 1), text
         unit -= count
-    return "?"
+    raise IndexError(unit)
 
 
 def options_of(words: List[str]) -> argparse.Namespace:
     made = words_of("needed", __doc__, 60)
-    made.add_argument("--pairs", type=positive, default=5000, metavar="N", help="pairs of a run (5000)")
+    made.add_argument("--pairs", type=positive, default=2000, metavar="N", help="pairs of a run (2000)")
+    made.add_argument("--among", default="", metavar="TEXT", help="asks of the lines alone that begin so, as `pinv`; the others are kept")
     add_scheduler(made)
     return made.parse_args(words)
 
@@ -234,13 +249,14 @@ def answer(words: List[str], folder: Path) -> Answer:
     options = options_of(words)
     statement = Statement(options.statement)
     program = Program(Path(programs.path()))
-    until = time.monotonic() + options.seconds
+    progress = Progress("needed")
     with Asker(program, folder, options.scheduler) as asker:
-        claims = [Claim(asker, statement, number, options, until) for number in range(1, len(statement.claims) + 1)]
+        claims = [Claim(asker, statement, number, options, progress) for number in range(1, len(statement.claims) + 1)]
         for _ in side_by_side(options.jobs, lambda claim: claim.marco.run(), claims):
             pass
         name = Path(options.statement).stem
         lines = [line for claim in claims for line in claim.report(folder, name)]
+        progress.clear()
     return lines, 0 if all(claim.marco.is_complete and claim.marco.least for claim in claims) else 12
 
 
