@@ -3,7 +3,7 @@
 
 For each statement that `prove` leaves by its defaults, where some claim isn't proved: what it says, what `search` says within N
 seconds (60), by which means, and in what time; and what another search says, a file HARDER that takes a statement and the same
-options. Statements whose name begins with one of those behind --complex are asked with --complex.
+options. Statements whose name begins with one of those behind --complex are asked with --complex. PYTHONPATH has python/src.
 """
 from __future__ import annotations
 
@@ -16,9 +16,9 @@ import time
 from pathlib import Path
 from typing import List, Tuple
 
-from trying import PROGRAM  # which also says where the package is
+from opprove import program
 
-OPPROVE = str(PROGRAM)
+OPPROVE = program.path()
 HEAD = re.compile(r"^# claim [0-9]+ (proved|refuted|not derivable|undecided)(.*)", re.MULTILINE)
 SHORT = {"proved": "p", "refuted": "r", "not derivable": "nd", "undecided": "u"}
 

@@ -110,6 +110,13 @@ class Exists(Finding):
         self.assertEqual((answer.status, answer.out.splitlines()[0]), (0, "# claim 1: 3 (u) = (a) (b) with k = b"), answer)
         self.check_own(answer)
 
+    def test_factors(self) -> None:
+        path = self.file(NORMAL)
+        for factor, line in (("a - a", "is zero"), ("z", "doesn't fit the statement: S6\n"), ("a (", "doesn't fit the statement: S3\n")):
+            answer = tool("exists", path, "--left", factor)
+            self.assertEqual((answer.status, answer.out), (1, ""))
+            self.assertTrue(answer.error.startswith(f"# the factor {factor} {line}"), answer.error)
+
     def test_not_written_so(self) -> None:
         answer = tool("exists", self.file(NORMAL))
         self.assertEqual(answer.status, 12)

@@ -80,6 +80,8 @@ class Planted(unittest.TestCase):
         for seed in range(COUNT):
             draws = Draws(seed)
             factor, solution = draws.sum("ab"), draws.sum("cd")
+            if not Problem(f"object V\nmap a b : V -> V\nclaim {factor} = 0\n".encode()).claims[0]:
+                factor = "a"  # what was drawn is zero
             lines = [f"u = ({factor}) e + p", f"e = {solution}", "p = q - q"]
             side = "--left"
             if seed % 2:

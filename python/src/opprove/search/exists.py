@@ -17,11 +17,11 @@ from pathlib import Path
 from typing import Dict, List, NamedTuple, Optional, Sequence, Tuple
 
 from opprove import program as programs
-from opprove.checkers.check import Certificate, Evidence, Poly, Problem, Row, Share, Word, add
+from opprove.checkers.check import Certificate, Evidence, Poly, Problem, Refusal, Row, Share, Word, add
 from opprove.search import join
 from opprove.search.findings import ORDER_WORDS, Answer, Finding, answered, first_word, is_accepted, keep, lines_of
 from opprove.search.findings import proved_block, text_of, with_claims, words_of
-from opprove.search.running import Program
+from opprove.search.running import Program, Unusable
 
 PAIRS = "50000"
 
@@ -177,13 +177,24 @@ def with_annihilators(text: str, options: argparse.Namespace) -> str:
     claims = [expression(problem, poly) for poly in problem.claims]
     for name, factor, is_left in asked:
         extra = f"({factor})"
-        probe = Problem(with_claims(text, [f"{extra} = 0"]).encode()).claims[0]
-        ends = problem.signature(next(iter(probe))) or (0, 0)
+        ends = ends_of_factor(problem, text, factor)
         inner = problem.names[ends[1] if is_left else ends[0]][1:-1]
         lines += [f"map {name} : {inner} -> {names[2]}" if is_left else f"map {name} : {names[2]} -> {inner}"]
         lines += [f"assume {name} {extra} = 0" if is_left else f"assume {extra} {name} = 0"]
         claims = [f"{name} ({claim})" if is_left else f"({claim}) {name}" for claim in claims]
     return with_claims(text, [f"{claim} = 0" for claim in claims], lines)
+
+
+def ends_of_factor(problem: Problem, text: str, factor: str) -> Tuple[int, int]:
+    """Source and target of an expression over the statement."""
+    try:
+        poly = Problem(with_claims(text, [f"({factor}) = 0"]).encode()).claims[0]
+    except Refusal as fault:
+        raise Unusable(f"# the factor {factor} doesn't fit the statement: {str(fault).split(' ')[2]}") from None
+    ends = problem.signature(next(iter(poly))) if poly else None
+    if ends is None:
+        raise Unusable(f"# the factor {factor} is zero")
+    return ends
 
 
 def fresh_names(problem: Problem) -> List[str]:

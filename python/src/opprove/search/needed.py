@@ -25,6 +25,7 @@ from opprove.search.findings import Answer, Finding, add_scheduler, answered, is
 from opprove.search.running import Program, Progress
 from opprove.search.variants import Statement
 
+MORE = 3  # times the pairs, where the claim isn't proved by so many from all equations
 SHARE = 0.75  # of the time, which goes to the sets; the rest to what shows that the greatest ones don't do
 Units = FrozenSet[int]  # equations, by their numbers from 0
 
@@ -49,6 +50,8 @@ class Marco:
         self.is_complete = False
 
     def run(self) -> None:
+        if not self.claim.test(self.all).is_proved:
+            self.claim.raise_pairs()
         while time.monotonic() < self.until:
             seed = self.seed()
             if seed is None:
@@ -112,6 +115,7 @@ class Claim:
         self.goal = statement.claims[number - 1]
         self.keys = [join.shape(equation.poly)[0] if equation.poly else None for equation in statement.assumptions]
         self.tests: Dict[Units, Tested] = {}
+        self.pairs = options.pairs
         every = frozenset(range(len(statement.assumptions)))
         among = frozenset(unit for unit in every if line_of(statement, unit)[1].startswith(options.among))
         self.fixed = every - among  # equations that aren't asked about
@@ -132,7 +136,7 @@ class Claim:
         seconds = max(1, int(self.marco.until - time.monotonic()) + 1)
         sets = f"{len(self.marco.least)} least sets, {len(self.marco.greatest)} greatest that don't do"
         self.progress.tell(f"claim {self.number}: {sets}, {self.asker.count} runs, of {self.options.seconds} s")
-        words = ["prove", "--no-models", "--workers", "1", "--pairs", str(self.options.pairs)]
+        words = ["prove", "--no-models", "--workers", "1", "--pairs", str(self.pairs)]
         _, report = self.asker.ask(words, text, seconds)
         for _, head, block in sections(report.decode("utf-8", "replace")):
             if head.startswith("proved"):
@@ -158,6 +162,11 @@ class Claim:
         moved = {tuple(mine.numbers[problem.names[letter]] for letter in word): value for word, value in poly.items()}
         keys = {join.shape(one)[0] for one in (moved, mine.star(moved)) if one}
         return {unit for unit, key in enumerate(self.keys) if key in keys}
+
+    def raise_pairs(self) -> None:
+        """Asks with more pairs, where the claim isn't proved from all equations."""
+        self.pairs *= MORE
+        self.tests.clear()
 
     # ---- What is told
 
@@ -239,7 +248,7 @@ def line_of(statement: Statement, unit: int) -> Tuple[int, str]:
 
 def options_of(words: List[str]) -> argparse.Namespace:
     made = words_of("needed", __doc__, 60)
-    made.add_argument("--pairs", type=positive, default=2000, metavar="N", help="pairs of a run (2000)")
+    made.add_argument("--pairs", type=positive, default=2000, metavar="N", help="pairs of a run (2000), or three times as many where they don't do")
     made.add_argument("--among", default="", metavar="TEXT", help="asks of the lines alone that begin so, as `pinv`; the others are kept")
     add_scheduler(made)
     return made.parse_args(words)

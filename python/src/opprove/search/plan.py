@@ -146,7 +146,7 @@ class Plan:
             yield Job(LARGER, self.claims, f"{self.statement.text}# {LARGER}\n", budget(LARGE_LEVEL), level, Order([]), LARGE)
         elif kind == MODELS:
             text = variants.model_text(self.statement, goals[0].number, level)
-            yield Job("models", goals, text, ["refute", "--workers", "1", "--seed", str(level + 1)], level, Order([]), MODELS)
+            yield Job("models", goals, text, ["refute", "--workers", "1", "--seed", str(max(level, 1))], level, Order([]), MODELS)
         elif kind in WORKER:
             yield self.work(kind, level)
         elif any(not goal.verdict for goal in goals):

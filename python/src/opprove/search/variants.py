@@ -372,11 +372,13 @@ def solved(statement: Statement, level: int) -> List[str]:
 
 
 def model_text(statement: Statement, number: int, level: int) -> str:
-    """The statement with this claim alone, and these shapes in place of its own."""
+    """The statement with this claim alone, and from level 1 on with these shapes in place of its own."""
     kept, claims = [], 0
+    replaced = ("model", "solve") if level else ()
     for text in statement.text.split("\n"):
         word = (text.split("#")[0].split() or [""])[0]
         claims += word == "claim"
-        if word not in ("model", "solve", "claim") or (word == "claim" and claims == number):
+        if word not in (*replaced, "claim") or (word == "claim" and claims == number):
             kept.append(text)
-    return "\n".join(kept + solved(statement, level) + shapes(statement, level)) + "\n"
+    more = solved(statement, level - 1) + shapes(statement, level - 1) if level else []
+    return "\n".join(kept + more) + "\n"
