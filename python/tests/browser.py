@@ -1,4 +1,4 @@
-"""A browser for the tests: Chromium without a window, led by chromedriver over its protocol (WebDriver), with the standard library alone."""
+"""A browser for the tests: Chromium without a window, led by chromedriver over its protocol, with the standard library alone."""
 from __future__ import annotations
 
 import json
@@ -30,10 +30,12 @@ class Browser:
         self.folder = tempfile.TemporaryDirectory(prefix="opprove-browser-")
         self.driver = subprocess.Popen([driver, "--port=0"], stdout=subprocess.PIPE, stderr=subprocess.DEVNULL, encoding="utf-8")
         assert self.driver.stdout is not None
-        started = next((found for found in map(re.compile("started successfully on port ([0-9]+)").search, self.driver.stdout) if found), None)
+        lines = map(re.compile("started successfully on port ([0-9]+)").search, self.driver.stdout)
+        started = next((found for found in lines if found), None)
         assert started, "chromedriver didn't start"
         self.port = int(started.group(1))
-        words = ["--headless=new", "--no-sandbox", "--disable-gpu", f"--window-size={size[0]},{size[1]}", f"--user-data-dir={self.folder.name}"]
+        words = ["--headless=new", "--no-sandbox", "--disable-gpu", f"--user-data-dir={self.folder.name}"]
+        words.append(f"--window-size={size[0]},{size[1]}")
         options = {"binary": chromium, "args": words}
         wanted = {"browserName": "chrome", "goog:chromeOptions": options, "goog:loggingPrefs": {"browser": "ALL", "performance": "ALL"}}
         self.session = ""
@@ -82,7 +84,8 @@ class Browser:
 
     def requests(self) -> List[str]:
         """The addresses that were asked for since the last look."""
-        events: List[Dict[str, Any]] = [json.loads(entry["message"])["message"] for entry in self.ask("POST", "/se/log", {"type": "performance"})]
+        entries = self.ask("POST", "/se/log", {"type": "performance"})
+        events: List[Dict[str, Any]] = [json.loads(entry["message"])["message"] for entry in entries]
         return [event["params"]["request"]["url"] for event in events if event["method"] == "Network.requestWillBeSent"]
 
     def close(self) -> None:

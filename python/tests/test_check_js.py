@@ -50,11 +50,13 @@ class Checks(unittest.TestCase):
                 file.truncate(2**20 + 1)
             usage = "# usage: check.js check|model|confirm|cancel STATEMENT EVIDENCE\n"
             for words, status, out in (
-                ([], 2, usage), (["check", statement], 2, usage), (["prove", statement, evidence], 2, usage), (["check", statement, evidence, "x"], 2, usage),
-                (["check", "missing", evidence], 4, "# load failed missing\n"), (["check", statement, folder], 4, f"# load failed {folder}\n"),
-                (["check", long, "missing"], 4, "# load failed missing\n"), (["check", long, evidence], 4, f"# too long {long} limit 1048576\n"),
-                (["check", statement, evidence], 0, "# block 1 accepted claim 1 denominator 1\n"), (["model", statement, evidence], 7, "# refused K7\n"),
-                (["check", evidence, statement], 3, "# refused S3 line 1 column 1\n"), (["check", statement, statement], 7, "# refused K2 line 1\n"),
+                ([], 2, usage), (["check", statement], 2, usage), (["prove", statement, evidence], 2, usage),
+                (["check", statement, evidence, "x"], 2, usage), (["check", "missing", evidence], 4, "# load failed missing\n"),
+                (["check", statement, folder], 4, f"# load failed {folder}\n"), (["check", long, "missing"], 4, "# load failed missing\n"),
+                (["check", long, evidence], 4, f"# too long {long} limit 1048576\n"),
+                (["check", statement, evidence], 0, "# block 1 accepted claim 1 denominator 1\n"),
+                (["model", statement, evidence], 7, "# refused K7\n"), (["check", evidence, statement], 3, "# refused S3 line 1 column 1\n"),
+                (["check", statement, statement], 7, "# refused K2 line 1\n"),
             ):  # fmt: skip
                 with self.subTest(words):
                     self.assertEqual(self.answer(words), (status, out, ""))

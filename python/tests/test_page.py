@@ -89,10 +89,26 @@ class Shown(unittest.TestCase):
         found = "return [...document.querySelectorAll('.check')].map((at) => [at.className, (at.querySelector('code') || at).textContent])"
         return [(kind, line) for kind, line in self.browser.run(found)]
 
+    def texts(self, selector: str) -> List[str]:
+        """The texts of the elements that a selector finds."""
+        return list(self.browser.run("return [...document.querySelectorAll(arguments[0])].map((at) => at.textContent)", selector))
+
+    def reduce(self, word: str) -> None:
+        """Has the box of a closed rule set reduce a word."""
+        put = "const box = document.querySelector('.reduce'); box.querySelector('input').value = arguments[0]; box.requestSubmit()"
+        self.browser.run(put, word)
+
     def all_right(self, count: int) -> None:
         checks = self.checks()
         self.assertEqual([kind for kind, _ in checks], ["check right"] * count, checks)
         self.assertEqual(self.browser.run("return document.querySelector('#checked').className"), "right" if count else "")
+
+
+    def all_recomputed(self) -> None:
+        """Each step that the page shows was recomputed by it."""
+        told = self.browser.run("return [...document.querySelectorAll('.check')].map((at) => at.textContent).join(' ')")
+        counts = [int(number or 1) for number in re.findall("the (?:([0-9]+) )?steps? shown", told)]
+        self.assertEqual(sum(counts), self.browser.run("return document.querySelectorAll('.chain .by').length"))
 
 
 class Pages(Shown):
@@ -105,6 +121,7 @@ class Pages(Shown):
                 with self.subTest(statement=statement.stem, format=number):
                     self.show(self.page(statement.read_text("utf-8"), report))
                     self.all_right(len(re.findall("^(?:certificate|model|basis) ", report, re.MULTILINE)))
+                    self.all_recomputed()
                     count += 1
         self.assertGreaterEqual(count, 40)
 
@@ -115,6 +132,7 @@ class Pages(Shown):
                 with self.subTest(statement=statement.stem):
                     self.show(page_of(statement, [evidence]))
                     self.all_right(evidence.read_text("utf-8").count("\nend"))
+                    self.all_recomputed()
 
     def test_a_proof_that_cancels_shows_its_letters(self) -> None:
         statement = EXAMPLES / "gallery" / "full_rank_factorization.op"
@@ -123,7 +141,7 @@ class Pages(Shown):
         meaning = self.browser.run("return document.querySelector('.meaning').textContent")
         self.assertIn("f is monic (f n = 0 only for n = 0)", meaning)
         self.assertIn("g is epic (n g = 0 only for n = 0)", meaning)
-        self.assertEqual(sorted(set(self.browser.run("return [...document.querySelectorAll('.off u')].map((at) => at.textContent)"))), ["f", "g"])
+        self.assertEqual(sorted(set(self.texts(".off u"))), ["f", "g"])
 
     def test_a_refutation_shows_its_products(self) -> None:
         self.show(self.page(INVERSES, MODEL))
@@ -139,11 +157,12 @@ class Pages(Shown):
             ("f h f h g", ["f h f h g", "f h gby rule 1, f h g in f h f h g", "gby rule 1, f h g in f h g"]),
             ("h f h g - h g", ["h f h g - h g", "0by rule 1, f h g in h f h g"]), ("h f", ["h f"]),
         ):  # fmt: skip
-            self.browser.run("const box = document.querySelector('.reduce'); box.querySelector('input').value = arguments[0]; box.requestSubmit()", word)
-            self.assertEqual(self.browser.run("return [...document.querySelectorAll('.steps li')].map((at) => at.textContent)"), want)
-        for word, want in (("f q", "q isn’t declared."), ("f g", "g doesn’t compose with what stands before it."), ("f $", "$ begins no letter.")):
-            self.browser.run("const box = document.querySelector('.reduce'); box.querySelector('input').value = arguments[0]; box.requestSubmit()", word)
-            self.assertEqual(self.browser.run("return document.querySelector('output').textContent"), want)
+            self.reduce(word)
+            self.assertEqual(self.texts(".steps li"), want)
+        ends = "g doesn’t compose with what stands before it."
+        for word, told in (("f q", "q isn’t declared."), ("f g", ends), ("f $", "$ begins no letter.")):
+            self.reduce(word)
+            self.assertEqual(self.texts("output"), [told])
 
     def test_an_undecided_claim_names_its_budget(self) -> None:
         self.show(self.page("object V\nmap a b : V -> V\nassume b a b = a b a\nclaim a = b\n", UNDECIDED))
@@ -154,10 +173,11 @@ class Pages(Shown):
 
     def test_evidence_that_the_checker_does_not_read(self) -> None:
         squares = "object U V W\nmap a : U -> V\nmap b : U -> W\nassume 2 a' a + b' b = 0\nclaim a = 0\n"
-        proof = "star proof 1\nclaim 1\ndenominator 1\nlemma 1 scale 1\nrow 1 () 1 ()\nroot 2 left 1\nsquare 2 a\nsquare 1 b\ngoal scale 1\n"
+        head = "star proof 1\nclaim 1\ndenominator 1\nlemma 1 scale 1\nrow 1 () 1 ()\nroot 2 left 1\n"
+        proof = f"{head}square 2 a\nsquare 1 b\ngoal scale 1\nrow 1 () lemma 2 ()\nend\n"
         matrices = "rational model 1\nclaim 1\nside U 2\nside V 1\nmap a = 1/2 0\nmap b = 2 ; -1/3\nend\n"
         for statement, report, words in (
-            (squares, proof + "row 1 () lemma 2 ()\nend\n", ["an involution that is positive", "[2] a = 0, since [1] is 2 (a)∗ (a) + (b)∗ (b)"]),
+            (squares, proof, ["an involution that is positive", "[2] a = 0, since [1] is 2 (a)∗ (a) + (b)∗ (b)"]),
             (INVERSES, matrices, ["matrices of rational numbers", "They differ in row 2, column 1: -1/6 and 0."]),
         ):
             self.show(self.page(statement, report))
@@ -166,11 +186,10 @@ class Pages(Shown):
                 self.assertIn(said, self.browser.run("return document.querySelector('.claim').textContent"))
 
     def test_several_reports(self) -> None:
-        self.show(self.page(RULES, BASIS, BASIS.replace("claim 1", "claim 3").replace("h g\nend", "- h g + h f\nend"), UNDECIDED.replace("1 ", "2 ", 1)))
+        other = BASIS.replace("claim 1", "claim 3").replace("h g\nend", "- h g + h f\nend")
+        self.show(self.page(RULES, BASIS, other, UNDECIDED.replace("1 ", "2 ", 1)))
         self.all_right(2)
-        self.assertEqual(self.browser.run("return [...document.querySelectorAll('.verdict')].map((at) => at.textContent)"), [
-            "not derivable", "undecided", "not derivable",
-        ])  # fmt: skip
+        self.assertEqual(self.texts(".verdict"), ["not derivable", "undecided", "not derivable"])
 
     def test_keys_lead_along_the_steps(self) -> None:
         self.show(page_of(EXAMPLES / "pseudoinverses.op", [EXAMPLES / "pseudoinverses.cert"]))
@@ -182,7 +201,7 @@ class Pages(Shown):
         seen = "return getComputedStyle(document.activeElement.closest('.step').querySelector('.more')).display"
         self.assertEqual(self.browser.run(seen), "block")
         self.assertEqual(self.browser.run("return document.querySelectorAll('.equations .used').length"), 1)
-        self.assertEqual(self.browser.run("return [...document.querySelectorAll('.chain')].map((at) => at.querySelectorAll('[tabindex=\"0\"]').length)[0]"), 1)
+        self.assertEqual(self.browser.run("return document.querySelector('.chain').querySelectorAll('[tabindex=\"0\"]').length"), 1)
 
     def test_what_is_checked_within_a_second(self) -> None:
         if os.getloadavg()[0] > BUSY:
@@ -208,10 +227,22 @@ class Changed(Shown):
         self.assertRegex(line, "^# block 1 refused C6 word .* want [-0-9]+ got [-0-9]+$")
         self.assertEqual(self.browser.run("return document.querySelector('#checked').className"), "wrong")
 
+    def test_a_changed_step_is_refused(self) -> None:
+        text = page_of(EXAMPLES / "pseudoinverses.op", [EXAMPLES / "pseudoinverses.cert"])
+        steps = re.findall('<div class="step" role="listitem"><span>=</span>.*', text)
+        changed = [(steps[4], steps[4].replace(">a<", ">x<", 1)), (steps[2], re.sub('#a[0-9]+"', '#a1"', steps[2])), (steps[-1] + "\n", "")]
+        for old, new in changed:
+            self.assertEqual((text.count(old), old == new), (1, False))
+            self.show(text.replace(old, new))
+            self.assertEqual(self.browser.run("return document.querySelector('.check').className"), "check wrong")
+            self.assertEqual(self.browser.run("return document.querySelector('#checked').className"), "wrong")
+            self.assertRegex(self.texts(".check")[0], "; what is shown is not a proof: (step [0-9]+|the ends)")
+
     def test_a_changed_statement_is_refused(self) -> None:
         statement, evidence = EXAMPLES / "pasted_squares.op", EXAMPLES / "pasted_squares.cert"
         before = statement.read_bytes()
-        for after, want in ((before.replace(b"claim", b"clam"), "# refused S3 line 11 column 1"), (before.replace(b"= b2 b1 x", b"= z a2 a1"), "C6")):
+        faulty, other = before.replace(b"claim", b"clam"), before.replace(b"= b2 b1 x", b"= z a2 a1")
+        for after, want in ((faulty, "# refused S3 line 11 column 1"), (other, "C6")):
             text = page_of(statement, [evidence]).replace(base64.b64encode(before).decode(), base64.b64encode(after).decode())
             self.show(text)
             ((kind, line),) = self.checks()
@@ -227,9 +258,10 @@ class Changed(Shown):
         self.all_right(1)
         self.assertEqual(self.browser.run("return document.title"), marks)
         self.assertEqual(self.browser.run("return document.querySelector('.source').textContent"), statement.rstrip("\n"))
-        self.assertEqual(self.browser.run("return document.querySelectorAll('script').length"), 2)
+        self.assertEqual(self.browser.run("return document.querySelectorAll('script').length"), 3)
         self.assertEqual(self.browser.run("return document.querySelectorAll('img, b:not(.w b), i:not(.meaning i)').length"), 0)
-        self.assertEqual(self.browser.run("return [...document.querySelectorAll('a.file')].map((at) => at.download)"), [path.name, report.name])
+        names = self.browser.run("return [...document.querySelectorAll('a.file')].map((at) => at.download)")
+        self.assertEqual(names, [path.name, report.name])
 
     def test_a_page_can_load_nothing(self) -> None:
         self.show(self.page(INVERSES, MODEL))
@@ -273,11 +305,15 @@ class Written(unittest.TestCase):
             folder = Path(name)
             (folder / "bad.op").write_text("object U\nclaim\n")
             (folder / "good.op").write_text(INVERSES)
+            (folder / "empty").write_text("# nothing\n")
+            (folder / "latin").write_bytes(b"# \xff\n")
             (folder / "bad.cert").write_text("certificate 1\nclaim 1\ndenominator 1\nend\n")
             for words, status, line in (
                 (["good.op"], 2, "(?s:usage: .*)"), (["good.op", "--what", "x"], 2, "(?s:usage: .*)"),
                 (["bad.op", "bad.cert"], 3, "# refused S3 line 2 column 6"), (["good.op", "none"], 4, "# load failed none"),
-                (["good.op", "good.op"], 7, "# refused K2 line 1"), (["good.op", "bad.cert"], 7, "# block 1 refused C6 word .U. want -1 got 0"),
+                (["good.op", "good.op"], 7, "# refused K2 line 1"), (["good.op", "empty"], 7, "# refused K7"),
+                (["good.op", "latin"], 7, "# refused K1"),
+                (["good.op", "bad.cert"], 7, "# block 1 refused C6 word .U. want -1 got 0"),
             ):  # fmt: skip
                 done = self.run_in(folder, words)
                 self.assertEqual((done.returncode, done.stdout), (status, ""), words)

@@ -50,9 +50,8 @@ class Served(unittest.TestCase):
 
     def started(self, *words: str) -> "subprocess.Popen[str]":
         environment = {**os.environ, "PYTHONPATH": PACKAGE, "TMPDIR": self.folder.name}
-        return subprocess.Popen(
-            [sys.executable, "-m", "opprove", "serve", *words], stdout=subprocess.PIPE, stderr=subprocess.PIPE, env=environment, encoding="utf-8"
-        )
+        command = [sys.executable, "-m", "opprove", "serve", *words]
+        return subprocess.Popen(command, stdout=subprocess.PIPE, stderr=subprocess.PIPE, env=environment, encoding="utf-8")
 
     def tearDown(self) -> None:
         """Ctrl-C ends all: the server says nothing, and leaves no process and no file."""
@@ -67,7 +66,8 @@ class Served(unittest.TestCase):
         """The answer to a request, as this page would send it but for some headers; those that are none are left out."""
         own: Dict[str, Optional[str]] = {"Host": self.host, "Origin": f"http://{self.host}" if method == "POST" else None}
         body = sent if isinstance(sent, bytes) else json.dumps(sent).encode() if sent is not None else None
-        given = {name: value for name, value in {**own, **{name.replace("_", "-"): value for name, value in headers.items()}}.items() if value is not None}
+        all_headers = {**own, **{name.replace("_", "-"): value for name, value in headers.items()}}
+        given = {name: value for name, value in all_headers.items() if value is not None}
         connection = HTTPConnection(self.host, timeout=120)
         try:
             connection.putrequest(method, path, skip_host=True)
@@ -106,13 +106,16 @@ class Refused(Served):
             (403, "GET", "/", None, {}), (403, "GET", "/x" + path[2:], None, {}), (403, "GET", path[:-2] + "/", None, {}),
             (403, "GET", path, None, {"Host": "localhost:" + self.host.split(":")[1]}), (403, "GET", path, None, {"Host": "evil.example"}),
             (403, "GET", path, None, {"Host": None}), (403, "GET", path, None, {"Origin": "http://evil.example"}),
-            (403, "GET", path, None, {"Sec_Fetch_Site": "cross-site"}), (200, "GET", path, None, {"Sec_Fetch_Site": "same-origin", "Origin": own}),
+            (403, "GET", path, None, {"Sec_Fetch_Site": "cross-site"}),
+            (200, "GET", path, None, {"Sec_Fetch_Site": "same-origin", "Origin": own}),
             (403, "POST", path + "look", look, {"Origin": None}), (403, "POST", path + "look", look, {"Origin": "null"}),
             (403, "POST", path + "look", look, {"Origin": own + "0"}), (403, "POST", "/look", look, {}),
             (413, "POST", path + "look", None, {"Content_Length": str(2**20 + 1)}), (411, "POST", path + "look", None, {}),
-            (411, "POST", path + "look", b"", {"Transfer_Encoding": "chunked"}), (411, "POST", path + "look", None, {"Content_Length": "-1"}),
+            (411, "POST", path + "look", b"", {"Transfer_Encoding": "chunked"}),
+            (411, "POST", path + "look", None, {"Content_Length": "-1"}),
             (404, "GET", path + "..%2f..%2fetc/passwd", None, {}), (404, "GET", path + "../../etc/passwd", None, {}),
-            (404, "GET", path + "page/../../../etc/passwd", None, {}), (404, "GET", path + "page/9", None, {}), (404, "GET", path + "state/x", None, {}),
+            (404, "GET", path + "page/../../../etc/passwd", None, {}), (404, "GET", path + "page/9", None, {}),
+            (404, "GET", path + "state/x", None, {}),
             (404, "POST", path + "gallery", {}, {}), (404, "GET", path + "look", None, {}),
             (400, "POST", path + "look", b"{", {}), (400, "POST", path + "look", {}, {}), (400, "POST", path + "look", [], {}),
             (400, "POST", path + "prove", look, {}), (400, "POST", path + "prove", {**look, **BUDGETS, "pairs": 10**7}, {}),
@@ -129,7 +132,8 @@ class Refused(Served):
         self.assertEqual(listening, [f"0100007F:{port:04X}"])
 
     def test_words_that_are_not_taken(self) -> None:
-        for words, status, line in ((["a", "b"], 2, "(?s:usage: .*)"), (["--seconds", "0"], 2, "(?s:usage: .*)"), (["none.op"], 4, "# load failed none.op")):
+        usage = "(?s:usage: .*)"
+        for words, status, line in ((["a", "b"], 2, usage), (["--seconds", "0"], 2, usage), (["none.op"], 4, "# load failed none.op")):
             server = self.started(*words)
             out, error = server.communicate(timeout=30)
             self.assertEqual((server.returncode, out), (status, ""))
@@ -222,7 +226,8 @@ class Worked(Served):
         self.assertEqual(self.browser.run("return document.querySelector('.bad').textContent"), "q")
         self.assertRegex(self.text("fault"), "^Line [0-9]+, column 10: S6: 'q' is not declared")
         self.assertIn("q", self.browser.run("return document.querySelector('.bad-line').textContent"))
-        self.put("# <img src=x onerror=\"document.title='met'\">\nobject \u00dc\nmap \u03b1 : \u00dc -> \u00dc\nclaim \u03b1 \u03b1 = \u03b2\n")
+        comment = "# <img src=x onerror=\"document.title='met'\">\n"
+        self.put(f"{comment}object \u00dc\nmap \u03b1 : \u00dc -> \u00dc\nclaim \u03b1 \u03b1 = \u03b2\n")
         self.browser.wait("return document.querySelector('.bad') && document.querySelector('.bad').textContent === '\u03b2'")
         self.assertEqual(self.browser.run("return document.title"), "opprove")
         self.assertEqual(self.browser.logs(), [])

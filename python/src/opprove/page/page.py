@@ -10,6 +10,7 @@ from __future__ import annotations
 
 import base64
 import hashlib
+import re
 import shlex
 from html import escape
 from pathlib import Path
@@ -56,9 +57,10 @@ def pieces_of(reader: Reader, number: int, report: bytes) -> Iterator[Piece]:
         "check": certificates, "model": models, "confirm": bases, "cancel": cancellations, "star": star_proofs, "rational": rational_models,
     }  # fmt: skip
     kinds = dict.fromkeys(KINDS.get(block.kind, "check") for block in EvidenceText(report).blocks)
-    for command in kinds:
+    found = outcomes(report.decode(errors="replace"))
+    for command in kinds or ([] if found else ["check"]):
         yield from readers[command](reader, number, report)
-    for outcome in outcomes(report.decode()):
+    for outcome in found:
         if outcome.kind in ("undecided", "not refuted") and 1 <= outcome.claim <= len(reader.claims):
             meaning = meanings.undecided(outcome) if outcome.kind == "undecided" else meanings.not_refuted(outcome)
             yield Piece(outcome.claim, outcome.kind, meaning, [])
@@ -146,7 +148,8 @@ class StatementWriter:
         yield '<section class="statement"><h2>The statement</h2>'
         yield from (f'<p class="about">{escape(line)}</p>' for line in self.about())
         yield from self.glance()
-        lines = self.text.splitlines() or [""]
+        lines = re.split("\r?\n", self.text)
+        lines = lines[:-1] if len(lines) > 1 and not lines[-1] else lines
         is_open = " open" if len(lines) <= OPEN_LINES else ""
         yield f'<details{is_open}><summary>As it is written</summary><pre class="source">'
         shown = "\n".join(f'<span id="L{number}">{escape(line)}</span>' for number, line in enumerate(lines, 1))
@@ -154,7 +157,7 @@ class StatementWriter:
 
     def about(self) -> List[str]:
         """What the comments in front of the statement say, as one paragraph."""
-        lines = [line.strip() for line in self.text.splitlines() if line.split()[:1] != ["language"]]
+        lines = [line.strip() for line in re.split("\r?\n", self.text) if line.split()[:1] != ["language"]]
         first = next((number for number, line in enumerate(lines) if line and line[0] != "#"), len(lines))
         told = " ".join(line.lstrip("#").strip() for line in lines[:first]).strip()
         return [told] if told else []
@@ -245,7 +248,7 @@ def page_of(
     reader = Reader(Problem(contents[0]))
     pieces = [piece for number, report in enumerate(contents[1:]) for piece in pieces_of(reader, number, report)]
     shown = title or statement.stem.replace("_", " ")
-    style, programs = part("style.css"), [part("check.js"), part("view.js")]
+    style, programs = part("style.css"), [part("check.js"), part("shown.js"), part("view.js")]
     lines = ["<!doctype html>"] + [f"<!-- {comment.replace('--', '- -').replace('>', '')} -->"] * bool(comment)
     lines += [f'<html lang="en">{head(shown, style, programs)}<body>']
     around = " ".join(f'<a href="{escape(address)}">{escape(name)}</a>' for name, address in links)

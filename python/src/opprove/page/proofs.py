@@ -75,8 +75,14 @@ class StarWriter:
             squares = [form.format(f"<b>{scale}</b> " * (scale > 1), self.html.sum(poly, (0, 0))) for scale, poly in item.squares]
             return f'since {self.link(item.item)} is <span class="w">{" + ".join(squares)}</span>'
         rows = item.rows if isinstance(item, Share) else []
-        names = [self.link(row.number) if row.is_lemma else label(self.reader, row, "<sup>∗</sup>") for row in rows if row.coefficient]
+        names = [self.named(row) for row in rows if row.coefficient]
         return f"by {listed(list(dict.fromkeys(names)))}" if names else "by nothing"
+
+
+    def named(self, row: Row) -> str:
+        if row.is_lemma:
+            return self.link(row.number)
+        return label(self.reader, row, "<sup>∗</sup>") if row.number <= len(self.reader.sources) else "what identities satisfy"
 
 
 class ProofWriter:
@@ -111,7 +117,9 @@ class ProofWriter:
 
     def lemma(self, number: int, chain: Chain) -> Iterator[str]:
         shown = equation(self.mathml, chain.left, chain.right, chain.ends)
-        yield f'<details class="lemma" open id="{self.prefix}l{number}"><summary>Lemma [{number}]{self.scaled(chain)}: {shown}</summary>'
+        scale = "" if chain.scale == 1 else f' data-scale="{chain.scale}"'
+        head = f"<summary>Lemma [{number}]{self.scaled(chain)}: {shown}</summary>"
+        yield f'<details class="lemma" open id="{self.prefix}l{number}"{scale}>{head}'
         yield from [self.cancelled(chain.cancelled)] if chain.cancelled else self.steps(chain)
         yield "</details>"
 

@@ -3,8 +3,9 @@
 Prints an address, which a browser on this machine opens, and answers there until it is interrupted. A statement is written on the
 left, or a text of the notation that stands for one; its first fault is marked as one types, and its quiver is drawn anew; Prove runs
 the program, Search looks around it, Stop ends a run. Of each run time and memory are limited, and there are at most as many as
-processors. It listens on 127.0.0.1 alone, at a random port, and the address has a token: a request without it, with another host name, from another origin, of more than 1 MiB, or
-for anything else than the page asks for is refused. All files are in a temporary folder that goes with it.
+processors. It listens on 127.0.0.1 alone, at a random port, and the address has a token: a request without it, with another host
+name, from another origin, of more than 1 MiB, or for anything else than the page asks for is refused. All files are in a temporary
+folder that goes with it.
 """
 from __future__ import annotations
 

@@ -21,12 +21,24 @@
     for (const place of places) {
       const number = Number(place.dataset.block), { line, status, milliseconds, block, problem } = judged[number - 1] || last;
       const isRight = number <= judged.length && status === 0 && line.startsWith(`# block ${number} `);
-      const told = element("code", line);
-      place.className = `check ${isRight ? "right" : "wrong"}`;
-      place.replaceChildren(isRight ? "Checked in this page: " : "Refused in this page: ", told, isRight ? `, ${time(milliseconds)}` : "");
+      const steps = isRight ? recomputed(problem, block, place) : { isRight, told: "" }, told = element("code", line);
+      place.className = `check ${steps.isRight ? "right" : "wrong"}`;
+      const more = isRight ? `, ${time(milliseconds)}${steps.told}` : "";
+      place.replaceChildren(isRight ? "Checked in this page: " : "Refused in this page: ", told, more);
       if (isRight && command === "confirm") bases.set(`${report} ${number}`, { block, problem });
     }
     return places.length ? places.filter((place) => place.classList.contains("right")).length : 0;
+  }
+
+  // Whether the steps that the page shows behind the sign of a block are right, and what is said of them.
+  function recomputed(problem, block, place) {
+    try {
+      const count = block.items ? Shown.check(problem, block, place) : null;
+      const said = count === 1 ? "; the step shown was recomputed" : `; the ${count} steps shown were recomputed`;
+      return { isRight: true, told: count ? said : "" };
+    } catch (fault) {
+      return { isRight: false, told: `; what is shown is not a proof: ${fault.message}` };
+    }
   }
 
   function checkAll() {
