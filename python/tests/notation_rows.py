@@ -315,6 +315,8 @@ SHORT: List[Tuple[str, str]] = [
         "object V | map a b c d : V -> V | assume a b = b a | assume c d = d c | assume c a = a c | assume b c = c b | claim a = d",
         "commute a b c, commute c d | claim a = d",
     ),
+    ("object V | map a b : V -> V | assume a a = [V] | claim a = [V]", "a b : V -> V | assume a a = 1 | claim a = 1"),
+    ("object V | map a b : V -> V | assume a a = a | claim a = 0", "idempotent a | claim a = 0"),
     ("object U V | map a : U -> V self | claim a = 0", "S9 2 5"),
     ("object V | map a if : V -> V | claim a if = 0", "# not written in the notation"),
     ("object V W | map h : V -> V self | map a : V -> W | claim a h = a", "h : V -> V self, a : V -> W | claim a h = a"),
