@@ -172,7 +172,7 @@ proved() {
   else
     echo "static none"
   fi
-  echo "needs ${needs}with glibc $glibc or later, bash, and for the tools Python 3.8 or later"
+  echo "needs ${needs}with glibc $glibc or later, bash 5, and for the tools Python 3.8 or later"
   for name in ${licences[@]+"${licences[@]}"}; do echo "licence $(sum "$tree/share/doc/opprove/$name") share/doc/opprove/$name"; done
   ((${#licences[@]})) || echo "licence none"
   ((authors)) || echo "authors none"

@@ -69,6 +69,17 @@ COMPLETED = {  # of words, the last of which is begun, what is offered
 }  # fmt: skip
 
 
+def offered_by_fish(folder: Path) -> str:
+    """What fish offers."""
+    for name in ("s.op", "s.opn"):
+        (folder / name).touch()
+    (folder / "words.fish").write_text(run(*tool("completions"), "fish").out)
+    for words, want in (("pict", {"picture"}), ("completions z", {"zsh"}), ("prove --fo", {"--format"}), ("check s.o", {"s.op", "s.opn"})):
+        answer = run(installed("fish"), "-c", f"source words.fish; complete -C 'opprove {words}'", folder=folder)
+        need({line.split("\t")[0] for line in answer.out.split("\n") if line} == want, (words, answer))
+    return "fish offers what it should"
+
+
 def offered(folder: Path) -> str:
     """What bash offers."""
     for name in ("s.op", "s.opn", "s.report", "s.cert", "s.txt"):
@@ -193,7 +204,7 @@ def groups(folder: Path) -> Dict[str, List[Callable[[], str]]]:
             )
         },
         "editors": [
-            lambda: manual(folder), *(lambda name=name: shell(name, folder) for name in ("bash", "zsh", "fish")), lambda: offered(folder),
+            lambda: manual(folder), *(lambda name=name: shell(name, folder) for name in ("bash", "zsh", "fish")), lambda: offered(folder), lambda: offered_by_fish(folder),
             lambda: vim(folder), grammars,
         ],
         "others": [lambda: plain(folder), gate_time, costly_files, devices],
