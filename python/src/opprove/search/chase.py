@@ -194,7 +194,7 @@ class Chase:
     def off_squares(self, basis: Basis, is_left: bool) -> List[int]:
         """Candidates r with r' r (or r r') in the ideal, and two with a sum of such in it."""
         places: List[int] = []
-        kept: Dict[Tuple[FrozenSet[Tuple[Word, int]], Optional[int]], Tuple[int, Poly]] = {}
+        kept: Dict[FrozenSet[Tuple[Word, int]], Tuple[int, Poly]] = {}  # by what is left of a square, without its content
         for poly in self.candidates():
             if self.is_over() or len(places) >= MOST_FOUND:
                 break
@@ -210,11 +210,11 @@ class Chase:
                 continue
             share = content(traced.rest)
             shape = frozenset((word, coefficient // share) for word, coefficient in traced.rest.items())
-            other = kept.get((frozenset((word, -value) for word, value in shape), None))
+            other = kept.get(frozenset((word, -value) for word, value in shape))
             if other and traced.multiple == 1:
                 places += self.paired(basis, is_left, [(other[0], poly), (share, other[1])])
             elif traced.multiple == 1:
-                kept.setdefault((shape, None), (share, poly))
+                kept.setdefault(shape, (share, poly))
         return places
 
     def paired(self, basis: Basis, is_left: bool, parts: List[Tuple[int, Poly]]) -> List[int]:
