@@ -24,7 +24,8 @@ look_at_version() {
   [[ $version =~ ^(0|[1-9][0-9]*)(\.(0|[1-9][0-9]*))*$ ]] || stop "VERSION has to hold numbers with dots between them"
   [ "$(head -n 1 "$top/CHANGELOG.md" 2>/dev/null)" = "# $version" ] || stop "CHANGELOG.md has to begin with the version, '# $version'"
   grep -qsFx "version: \"$version\"" "$top/CITATION.cff" || stop "CITATION.cff has to have the line 'version: \"$version\"'"
-  [ "$(cat "$top/python/src/opprove/VERSION" 2>/dev/null)" = "$version" ] || stop "python/src/opprove/VERSION has to hold the version, '$version'"
+  [ "$(cat "$top/python/src/opprove/VERSION" 2>/dev/null)" = "$version" ] ||
+    stop "python/src/opprove/VERSION has to hold the version, '$version'"
 }
 
 # The checksum of all that the program is made of, as ./opprove keeps it.
@@ -196,7 +197,8 @@ archive() {
 # What Debian's tools want to know of a package, beside the files of the archive.
 about_package() {
   local deb=$1 doc=$1/usr/share/doc/opprove maintainer=${MAINTAINER:-nobody <nobody@invalid>}
-  echo "The licence of opprove: ${licences[*]:-not said yet}. Those of what it is linked with: the folder licences beside this file." >"$doc/copyright"
+  echo "The licence of opprove: ${licences[*]:-not said yet}. Those of what it is linked with: the folder licences beside this file." \
+    >"$doc/copyright"
   {
     printf 'opprove (%s) unstable; urgency=medium\n\n  * Release %s; CHANGELOG.md says what it has.\n\n' "$version" "$version"
     printf ' -- %s  %s\n' "$maintainer" "$(date -Rud "@$stamp")"

@@ -200,12 +200,13 @@ def groups(folder: Path) -> Dict[str, List[Callable[[], str]]]:
         **{
             word: [functools.partial(check, folder) for check in checks]
             for word, checks in (
-                ("opprove", try_opprove.CHECKS), ("guide", try_guide.CHECKS), ("plain", try_plain.CHECKS), ("release", [try_release.release]),
+                ("opprove", try_opprove.CHECKS), ("guide", try_guide.CHECKS), ("plain", try_plain.CHECKS),
+                ("release", [try_release.release]),
             )
         },
         "editors": [
-            lambda: manual(folder), *(lambda name=name: shell(name, folder) for name in ("bash", "zsh", "fish")), lambda: offered(folder), lambda: offered_by_fish(folder),
-            lambda: vim(folder), grammars,
+            lambda: manual(folder), *(lambda name=name: shell(name, folder) for name in ("bash", "zsh", "fish")), lambda: offered(folder),
+            lambda: offered_by_fish(folder), lambda: vim(folder), grammars,
         ],
         "others": [lambda: plain(folder), gate_time, costly_files, devices],
     }  # fmt: skip

@@ -85,14 +85,16 @@ def zsh() -> Iterator[str]:
     for word, summary in all_words():
         yield f"    {quoted(word.replace(':', '') + ':' + summary.replace(':', ','))}"
     yield from ("  )", "  if ((CURRENT == 2)); then", "    _describe 'command or tool' words_of_opprove", "    return", "  fi")
-    yield from ("  local word=$words[2]", "  shift words", "  ((CURRENT--))", "  case $word in", "    help) _describe 'command or tool' words_of_opprove ;;")
+    yield from ("  local word=$words[2]", "  shift words", "  ((CURRENT--))", "  case $word in")
+    yield "    help) _describe 'command or tool' words_of_opprove ;;"
     for word, values in BY_WORDS.items():
         yield f"    {word}) _values 'shell' {' '.join(values)} ;;"
     files = f"'*:file:_files -g \"*.({'|'.join(ENDINGS)})\"'"
     for word, _ in all_words():
         found = options(word) if word not in ("help", "build", *BY_WORDS) else []
         if found:
-            texts = [quoted(f"{name}[{said.replace('[', '(').replace(']', ')') or name[2:]}]{zsh_value(word, name)}") for name, said in found]
+            said = {name: text.replace("[", "(").replace("]", ")") or name[2:] for name, text in found}
+            texts = [quoted(f"{name}[{text}]{zsh_value(word, name)}") for name, text in said.items()]
             yield f"    {word}) _arguments {' '.join(texts)} {files} ;;"
     yield from (f"    *) _arguments {files} ;;", "  esac", "}", '_opprove "$@"')
 
@@ -109,14 +111,16 @@ def fish() -> Iterator[str]:
         yield f"complete -c opprove -n __fish_use_subcommand -a {word} -d {quoted(summary)}"
     others = " ".join(["help", *BY_WORDS])
     for ending in ENDINGS:
-        yield f"complete -c opprove -n 'not __fish_use_subcommand; and not __fish_seen_subcommand_from {others}' -a '(__fish_complete_suffix .{ending})'"
+        where = f"not __fish_use_subcommand; and not __fish_seen_subcommand_from {others}"
+        yield f"complete -c opprove -n '{where}' -a '(__fish_complete_suffix .{ending})'"
     yield f"complete -c opprove -n '__fish_seen_subcommand_from help' -a '{' '.join(word for word, _ in all_words())}'"
     for word, values in BY_WORDS.items():
         yield f"complete -c opprove -n '__fish_seen_subcommand_from {word}' -a '{' '.join(values)}'"
     for word, _ in all_words():
         for name, said in options(word) if word not in ("help", "build", *BY_WORDS) else []:
             value = f" -x -a '{VALUES[name]}'" if name in VALUES else " -x" if word in COMMANDS and name != "--no-models" else ""
-            yield f"complete -c opprove -n '__fish_seen_subcommand_from {word}' -l {name[2:]}{value}" + (f" -d {quoted(said)}" if said else "")
+            about = f" -d {quoted(said)}" if said else ""
+            yield f"complete -c opprove -n '__fish_seen_subcommand_from {word}' -l {name[2:]}{value}{about}"
 
 
 SHELLS: Dict[str, Callable[[], Iterator[str]]] = {"bash": bash, "zsh": zsh, "fish": fish}

@@ -74,7 +74,8 @@ def commands() -> Iterator[str]:
         yield from item(f"Cm {name} " + " ".join(f"Ar {it}" for it in command.operands), command.about)
     yield from (".El", ".Pp", "Options of the commands stand anywhere among the words:", ".Bl -tag -width Ds")
     for name, text in SAID_OF.items():
-        number = f" Ar N , No {OPTIONS[name][0]:,} to {OPTIONS[name][1]:,}".replace("18,446,744,073,709,551,615", "2^64 \\- 1") if name in OPTIONS else ""
+        number = f" Ar N , No {OPTIONS[name][0]:,} to {OPTIONS[name][1]:,}" if name in OPTIONS else ""
+        number = number.replace(f"{2**64 - 1:,}", "2^64 \\- 1")
         yield from item(f"Fl \\-{name[2:].replace('-', chr(92) + '-')}{number}", f"Of {', '.join(of(name))}: {text}.")
     for name, text in LIMITS.items():
         yield from item(f"Fl \\-{name[2:]} Ar N", f"Of all: {text}.")

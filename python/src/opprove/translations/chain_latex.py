@@ -38,7 +38,7 @@ def letter(written: str, names: Names) -> str:
 
 
 def latex(reader: Reader, proof: Proof, names: Names) -> Iterator[str]:
-    """The proof in lines: the claim, the assumptions that are used by their numbers, lemmas and the proof, over pages where they are long."""
+    """The proof in lines: the claim, the assumptions that are used by their numbers, lemmas and the proof, over pages where it is long."""
     writer = Writer([letter(name, names) for name in reader.problem.names], r" \, ", power if has_powers(reader.problem) else None)
     number, denominator = proof.certificate.claim, proof.certificate.denominator
     claim, numbers = reader.claims[number - 1], used(reader, proof)

@@ -21,7 +21,9 @@ SAID_OF: Dict[str, str] = {  # what an option is for, and what stands where it i
     "--format": "certificates over generators alone (1), or with lemmas (2)",
     "--no-models": "looks for no model of a claim that the rules leave",
 }
-LIMITS: Dict[str, str] = {"--seconds": "ends the run after N seconds, with status 1", "--memory": "ends the run at N megabytes, with status 1"}
+LIMITS: Dict[str, str] = {  # of the script opprove
+    "--seconds": "ends the run after N seconds, with status 1", "--memory": "ends the run at N megabytes, with status 1",
+}  # fmt: skip
 
 
 class Command(NamedTuple):
@@ -38,10 +40,10 @@ class Command(NamedTuple):
 COMMANDS: Dict[str, Command] = {
     "prove": Command(
         ("FILE",), "decides each claim of a statement",
-        "Decides each claim by completing the rules that the assumptions give. A claim is proved, with a certificate; or not derivable, with"
-        " the closed rules that show it; or refuted, with matrices; or undecided, with what stopped the search.",
-        ((0, "each claim is proved"), (10, "some claim isn't derivable, none is refuted or undecided"), (11, "some is refuted, none is undecided"),
-         (12, "some claim is undecided")),
+        "Decides each claim by completing the rules that the assumptions give. A claim is proved, with a certificate; or not derivable,"
+        " with the closed rules that show it; or refuted, with matrices; or undecided, with what stopped the search.",
+        ((0, "each claim is proved"), (10, "some claim isn't derivable, none is refuted or undecided"),
+         (11, "some is refuted, none is undecided"), (12, "some claim is undecided")),
         ("--pairs", "--steps", "--workers", "--seed", "--format"), ("--no-models",),
     ),
     "check": Command(
@@ -82,7 +84,8 @@ COMMANDS: Dict[str, Command] = {
     ),
 }  # fmt: skip
 ALL_STATUSES: Tuple[Tuple[int, str], ...] = (
-    (2, "the words are no call"), (3, "the statement has a fault"), (4, "a file isn't loaded"), (5, "standard output failed"), (6, "no memory"),
+    (2, "the words are no call"), (3, "the statement has a fault"), (4, "a file isn't loaded"), (5, "standard output failed"),
+    (6, "no memory"),
 )  # fmt: skip
 
 

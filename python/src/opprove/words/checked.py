@@ -22,7 +22,8 @@ SECONDS_OF: Dict[str, str] = {"check": "check", "model": "check_model", "confirm
 
 
 class Kind(NamedTuple):
-    """Evidence of one kind: the word of its blocks, its second program, its claims in the report and in what is accepted, and how that is said."""
+    """Evidence of one kind: the word of its blocks, its second program, its claims in the report and in what that accepts, and how this is
+    said."""
 
     word: str
     checker: str
@@ -32,7 +33,10 @@ class Kind(NamedTuple):
 
 
 KINDS: Tuple[Kind, ...] = (
-    Kind("certificate", "check", r"# claim (\d+) proved denominator (\d+) ", r"# block \d+ accepted claim (\d+) denominator (\d+)$", "accepts {}"),
+    Kind(
+        "certificate", "check", r"# claim (\d+) proved denominator (\d+) ", r"# block \d+ accepted claim (\d+) denominator (\d+)$",
+        "accepts {}",
+    ),
     Kind("model", "check_model", r"# claim (\d+) refuted$", r"# block \d+ confirmed claim (\d+)$", "confirms {}"),
     Kind("basis", "confirm", r"# claim (\d+) not derivable ", r"# block \d+ closed claim (\d+)(?: sharp)?$", "finds {} closed"),
 )

@@ -41,11 +41,14 @@ MEANT: List[Tuple[str, str]] = [
     (r"^\s*map\b.*(?:=~>|~(?:⇒|→|⟶|↦|>))", "the arrow is written ->"),
     (r"^\s*map\b.*->.*~,", "a line `map` declares maps alone; what they satisfy has a line `assume E = E` of its own"),
     (r"^\s*(?:object|map|pinv|inverse|inner|projection|solve|model|order|eliminate)\b[^=]*~,", "names are separated by blanks"),
-    (FACTOR + r"\^?~\^?\{?\\dagger\b\}?|" + FACTOR.replace("base", "other") + r"\^?~\^?†", ADJOINT + "; a Moore-Penrose inverse is `pinv {base} x`"),
+    (FACTOR + r"\^?~\^?\{?\\dagger\b\}?|" + FACTOR.replace("base", "other") + r"\^?~\^?†",
+     ADJOINT + "; a Moore-Penrose inverse is `pinv {base} x`"),
     (FACTOR + r"\^?~\^?\{?(?:" + STAR + r"|\\(?:ast|top|intercal)\b)\}?|" + FACTOR.replace("base", "other") + r"\^~'|"
      + FACTOR.replace("base", "third") + r"~\^'", ADJOINT),  # fmt: skip
-    (r"(?P<base>\b\w+)\^?~\^?[({]?-\s*1[)}]?|~inv\w*\s*\(\s*(?P<other>\w+)\)", "an inverse is a map of its own: `inverse {base} x` says that x is that of {base}"),
-    (r"\)\^?~\^?[({]?-\s*1[)}]?|~inv\w*\s*\(", "an inverse is that of a map with a name: `assume c = E`, then `inverse c x` says that x is that of c"),
+    (r"(?P<base>\b\w+)\^?~\^?[({]?-\s*1[)}]?|~inv\w*\s*\(\s*(?P<other>\w+)\)",
+     "an inverse is a map of its own: `inverse {base} x` says that x is that of {base}"),
+    (r"\)\^?~\^?[({]?-\s*1[)}]?|~inv\w*\s*\(",
+     "an inverse is that of a map with a name: `assume c = E`, then `inverse c x` says that x is that of c"),
     (r"\b(?:if|iff|whenever|where)\b.*~=|~<=>|~⇔",
      "each assumption has a line `assume E = E` of its own, and what follows from them a line `claim E = E`"),
     (r"~/\s*(?P<base>[0-9]+)", "coefficients are integers: multiply the equation by {base}"),

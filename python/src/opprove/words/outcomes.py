@@ -100,7 +100,8 @@ def chain_shown(asked: Asked, problem: Problem, outcome: Outcome) -> List[str]:
     steps = sum(len(part.steps) for part in proof.chains)
     head = [line for line in itertools.takewhile(lambda line: not line.startswith(("Proof", "Lemma")), lines)]
     report = f"`{typed(['prove', *asked.call.operands])} >report`"
-    return ["  " + "\n  ".join(head), f"The chain has {counted(steps, 'step')}; after {report} it is printed by", f"  {typed(['chain', *asked.call.operands, 'report'])}"]
+    told = f"The chain has {counted(steps, 'step')}; after {report} it is printed by"
+    return ["  " + "\n  ".join(head), told, f"  {typed(['chain', *asked.call.operands, 'report'])}"]
 
 
 def assumptions(problem: Problem, used: List[int]) -> List[str]:
@@ -246,7 +247,8 @@ def searched(asked: Asked, outcome: Outcome, problem: Problem) -> List[str]:
     found = [it for it in outcomes(done.stdout.decode(errors="surrogateescape")) if it.claim == outcome.claim]
     if found[0].kind != "refuted":
         tried = counted(found[0].number("candidates"), "candidate")
-        return [f"A search for matrices found none that break it: {tried} of {len(shapes)} shapes, modulo {MODULI_TRIED}, none larger than 2 by 2."]
+        told = f"A search for matrices found none that break it: {tried} of {len(shapes)} shapes, modulo {MODULI_TRIED},"
+        return [f"{told} none larger than 2 by 2."]
     model = next(line.split()[1] for line in found[0].block if line.startswith("modulus "))
     sides = " ".join(" ".join(line.split()[1:]) for line in found[0].block if line.startswith("side "))
     head = f"A search for matrices found some that break it all the same, modulo {model}, with transposes for adjoints:"
