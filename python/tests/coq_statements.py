@@ -82,6 +82,20 @@ def named() -> Tuple[str, str]:
     return "\n".join([*lines, f"claim {left_side} = {right_side}", ""]), block + block
 
 
+NAMED = """object all C nat Z
+map Map : all -> C
+map derivable : C -> all
+map fails prime objs any cancel h1 less rules_1 sharp_1 let Plain Var ob nth a_star : nat -> nat
+map a ⅷ : nat -> nat
+map identities by_rows matrices_modulo of_letter : Z -> Z
+assume Map derivable = [C]
+assume fails prime' = objs
+assume a a' = a
+claim derivable Map = [all]
+claim let = Plain
+"""
+
+
 def expression(draw: random.Random, source: str, target: str, depth: int) -> str:
     """A random expression of this signature over the objects U and V and a map for each pair of them."""
     kinds = ["map", "adjoint"] + ["identity"] * (source == target) + ["sum", "product", "scaled", "bracket", "star"] * (depth > 0)

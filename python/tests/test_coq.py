@@ -19,7 +19,7 @@ from pathlib import Path
 from typing import Iterator, List, Optional, Tuple
 
 from coq_batches import CLOSED, Coq, has_mathcomp, is_installed
-from coq_statements import CASES, Proofs, expressions, large_model, many_rows, named, random_statement, right_inverses
+from coq_statements import CASES, NAMED, Proofs, expressions, large_model, many_rows, named, random_statement, right_inverses
 from opprove.checkers.check import Refusal
 from opprove.coq import export
 from opprove.text import EvidenceText, StatementText
@@ -135,6 +135,9 @@ class Exports(unittest.TestCase):
                 if EvidenceText(report.encode()).blocks:
                     self.add(path, report)
                     count += 1
+        path = self.coq.folder / "named.op"
+        path.write_text(NAMED, encoding="utf-8")
+        self.add(path, program("prove", path, "--no-models")[1] + program("refute", path)[1])
         say(f"{count} reports on the examples in {self.coq.run():.1f} s")
 
     def test_kinds(self) -> None:

@@ -97,10 +97,14 @@ class BasisTheorem:
 def lets(statement: Statement) -> Iterator[str]:
     """The objects by their numbers, and the maps as elements of the free algebra."""
     names, of = statement.names, statement.names.of
-    yield filled(" ".join(f"let {of[letter]} := {place}%nat in" for place, letter in enumerate(names.objects)), "  ")
     kinds = {letter: "Self" if letter in statement.selfs else "Map" for letter in names.maps}
-    texts = (f"let {of[letter]} := of_letter ({kind} {names.place[letter]}) in" for letter, kind in kinds.items())
-    yield filled(" ".join(texts), "  ")
+    yield filled_lets([f"let {of[letter]} := {place}%nat in" for place, letter in enumerate(names.objects)])
+    yield filled_lets([f"let {of[letter]} := of_letter ({kind} {names.place[letter]}) in" for letter, kind in kinds.items()])
+
+
+def filled_lets(lets: List[str]) -> str:
+    """In full lines, each of which has whole ones."""
+    return filled(" ".join(one.replace(" ", "\0") for one in lets), "  ").replace("\0", " ")
 
 
 def relations(statement: Statement) -> str:

@@ -228,7 +228,7 @@ def exported_files(statement: str, evidence: List[str]) -> str:
 def compiled(folder: str) -> List[str]:
     """Compiles a copy of the library in a folder. There is nothing to be said of it."""
     try:
-        shutil.copytree(THEORIES, folder)
+        shutil.copytree(THEORIES, folder, ignore=lambda _, names: [name for name in names if name[-2:] != ".v"])
         for name in LIBRARY:
             subprocess.run(["coqc", "-q", "-Q", folder, "Opprove", os.path.join(folder, f"{name}.v")], check=True)
     except (OSError, shutil.Error, subprocess.CalledProcessError) as error:

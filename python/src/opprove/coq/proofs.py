@@ -84,15 +84,11 @@ class Rows:
         self.letters = Letters(statement)
         self.generators = self.problem.generators()
 
-    def ends_of(self, letters: Word) -> Optional[Signature]:
-        """The signature of a word that isn't empty, if it is a path."""
-        return self.problem.signature(letters)
-
     def middle(self, row: Row, ends: Signature) -> Optional[Signature]:
         """The signature that what stands between the words of a row has to have for the row to have this one."""
         source, target = ends
-        left = self.ends_of(row.left) if row.left else (target, target)
-        right = self.ends_of(row.right) if row.right else (source, source)
+        left = self.problem.signature(row.left) if row.left else (target, target)
+        right = self.problem.signature(row.right) if row.right else (source, source)
         if left is None or right is None or left[1] != target or right[0] != source:
             return None
         return right[1], left[0]
@@ -107,7 +103,7 @@ class Rows:
     def has_signature(self, number: int, ends: Signature) -> bool:
         """Whether a generator that the checker has is one of this signature, and not zero."""
         poly = self.generators[number - 1] if number <= len(self.letters.numbers) else {}
-        return bool(poly) and self.ends_of(next(iter(poly))) == ends
+        return bool(poly) and self.problem.signature(next(iter(poly))) == ends
 
     def stripped(self, item: Cancel, ends: Signature) -> List[Piece]:
         """The piece that a letter is taken off for the piece with these ends; none where that is zero."""
