@@ -1,7 +1,7 @@
 """`opprove coq` with coqc: exports of all kinds of evidence, changed evidence, random statements, and what MathComp gets.
 
-It takes minutes, and runs one coqc at a time. Without coqc it is skipped with a line. What the program prints comes from the one
-that OPPROVE names; without it the parts that want it are skipped."""
+It takes minutes, and runs one coqc at a time. Without coqc it is skipped with a line, and so is what asks for a program that isn't
+built."""
 from __future__ import annotations
 
 import atexit
@@ -23,16 +23,16 @@ from coq_statements import CASES, NAMED, Proofs, expressions, large_model, many_
 from opprove.checkers.check import Refusal
 from opprove.coq import export
 from opprove.text import EvidenceText, StatementText
+from trying import EXAMPLES, PROGRAM
 
-TOP = Path(__file__).resolve().parents[2]
-EXAMPLES, TOOLS = TOP / "examples", TOP / "examples" / "tools"
-PROGRAM = os.environ.get("OPPROVE", "")
+TOOLS = EXAMPLES / "tools"
+HAS_PROGRAM = os.access(PROGRAM, os.X_OK)
 # What Coq finds by itself: that sums, roots and matrices don't add up, and that rules aren't closed.
 LEFT_TO_COQ = re.compile(r"refused (C6|C8|P5|M4|M5|M6|B3|B4|B5|B6)\b")
 
 
 def program(*words: object) -> Tuple[int, str]:
-    done = subprocess.run([PROGRAM, *map(str, words)], stdin=subprocess.DEVNULL, capture_output=True)
+    done = subprocess.run([str(PROGRAM), *map(str, words)], stdin=subprocess.DEVNULL, capture_output=True)
     return done.returncode, done.stdout.decode()
 
 
@@ -110,8 +110,8 @@ class Exports(unittest.TestCase):
         self.coq.add(text, found)
 
     def test_stored_evidence(self) -> None:
-        paths = [path for path in EXAMPLES.glob("**/*.op") if path.with_suffix(".cert").exists()]
-        pairs = [(path, path.with_suffix(".cert")) for path in paths]
+        places = [(path, path.with_suffix(suffix)) for path in EXAMPLES.glob("**/*.op") for suffix in (".cert", ".star")]
+        pairs = [pair for pair in places if pair[1].exists()]
         pairs += [(EXAMPLES / "equal_maps.op", EXAMPLES / f"equal_maps_{name}.cert") for name in ("refused", "untyped")]
         for path, evidence in pairs:
             self.add(path, evidence.read_text(encoding="utf-8"), "refused" not in evidence.stem)
@@ -121,11 +121,11 @@ class Exports(unittest.TestCase):
         for path in sorted(TOOLS.glob("*.v")):
             self.coq.add(path.read_text(encoding="utf-8"), True)
         say(f"{len(list(TOOLS.glob('*.v')))} stored exports in {self.coq.run():.1f} s")
-        for name, evidence in (("halved", "halved.cert"), ("normal_idempotent", "normal_idempotent.cert")):
+        for name, evidence in (("halved", "halved.cert"), ("normal_idempotent", "normal_idempotent.star")):
             text = export.exported((TOOLS / f"{name}.op").read_bytes(), [(TOOLS / evidence).read_bytes()])
             self.assertEqual(f"{text}\n", (TOOLS / f"{name}.v").read_text(encoding="utf-8"))
 
-    @unittest.skipUnless(PROGRAM, "OPPROVE names no program")
+    @unittest.skipUnless(HAS_PROGRAM, "opprove is not built")
     def test_reports(self) -> None:
         """All reports of prove on the examples, in both formats."""
         count = 0
@@ -209,16 +209,16 @@ class Exports(unittest.TestCase):
 CHANGED = {
     "certificate": ["pseudoinverses.op pseudoinverses.cert", "pasted_squares.op pasted_squares.cert", "tools/halved.op tools/halved.cert"],
     "cancellation": ["gallery/short_five_lemma.op gallery/short_five_lemma.cert", "gallery/normal_equations.op gallery/normal_equations.cert"],
-    "star": ["tools/normal_idempotent.op tools/normal_idempotent.cert"],
-    "basis": ["gallery/one_sided_inverse.op tools/one_sided_inverse.cert"],
-    "model": ["gallery/one_sided_inverse.op tools/one_sided_inverse.cert"],
+    "star": ["tools/normal_idempotent.op tools/normal_idempotent.star"],
+    "basis": ["gallery/one_sided_inverse.op tools/one_sided_inverse.report"],
+    "model": ["gallery/one_sided_inverse.op tools/one_sided_inverse.report"],
 }  # fmt: skip
 COMMANDS = {"certificate": "check", "model": "model", "basis": "confirm", "cancellation": "cancel"}
 
 
 def is_accepted(kind: str, paths: List[str]) -> bool:
     """By the command, or where there is none by the second checker."""
-    if kind in COMMANDS and PROGRAM:
+    if kind in COMMANDS and HAS_PROGRAM:
         return program(COMMANDS[kind], *paths)[0] == 0
     return is_exported(paths)
 
@@ -283,7 +283,7 @@ class Changes(unittest.TestCase):
         self.compare("model")
 
 
-@unittest.skipUnless(is_installed() and PROGRAM, "coqc is not installed, or OPPROVE names no program")
+@unittest.skipUnless(is_installed() and HAS_PROGRAM, "coqc is not installed, or opprove is not built")
 class Verdicts(unittest.TestCase):
     """Reports on random statements, until there are 60 of each verdict."""
 
