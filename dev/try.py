@@ -123,6 +123,10 @@ HIGHLIGHTED = [  # a text, its kind, and for some of its places, each a line and
         "1,1": "opprovecertBlock", "2,1": "opprovecertWord", "2,7": "", "3,1": "opprovecertWord", "3,8": "opprovecertNumber",
         "3,10": "", "3,13": "opprovecertLemma", "3,18": "opprovecertNumber", "4,1": "opprovecertBlock",
     }),
+    ("star proof 1\nroot 2 left 1\nsquare 3 - a + b\nrational model 1\nmap a = -1/2\nend\n", "cert", {
+        "1,1": "opprovecertBlock", "2,1": "opprovecertWord", "2,6": "opprovecertNumber", "2,8": "opprovecertLemma", "2,13": "opprovecertNumber",
+        "3,1": "opprovecertWord", "3,10": "opprovecertSign", "4,1": "opprovecertBlock", "5,1": "opprovecertWord", "5,9": "opprovecertNumber",
+    }),
     ("chain 1\nline - 2 f [U] + g\nuse -1 (f) 2 ()\nend\n", "cert", {
         "1,1": "opprovecertBlock", "2,1": "opprovecertWord", "2,8": "opprovecertNumber", "2,12": "opprovecertIdentity",
         "3,1": "opprovecertWord", "3,5": "opprovecertNumber", "3,12": "opprovecertNumber", "4,1": "opprovecertBlock",

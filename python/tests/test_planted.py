@@ -8,13 +8,12 @@ import os
 import random
 import re
 import tempfile
-import time
 import unittest
 from pathlib import Path
 from typing import List
 
 from opprove.checkers.check import Problem
-from opprove.search import exists, needed
+from opprove.search import engine, exists, needed
 from opprove.search.chase import Letters, first_of
 from opprove.search.findings import is_accepted
 from opprove.search.proofs import Writer, takes
@@ -61,7 +60,7 @@ class Planted(unittest.TestCase):
             with self.subTest(seed=seed, text=text):
                 problem = Problem(text.encode())
                 named = [frozenset(problem.numbers[name] for name in names.split()) for names in (monic, epic)]
-                found = first_of(problem, [1], Letters(named[0], named[1]), time.monotonic() + 20).get(1)
+                found = first_of(problem, [1], Letters(named[0], named[1]), engine.now() + 20).get(1)
                 assert found is not None
                 sides = re.findall("(monic|epic) ([a-z ]+?)(?= epic|$)", takes(found))
                 taken = {side: set(names.split()) for side, names in sides}

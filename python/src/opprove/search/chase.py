@@ -6,12 +6,11 @@ their differences, and where a member is a sum of such squares. What is left joi
 """
 from __future__ import annotations
 
-import time
 from typing import Dict, FrozenSet, Iterator, List, NamedTuple, Optional, Sequence, Set, Tuple
 
 from opprove.checkers.check import Problem
 from opprove.search import squares
-from opprove.search.engine import Alphabet, Basis, Bounds, Ledger, Poly, Root, Row, Sum, Word, add, content, started
+from opprove.search.engine import Alphabet, Basis, Bounds, Ledger, Poly, Root, Row, Sum, Word, add, content, now, started
 from opprove.search.proofs import Proof, proof_of
 
 ROUNDS, PAIRS, MOST_FOUND, MOST_CANDIDATES = 8, 400, 60, 4000
@@ -61,7 +60,7 @@ class Chase:
         self.joined: List[Poly] = []
 
     def is_over(self) -> bool:
-        return time.monotonic() > self.until
+        return now() > self.until
 
     def run(self) -> Dict[int, Proof]:
         """The proofs that are found."""
@@ -261,14 +260,14 @@ def least(problem: Problem, claim: int, proof: Proof, seconds: float) -> Proof:
         dropped.add(pending[0])
         rest = set(letters) - {pending[0]}
         monic, epic = (frozenset(letter for letter, is_left in rest if is_left == wanted) for wanted in (True, False))
-        found = first_of(problem, [claim], Letters(monic, epic), time.monotonic() + seconds).get(claim)
+        found = first_of(problem, [claim], Letters(monic, epic), now() + seconds).get(claim)
         proof = found or proof
 
 
 def first_of(problem: Problem, claims: Sequence[int], letters: Letters, until: float) -> Dict[int, Proof]:
     """The proofs that one order of words finds, or else another one."""
     proofs: Dict[int, Proof] = {}
-    seconds = until - time.monotonic()
+    seconds = until - now()
     for is_small, share in ((False, 0.5), (True, 1.0)):
         rest = [claim for claim in claims if claim not in proofs]
         if rest and (is_small is False or letters.monic or letters.epic):

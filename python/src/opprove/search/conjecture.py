@@ -10,13 +10,12 @@ Status 0.
 from __future__ import annotations
 
 import argparse
-import time
 from pathlib import Path
 from typing import Dict, FrozenSet, Iterator, List, NamedTuple, Set, Tuple
 
 from opprove import second_check
 from opprove.checkers.check import Problem
-from opprove.search.engine import Alphabet, Basis, Bounds, Ledger, Poly, Sum, add, started
+from opprove.search.engine import Alphabet, Basis, Bounds, Ledger, Poly, Sum, add, now, started
 from opprove.search.findings import Answer, answered, marks_of, positive, text_of, with_claims, words_of
 from opprove.search.proofs import Writer, proof_of
 
@@ -40,7 +39,7 @@ class Conjecture:
         for poly in ledger.polys:
             self.given |= {frozenset(poly.items()), frozenset(add({}, -1, poly).items())}
         self.basis = started(ledger)
-        self.basis.complete(Bounds(PAIRS, time.monotonic() + (until - time.monotonic()) / 2))
+        self.basis.complete(Bounds(PAIRS, now() + (until - now()) / 2))
         self.listed = Basis(Ledger(self.alphabet))  # of the equations that are listed, and of what identities do
 
     def candidates(self) -> Iterator[Tuple[str, str]]:
@@ -49,7 +48,7 @@ class Conjecture:
         known: Dict[Tuple[object, FrozenSet[Tuple[str, int]]], str] = {}
         words = sorted(self.alphabet.words(letters, self.length), key=lambda word: self.alphabet.rank(word), reverse=True)
         for word in words:
-            if time.monotonic() > self.until:
+            if now() > self.until:
                 return
             form = self.basis.reduce({word: 1}, False)
             if form.multiple != 1:
@@ -101,7 +100,7 @@ def answer(words: List[str], folder: Path) -> Answer:
     text, marks = text_of(options.statement), marks_of(problem)
     names = [name for name in problem.names if name[0] != "["]
     bare = Problem(with_claims(text, [f"0 {(names or problem.names)[0]} = 0"], marks).encode())
-    search = Conjecture(bare, options.length, time.monotonic() + options.seconds)
+    search = Conjecture(bare, options.length, now() + options.seconds)
     lines = []
     for equation in search.run():
         if equation.is_given or is_proved(search, text, marks, equation):

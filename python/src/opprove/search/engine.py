@@ -10,7 +10,7 @@ from __future__ import annotations
 import time
 from heapq import heapify, heappop, heappush
 from math import gcd
-from typing import Dict, Iterator, List, NamedTuple, Optional, Sequence, Set, Tuple, Union
+from typing import Callable, Dict, Iterator, List, NamedTuple, Optional, Sequence, Set, Tuple, Union
 
 from opprove.checkers import check
 from opprove.checkers.check import Problem
@@ -19,6 +19,12 @@ Word = str
 Poly = Dict[Word, int]  # words with their coefficients, none of which is 0
 FIRST = 5000  # the character of the least letter; each greater letter has the one before, so a greater word is a lesser text
 MOST_TERMS, MOST_LETTERS = 2000, 120  # of what is kept in a completion
+CLOCK: Callable[[], float] = time.monotonic  # by which a search ends; worker.py counts its own processor time
+
+
+def now() -> float:
+    """Seconds by the clock of this process's searches."""
+    return CLOCK()
 
 
 class Generator(NamedTuple):
@@ -252,10 +258,10 @@ class Bounds(NamedTuple):
     """How far a completion goes."""
 
     pairs: int = 2000
-    until: float = float("inf")  # by the monotonic clock
+    until: float = float("inf")  # by `now`
 
     def are_met(self) -> bool:
-        return time.monotonic() > self.until
+        return now() > self.until
 
 
 class Basis:

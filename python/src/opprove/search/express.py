@@ -11,7 +11,6 @@ Statuses: 0 where each map has a formula, 12 where one has none that was found.
 from __future__ import annotations
 
 import argparse
-import time
 from fractions import Fraction
 from math import gcd
 from pathlib import Path
@@ -19,7 +18,7 @@ from typing import Dict, Iterator, List, NamedTuple, Sequence, Set
 
 from opprove import program as programs
 from opprove.checkers.check import Problem
-from opprove.search.engine import Alphabet, Basis, Bounds, Ledger, Poly, add, started
+from opprove.search.engine import Alphabet, Basis, Bounds, Ledger, Poly, add, now, started
 from opprove.search.findings import Answer, Finding, answered, is_accepted, keep, lines_of, marks_of, names, text_of, with_claims, words_of
 from opprove.search.proofs import Proof, Writer, poly_text, proof_of
 from opprove.search.running import Program, Progress, Unusable
@@ -76,12 +75,12 @@ class Express:
                     if is_closed and letter not in self.found:
                         self.is_none.add(letter)
                 is_done = all(letter in self.found or letter in self.is_none for letter in self.wanted)
-                if is_closed or is_done or time.monotonic() > self.until:
+                if is_closed or is_done or now() > self.until:
                     break
-            if time.monotonic() > self.until or self.is_none:
+            if now() > self.until or self.is_none:
                 break
 
-        if time.monotonic() < self.until and not self.is_none:
+        if now() < self.until and not self.is_none:
             self.combine()
 
     def combine(self) -> None:
@@ -105,7 +104,7 @@ class Express:
     def short_words(self, alphabet: Alphabet, letters: List[str], letter: int) -> Iterator[str]:
         """Words with the ends of the map, short ones first."""
         for number, word in enumerate(alphabet.words(letters, MOST_LENGTH)):
-            if number > MOST_WORDS or time.monotonic() > self.until:
+            if number > MOST_WORDS or now() > self.until:
                 return
             if alphabet.ends(word) == self.problem.ends[letter]:
                 yield word
@@ -158,7 +157,7 @@ def answer(words: List[str], folder: Path) -> Answer:
     first = options.maps[0]
     stripped = Problem(with_claims(text, [f"0 {first} = 0"], marks).encode()) if first in problem.numbers else problem
     progress = Progress("express")
-    search = Express(stripped, options.maps, options.by, time.monotonic() + options.seconds, progress)
+    search = Express(stripped, options.maps, options.by, now() + options.seconds, progress)
     search.run()
     progress.clear()
     lines: List[str] = []

@@ -7,12 +7,12 @@ breaks is tested by exact arithmetic, and again by check_model.py.
 from __future__ import annotations
 
 import random
-import time
 from fractions import Fraction
 from typing import Callable, Dict, FrozenSet, Iterator, List, NamedTuple, Optional, Sequence, Tuple, Union
 
 from opprove.checkers.check import MODULI, Poly, Problem, Refusal, Word
 from opprove.checkers.check_model import Model, declared_maps, judge
+from opprove.search.engine import now
 
 Number = Union[int, Fraction]
 Matrix = List[List[Number]]
@@ -385,7 +385,7 @@ class Rationals:
     def run(self, until: float) -> Iterator[Found]:
         """What breaks each claim, once for a claim."""
         pending, number = list(self.claims), 0
-        while pending and time.monotonic() < until:
+        while pending and now() < until:
             number += 1
             draws = random.Random(f"{self.seed} {number}")
             most = draws.choice((1, 2) if number < 40 else (1, 2, 2, 2, 3) if number < 200 else (1, 2, 2, 2, 3, 3, MOST_SIDE))

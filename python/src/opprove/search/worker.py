@@ -3,10 +3,10 @@
     python3 -m opprove.search.worker STATEMENT cancel SECONDS CLAIMS MONIC EPIC STARS
     python3 -m opprove.search.worker STATEMENT rational SECONDS CLAIMS MONIC EPIC SEED
 
-CLAIMS, MONIC and EPIC are numbers and letters with commas between them, MONIC is `*` where all letters are tried, and STARS is 1
-where stars may be taken off. Rational matrices of monic maps have full column rank, those of epic ones full row rank. Each line
-has the number of a claim, a block of evidence, and what it takes for granted; a star proof has its statement for matrices and the
-certificate for that besides, and rational matrices have the model that they are modulo a prime.
+SECONDS are of processor time. CLAIMS, MONIC and EPIC are numbers and letters with commas between them, MONIC is `*` where all letters
+are tried, and STARS is 1 where stars may be taken off. Rational matrices of monic maps have full column rank, those of epic ones full
+row rank. Each line has the number of a claim, a block of evidence, and what it takes for granted; a star proof has its statement for
+matrices and the certificate for that besides, and rational matrices have the model that they are modulo a prime.
 """
 from __future__ import annotations
 
@@ -16,8 +16,9 @@ import time
 from typing import Dict, FrozenSet, Iterable, List, Optional
 
 from opprove.checkers.check import Problem
-from opprove.search import rationals
+from opprove.search import engine, rationals
 from opprove.search.chase import Chase, Letters, first_of, least, maps_of
+from opprove.search.engine import now
 from opprove.search.findings import text_of
 from opprove.search.matrices import Matrices
 from opprove.search.proofs import Proof, Writer, takes
@@ -46,12 +47,12 @@ def cancelled_by_any(text: str, problem: Problem, claims: List[int], until: floa
     a proof takes off as much is dropped as can be."""
     letters = maps_of(problem)
     everything = Letters(frozenset(letters), frozenset(letters))
-    share = (until - time.monotonic()) / 4
-    found = Chase(problem, claims, everything, time.monotonic() + 2 * share, is_small=False, is_of_claims=True).run()
+    share = (until - now()) / 4
+    found = Chase(problem, claims, everything, now() + 2 * share, is_small=False, is_of_claims=True).run()
     for claim in claims:
-        proof = found.get(claim) or by_single(problem, claim, letters, time.monotonic() + share / len(claims))
+        proof = found.get(claim) or by_single(problem, claim, letters, now() + share / len(claims))
         if proof is None:
-            proof = first_of(problem, [claim], everything, time.monotonic() + share / len(claims)).get(claim)
+            proof = first_of(problem, [claim], everything, now() + share / len(claims)).get(claim)
         if proof is not None:
             put_proof(text, least(problem, claim, proof, share / 2 / len(claims)))
 
@@ -61,16 +62,17 @@ def by_single(problem: Problem, claim: int, letters: Iterable[int], until: float
     none: FrozenSet[int] = frozenset()
     for letter in letters:
         for one in (Letters(frozenset([letter]), none), Letters(none, frozenset([letter]))):
-            found = first_of(problem, [claim], one, min(until, time.monotonic() + 2)).get(claim)
+            found = first_of(problem, [claim], one, min(until, now() + 2)).get(claim)
             if found is not None:
                 return found
     return None
 
 
 def main(words: List[str]) -> int:
+    engine.CLOCK = time.process_time
     path, kind, seconds, numbers, *rest = words
     text, problem = text_of(path), Problem(path)
-    until = time.monotonic() + float(seconds)
+    until = now() + float(seconds)
     claims = [int(number) for number in numbers.split(",")]
     monic, epic, last = rest
     if monic == "*":
