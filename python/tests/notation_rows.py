@@ -228,6 +228,7 @@ ROWS: List[Tuple[str, Union[str, List[str]]]] = [
     # Faults: names
     ("a : V -> V | claim a = b", "S6 2 11"),
     ("a : V -> V | claim a = [W]", "S6 2 12"),
+    ("object V | a : V -> W | claim a = 0", "S6 2 10"),
     ("a : V -> V | pinv a x | claim [a] = x", "S6 3 8"),
     ("a : V -> V | a : V -> V | claim a = 0", "S7 2 1"),
     ("object V V | a : V -> V | claim a = 0", "S7 1 10"),

@@ -84,10 +84,14 @@ class Expansion:
     # ---- Names
 
     def check_declarations(self) -> None:
-        """Refuses what is declared twice, or as an object and a map, and a second order of words."""
+        """Refuses a second order of words, an object that lines `object` leave out, and what is declared twice or as both kinds."""
         orders = [entry.tokens[0] for entry in self.entries if isinstance(entry, Kept) and entry.tokens]
         for token in [token for token in orders if token.text in ("order", "eliminate")][1:2]:
             raise fault("S7", token)
+        declared = {token.text for token in self.file.declared}
+        for token in self.file.objects if declared else ():
+            if token.text not in declared:
+                raise fault("S6", token)
         seen: Set[str] = set()
         objects = {token.text for token in self.file.objects}
         for tokens in (self.file.declared, [token for token, _ in self.file.maps], [entry.name for entry in self.definitions]):
