@@ -15,9 +15,10 @@ ELEMENT = "element-6066-11e4-a52e-4f735466cecf"  # how the protocol names an ele
 
 
 def needed(*names: str) -> List[str]:
-    """The paths of programs. A test that needs one which isn't installed is skipped, and says so."""
+    """The paths of programs. A test that needs one which isn't installed is skipped, and a line says so."""
     for name in names:
         if shutil.which(name) is None:
+            print(f"skipped: {name} is not installed", flush=True)
             raise unittest.SkipTest(f"{name} is not installed")
     return [str(shutil.which(name)) for name in names]
 

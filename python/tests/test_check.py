@@ -27,8 +27,8 @@ def judged(statement: Path, evidence: Path) -> Tuple[str, bool]:
     if is_asked:
         other = run(PROGRAM, "check", statement, evidence)
         need(other == answer, (statement.read_bytes(), evidence.read_bytes(), answer, other))
-        if b"cancellation " not in evidence.read_bytes():
-            trying_node.agrees("check", statement, evidence, other)
+    if b"cancellation " not in evidence.read_bytes():
+        trying_node.agrees("check", statement, evidence, answer)
     return line, is_asked
 
 
@@ -160,8 +160,8 @@ ROWS = [  # behind "certificate", for a statement with the assumption 2 a = 0 an
 
 
 def told_by_tools(line: str) -> Tuple[str, ...]:
-    """What the tools that want a proof say of a refusal."""
-    return (f"{line}: there is no proof to be written\n",) if line == "# refused K7" else (f"{line}\n",)
+    """What the tools say of a refusal: those that want a proof, and `coq`, which takes all evidence."""
+    return (f"{line}\n", f"{line}: there is no proof to be written\n") if line == "# refused K7" else (f"{line}\n",)
 
 
 def bad_input(folder: Path) -> str:
@@ -188,7 +188,7 @@ def bad_input(folder: Path) -> str:
     return told(len(cases), by_both, "faulty inputs are answered by the same line")
 
 
-CHECKS: List[Callable[[Path], str]] = [examples, reports, changes, bad_input]
+CHECKS: List[Callable[[Path], str]] = [examples, reports, changes, bad_input, trying_node.count]
 
 if __name__ == "__main__":
     sys.exit(main(CHECKS))

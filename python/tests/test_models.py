@@ -326,7 +326,7 @@ def greedy_solutions(folder: Path) -> str:
     return f"{len(found)} draws are solved for as defined by candidates.py, {found.count(None)} of them with no solution"
 
 
-CHECKS: List[Callable[[Path], str]] = [models, changed_models, searches, greedy_solutions]
+CHECKS: List[Callable[[Path], str]] = [models, changed_models, searches, greedy_solutions, trying_node.count]
 
 if __name__ == "__main__":
     sys.exit(main(CHECKS))

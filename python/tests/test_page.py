@@ -46,6 +46,7 @@ def program() -> str:
     """The program, where it is built."""
     found = path_of_program()
     if not os.access(found, os.X_OK):
+        print("skipped: opprove is not built", flush=True)
         raise unittest.SkipTest("opprove is not built")
     return found
 

@@ -66,7 +66,8 @@ def decided() -> List[Path]:
 def stored() -> Iterator[Tuple[Path, Path]]:
     """The certificates of both folders of examples, each with its statement, whose name its own begins with."""
     statements = sorted([*EXAMPLES.glob("*.op"), *EXAMPLES.glob("tools/*.op")], key=lambda path: -len(path.stem))
-    for evidence in sorted([*EXAMPLES.glob("*.cert"), *EXAMPLES.glob("tools/*.cert")]):
+    evidence_texts = sorted([*EXAMPLES.glob("*.cert"), *EXAMPLES.glob("tools/*.cert")])
+    for evidence in (path for path in evidence_texts if b"\ncertificate " in b"\n" + path.read_bytes()):
         yield next(path for path in statements if evidence.stem.startswith(path.stem)), evidence
 
 

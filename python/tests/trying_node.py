@@ -7,12 +7,13 @@ import json
 import shutil
 import subprocess
 from pathlib import Path
-from typing import Optional
+from typing import List, Optional
 
-from trying import TOP, Answer, need
+from trying import TOP, Answer, Skipped, need
 
 COMMANDS = ("check", "model", "confirm", "cancel")
 CHECKER = TOP / "python" / "src" / "opprove" / "page" / "check.js"
+ASKED: List[str] = []  # the commands of all answers
 # Answers lines that name a command and two files, each by a line.
 DRIVER = """
 const Opprove = require(process.argv[1]), { readFileSync } = require("fs");
@@ -52,7 +53,15 @@ def agrees(command: str, statement: Path, evidence: Path, want: Answer) -> None:
     """Fails where check.js answers something else."""
     found = answered(command, statement, evidence)
     if found is not None:
+        ASKED.append(command)
         need(found == want, (command, statement.read_bytes()[:3000], evidence.read_bytes()[:3000], want.out[:3000], found.out[:3000]))
+
+
+def count(folder: Path) -> str:
+    """Of this run of the tests."""
+    if started() is None:
+        raise Skipped("node is not installed, and check.js isn't asked")
+    return f"{len(ASKED)} answers are those of check.js under node"
 
 
 def by_node() -> str:
