@@ -12,6 +12,7 @@ import os
 import subprocess
 import sys
 import time
+from concurrent.futures import ThreadPoolExecutor
 from pathlib import Path
 from typing import List
 
@@ -20,25 +21,30 @@ QUICK = ["check", "models", "language", "types", "tools", "text", "notation", "s
 
 
 def run(name: str) -> bool:
-    """Runs a test, and tells whether it passed. It finds the package, what the tests share, and what the developers' folder has."""
+    """Runs a test, tells what it says when it has ended, and whether it passed. It finds the package, what the tests share, and what
+    the developers' folder has."""
     places = [TESTS.parent / "src", TESTS, TESTS.parents[1] / "dev"]
     environment = {**os.environ, "PYTHONPATH": ":".join(map(str, places)), "PYTHONDONTWRITEBYTECODE": "1"}
-    start = time.monotonic()
-    print(f"---- {name}", flush=True)
-    status = subprocess.call([sys.executable, str(TESTS / f"test_{name}.py")], env=environment)
-    print(f"---- {name}: {'passed' if status == 0 else 'FAILED'} in {time.monotonic() - start:.0f} s", flush=True)
-    return status == 0
+    start, command = time.monotonic(), [sys.executable, str(TESTS / f"test_{name}.py")]
+    done = subprocess.run(command, env=environment, stdin=subprocess.DEVNULL, stdout=subprocess.PIPE, stderr=subprocess.STDOUT)
+    said, passed = done.stdout.decode(errors="replace"), done.returncode == 0
+    print(f"---- {name}: {'passed' if passed else 'FAILED'} in {time.monotonic() - start:.0f} s\n{said}", end="", flush=True)
+    return passed
 
 
 def main(words: List[str]) -> int:
-    """Runs the tests that are named, and gives the status."""
+    """Runs the tests that are named, side by side, and gives the status."""
     names = [path.stem[5:] for path in sorted(TESTS.glob("test_*.py"))]
     parser = argparse.ArgumentParser(description=(__doc__ or "").partition("\n")[2], formatter_class=argparse.RawDescriptionHelpFormatter)
     parser.add_argument("--quick", action="store_true", help="those that the gate names")
+    parser.add_argument("--jobs", type=int, default=os.cpu_count() or 1, help="how many run at a time (as many as there are processors)")
     parser.add_argument("names", metavar="NAME", nargs="*", choices=[*names, []], help=", ".join(names))
     given = parser.parse_args(words)
-    failed = [name for name in given.names or (QUICK if given.quick else names) if not run(name)]
-    print(f"failed: {', '.join(failed)}" if failed else "all passed", flush=True)
+    asked = given.names or (QUICK if given.quick else names)
+    with ThreadPoolExecutor(max(1, given.jobs)) as pool:
+        passed = dict(zip(asked, pool.map(run, asked)))
+    failed = [name for name in asked if not passed[name]]
+    print(f"failed: {', '.join(failed)}" if failed else f"{len(asked)} tests passed", flush=True)
     return 1 if failed else 0
 
 

@@ -14,6 +14,7 @@ from typing import Callable, Dict, Iterator, List, NamedTuple, Optional, Set, Tu
 
 from opprove.translations import chain as to_chain
 from opprove.checkers.check import Certificate, Evidence, Line, Poly, Problem, Row, Share, Signature, Value, Word, add, judge, loaded, tokens_of
+import trying
 from trying import Answer, EXAMPLES, PROGRAM, Skipped, decided, installed, main, need, run, tool
 
 TOOL = tool("chain")
@@ -408,9 +409,7 @@ def asked() -> str:
 def stored(folder: Path) -> str:
     """The certificates of both folders of examples, and texts that are stored."""
     proofs = steps = 0
-    statements = sorted([*EXAMPLES.glob("*.op"), *EXAMPLES.glob("tools/*.op")], key=lambda path: -len(path.stem))
-    for evidence in sorted([*EXAMPLES.glob("*.cert"), *EXAMPLES.glob("tools/*.cert")]):
-        statement = next(path for path in statements if evidence.stem.startswith(path.stem))
+    for statement, evidence in trying.stored():
         if "refused" in evidence.stem:
             answer = run(*TOOL, statement, evidence)
             need(answer == Answer(7, "", "# block 1 refused C6 word b want 0 got -1\n"), answer)
@@ -470,7 +469,7 @@ def latex(folder: Path) -> str:
             bodies += written(fitting[0], evidence, "latex")
     head = [r"\documentclass{article}", r"\usepackage{amsmath}", r"\allowdisplaybreaks", r"\begin{document}"]
     (folder / "chains.tex").write_text("\n".join([*head, *bodies, r"\end{document}"]))
-    answer = run(program, "-interaction=nonstopmode", "-halt-on-error", "chains.tex", folder=folder)
+    answer = run(program, "-interaction=nonstopmode", "-halt-on-error", "chains.tex", folder=folder, seconds=600)
     need(answer.status == 0, answer)
     return f"{sum(line[:8] == '% claim ' for line in bodies)} chains are typeset by pdflatex"
 

@@ -25,7 +25,7 @@ from opprove.checkers.chain_text import Texts
 from opprove.checkers.check import DONE, FAULTY, REFUSED, status_of
 from explain_rows import Run
 from trying import PROGRAM as OPPROVE
-from trying import Answer, EXAMPLES, Skipped, installed, main, need, run, tool
+from trying import Answer, EXAMPLES, Skipped, installed, main, need, run, stored, tool
 from trying_second import UNREAD, Files, Second, files_in
 
 COUNT = 60  # random certificates
@@ -237,19 +237,12 @@ def changed_lines(files: Files, report: str) -> int:
         chain.write_text("\n".join([*lines[:place], more, *lines[place + 1 :]]), encoding="utf-8")
         answer = set_text(files.statement, chain)
         is_told = re.fullmatch(f"# block [0-9]+ refused line {place + 1} word {letter} want .*\n", answer.error)
-        need((answer.status, answer.out) == (1, "") and is_told is not None, (more, answer))
+        need((answer.status, answer.out) == (7, "") and is_told is not None, (more, answer))
         count += 1
     return count
 
 
 # ---- Certificates
-
-
-def stored() -> Iterator[Tuple[Path, Path]]:
-    """The certificates of both folders of examples with their statements."""
-    statements = sorted([*EXAMPLES.glob("*.op"), *EXAMPLES.glob("tools/*.op")], key=lambda path: -len(path.stem))
-    for evidence in sorted([*EXAMPLES.glob("*.cert"), *EXAMPLES.glob("tools/*.cert")]):
-        yield next(path for path in statements if evidence.stem.startswith(path.stem)), evidence
 
 
 def plainly(statement: Path, evidence: Path) -> str:
