@@ -77,9 +77,10 @@ give_up() {
 # Runs rt try in a folder of its own, and leaves the program in $room/program.
 try_once() {
   local taker status began=$SECONDS
-  rm -rf "$kept/opprove" "$kept/opprove.sources" "$kept"/building.* # also what a killed call left
-  { room=$(mktemp -d "$kept/building.XXXXXX") && mkdir "$room/tmp" && mkfifo "$room/statement"; } 2>/dev/null ||
-    give_up "no folder could be made in $kept"
+  rm -rf "$kept/opprove" "$kept/opprove.sources"
+  # Not in the checkout, where a gate would meet the links.
+  { room=$(mktemp -d) && mkdir "$room/tmp" && mkfifo "$room/statement"; } 2>/dev/null ||
+    give_up "no folder could be made in ${TMPDIR:-/tmp}"
   make_kit "$room/kit" 2>"$room/log" || give_up "no folder could be made that stands for the kit"
   { trap - INT QUIT TERM HUP PIPE && take_checked; } 9>&- 2>/dev/null </dev/null >/dev/null &
   taker=$!
