@@ -6,7 +6,7 @@ more, as products of matrices.
 from __future__ import annotations
 
 from random import Random
-from typing import Callable, Dict, List, NamedTuple, Sequence, Tuple
+from typing import Callable, Dict, List, NamedTuple, Sequence, Set, Tuple
 
 from opprove.checkers.check import Poly, Problem
 
@@ -131,6 +131,7 @@ class Written:
         self.claims: List[Function] = []
         self.statements: List[Stated] = []
         self.inverses: Dict[str, str] = {}
+        self.with_inverse: Set[str] = set()
         for _ in range(self.random.randint(1, 4)):
             self.new(*(self.random.choice([*self.sides]) for _ in range(2)))
         self.fill()
@@ -204,8 +205,11 @@ class Written:
             names[-1] = self.new(objects[rule.ends[-1][0]], objects[rule.ends[-1][1]], f"k{self.made}" if self.made else "k")
             self.made += 1
             self.hidden.append(names[-1])
-        if text.startswith(("pinv", "ep")) and not is_claim and not set(names) & {*self.inverses, *self.inverses.values()}:
-            self.inverses.update(zip(names[:2], names[1::-1]))
+        if text.startswith(("pinv", "ep")):
+            if set(names) & self.with_inverse or names[0] == names[1]:
+                return self.word(is_claim)  # for a map with two of them has none that is known
+            self.with_inverse |= set(names)
+            self.inverses.update(zip(names[:2], names[1::-1]) if not is_claim else ())
         return text.format(*names), [lambda values, place=place: rule.value(*(values[name] for name in names))[place]  # type: ignore[misc]
                                      for place in range(len(rule.value(*(self.values[name] for name in names))))]
 
