@@ -97,7 +97,8 @@ def options_of(words: List[str]) -> argparse.Namespace:
 def answer(words: List[str], folder: Path) -> Answer:
     options = options_of(words)
     problem = Problem(options.statement)
-    text, marks = text_of(options.statement), marks_of(problem)
+    text = text_of(options.statement)
+    marks = marks_of(problem, text)
     names = [name for name in problem.names if name[0] != "["]
     bare = Problem(with_claims(text, [f"0 {(names or problem.names)[0]} = 0"], marks).encode())
     search = Conjecture(bare, options.length, now() + options.seconds)

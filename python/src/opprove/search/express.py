@@ -153,7 +153,7 @@ def answer(words: List[str], folder: Path) -> Answer:
     text = text_of_checked(options.statement)
     problem = Problem(options.statement)
     program = Program(Path(programs.path()))
-    marks = marks_of(problem)
+    marks = marks_of(problem, text)
     first = options.maps[0]
     stripped = Problem(with_claims(text, [f"0 {first} = 0"], marks).encode()) if first in problem.numbers else problem
     progress = Progress("express")

@@ -47,11 +47,12 @@ def with_claims(text: str, claims: Iterable[str], more: Iterable[str] = (), orde
     return "\n".join(["language 2"] * is_second + body) + "\n"
 
 
-def marks_of(problem: Problem) -> List[str]:
-    """Assumptions that are zero, so that identities which claims have stay in play without these."""
-    return [f"assume 0 {problem.names[letter]} = 0" for letter in sorted(problem.marked)] + (
-        [f"assume 0 {first_map(problem)}'' = 0"] if problem.is_starred and first_map(problem) else []
-    )
+def marks_of(problem: Problem, text: str) -> List[str]:
+    """Assumptions that are zero, so that identities and adjoints stay in play which only the claims of the statement have."""
+    name = first_map(problem)
+    bare = Problem(with_claims(text, [f"0 {name} = 0"]).encode()) if name else problem
+    marks = [f"assume 0 {problem.names[letter]} = 0" for letter in sorted(problem.marked - bare.marked)]
+    return marks + ([f"assume 0 {name}'' = 0"] if problem.is_starred and not bare.is_starred else [])
 
 
 def first_map(problem: Problem) -> str:
