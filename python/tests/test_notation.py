@@ -16,6 +16,7 @@ from opprove.checkers import check
 from opprove.checkers.check import Refusal
 from opprove.notation.expand import as_statement
 from opprove.notation.expansion import Expansion
+from opprove.notation.implications import circles
 from opprove.notation.parts import SENTENCES
 from opprove.notation.reader import TABLE, table
 from opprove.notation.shorten import Shortener
@@ -167,6 +168,18 @@ class Tools(unittest.TestCase):
         self.assertEqual((status, [head.split()[3] for head in heads[1::2]]), (10, ["proved", "not", "not"]))
         self.write("a : V -> V | claim a = b")
         self.assertEqual(run("prove", "f.opn"), (3, [], [f"# refused S6 line 2 column 11: {SENTENCES['S6']}"]))
+
+    def test_circles_of_cases(self) -> None:
+        marks, yes = ["i", "ii", "iii", "iv"], {("i", "ii"), ("ii", "iii"), ("iii", "i"), ("iii", "iv")}
+        answers = {(one, two): "yes" if (one, two) in yes else "yes/2" for one in marks for two in marks}
+        self.assertEqual(circles(marks, answers), [["i", "ii", "iii"]])
+
+    @unittest.skipUnless(os.access(program.path(), os.X_OK), "no program is here")
+    def test_implications(self) -> None:
+        self.write("a b : V -> V | equivalent: (i) a = 0 (ii) 2 a = 0 (iii) b = 0 | equivalent x: (i) a b = b a (ii) commute b a, a = a")
+        table = ["f      (i)    (ii)   (iii)", "(i)           yes    -", "(ii)   yes/2         -", "(iii)  -      -"]
+        table += ["f-x   (i)   (ii)", "(i)         yes", "(ii)  yes", "equivalent: (i) (ii)"]
+        self.assertEqual(self.run_tool("implications", self.path, "--no-models"), (0, "".join(f"{line}\n" for line in table), ""))
 
     def test_many_files(self) -> None:
         for number in range(51):

@@ -2,7 +2,8 @@
 
 Proves, for each line `equivalent` and each two of its cases, that the one gives the other, and prints a table for each line: a row for
 what is assumed and a column for what is claimed. yes: proved; yes/D: proved with the denominator D; no: refuted by matrices; -: not
-derivable; ?: undecided. Of a case with several equations it is the worst of their answers.
+derivable; ?: undecided. Of a case with several equations it is the worst of their answers. Below stand the cases that follow from one
+another by way of any others, as far as denominators are 1.
 """
 from __future__ import annotations
 
@@ -54,7 +55,18 @@ def tables(path: str, options: List[str]) -> List[str]:
         lines.append((f"{stem:{first}}" + "".join(f"{f'({mark})':{width}}" for mark in marks)).rstrip())
         for one in marks:
             lines.append((f"{f'({one})':{first}}" + "".join(f"{answers[one, two]:{width}}" for two in marks)).rstrip())
+        lines += [f"equivalent: {' '.join(f'({mark})' for mark in circle)}" for circle in circles(marks, answers)]
     return lines
+
+
+def circles(marks: List[str], answers: Dict[Tuple[str, str], str]) -> List[List[str]]:
+    """The cases that give one another, by way of any others, where there are two or more."""
+    reached = {one: {two for two in marks if one == two or answers[one, two] == "yes"} for one in marks}
+    for by in marks:
+        for one in marks:
+            reached[one] |= reached[by] if by in reached[one] else set()
+    found = [[two for two in marks if two in reached[one] and one in reached[two]] for one in marks]
+    return [circle for one, circle in zip(marks, found) if len(circle) > 1 and circle[0] == one]
 
 
 def main(words: List[str]) -> int:
