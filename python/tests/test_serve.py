@@ -271,6 +271,15 @@ class Worked(Served):
         finally:
             other.close()
 
+    def test_a_place_leads_to_its_line(self) -> None:
+        self.open()
+        self.put(INVERSES)
+        self.browser.wait("return document.querySelectorAll('.equations li').length === 1")
+        self.browser.click("#glance .place")
+        chosen = "const at = document.activeElement; return at.value.slice(at.selectionStart, at.selectionEnd)"
+        self.assertEqual(self.browser.run(chosen), "assume a b = [V]")
+        self.assertNotIn("#L", self.browser.run("return location.hash"))
+
     def test_the_gallery_is_a_menu(self) -> None:
         self.open()
         names = self.browser.run("return [...document.querySelectorAll('#gallery option')].map((at) => at.value)")

@@ -170,10 +170,10 @@ class StatementWriter:
         for letter in check_model.declared_maps(problem):
             groups.setdefault((problem.ends[letter], problem.stars[letter] == letter), []).append(letter)
         for ((source, target), is_self), letters in groups.items():
-            names = "<mo>,</mo>".join(writer.letters[letter] for letter in letters)
-            ends = f"<mo>:</mo>{writer.name(objects[source])}<mo>→</mo>{writer.name(objects[target])}"
+            names = ", ".join(math(writer.letters[letter]) for letter in letters)
+            ends = math(f"<mo>:</mo>{writer.name(objects[source])}<mo>→</mo>{writer.name(objects[target])}")
             own = ", each its own adjoint" if len(letters) > 1 else ", its own adjoint"
-            yield f"<li>{math(names, ends)}{own if is_self else ''}</li>"
+            yield f"<li>{names}{ends}{own if is_self else ''}</li>"
         yield "</ul>"
 
 

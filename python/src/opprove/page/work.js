@@ -157,6 +157,16 @@
 
   // ---- What is clicked and typed
 
+  // A place of the statement leads to its line in the editor, where it has that line.
+  part("glance").addEventListener("click", (event) => {
+    const place = event.target.closest(".place"), lines = text.value.split("\n"), number = place ? Number(place.hash.slice(2)) : 0;
+    if (!place) return;
+    event.preventDefault();
+    if (number > lines.length) return;
+    const start = lines.slice(0, number - 1).reduce((sum, line) => sum + line.length + 1, 0);
+    text.focus();
+    text.setSelectionRange(start, start + lines[number - 1].length);
+  });
   text.addEventListener("input", typed);
   text.addEventListener("scroll", scroll);
   window.addEventListener("hashchange", fromAddress);
