@@ -216,7 +216,7 @@ ROWS: List[Tuple[str, Union[str, List[str]]]] = [
     ("group a | claim a = 0", "S3 1 8"),
     ("group a b c | claim a = 0", "S3 1 11"),
     ("range a to b | claim a = 0", "S3 1 9"),
-    ("gruop a b | claim a = 0", "N4 1 1"),
+    ("gruop a b | claim a = 0", "N4 1 1 near group"),
     ("let group (b) (c): b = c | claim a = 0", "S7 1 5"),
     ("let (a) (b): b = a | claim a = 0", "N11 1 5"),
     ("let same (a) (a): a = a | claim a = 0", "N11 1 5"),

@@ -1,6 +1,7 @@
 """Files of the notation as they are read: tokens, lines, and expressions, with one function for each rule of docs/FORMATS.md."""
 from __future__ import annotations
 
+import difflib
 import functools
 import os
 import re
@@ -326,7 +327,8 @@ class Reader:
                 return Use(first, word, arguments, written(self.tokens[start : self.place]))
             except Refusal as refusal:
                 furthest = max(furthest or (self.place, refusal), (self.place, refusal), key=lambda pair: pair[0])
-        raise furthest[1] if furthest else fault("N4", first)
+        near = difflib.get_close_matches(first.text, [word.opening()[0] for word in self.words], n=1, cutoff=0.75)
+        raise furthest[1] if furthest else fault("N4", first, f" near {near[0]}" if near else "")
 
     def arguments(self, word: Word) -> List[Node]:
         found = []
