@@ -111,10 +111,20 @@ def built(folder: Path) -> str:
 
 
 def coq(folder: Path) -> str:
+    """What Coq is asked, with the reports that it wants, which are made where the program is built."""
     installed("coqc")
-    count = followed(folder, lambda command, _: command.asks_coq() or "./opprove coq " in command.line)
-    need(count == 2, f"{count} commands")
-    return "the theorem of the guide is accepted by coqc"
+    is_built = os.access(PROGRAM, os.X_OK)
+    lines = [command.line for command in read(GUIDE.read_text(encoding="utf-8")).commands if "./opprove coq " in command.line]
+    asked = {name for line in lines for name in re.findall(r"\w+\.(?:report|model)\b", line)}
+
+    def is_wanted(command: Command, place: Path) -> bool:
+        if is_built and asked & {*re.findall(r"(?:>|tee )(\w+\.\w+)", command.line)}:
+            return True
+        return (command.asks_coq() or "./opprove coq " in command.line) and has_files(command.line.split(">")[0], place)
+
+    count = followed(folder, is_wanted)
+    need(count >= 2, f"{count} commands")
+    return "the theorems of the guide are accepted by coqc"
 
 
 def readme(folder: Path) -> str:
