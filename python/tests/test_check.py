@@ -175,7 +175,9 @@ def bad_input(folder: Path) -> str:
         found, is_asked = judged(statement, evidence)
         need(found == line, (text, rows, line, found))
         by_both += is_asked
-        for name in ["chain", *(TRANSLATIONS if " C6 " not in line else [])]:
+        # Whether sums are equal is for other systems to say, and `coq` takes any number of blocks.
+        others = [name for name in TRANSLATIONS if " C6 " not in line and not (name == "coq" and " K5 " in line)]
+        for name in ["chain", *others]:
             answer = run(*tool(name), statement, evidence)
             need((answer.status, answer.out) == (status_of(line), "") and answer.error in told_by_tools(line), (name, text, rows, answer))
         if line.startswith("# refused S"):

@@ -25,7 +25,7 @@ from opprove.checkers.chain_text import Texts
 from opprove.checkers.check import DONE, FAULTY, REFUSED, status_of
 from explain_rows import Run
 from trying import PROGRAM as OPPROVE
-from trying import Answer, EXAMPLES, Skipped, installed, main, need, run, stored, tool
+from trying import Answer, Skipped, installed, main, need, run, stored, tool
 from trying_second import UNREAD, Files, Second, files_in
 
 COUNT = 60  # random certificates
