@@ -19,6 +19,7 @@ class Ends:
         self.maps: Dict[str, Signature] = {}
 
     def new(self) -> int:
+        """A new end, in a class of its own."""
         self.above.append(len(self.above))
         return self.above[-1]
 
@@ -37,6 +38,7 @@ class Ends:
         return end
 
     def name(self, end: int) -> str:
+        """The name of an end, or ? where it has none."""
         return self.names.get(self.of(end), "?")
 
     def join(self, left: int, right: int) -> bool:
@@ -56,9 +58,11 @@ class Ends:
             raise fault(code, token, " left {} -> {} right {} -> {}".format(*ends))
 
     def equal(self, code: str, token: Token, left: Signature, right: Signature) -> None:
+        """Makes two signatures the same."""
         self.meet(code, token, list(zip(left, right)), left, right)
 
     def equation(self, sides: List[Node]) -> None:
+        """Makes the ends of all sides the same."""
         first = self.value(sides[0])
         for side in sides[1:]:
             self.equal("S11", side.token, first, self.value(side))

@@ -48,6 +48,7 @@ class Expanded(NamedTuple):
 
 
 def nodes(node: Node) -> Iterator[Node]:
+    """A part of an expression and all its parts, from the left."""
     yield node
     for part in node.parts:
         yield from nodes(part)
@@ -147,6 +148,7 @@ class Expansion:
     # ---- Words
 
     def facts_of(self, item: Item) -> List[Fact]:
+        """What an item stands for."""
         if isinstance(item, Equation):
             sides = item.sides
             return [Fact(item.token, [Equation(item.token, list(pair))]) for pair in zip(sides, sides[1:])]
@@ -166,6 +168,7 @@ class Expansion:
         return found
 
     def applied_once(self, use: Use, given: Dict[str, Node]) -> List[Fact]:
+        """What a word stands for with as many arguments as it has parameters."""
         local: Dict[str, Node] = {}
         found: List[Fact] = []
         for item in use.word.items:
@@ -218,6 +221,7 @@ class Expansion:
         return part.parts[0].parts if is_product and part.parts[0].kind == "product" and part.parts[0].number is None else [part]
 
     def put_mark(self, mark: Mark, given: Optional[Dict[str, Node]], token: Token) -> Mark:
+        """A mark with the exponent that its parameter stands for."""
         if not mark.has_parameter or mark.exponent is None or given is None:
             return mark._replace(token=token)
         value = given[mark.exponent.text]
@@ -226,6 +230,7 @@ class Expansion:
         return Mark(token, "^", value.number + mark.number, value.token)
 
     def new_map(self, base: str, token: Token) -> str:
+        """The name of a new map."""
         name = self.make(base, token)
         self.maps[name] = token
         return name
@@ -281,9 +286,11 @@ class Expansion:
         return [Statement(self, plan, len(plans) == 1, plan.claims is plain).expanded() for plan in plans]
 
     def claims(self) -> List[Claim]:
+        """The lines `claim`, in their order."""
         return [entry for entry in self.file.entries if isinstance(entry, Claim)]
 
     def equivalences(self) -> List[Cases]:
+        """The lines `equivalent`, in their order."""
         return [entry for entry in self.file.entries if isinstance(entry, Cases)]
 
     def stem_of(self, entry: Cases) -> str:
@@ -307,9 +314,11 @@ class Statement:
                 self.inverses.setdefault((kind or "", one), set()).add(two)
 
     def facts(self, items: List[Item]) -> List[Fact]:
+        """What items stand for."""
         return [fact for item in items for fact in self.whole.facts[id(item)]]
 
     def expanded(self) -> Expanded:
+        """The statement, if the language takes it."""
         defined = [entry.name for entry in self.entries if isinstance(entry, Definition)][::-1]
         kept = [entry.tokens for entry in self.entries if isinstance(entry, Kept) and entry.tokens]
         for entry in self.entries[self.whole.file.heading :]:
@@ -366,6 +375,7 @@ class Statement:
             self.claims(entry.items)
 
     def assumptions(self, items: List[Item]) -> None:
+        """Writes the lines of items that are assumed."""
         for fact in self.facts(items):
             self.note(fact)
             if fact.word:
@@ -375,9 +385,11 @@ class Statement:
                 self.equation("assume", fact.equations[0])
 
     def note(self, fact: Fact) -> None:
+        """Writes what was written in the place of a word."""
         self.body += [[(f"# {fact.note}", None)]] if fact.note else []
 
     def claims(self, items: List[Item]) -> None:
+        """Writes the lines of items that are claimed."""
         for fact in self.facts(items):
             self.note(fact)
             for equation in fact.equations:
@@ -414,6 +426,7 @@ class Statement:
     # ---- Expressions
 
     def equation(self, word: str, equation: Equation) -> None:
+        """Writes a line with an equation."""
         left, right = (self.pieces(side) for side in equation.sides)
         self.body.append([(f"{word} ", equation.token), *left, (" = ", equation.token), *right])
 
@@ -441,6 +454,7 @@ class Statement:
         return [("(", node.token), *self.pieces(node), (")", node.token)] if node.kind == "sum" else self.pieces(node)
 
     def number(self, node: Node) -> str:
+        """So many times the identity of the object that was found, or a zero."""
         if node.number == 0:
             return "0"
         if self.ends.of(node.end) not in self.ends.names:
@@ -449,6 +463,7 @@ class Statement:
         return (f"{node.number} " if node.number != 1 else "") + f"[{self.ends.name(node.end)}]"
 
     def marked(self, node: Node) -> List[Piece]:
+        """A factor with its marks, or the map that is its inverse."""
         base, marks = node.parts[0], list(node.marks)
         if marks[0].kind in ("-1", "†"):
             names = [*self.inverses.get((marks[0].kind, base.text), ())] if base.kind == "map" else []

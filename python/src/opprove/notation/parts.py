@@ -78,10 +78,12 @@ class Word:
     items: List[Item]
 
     def opening(self) -> List[str]:
+        """The words before the first parameter."""
         names = [is_parameter for _, is_parameter in self.head]
         return [text for text, _ in self.head[: names.index(True) if True in names else None]]
 
     def parameters(self) -> List[str]:
+        """The names of the parameters, in their order."""
         return [text for text, is_parameter in self.head if is_parameter]
 
 
@@ -111,6 +113,8 @@ class Claim(NamedTuple):
 
 
 class Definition(NamedTuple):
+    """A map and what it is."""
+
     name: Token
     value: Node
 

@@ -45,6 +45,7 @@ class Reader:
         self.is_first = True  # whether no line but comments was read
 
     def read(self) -> File:
+        """Reads all lines."""
         texts = list(check.read_lines(self.path if self.source is None else self.source, "# refused S1 byte {}"))
         for self.tokens in self.joined([(self.line_tokens(text, number), text) for number, text in texts]):
             self.place = 0
@@ -246,6 +247,7 @@ class Reader:
 
     @staticmethod
     def shape(word: Word) -> List[str]:
+        """A head, whatever its parameters are named."""
         return ["()" if is_parameter else text for text, is_parameter in word.head]
 
     def use(self) -> None:
@@ -316,6 +318,7 @@ class Reader:
         return False
 
     def use_of(self) -> Use:
+        """A use of the word that fits, of those that begin so."""
         start, first, furthest = self.place, self.next(), None
         texts = [token.text for token in self.tokens[start : start + max(len(word.head) for word in self.words)]]
         words = [word for word in self.words if word.opening() == texts[: len(word.opening())]]

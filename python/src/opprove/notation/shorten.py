@@ -24,6 +24,7 @@ LEFT_OUT = ("range", "kernel")  # words whose equations say too little to be fou
 
 
 def named(problem: Problem, poly: Poly) -> Named:
+    """A polynomial by the names of its letters."""
     return frozenset((tuple(problem.names[letter] for letter in word), value) for word, value in poly.items())
 
 
@@ -69,6 +70,7 @@ def equations(word: Word, index: int) -> List[Tuple[Optional[Pattern], Optional[
 
 
 def pattern(node: Node, index: int) -> Optional[Pattern]:
+    """A side of an equation of a word as a product."""
     if node.kind == "map":
         return ((node.text, False),)
     if node.kind == "number":
@@ -91,6 +93,7 @@ class Matcher:
         self.ends = {name: ends for name, ends in zip(problem.names, problem.ends)}
 
     def letter(self, name: str, star: bool) -> str:
+        """A letter, or its adjoint, as it is written."""
         return name + "'" if star and name not in self.own else name
 
     def matches(self, side: Optional[Pattern], word: Optional[Tuple[str, ...]], maps: Dict[str, str]) -> Optional[Dict[str, str]]:
@@ -154,6 +157,7 @@ class Shortener:
         self.entries = [entry for number, text in self.texts.items() for entry in self.read(text, self.lines.get(number))]
 
     def read(self, text: str, line: Optional[Line]) -> Iterator[Entry]:
+        """The entries of a line."""
         if "#" in text:
             yield Entry("comment", text[text.index("#") :])
         word = line.tokens[0].text if line else "object"
@@ -165,6 +169,7 @@ class Shortener:
             yield Entry("kept", written(line.tokens[:-1]))
 
     def polys(self, line: Line) -> List[Named]:
+        """The equations of a line, left minus right."""
         return [named(self.problem, Line(tokens, self.problem).equation()) for tokens in self.problem.equations(line)]
 
     # ---- Words
@@ -180,6 +185,7 @@ class Shortener:
                     pass
 
     def parts(self, word: Word) -> Iterator[Node]:
+        """The parts of the equations of a word."""
         for item in word.items:
             for side in item.sides if isinstance(item, Equation) else ():
                 yield from nodes(side)
@@ -245,6 +251,7 @@ class Shortener:
             above |= entry.maps if entry.kind in ("assume", "word") else set()
 
     def is_definition(self, name: str, entry: Entry, value: str, above: Set[str]) -> bool:
+        """Whether an equation says what a map is."""
         (poly,) = entry.polys
         others = [word for word, _ in poly if word != (name,)]
         letters = {letter for word in others for letter in word}
@@ -289,6 +296,7 @@ class Shortener:
         return "\n".join(lines[:first] + self.signatures(shown) + lines[first:]) + "\n"
 
     def signatures(self, shown: Sequence[str]) -> List[str]:
+        """Lines with the signatures of maps."""
         parts = []
         for ends, names in groupby(shown, key=self.ends):
             parts.append(f"{' '.join(names)} : {ends}")
@@ -301,10 +309,12 @@ class Shortener:
         return lines
 
     def ends(self, name: str) -> str:
+        """What stands behind the colon of a signature."""
         source, target = (self.problem.names[end][1:-1] for end in self.problem.ends[self.problem.numbers[name]])
         return f"{source} -> {target}" + " self" * (name in self.matcher.own)
 
     def maps(self) -> List[str]:
+        """The declared maps, in their order."""
         names = self.problem.names
         return [name for letter, name in enumerate(names) if name[0] != "[" and letter <= self.problem.stars[letter]]
 
@@ -353,6 +363,7 @@ class Shortener:
 
 
 def signature_of(problem: Problem, name: str) -> Tuple[str, ...]:
+    """The ends of a map by the names of their identities."""
     return tuple(problem.names[end] for end in problem.ends[problem.numbers[name]])
 
 
