@@ -197,7 +197,10 @@ class Proofs:
 def random_statement(draw: random.Random) -> str:
     """Two assumptions and two claims, over two objects; small, so that each verdict comes up."""
     lines = ["object U V", "map a : U -> V", "map b : V -> U", "map p : U -> U"]
-    words = {"UU": ["p", "b a", "p p", "b a p", "[U]", "p b a"], "UV": ["a", "a p", "a b a", "a p p"], "VU": ["b", "p b", "b a b"], "VV": ["a b", "[V]", "a p b"]}
+    words = {
+        "UU": ["p", "b a", "p p", "b a p", "[U]", "p b a"], "UV": ["a", "a p", "a b a", "a p p"],
+        "VU": ["b", "p b", "b a b"], "VV": ["a b", "[V]", "a p b"],
+    }  # fmt: skip
     is_starred = draw.random() < 0.3
     for word in ("assume", "assume", "claim", "claim"):
         ends = draw.choice(list(words))
@@ -237,7 +240,8 @@ def right_inverses(size: int) -> Tuple[str, str]:
 def large_model(side: int, modulus: int) -> Tuple[str, str]:
     """A matrix with a right inverse that is no left one, and assumptions that multiply random matrices."""
     draw, less = random.Random(side), side - 1
-    lines = ["object U V", "map a : U -> V", "map b : V -> U", "map p q r : V -> V", "assume a b = [V]", "assume p q r = (p q) r", "assume a b p = p"]
+    lines = ["object U V", "map a : U -> V", "map b : V -> U", "map p q r : V -> V"]
+    lines += ["assume a b = [V]", "assume p q r = (p q) r", "assume a b p = p"]
     unit = [[int(row == column) for column in range(side)] for row in range(less)]
     squares = {name: [[draw.randrange(modulus) for _ in range(less)] for _ in range(less)] for name in "pqr"}
     matrices = {"a": unit, "b": [list(column) for column in zip(*unit)], **squares}

@@ -208,7 +208,7 @@ class Exports(unittest.TestCase):
 # Statements and evidence of each kind, and the command that judges it.
 CHANGED = {
     "certificate": ["pseudoinverses.op pseudoinverses.cert", "pasted_squares.op pasted_squares.cert", "tools/halved.op tools/halved.cert"],
-    "cancellation": ["gallery/short_five_lemma.op gallery/short_five_lemma.cert", "gallery/normal_equations.op gallery/normal_equations.cert"],
+    "cancellation": [f"gallery/{name}.op gallery/{name}.cert" for name in ("short_five_lemma", "normal_equations")],
     "star": ["tools/normal_idempotent.op tools/normal_idempotent.star"],
     "basis": ["gallery/one_sided_inverse.op tools/one_sided_inverse.report"],
     "model": ["gallery/one_sided_inverse.op tools/one_sided_inverse.report"],
@@ -265,7 +265,8 @@ class Changes(unittest.TestCase):
                 if what in ("accepted", "refused by Coq"):
                     coq.add(text, is_right)
         seconds = coq.run()
-        say(f"{sum(counts.values())} changes of a {kind} in {seconds:.1f} s: {', '.join(f'{count} {what}' for what, count in counts.items())}")
+        said = ", ".join(f"{count} {what}" for what, count in counts.items())
+        say(f"{sum(counts.values())} changes of a {kind} in {seconds:.1f} s: {said}")
 
     def test_certificates(self) -> None:
         self.compare("certificate")

@@ -7,9 +7,10 @@ in several files. The head of the file says what each theorem says. What the sec
     opprove coq --library FOLDER          copies the library for Coq to the folder, and compiles it by coqc
     coqc -Q FOLDER Opprove NAME.v         prints "Closed under the global context": accepted, and no axiom is used
 
-To be read are Definitions.v of the library and the theorems. Claims that a theorem names by several blocks have a number appended.
-A name that is a word of Coq gets an _, and one with signs that Coq may not read a number. Not exported are models with a side
-above 16 or more than 500,000 products of numbers, rational models, and for a basis equations with more than 20,000 terms when they are multiplied out.
+To be read are Definitions.v of the library and the theorems, which are named by claim and verdict; of a second one a number is
+appended. A name that is a word of Coq gets an _, and one with signs that Coq may not read a number. Not exported are models with
+a side above 16 or with more than 500,000 products of numbers, rational models, and bases where an equation has more than 20,000
+terms when it is multiplied out.
 """
 from __future__ import annotations
 
@@ -96,7 +97,9 @@ def judge(problem: Problem, block: Block) -> None:
 
 # ---- Theorems
 
-VERDICTS = {"certificate": "proved", "cancellation": "proved_by_cancelling", "star": "proved_by_stars", "model": "refuted", "basis": "not_derivable"}
+VERDICTS = {
+    "certificate": "proved", "cancellation": "proved_by_cancelling", "star": "proved_by_stars", "model": "refuted", "basis": "not_derivable",
+}  # fmt: skip
 
 
 class Theorems:
@@ -113,6 +116,7 @@ class Theorems:
         self.sharp: Optional[Sharp] = None
 
     def add(self, block: Block) -> None:
+        """Adds the theorem of a block, and what it stands on."""
         count = sum(name.startswith(f"claim_{block.evidence.claim}_") for name in self.names)
         tag = f"{block.evidence.claim}" + (f"_{count + 1}" if count else "")
         name = self.fresh(f"claim_{block.evidence.claim}_{VERDICTS[block.kind]}")
@@ -173,6 +177,7 @@ class Theorems:
         yield from self.sharp.theorem(theorem.name, theorem.tag, claim, theorem.multiple)
 
     def text(self) -> str:
+        """The file, but for its last line feed."""
         head = [comment("Written by `opprove coq`. What the theorems say needs no more than the file Definitions.v of the library.")]
         head += [comment(said) for said in self.said] + [comment(line) for line in self.left_out()]
         theorems = filled(f"Definition theorems := ({', '.join(self.names + self.besides)}).")
