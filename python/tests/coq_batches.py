@@ -15,6 +15,8 @@ SECONDS = 600  # that coqc may take
 
 
 class Done(NamedTuple):
+    """What coqc answers."""
+
     status: int
     out: str
     error: str
@@ -73,9 +75,11 @@ class Coq:
 
 
 def is_installed() -> bool:
+    """Whether there is a coqc."""
     return shutil.which("coqc") is not None
 
 
 def has_mathcomp() -> bool:
+    """Whether coqc finds MathComp."""
     where = subprocess.run(["coqc", "-where"], capture_output=True, text=True).stdout.strip()
     return (Path(where) / "user-contrib" / "mathcomp" / "algebra").is_dir()

@@ -32,6 +32,7 @@ LEFT_TO_COQ = re.compile(r"refused (C6|C8|P5|M4|M5|M6|B3|B4|B5|B6)\b")
 
 
 def program(*words: object) -> Tuple[int, str]:
+    """The status and the report of the program."""
     done = subprocess.run([str(PROGRAM), *map(str, words)], stdin=subprocess.DEVNULL, capture_output=True)
     return done.returncode, done.stdout.decode()
 
@@ -75,6 +76,7 @@ def changes(text: str, letters: List[str], draw: random.Random) -> Iterator[str]
 
 
 def letters_of(statement: StatementText) -> List[str]:
+    """The letters in play, as they are written."""
     return [name for name in statement.problem.names if statement.problem.is_starred or name[-1] != "'"]
 
 
@@ -91,6 +93,7 @@ def compiled() -> Coq:
 
 
 def say(line: str) -> None:
+    """Says what a test found."""
     print(f"coq: {line}", file=sys.stderr, flush=True)
 
 
@@ -224,6 +227,7 @@ def is_accepted(kind: str, paths: List[str]) -> bool:
 
 
 def is_exported(paths: List[str]) -> bool:
+    """Whether the tool takes the evidence."""
     try:
         export.exported_files(paths[0], paths[1:])
     except Refusal:
@@ -248,6 +252,7 @@ class Changes(unittest.TestCase):
             yield path, model
 
     def compare(self, kind: str) -> None:
+        """Some 150 changes of evidence of a kind: the command, the tool and Coq answer alike."""
         coq, draw, counts = compiled(), random.Random(kind), {"accepted": 0, "refused by Coq": 0, "not exported": 0, "the same proof": 0}
         found = list(self.blocks(kind))
         for path, original in found:

@@ -57,13 +57,16 @@ class BasisTheorem:
             raise Refusal(f"{refused}: an equation has more than {TERMS} terms when it is multiplied out, and Coq would take too long")
 
     def word(self, text: str) -> str:
+        """A word of the second checker in Coq."""
         return word([f"sign_{self.numbers[FIRST - ord(letter)]}" for letter in text])
 
     def poly(self, terms: Iterator[Tuple[str, int]]) -> str:
+        """Terms as what puts one after another in front of nothing."""
         links = [f"term_of {integer(coefficient)} {self.word(text)}" for text, coefficient in terms]
         return "".join(f"({link} " for link in links) + "nil" + ")" * len(links)
 
     def written(self) -> Iterator[str]:
+        """The rules, the rest, the steps that reduce the claim to it, and the theorem."""
         tag, rules = self.tag, Rules(Order(self.statement.problem), self.basis.rules)
         links = []
         for rule in rules.rules:
@@ -77,6 +80,7 @@ class BasisTheorem:
         yield from self.theorem()
 
     def theorem(self) -> Iterator[str]:
+        """That the claim isn't derivable, in the words of the statement."""
         statement, tag = self.statement, self.tag
         yield f"Theorem {self.name} :"
         yield from lets(statement)
@@ -91,6 +95,7 @@ class BasisTheorem:
         yield "Qed."
 
     def assumptions(self) -> str:
+        """The assumptions as elements of the free algebra."""
         return ";\n    ".join(equation.text("≡") for _, equation in self.statement.hypotheses)
 
 

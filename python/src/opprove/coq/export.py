@@ -130,6 +130,7 @@ class Theorems:
         return f"{name}_{count + 1}" if count else name
 
     def proof(self, name: str, tag: str, block: Block) -> Iterator[str]:
+        """The theorem of a certificate, or of a proof that takes letters or stars off."""
         assert isinstance(block.evidence, (check.Certificate, cancel.Cancellation))
         proof = proofs.proof_of(block.evidence)
         self.said.append(f"{name}: {in_words(self.problem, proof)}")
@@ -137,6 +138,7 @@ class Theorems:
         yield from proofs.theorem(self.rows, name, tag, proof)
 
     def model(self, name: str, tag: str, block: Block) -> Iterator[str]:
+        """The theorems of a model."""
         model = block.evidence
         assert isinstance(model, check_model.Model)
         models.require_small(self.statement, model, f"# block {block.number} isn't exported")
@@ -148,6 +150,7 @@ class Theorems:
         yield from models.ModelTheorems(self.statement, name, tag, model).written()
 
     def basis(self, name: str, tag: str, block: Block) -> Iterator[str]:
+        """The theorem of a basis, and of one that is sharp another."""
         basis = block.evidence
         assert isinstance(basis, confirm.Basis)
         self.said.append(

@@ -19,6 +19,7 @@ def comment(text: str) -> str:
 
 
 def integer(value: int) -> str:
+    """An integer, in brackets where it is negative."""
     return f"({value})" if value < 0 else str(value)
 
 

@@ -29,6 +29,7 @@ def products_of(term: str) -> int:
 
 
 def rows_of(matrix: Matrix) -> str:
+    """A matrix as a list of its rows."""
     return "[" + "; ".join("[" + "; ".join(map(str, row)) + "]" for row in matrix) + "]"
 
 
@@ -41,6 +42,7 @@ class ModelTheorems:
         self.claim = statement.claims[model.claim - 1].text()
 
     def written(self) -> Iterator[str]:
+        """The matrices and both theorems."""
         for letter, matrix in self.matrices.items():
             yield filled(f"Definition {matrix} := {rows_of(self.model.maps[letter])}%Z.")
         yield from self.by_matrices()
@@ -84,6 +86,7 @@ class ModelTheorems:
         yield "Qed."
 
     def pattern(self, names: List[str]) -> str:
+        """What takes the first theorem apart: the premises, and that the claim fails."""
         return f"({' & '.join([*names, 'fails'])})" if names else "fails"
 
     def given(self, z: str, names: List[str]) -> List[str]:

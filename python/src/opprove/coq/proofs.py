@@ -36,6 +36,7 @@ class Fitted(NamedTuple):
 
 
 def proof_of(evidence: Union[Certificate, Cancellation]) -> Proof:
+    """What a certificate, or a proof that takes letters or stars off, has for Coq."""
     if isinstance(evidence, Certificate):
         return Proof(evidence.claim, evidence.denominator, [], [], list(evidence.shares))
     return Proof(*evidence)
@@ -241,6 +242,7 @@ def soundness(statement: Statement, proof: Proof, tag: str) -> str:
 
 
 def theorem(rows: Rows, name: str, tag: str, proof: Proof) -> Iterator[str]:
+    """That the checker accepts a proof, whose rows are defined, and so the theorem."""
     statement = rows.statement
     stars = (proof.involution() or "starred") if statement.problem.is_starred else "unstarred"
     kind = f"{stars.capitalize()} {statement.listed_selfs()}"

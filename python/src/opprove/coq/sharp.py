@@ -26,6 +26,7 @@ class PlainReader(Reader):
         self.arrows = {arrow.letter: (place, arrow) for place, arrow in enumerate(arrows)}
 
     def said(self, expression: text.Expression) -> Said:
+        """An expression, without adjoints."""
         return self.plain(expression, False)
 
     def plain(self, expression: text.Expression, is_adjoint: bool) -> Said:
@@ -71,6 +72,7 @@ class Sharp:
                 yield Arrow(star, self.names.fresh(f"{self.names.of[letter]}_star"), self.problem.ends[star])
 
     def places(self, ends: Signature) -> Tuple[int, int]:
+        """The places of a source and a target."""
         return self.names.place[ends[0]], self.names.place[ends[1]]
 
     def definitions(self, numbers: Dict[int, int]) -> Iterator[str]:

@@ -26,6 +26,8 @@ class Said(NamedTuple):
 
 
 class Equation(NamedTuple):
+    """An equation: its sides as a theorem has them, how the checker reads it, and how many terms it has multiplied out."""
+
     ends: Signature
     left: str
     right: str
@@ -33,6 +35,7 @@ class Equation(NamedTuple):
     size: int
 
     def text(self, sign: str = "=") -> str:
+        """As a theorem has it, with this sign."""
         return f"{self.left} {sign} {self.right}"
 
 
@@ -43,6 +46,7 @@ class Reader:
         self.names, self.numbers = names, problem.numbers
 
     def equation(self, equation: text.Equation) -> Equation:
+        """An equation of the statement."""
         ends = equation.left.ends or equation.right.ends
         assert ends is not None
         source, target = (self.numbers[f"[{end}]"] for end in ends)
@@ -54,6 +58,7 @@ class Reader:
         return Equation(ends, left.text, right.text, f"Equation {source} {target} ({left.term}) ({right.term})", left.size + right.size)
 
     def said(self, expression: text.Expression) -> Said:
+        """An expression of the statement."""
         if expression.kind == "map":
             letter = self.numbers[expression.name]
             return Said(self.names.of[letter], 0, f"Var {self.names.place[letter]}")
@@ -81,15 +86,18 @@ class Reader:
         return self.power(first, number)
 
     def sum(self, total: Said, part: Said) -> Said:
+        """A sum with one more part, which is taken off where a minus stands in front of it."""
         other = part.negated or part
         sign, constructor = ("-", "EMinus") if part.negated else ("+", "EPlus")
         term = f"{constructor} ({total.term}) ({other.term})"
         return Said(f"{total.within(50)} {sign} {other.within(49)}", 50, term, total.size + other.size)
 
     def product(self, left: Said, right: Said) -> Said:
+        """A product with one more factor."""
         return Said(f"{left.within(40)} ∘ {right.within(39)}", 40, f"EComp ({left.term}) ({right.term})", left.size * right.size)
 
     def power(self, base: Said, exponent: int) -> Said:
+        """A power; one with exponent 1 is its base."""
         if exponent == 1:
             return base
         return Said(f"{base.within(29)} ^ {exponent}", 30, f"EPow {exponent} ({base.term})", base.size**exponent)
@@ -111,6 +119,7 @@ class Statement:
         self.self_names = [self.names.fresh(f"h_{self.names.of[letter]}") for letter in self.selfs]
 
     def listed_selfs(self) -> str:
+        """The places of the maps that are their own adjoints."""
         return "[" + "; ".join(f"{self.names.place[letter]}%nat" for letter in self.selfs) + "]"
 
     def ends_of(self, letter: int) -> Tuple[str, str]:
