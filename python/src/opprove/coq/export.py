@@ -98,7 +98,8 @@ def judge(problem: Problem, block: Block) -> None:
 # ---- Theorems
 
 VERDICTS = {
-    "certificate": "proved", "cancellation": "proved_by_cancelling", "star": "proved_by_stars", "model": "refuted", "basis": "not_derivable",
+    "certificate": "proved", "cancellation": "proved_by_cancelling", "star": "proved_by_stars",
+    "model": "refuted", "basis": "not_derivable",
 }  # fmt: skip
 
 
