@@ -12,6 +12,7 @@ import opprove
 from opprove.checkers import check_model, star
 from opprove.checkers.check import DONE, REFUSED
 from opprove.tool import answer
+from opprove.translations import chain
 
 ZERO = "object U V\nmap a : U -> V\nassume a' a = 0\nclaim a = 0\n"
 ZERO_PROOF = """star proof 1
@@ -154,6 +155,20 @@ class Reports(unittest.TestCase):
                 self.assertIn(old, model)
                 status, lines = answer(check_model.report, [*written(folder, statement, model.replace(old, new) if old else model)])
                 self.assertEqual((lines[-1], status), (last, DONE if " confirmed " in last else REFUSED))
+
+    def test_chains(self) -> None:
+        """A proof is read line by line, and written as the same proof."""
+        with tempfile.TemporaryDirectory() as folder:
+            for statement, proof, granted in ((ZERO, ZERO_PROOF, "proper"), (MIXED, MIXED_PROOF, "proper monic f"), (SUM, SUM_PROOF, "positive")):
+                paths = written(folder, statement, proof)
+                lines = list(chain.written(*paths))
+                again = "\n".join(chain.written(*paths, form="certificate")) + "\n"
+                report = list(star.report(*written(folder, statement, again)))
+                self.assertEqual(report[0], f"# block 1 accepted claim 1 denominator 1 {granted}")
+                self.assertTrue(any(line.startswith("Lemma [") and ", since " in line for line in lines), lines)
+            text = list(chain.written(*written(folder, ZERO, ZERO_PROOF)))
+        self.assertEqual(text[0], "Claim 1, where the involution is proper: a = 0")
+        self.assertIn("Lemma [2], by [1], since r' r = 0 gives r = 0: a = 0", text)
 
     def test_alone(self) -> None:
         """The checker is a file that runs by itself."""

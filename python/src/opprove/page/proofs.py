@@ -120,7 +120,7 @@ class ProofWriter:
         scale = "" if chain.scale == 1 else f' data-scale="{chain.scale}"'
         head = f"<summary>Lemma [{number}]{self.scaled(chain)}: {shown}</summary>"
         yield f'<details class="lemma" open id="{self.prefix}l{number}"{scale}>{head}'
-        yield from [self.cancelled(chain.cancelled)] if chain.cancelled else self.steps(chain)
+        yield from [self.cancelled(chain.cancelled)] if isinstance(chain.cancelled, Cancel) else self.steps(chain)
         yield "</details>"
 
     def cancelled(self, found: Cancel) -> str:

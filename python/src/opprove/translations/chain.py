@@ -36,6 +36,7 @@ from typing import Callable, Dict, Iterator, List, NamedTuple, Optional, Sequenc
 
 from opprove.checkers import cancel
 from opprove.checkers.cancel import Cancel, Cancellation, Cancellations
+from opprove.checkers.star import Root, StarItems, StarProofs
 from opprove.checkers.chain_text import ChainText, Lines, Texts, judge_chain
 from opprove.checkers.check import (
     Blocks, Certificate, Line, Poly, Problem, Refusal, Row, Share, Signature, Source, Token, Word, add, content, judge, loaded,
@@ -57,6 +58,9 @@ class Equation(NamedTuple):
     line: List[Token]
 
 
+Taken = Union[Cancel, Root]  # a letter or a star that is taken off an item
+
+
 class Part(NamedTuple):
     """A lemma or, as the last one, the goal: the rows add up to the scale times its polynomial. Or, with no rows, an item without a
     letter, where `item` is the number of that part."""
@@ -64,7 +68,7 @@ class Part(NamedTuple):
     ends: Signature
     scale: int
     rows: List[Row]
-    cancelled: Optional[Cancel] = None
+    cancelled: Optional[Taken] = None
 
 
 class Step(NamedTuple):
@@ -81,7 +85,7 @@ class Chain(NamedTuple):
     right: Poly
     is_turned: bool  # whether the part's rows add up to the scale times right minus left
     steps: List[Step]
-    cancelled: Optional[Cancel] = None  # in the place of steps
+    cancelled: Optional[Taken] = None  # in the place of steps
 
     def start(self) -> Poly:
         return add({}, self.scale, self.left)
@@ -154,7 +158,7 @@ class Reader:
         inner = (right[1], left[0]) if left and right and (right[0], left[1]) == ends else None
         return inner if row.is_lemma or self.ends[row.number - 1] == inner else None
 
-    def typed(self, claim: int, items: Sequence[Union[Share, Cancel]], polys: Sequence[Poly]) -> List[Part]:
+    def typed(self, claim: int, items: Sequence[Union[Share, Taken]], polys: Sequence[Poly]) -> List[Part]:
         """The rows alone that are paths with the claim's ends, and the lemmas that these need: once for each of the ends
         with which they are needed. The rows that are left out add up to 0 by themselves. The polynomials are those of the items,
         where letters are taken off some."""
@@ -170,13 +174,13 @@ class Reader:
                 for row, inner in found[number, ends]:
                     if row.is_lemma:
                         wanted[row.number - 1].add(inner)
-                if isinstance(item, Cancel):
+                if not isinstance(item, Share):
                     wanted[item.item - 1].add(self.ends_of(polys[item.item - 1]))
         numbers = {key: number for number, key in enumerate(sorted(found), 1)}
         parts = []
         for number, ends in sorted(found):
             item = items[number - 1]
-            if isinstance(item, Cancel):
+            if not isinstance(item, Share):
                 other = numbers[item.item, self.ends_of(polys[item.item - 1])]
                 parts.append(Part(ends, 1, [], item._replace(item=other)))
                 continue
@@ -191,7 +195,7 @@ class Reader:
         assert ends, "it is typed"
         return ends
 
-    def has_ends(self, row: Row, inner: Signature, items: Sequence[Union[Share, Cancel]], polys: Sequence[Poly]) -> bool:
+    def has_ends(self, row: Row, inner: Signature, items: Sequence[Union[Share, Taken]], polys: Sequence[Poly]) -> bool:
         """Whether a row, if it is over an item without a letter, is over one that has these ends, and so isn't zero there."""
         if not row.is_lemma or isinstance(items[row.number - 1], Share):
             return True
@@ -219,8 +223,7 @@ class Reader:
         lemmas: List[Poly] = []
         for part in parts:
             if part.cancelled:
-                poly, is_left = lemmas[part.cancelled.item - 1], part.cancelled.is_left
-                lemmas.append({word[1:] if is_left else word[:-1]: value for word, value in poly.items()})
+                lemmas.append(self.taken_off(part.cancelled, lemmas[part.cancelled.item - 1]))
                 chains.append(Chain(part.ends, 1, *from_greatest_word(lemmas[-1]), [], part.cancelled))
                 continue
             middles = [(lemmas if row.is_lemma else self.generators)[row.number - 1] for row in part.rows]
@@ -235,6 +238,12 @@ class Reader:
             values = signed(empty, values)
             chains.append(empty._replace(steps=steps(empty, part.rows, values, in_order(empty.start(), values))))
         return chains
+
+    def taken_off(self, taken: Taken, poly: Poly) -> Poly:
+        """What an item with this polynomial leaves."""
+        if isinstance(taken, Root):
+            return self.bare(taken.squares[0].poly)
+        return {word[1:] if taken.is_left else word[:-1]: value for word, value in poly.items()}
 
     def told(self, text: ChainText) -> Proof:
         """The proof that a chain is, which has to be right: with its steps in their order."""
@@ -521,18 +530,24 @@ def granted(reader: Reader, proof: Proof, names: Sequence[str]) -> List[str]:
     denominator = proof.certificate.denominator
     found = [] if denominator == 1 or proof.is_told else [f"{denominator} cancels"]
     for word, is_left in (("monic", True), ("epic", False)):
-        letters = [chain.cancelled.letter for chain in proof.chains if chain.cancelled and chain.cancelled.is_left == is_left]
+        cancelled = [chain.cancelled for chain in proof.chains if isinstance(chain.cancelled, Cancel)]
+        letters = [one.letter for one in cancelled if one.is_left == is_left]
         texts = [names[letter] for letter in dict.fromkeys(letters)]
         found += [f"{listed(texts)} {'is' if len(texts) == 1 else 'are'} {word}"] if texts else []
-    return found
+    counts = [len(chain.cancelled.squares) for chain in proof.chains if isinstance(chain.cancelled, Root)]
+    return found + ([f"the involution is {'positive' if max(counts) > 1 else 'proper'}"] if counts else [])
 
 
 def listed(texts: Sequence[str]) -> str:
     return " and ".join([", ".join(texts[:-1])] * (len(texts) > 1) + [*texts[-1:]])
 
 
-def reason(cancelled: Cancel, names: Sequence[str]) -> str:
-    """Why a lemma holds that is another one without a letter."""
+def reason(cancelled: Taken, names: Sequence[str]) -> str:
+    """Why a lemma holds that is another one without a letter, or without a star."""
+    if isinstance(cancelled, Root):
+        square = "r' r" if cancelled.is_left else "r r'"
+        is_sum = len(cancelled.squares) > 1
+        return f"by [{cancelled.item}], since " + (f"a sum of {square} is 0 only where each is" if is_sum else f"{square} = 0 gives r = 0")
     return f"by [{cancelled.item}], since {names[cancelled.letter]} is {'monic' if cancelled.is_left else 'epic'}"
 
 
@@ -579,16 +594,25 @@ def chain_in_text(reader: Reader, writer: Writer, chain: Chain) -> Iterator[str]
 
 def cancellation_text(problem: Problem, proof: Cancellation) -> Iterator[str]:
     """The proof in lines."""
-    yield from ("cancellation 1", f"claim {proof.claim}", f"denominator {proof.denominator}")
+    is_star = any(isinstance(item, Root) for item in proof.items)
+    yield from ("star proof 1" if is_star else "cancellation 1", f"claim {proof.claim}", f"denominator {proof.denominator}")
     for word, letters in (("monic", proof.monic), ("epic", proof.epic)):
         yield from (f"{word} {problem.names[letter]}" for letter in letters)
     for number, item in enumerate(proof.items, 1):
-        if isinstance(item, Cancel):
+        if isinstance(item, Root):
+            yield f"root {number} {'left' if item.is_left else 'right'} {item.item}"
+            yield from (f"square {square.scale} {polynomial(problem, square.poly)}" for square in item.squares)
+        elif isinstance(item, Cancel):
             yield f"cancel {number} {problem.names[item.letter]} {'left' if item.is_left else 'right'} {item.item}"
         else:
             yield f"{'goal' if item is proof.items[-1] else f'lemma {number}'} scale {item.scale}"
             yield from row_lines(problem, item)
     yield "end"
+
+
+def polynomial(problem: Problem, poly: Poly) -> str:
+    """A polynomial as evidence has it, the greatest word first."""
+    return Lines(problem).line_text(poly)[len("line ") :]
 
 
 def row_lines(problem: Problem, share: Share) -> Iterator[str]:
@@ -649,9 +673,11 @@ def certificates(reader: Reader, proofs: List[Proof]) -> Iterator[str]:
 def proofs_of(reader: Reader, evidence: Source) -> List[Proof]:
     """Those of a text, all of which have to be right."""
     problem = reader.problem
-    if Blocks(evidence).line.startswith("cancellation "):
-        proofs, lines = Cancellations(problem, evidence).proofs, Lines(problem)
-        polys = [cancel.judge(lines, proof, f"# block {block} refused") for block, proof in enumerate(proofs, 1)]
+    first = Blocks(evidence).line
+    if first.startswith(("cancellation ", "star ")):
+        reader_of, items_of = (StarProofs, StarItems) if first.startswith("star ") else (Cancellations, cancel.Items)
+        proofs, lines = reader_of(problem, evidence).proofs, Lines(problem)
+        polys = [cancel.judge(lines, proof, f"# block {block} refused", items_of) for block, proof in enumerate(proofs, 1)]
         return list(map(reader.cancelled, proofs, polys))
     with explained(evidence):
         texts = Texts(problem, evidence)
