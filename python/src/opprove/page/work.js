@@ -182,7 +182,8 @@
   part("file").addEventListener("change", async ({ target }) => { if (target.files[0]) put(await target.files[0].text()); });
   part("save").addEventListener("click", () => {
     const href = URL.createObjectURL(new Blob([text.value]));
-    const link = Object.assign(document.createElement("a"), { download: "statement.op", href });
+    const isStatement = /^(object|language)\b/.test(text.value.replace(/#.*/g, "").trim());
+    const link = Object.assign(document.createElement("a"), { download: isStatement ? "statement.op" : "statement.opn", href });
     link.click();
     URL.revokeObjectURL(link.href);
   });
