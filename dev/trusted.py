@@ -18,7 +18,7 @@ from typing import Dict, Iterator, List, NamedTuple, Set, Tuple
 TOP = Path(__file__).resolve().parents[1]
 CRATES, DOCUMENT = TOP / "crates", TOP / "docs" / "DEFINITIONS.md"
 # The public functions whose clauses are the main theorem and the laws for users.
-STARTS = ("command_runs/src/whole_run.rt", "*_command/src/laws.rt", "command_runs/src/laws.rt")
+STARTS = ("command_runs/src/whole_run.rt", "*_command/src/laws.rt", "evidence_commands/src/laws.rt", "command_runs/src/laws.rt")
 BEGINS, ENDS = "<!-- dev/trusted.py begins -->", "<!-- dev/trusted.py ends -->"
 IMPORT = re.compile(r"^\s*(?:ghost |pub )?use Rattle\.(\w+)\.specs\.([\w.]+?)(?:\.\{([^}]*)\}| as .*|\s*)?;?\s*$", re.M)
 # A clause ends before the next one, a remark, the body or an empty line.

@@ -25,7 +25,7 @@ from pathlib import Path
 from typing import Any, Callable, Dict, Iterator, List, NamedTuple, Optional, Sequence, Tuple
 
 sys.dont_write_bytecode = True
-from trying import PROGRAM, Failed, Skipped, installed, need
+from trying import PROGRAM, Failed, Skipped, installed, need, usage_line
 
 USAGE, FAULTY, NOT_LOADED, SINK_FAILED, NO_MEMORY, REFUSED, LOADER_FAILED = 2, 3, 4, 5, 6, 7, 127
 PATIENCE = 120  # seconds
@@ -105,9 +105,9 @@ LOADS: List[Tuple[str, List[str], int, str]] = [
     ("a certificate without end", ["check", "s", "/dev/zero"], NOT_LOADED, "# too long /dev/zero limit 67108864\n"),
     ("a statement of 1 TB", ["check", "sparse", "c"], NOT_LOADED, "# too long sparse limit 1048576\n"),
     ("a certificate of 1 TB", ["check", "s", "sparse"], NOT_LOADED, "# too long sparse limit 67108864\n"),
-    ("100,000 words", ["check"] + 100_000 * ["s"], USAGE, "# usage: opprove prove|check|refute|model|bench|confirm|explain|cancel\n"),
-    ("a number of 4,000 digits", ["prove", "s", "--pairs", 4000 * "9"], USAGE, "# usage: opprove prove|check|refute|model|bench|confirm|explain|cancel\n"),
-    ("a word that isn't UTF-8", ["check", "s", "\udcff"], USAGE, "# usage: opprove prove|check|refute|model|bench|confirm|explain|cancel\n"),
+    ("100,000 words", ["check"] + 100_000 * ["s"], USAGE, usage_line()),
+    ("a number of 4,000 digits", ["prove", "s", "--pairs", 4000 * "9"], USAGE, usage_line()),
+    ("a word that isn't UTF-8", ["check", "s", "\udcff"], USAGE, usage_line()),
     ("a name of 100,000 bytes", ["check", 100_000 * "n", "c"], NOT_LOADED, f"# load failed {100_000 * 'n'}\n"),
 ]
 

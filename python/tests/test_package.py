@@ -23,7 +23,7 @@ from opprove import program as programs
 from opprove.checkers import check
 import trying
 from opprove import Expression, NotTyped, Object, Refused, Statement, Verdict, from_sympy
-from trying import EXAMPLES, PROGRAM, TESTS, TOP, Failed, Skipped, decided, need, run, tool
+from trying import EXAMPLES, PROGRAM, TESTS, TOP, Failed, Skipped, decided, need, run, tool, usage_line
 
 NAMED = os.environ.get("OPPROVE") or str(PROGRAM)
 
@@ -484,7 +484,7 @@ def statuses(folder: Path) -> str:
 
 def real_statuses(folder: Path) -> str:
     s = Statement.read(EXAMPLES / "equal_maps.op")
-    usage = "# usage: opprove prove|check|refute|model|bench|confirm|explain|cancel"
+    usage = usage_line()[:-1]
     raised(lambda: s.prove("--paris", program=program()), Refused, usage, 2)
     raised(lambda: Statement().prove(program=program()), Refused, "# refused S15", 3)
     refused = (EXAMPLES / "equal_maps_refused.cert").read_text()

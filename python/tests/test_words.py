@@ -1,7 +1,8 @@
 """Tries `opprove why`: each case of data/words.txt, random edits of the gallery, its line for editors, and ./opprove on a terminal.
 
 A case is a name, the words, the files s.op and e.cert as far as it has them, the program's status and report, and what is
-told. In files `{{TEXT|N}}` stands for N times the text, each # in it being the number of the time, and `{{0xNN}}` for a byte.
+told. In files `{{TEXT|N}}` stands for N times the text, each # in it being the number of the time, and `{{0xNN}}` for a byte;
+`{{usage}}` is the usage line, and `{{calls}}` the forms of all calls.
 `python3 test_words.py --write` writes what is told anew, and the reports where the program is built.
 """
 from __future__ import annotations
@@ -16,10 +17,10 @@ from pathlib import Path
 from typing import Callable, Dict, Iterator, List, NamedTuple, Tuple
 
 sys.dont_write_bytecode = True
-from opprove.words import why
+from opprove.words import calls, why
 from opprove.words import statement as why_statement
 from opprove.checkers.check import Problem, Refusal
-from trying import Answer, PROGRAM, SOURCE, Skipped, TOP, decided, installed, main, need, reads_language_2, run, tool
+from trying import Answer, PROGRAM, SOURCE, Skipped, TOP, decided, installed, main, need, reads_language_2, run, tool, usage_line
 from opprove.words.parts import Screen, on_screen
 
 DATA = TOP / "python" / "tests" / "data"
@@ -40,9 +41,17 @@ class Case(NamedTuple):
 # ---- Cases as text
 
 
+def short_texts() -> Dict[str, str]:
+    """What stands for the texts that name all commands."""
+    return {"{{usage}}": usage_line()[:-1], "{{calls}}": "\n  ".join(map(calls.form, calls.COMMANDS))}
+
+
 def cases() -> List[Case]:
     found = []
-    for part in CASES.read_text().split("\n==== ")[1:]:
+    whole = CASES.read_text()
+    for short, text in short_texts().items():
+        whole = whole.replace(short, text)
+    for part in whole.split("\n==== ")[1:]:
         head, *sections = part.split("\n---- ")
         name, words = head.split("\n$ ")
         files, status, report, told = {}, 0, "", ""
@@ -116,8 +125,10 @@ def write(folder: Path) -> None:
                 status, report = asked(case)
                 case = case._replace(status=status, report=report)
             texts.append(as_text(case._replace(told=told(case))))
-    front = CASES.read_text().split("\n==== ")[0]
-    CASES.write_text("\n".join([front, *texts]))
+    front, whole = CASES.read_text().split("\n==== ")[0], "\n".join(texts)
+    for short, text in short_texts().items():
+        whole = whole.replace(text, short)
+    CASES.write_text(f"{front}\n{whole}")
 
 
 # ---- What is often typed

@@ -24,6 +24,13 @@ class Failed(Exception):
     """What a tool did, and should not do."""
 
 
+@functools.lru_cache(maxsize=None)
+def usage_line() -> str:
+    """What the program answers to words that are no call, as its page has it."""
+    page = (TOP / "docs" / "COMMANDS.md").read_text(encoding="utf-8")
+    return page[page.index("# usage: ") :].split("`")[0].replace("\\|", "|") + "\n"
+
+
 class Skipped(Exception):
     """What is not there."""
 

@@ -35,7 +35,7 @@ use Rattle.normal_category.specs.Faults.{AreSharp}
 use Rattle.normal_category.specs.Tests.{is_sharp}
 use Rattle.normal_category.proofs.Problems.{problem_is_sharp}
 use Rattle.normal_category.proofs.Tested.{sharp_rules_are_told}
-use Rattle.confirm_command.specs.Texts.{claim_closed}
+use Rattle.evidence_commands.specs.Confirm.{claim_closed}
 use Rattle.closed_runs.specs.Printed.{IsPrinted}
 use Rattle.closed_runs.specs.SharpBases.{PrintedBasesAreSharp, PrintedBasesMeanSharp, PrintedBasesMeanStarSharp}
 use Rattle.closed_runs.proofs.ClosedRuns.{Closes}

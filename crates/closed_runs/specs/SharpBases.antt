@@ -6,14 +6,14 @@ use Rattle.traced_completion.specs.declared.budget.Budget.{Budget}
 use Rattle.basis_text.specs.declared.basis.Basis.{Basis}
 use Rattle.closed_checker.specs.Rests.{rules_of, claim_of}
 use Rattle.normal_forms.specs.SharpMeans.{SharpMeans, StarSharpMeans}
-use Rattle.confirm_command.specs.Texts.{claim_closed}
-use Rattle.confirm_command.specs.Answers.{AcceptsBasis}
+use Rattle.evidence_commands.specs.Kind.{Accepts}
+use Rattle.evidence_commands.specs.Confirm.{claim_closed, bases}
 use Rattle.closed_runs.specs.Printed.{IsPrinted}
 
 -- What is said of a basis that is printed and accepted ends with ` sharp`.
 abbrev pub PrintedBasesAreSharp : Type 0
 PrintedBasesAreSharp = (problem : Problem) (budget : Budget) (form : Format) (b : Basis) (text : List ℕ)
-    → IsPrinted problem budget form b → AcceptsBasis problem b text → text ≡ claim_closed b.claim true
+    → IsPrinted problem budget form b → Accepts bases problem b text → text ≡ claim_closed b.claim true
 
 -- And what ` sharp` says holds of each basis that is printed, whatever becomes of its check.
 abbrev pub PrintedBasesMeanSharp : Type 0

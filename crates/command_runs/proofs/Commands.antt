@@ -9,7 +9,7 @@ use Rattle.cancel_rules.specs.Meaning.{IsCancellationSound}
 use Rattle.report_text.specs.Report.{heads_of}
 use Rattle.command_words.specs.declared.call.BenchCall.{BenchCall}
 use Rattle.command_words.specs.declared.call.Call.{Call}
-use Rattle.command_words.specs.declared.call.Call.TheVariants.{Prove, Check, Refute, Model, Bench, Confirm, Explain, Cancel}
+use Rattle.command_words.specs.declared.call.Call.TheVariants.{Prove, Refute, Bench, Evidence}
 use Rattle.command_shape.specs.declared.stop.Stop.{Stop}
 use Rattle.command_shape.specs.declared.files.FileWord.{FileWord}
 use Rattle.command_shape.specs.FileWords.{statement_limit, evidence_limit, statement_file, pair_files}
@@ -20,28 +20,20 @@ use Rattle.stated_problem.proofs.Owed.{IsOwn, OwesEnding}
 use Rattle.command_shape.proofs.Stops.{ends_weaker}
 use Rattle.prove_command.specs.Answers.{asked_by, asked_by_bench}
 use Rattle.prove_command.proofs.Answered.{claims_owe, reports_owe}
-use Rattle.check_command.proofs.Answered.{check_owes}
 use Rattle.refute_command.proofs.Answered.{search_owes}
-use Rattle.model_command.proofs.Answered.{model_owes}
-use Rattle.confirm_command.proofs.Answered.{confirm_owes}
-use Rattle.explain_command.proofs.Answered.{explain_owes}
-use Rattle.cancel_command.proofs.Answered.{cancel_owes}
+use Rattle.evidence_commands.proofs.EachCommand.{evidence_owes}
 use Rattle.command_runs.specs.CallFiles.{files_of, AreContents, written_by, statement_of, evidence_of}
 use Rattle.command_runs.specs.Answers.{AnswersOver, Answers}
 use Rattle.command_runs.specs.Says.{SaysOver, Says}
 use Rattle.command_runs.specs.Laws.{AnswersOnce, EachCallHasAnEnding}
 
--- one line a command
+-- a call
 call_owes : (call : Call) (statement evidence : List ℕ)
     → OwesEnding (OverStatement statement (AnswersOver call evidence)) (λ Object Arrow s ending. SaysOver s call statement evidence ending)
 call_owes (Prove p) statement evidence = reports_owe (asked_by p) statement
-call_owes (Check p) statement evidence = check_owes statement evidence
 call_owes (Refute p) statement evidence = search_owes p.seed statement
-call_owes (Model p) statement evidence = model_owes statement evidence
 call_owes (Bench b) statement evidence = claims_owe heads_of asked_by_bench statement
-call_owes (Confirm p) statement evidence = confirm_owes statement evidence
-call_owes (Explain p) statement evidence = explain_owes statement evidence
-call_owes (Cancel p) statement evidence = cancel_owes statement evidence
+call_owes (Evidence command p) statement evidence = evidence_owes command statement evidence
 
 owed : (call : Call) (contents : List (List ℕ)) → OwesEnding (OverStatement (statement_of call contents) (AnswersOver call (evidence_of contents)))
     (λ Object Arrow s ending. SaysOver s call (statement_of call contents) (evidence_of contents) ending)
@@ -86,24 +78,16 @@ two_short name other (statement ∷ evidence ∷ third ∷ more) fit = absurd fi
 
 pub are_short : (call : Call) (contents : List (List ℕ)) → AreWithin (files_of call) contents → AreShort contents
 are_short (Prove p) contents fit = one_short p.file contents fit
-are_short (Check p) contents fit = two_short p.statement p.evidence contents fit
 are_short (Refute p) contents fit = one_short p.file contents fit
-are_short (Model p) contents fit = two_short p.statement p.evidence contents fit
 are_short (Bench b) contents fit = none_short contents fit
-are_short (Confirm p) contents fit = two_short p.statement p.evidence contents fit
-are_short (Explain p) contents fit = two_short p.statement p.evidence contents fit
-are_short (Cancel p) contents fit = two_short p.statement p.evidence contents fit
+are_short (Evidence command p) contents fit = two_short p.statement p.evidence contents fit
 
 -- a call with files writes no statement
 pub no_file_written : (call : Call) → ((b : BenchCall) → call ≡ Bench b → ⊥) → written_by call ≡ []
 no_file_written (Prove p) other = refl
-no_file_written (Check p) other = refl
 no_file_written (Refute p) other = refl
-no_file_written (Model p) other = refl
 no_file_written (Bench b) other = absurd (other b refl)
-no_file_written (Confirm p) other = refl
-no_file_written (Explain p) other = refl
-no_file_written (Cancel p) other = refl
+no_file_written (Evidence command p) other = refl
 
 -- an item that is there needs no other in its place
 pub other_default : {Item : Type 0} (xs : List Item) (place : ℕ) (one other : Item) → place < length xs → get_or xs place one ≡ get_or xs place other

@@ -22,11 +22,13 @@ use Rattle.stated_problem.proofs.Statements.{stated_leads}
 use Rattle.command_shape.proofs.BlockTexts.{passing_answered, text_answered_once}
 use Rattle.prove_command.proofs.Answered.{claims_are_evidence}
 use Rattle.refute_command.proofs.Answered.{search_is_evidence}
-use Rattle.check_command.specs.Answers.{named_text, AcceptsCertificate, RefusesCertificate, accepted_lines, AnswersEvidence}
-use Rattle.certificate_causes.specs.Refusals.{cause_text}
-use Rattle.check_command.proofs.Answered.{certificates_are_judged}
-use Rattle.model_command.specs.Answers.{confirmed_lines, AnswersModelText}
-use Rattle.model_command.proofs.Answered.{models_are_judged}
+use Rattle.evidence_commands.specs.Kind.{Accepts, Refuses, accepted_lines, AnswersText}
+use Rattle.evidence_commands.specs.Causes.{cause_text}
+use Rattle.evidence_commands.specs.Check.{named_text, certificates}
+use Rattle.evidence_commands.specs.Model.{models}
+use Rattle.evidence_commands.proofs.Causes.{told}
+use Rattle.evidence_commands.proofs.Certificates.{certificates_are_judged}
+use Rattle.evidence_commands.proofs.Models.{models_are_judged}
 use Rattle.command_runs.specs.OwnReports.{IsReportOn, of_prove, of_refute, no_blocks, ChecksReport, ConfirmsReport, ReportsAreChecked, ReportsAreConfirmed}
 
 -- each report is its own evidence
@@ -46,14 +48,14 @@ module _ (problem : Problem) where
     cause : List ℕ
     passes : PassesLimit refusal
     told : cause_text problem.parts.quiver refusal ≡ Some cause
-    lines_are : lines ≡ accepted_lines number first ++ line (refused_text (number + length first) cause)
+    lines_are : lines ≡ accepted_lines certificates problem number first ++ line (refused_text (number + length first) cause)
     seven : status ≡ 7
 
   -- all are accepted, or one is refused
   abbrev IsChecked : ℕ → List Evidence → List ℕ → ℕ → Type 0
-  IsChecked number es lines status = ((lines ≡ accepted_lines number es) × (status ≡ 0)) ⊎ IsLimited number lines status
+  IsChecked number es lines status = ((lines ≡ accepted_lines certificates problem number es) × (status ≡ 0)) ⊎ IsLimited number lines status
 
-  more : (number : ℕ) (e : Evidence) (es : List Evidence) (text rest lines : List ℕ) (status : ℕ) → AcceptsCertificate problem e text → lines ≡ line (block_text number text) ++ rest
+  more : (number : ℕ) (e : Evidence) (es : List Evidence) (text rest lines : List ℕ) (status : ℕ) → Accepts certificates problem e text → lines ≡ line (block_text number text) ++ rest
       → IsChecked (number + 1) es rest status → IsChecked number (e ∷ es) lines status
   more number e es text rest lines status holds is (inl others) = inl (is ∙ (λ i. line (block_text number (holds.says i)) ++ others.0 i), others.1)
   more number e es text rest lines status holds is (inr others) =
@@ -65,13 +67,13 @@ module _ (problem : Problem) where
         passes = others.passes;
         told = others.told;
         lines_are = is ∙ (λ i. line (block_text number (holds.says i)) ++ others.lines_are i)
-            ∙ ap (λ n. line (block_text number (named_text e)) ++ (accepted_lines (number + 1) others.first ++ line (refused_text n others.cause))) counted
-            ∙ sym (append_assoc (line (block_text number (named_text e))) (accepted_lines (number + 1) others.first) (line (refused_text (number + length (e ∷ others.first)) others.cause)));
+            ∙ ap (λ n. line (block_text number (named_text e)) ++ (accepted_lines certificates problem (number + 1) others.first ++ line (refused_text n others.cause))) counted
+            ∙ sym (append_assoc (line (block_text number (named_text e))) (accepted_lines certificates problem (number + 1) others.first) (line (refused_text (number + length (e ∷ others.first)) others.cause)));
         seven = others.seven;
       })
 
   checked : (report : List ℕ) (number : ℕ) (es : List Evidence) (lines : List ℕ) (status : ℕ) → All (IsAnsweredWithinLimits problem) es
-      → JudgesFrom (AcceptsCertificate problem) (RefusesCertificate problem) number es lines status → IsChecked number es lines status
+      → JudgesFrom (Accepts certificates problem) (Refuses certificates problem) number es lines status → IsChecked number es lines status
   checked report number [] lines status answered judges = inl judges
   checked report number (e ∷ es) lines status answered (accepted text holds rest next is) =
       more number e es text rest lines status holds is (checked report (number + 1) es rest status (All-tail (IsAnsweredWithinLimits problem) e es answered) next)
@@ -88,7 +90,7 @@ module _ (problem : Problem) where
     where
       within : PassesLimit because.refusal ⊎ IsMemory because.refusal → PassesLimit because.refusal
       within (inl passes) = passes
-      within (inr memory) = absurd ((certificates_are_judged problem report).no_text because.refusal cause because.says memory)
+      within (inr memory) = absurd (told problem.parts.quiver because.refusal cause because.says memory)
 
   by_checks : (es : List Evidence) (ending : Ending) → IsChecked 1 es ending.report ending.status → ChecksReport problem ending
   by_checks es ending (inl passed) = ChecksReport.all es (λ i. record { status = passed.1 i; report = passed.0 i })
@@ -97,30 +99,30 @@ module _ (problem : Problem) where
 
   -- where the report is read as this evidence
   module _ (report : List ℕ) (ending : Ending) where
-    of_evidence : (es : List Evidence) → IsReadAs problem.parts.quiver report es → All (IsAnsweredWithinLimits problem) es → AnswersEvidence report problem ending → ChecksReport problem ending
+    of_evidence : (es : List Evidence) → IsReadAs problem.parts.quiver report es → All (IsAnsweredWithinLimits problem) es → AnswersText certificates report problem ending → ChecksReport problem ending
     of_evidence [] read_as answered answers =
-        ChecksReport.none (text_answered_once (certificates_are_judged problem report) ending no_blocks answers (faulty no_block (read_as.none refl) refl))
-    of_evidence (e ∷ es) read_as answered (faulty fault is ends) = absurd ((certificates_are_judged problem report).no_fault (e ∷ es) fault (read_as.some (omega arith)) is)
+        ChecksReport.none (text_answered_once (certificates_are_judged.is_kind problem report) ending no_blocks answers (faulty no_block (read_as.none refl) refl))
+    of_evidence (e ∷ es) read_as answered (faulty fault is ends) = absurd ((certificates_are_judged.is_kind problem report).no_fault (e ∷ es) fault (read_as.some (omega arith)) is)
     of_evidence (e ∷ es) read_as answered (read bs is judges) =
-        let same : bs ≡ e ∷ es = (certificates_are_judged problem report).one_list bs (e ∷ es) is (read_as.some (omega arith)) in
-        let judged = subst (λ (l : List Evidence). JudgesFrom (AcceptsCertificate problem) (RefusesCertificate problem) 1 l ending.report ending.status) same judges in
+        let same : bs ≡ e ∷ es = (certificates_are_judged.is_kind problem report).one_list bs (e ∷ es) is (read_as.some (omega arith)) in
+        let judged = subst (λ (l : List Evidence). JudgesFrom (Accepts certificates problem) (Refuses certificates problem) 1 l ending.report ending.status) same judges in
         by_checks (e ∷ es) ending (checked report 1 (e ∷ es) ending.report ending.status answered judged)
 
     -- models
-    of_models : (ms : List Model) → IsReadAsModels problem.parts.quiver report ms → All (Refutes problem) ms → AnswersModelText report problem ending → ConfirmsReport ending
-    of_models [] read_as refute answers = ConfirmsReport.none (text_answered_once (models_are_judged problem report) ending no_blocks answers (faulty no_block (read_as.none refl) refl))
+    of_models : (ms : List Model) → IsReadAsModels problem.parts.quiver report ms → All (Refutes problem) ms → AnswersText models report problem ending → ConfirmsReport problem ending
+    of_models [] read_as refute answers = ConfirmsReport.none (text_answered_once (models_are_judged.is_kind problem report) ending no_blocks answers (faulty no_block (read_as.none refl) refl))
     of_models (m ∷ ms) read_as refute answers =
         ConfirmsReport.all (m ∷ ms)
-        (text_answered_once (models_are_judged problem report) ending (record { status = 0; report = confirmed_lines 1 (m ∷ ms) }) answers
-        (passing_answered (models_are_judged problem report) (m ∷ ms) (read_as.some (omega arith)) (recursion_from_All (Refutes problem) (m ∷ ms) refute)))
+        (text_answered_once (models_are_judged.is_kind problem report) ending (record { status = 0; report = accepted_lines models problem 1 (m ∷ ms) }) answers
+        (passing_answered (models_are_judged.is_kind problem report) (m ∷ ms) (read_as.some (omega arith)) (recursion_from_All (Refutes problem) (m ∷ ms) refute)))
 
 -- what is answered
 pub reports_are_checked : ReportsAreChecked
 reports_are_checked statement problem report ending is made answers =
     let evidence = own statement problem report is made in
-    of_evidence problem report.report ending (proved_in evidence.0) evidence.1.evidence evidence.1.answered (stated_leads statement (AnswersEvidence report.report) ending problem is answers)
+    of_evidence problem report.report ending (proved_in evidence.0) evidence.1.evidence evidence.1.answered (stated_leads statement (AnswersText certificates report.report) ending problem is answers)
 
 pub reports_are_confirmed : ReportsAreConfirmed
 reports_are_confirmed statement problem report ending is made answers =
     let evidence = own statement problem report is made in
-    of_models problem report.report ending (refuted_in evidence.0) evidence.1.models evidence.1.refute (stated_leads statement (AnswersModelText report.report) ending problem is answers)
+    of_models problem report.report ending (refuted_in evidence.0) evidence.1.models evidence.1.refute (stated_leads statement (AnswersText models report.report) ending problem is answers)

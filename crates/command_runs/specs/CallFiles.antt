@@ -1,7 +1,7 @@
 -- The files of a call, and what it reads in them.
 use Rattle.std.specs.Prelude.{ℕ, List, [], ◌≡◌, length, get_or}
 use Rattle.command_words.specs.declared.call.Call.{Call}
-use Rattle.command_words.specs.declared.call.Call.TheVariants.{Prove, Check, Refute, Model, Bench, Confirm, Explain, Cancel}
+use Rattle.command_words.specs.declared.call.Call.TheVariants.{Prove, Refute, Bench, Evidence}
 use Rattle.report_text.specs.Bench.{bench_statement}
 use Rattle.command_shape.specs.declared.files.FileWord.{FileWord}
 use Rattle.command_shape.specs.FileWords.{statement_file, pair_files}
@@ -9,13 +9,9 @@ use Rattle.command_shape.specs.FileWords.{statement_file, pair_files}
 -- the files of a call, in the order in which they are loaded
 abbrev pub files_of : Call → List FileWord
 files_of (Prove p) = statement_file p.file
-files_of (Check p) = pair_files p.statement p.evidence
 files_of (Refute p) = statement_file p.file
-files_of (Model p) = pair_files p.statement p.evidence
 files_of (Bench b) = []
-files_of (Confirm p) = pair_files p.statement p.evidence
-files_of (Explain p) = pair_files p.statement p.evidence
-files_of (Cancel p) = pair_files p.statement p.evidence
+files_of (Evidence command p) = pair_files p.statement p.evidence
 
 -- as many contents as files
 abbrev pub AreContents : Call → List (List ℕ) → Type 0

@@ -14,9 +14,10 @@ use Rattle.command_shape.specs.Blocks.{refused_text}
 use Rattle.prove_command.specs.declared.prove.Asked.{Asked}
 use Rattle.prove_command.specs.Answers.{AnswersClaims}
 use Rattle.refute_command.specs.Answers.{AnswersSearch}
-use Rattle.check_command.specs.Answers.{accepted_lines, AnswersCheck}
-use Rattle.certificate_causes.specs.Refusals.{cause_text}
-use Rattle.model_command.specs.Answers.{confirmed_lines, AnswersModel}
+use Rattle.evidence_commands.specs.Kind.{AnswersBoth, accepted_lines}
+use Rattle.evidence_commands.specs.Causes.{cause_text}
+use Rattle.evidence_commands.specs.Check.{certificates}
+use Rattle.evidence_commands.specs.Model.{models}
 
 -- what `prove`, whatever it is asked for, or `refute`, with whatever seed, reports on the problem of a statement
 pub data IsReportOn (problem : Problem) (ending : Ending) : Type 0 where
@@ -29,21 +30,21 @@ no_blocks = refused_evidence (evidence_fault no_block.code no_block.line no_bloc
 
 -- All certificates are accepted; or the first of which a limit is passed in adding it up is refused; or there are none.
 pub data ChecksReport (problem : Problem) (ending : Ending) : Type 0 where
-  all : (es : List Evidence) → ending ≡ record { status = 0; report = accepted_lines 1 es } → ChecksReport problem ending
+  all : (es : List Evidence) → ending ≡ record { status = 0; report = accepted_lines certificates problem 1 es } → ChecksReport problem ending
   limit : (first : List Evidence) (refusal : Refusal) (cause : List ℕ) → PassesLimit refusal → cause_text problem.parts.quiver refusal ≡ Some cause
-      → ending ≡ record { status = 7; report = accepted_lines 1 first ++ line (refused_text (1 + length first) cause) } → ChecksReport problem ending
+      → ending ≡ record { status = 7; report = accepted_lines certificates problem 1 first ++ line (refused_text (1 + length first) cause) } → ChecksReport problem ending
   none : ending ≡ no_blocks → ChecksReport problem ending
 
 -- All models are confirmed, or there are none.
-pub data ConfirmsReport (ending : Ending) : Type 0 where
-  all : (ms : List Model) → ending ≡ record { status = 0; report = confirmed_lines 1 ms } → ConfirmsReport ending
-  none : ending ≡ no_blocks → ConfirmsReport ending
+pub data ConfirmsReport (problem : Problem) (ending : Ending) : Type 0 where
+  all : (ms : List Model) → ending ≡ record { status = 0; report = accepted_lines models problem 1 ms } → ConfirmsReport problem ending
+  none : ending ≡ no_blocks → ConfirmsReport problem ending
 
 -- So it is for each report on a statement.
 abbrev pub ReportsAreChecked : Type 0
 ReportsAreChecked = (statement : List ℕ) (problem : Problem) (report ending : Ending) → IsStated statement problem → IsReportOn problem report
-    → AnswersCheck statement report.report ending → ChecksReport problem ending
+    → AnswersBoth certificates statement report.report ending → ChecksReport problem ending
 
 abbrev pub ReportsAreConfirmed : Type 0
 ReportsAreConfirmed = (statement : List ℕ) (problem : Problem) (report ending : Ending) → IsStated statement problem → IsReportOn problem report
-    → AnswersModel statement report.report ending → ConfirmsReport ending
+    → AnswersBoth models statement report.report ending → ConfirmsReport problem ending

@@ -7,12 +7,8 @@ use Rattle.command_words.specs.declared.call.Call.TheVariants as call
 use Rattle.command_shape.specs.Ending.{Ending}
 use Rattle.prove_command.specs.Answers.{asked_by, asked_by_bench}
 use Rattle.prove_command.specs.Says.{SaysDecided, SaysReported}
-use Rattle.check_command.specs.Says.{SaysChecked}
 use Rattle.refute_command.specs.Says.{SaysSearched}
-use Rattle.model_command.specs.Says.{SaysConfirmed}
-use Rattle.confirm_command.specs.Says.{SaysClosed}
-use Rattle.explain_command.specs.Says.{SaysExplained}
-use Rattle.cancel_command.specs.Says.{SaysCancelled}
+use Rattle.evidence_commands.specs.Commands.{SaysEvidence}
 use Rattle.command_runs.specs.CallFiles.{AreContents, statement_of, evidence_of}
 
 -- what the ending of a call says, by its statement and its text of evidence
@@ -22,16 +18,10 @@ SaysOver s (call.Prove p) statement evidence ending = SaysReported s (asked_by p
 SaysOver s (call.Bench b) statement evidence ending = SaysDecided s heads_of asked_by_bench statement ending
 -- each model that is printed refutes its claim; and the report is its own evidence
 SaysOver s (call.Refute p) statement evidence ending = SaysSearched p.seed statement ending
--- each certificate that is accepted proves the claim that it names
-SaysOver s (call.Check p) statement evidence ending = SaysChecked s statement evidence ending.report
--- each model that is confirmed refutes the claim that it names
-SaysOver s (call.Model p) statement models ending = SaysConfirmed statement models ending.report
--- each basis that is accepted shows that the claim that it names does not follow
-SaysOver s (call.Confirm p) statement bases ending = SaysClosed statement bases ending.report
--- each chain that is printed leads from a multiple of its claim to zero, and shows it
-SaysOver s (call.Explain p) statement evidence ending = SaysExplained s statement evidence ending.report
--- each proof that is accepted shows the claim that it names, where the letters that it calls monic and epic have such arrows
-SaysOver s (call.Cancel p) statement proofs ending = SaysCancelled s statement proofs ending.report
+-- each certificate that is accepted proves the claim that it names, each model that is confirmed refutes its claim, each basis that is
+-- accepted shows that its claim does not follow, each chain that is printed leads from a multiple of its claim to zero, and each proof that
+-- is accepted shows its claim, where the letters that it calls monic and epic have such arrows
+SaysOver s (call.Evidence command p) statement evidence ending = SaysEvidence s command statement evidence ending.report
 
 -- by the contents of its files
 abbrev pub Says : {Object Arrow : Type 0} → Structure Object Arrow → Call → List (List ℕ) → Ending → Type 0

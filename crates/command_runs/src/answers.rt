@@ -9,15 +9,11 @@ ghost use Rattle.command_runs.specs.CallFiles.{files_of, written_by};
 ghost use Rattle.command_runs.specs.Answers.{AnswersOver, Answers};
 
 use adjoint_rules::Problem;
-use cancel_command::judge_cancellations;
-use check_command::judge_evidence;
 use command_shape::{Ending, Stop};
 use command_words::Call;
-use confirm_command::confirm_bases;
-use explain_command::explain_evidence;
+use evidence_commands::answer_evidence;
 use in_order_parallel::Gate;
 use lists::Listing;
-use model_command::judge_models;
 use prove_command::{ASKED_BY_BENCH, Extent, asked_by, report_claims};
 use refute_command::report_search;
 use report_text::write_bench;
@@ -99,9 +95,7 @@ fn answer_problem<R: Threads + Sync, G: Gate + Sync>(
             let workers = call.workers;
             report_claims(rt, alloc, problem, asked, Extent::Report, workers, gate)
         }
-        Call::Check(_) => judge_evidence(alloc, problem, evidence),
         Call::Refute(call) => { report_search(rt, alloc, problem, call.seed, call.workers, gate) }
-        Call::Model(_) => judge_models(alloc, problem, evidence),
         Call::Bench(call) => {
             report_claims(
                 rt,
@@ -113,8 +107,6 @@ fn answer_problem<R: Threads + Sync, G: Gate + Sync>(
                 gate,
             )
         }
-        Call::Confirm(_) => confirm_bases(alloc, problem, evidence),
-        Call::Explain(_) => explain_evidence(alloc, problem, evidence),
-        Call::Cancel(_) => judge_cancellations(alloc, problem, evidence),
+        Call::Evidence(command, _) => answer_evidence(alloc, *command, problem, evidence),
     }
 }

@@ -14,11 +14,7 @@ pub fn call_files(alloc: Global, call: &Call) -> Result<Listing<FileWord>, Alloc
     match call {
         Call::Prove(prove) => statement_file(alloc, &prove.file),
         Call::Refute(refute) => statement_file(alloc, &refute.file),
-        Call::Check(pair)
-        | Call::Model(pair)
-        | Call::Confirm(pair)
-        | Call::Explain(pair)
-        | Call::Cancel(pair) => pair_files(alloc, &pair.statement, &pair.evidence),
+        Call::Evidence(_, pair) => pair_files(alloc, &pair.statement, &pair.evidence),
         Call::Bench(_) => Ok(Listing::new(alloc)),
     }
 }

@@ -7,11 +7,11 @@ use Rattle.clap.proofs.OnLiterals.{clap_on_literals}
 use Rattle.clap.specs.declared.builder.value_parser.ValueParser.TheVariants as parser
 use Rattle.command_words.specs.Limits.{size_limit}
 use Rattle.command_words.specs.Limits.{default_pairs_word, default_steps_word, default_workers_word, default_seed_word, default_format_word, default_pairs, default_steps}
-use Rattle.command_words.specs.CommandSet.{command_set, IsTaken, prove_command, refute_command, bench_command, pair_command}
+use Rattle.command_words.specs.CommandSet.{command_set, IsTaken, name_of, prove_command, refute_command, bench_command, pair_command}
 use Rattle.command_words.specs.Accepted.{IsFileWord}
 use Rattle.command_words.specs.Calls.{GivesPair, MatchesGive, Names, NamesProve, NamesRefute, NamesBench, NamesPair, prove_spans, refute_spans, bench_spans}
 use Rattle.command_words.specs.declared.call.Call.{Call}
-use Rattle.command_words.specs.declared.call.Call.TheVariants.{Prove, Check, Refute, Model, Bench, Confirm, Explain, Cancel}
+use Rattle.command_words.specs.declared.call.Call.TheVariants.{Prove, Refute, Bench, Evidence}
 use Rattle.command_words.specs.declared.call.ProveCall.{ProveCall}
 use Rattle.command_words.specs.declared.call.RefuteCall.{RefuteCall}
 use Rattle.command_words.specs.declared.call.BenchCall.{BenchCall}
@@ -20,6 +20,7 @@ use Rattle.command_words.proofs.Steps.{given_row, plain_word, between}
 use Rattle.command_words.proofs.Options.{Goes, or_nothing}
 use Rattle.command_words.proofs.Ends.{IsPlaceOf, Level, AreClean, level, row_at, row_kept, first_placed, first_placed_well, next_placed, next_placed_well, place_settles, place_settles_well}
 use Rattle.command_words.proofs.Top.{leaf, IsNamed, names_command, takes_command}
+use Rattle.command_words.proofs.Members.{named, evidence_named}
 use Rattle.command_words.proofs.Numbers.{decimal_word, decimal_value, decimal_passes}
 use Rattle.command_words.proofs.Gives.{IsOptionCommand, option_known, span_known, text_in, number_in, first_kept, option_level, reads_number, reads_flag}
 
@@ -29,22 +30,6 @@ accepted_as : (name : Text) (a : App) {words rest : List Text} {rows : List Row}
 accepted_as name a {rest = rest} call named is l gives =
     let matches = names_command name a named rest ∙ ap (λ r. Some (name, r)) l.is in
     (subst IsTaken (sym is) (takes_command name a named rest l.well), subst (λ m. MatchesGive m call) (sym (ap (subcommand_of command_set) is ∙ matches)) gives)
-
-named : IsNamed (codes "prove") prove_command × IsNamed (codes "check") (pair_command (codes "check")) × IsNamed (codes "refute") refute_command
-    × IsNamed (codes "model") (pair_command (codes "model")) × IsNamed (codes "bench") bench_command
-    × IsNamed (codes "confirm") (pair_command (codes "confirm")) × IsNamed (codes "explain") (pair_command (codes "explain"))
-    × IsNamed (codes "cancel") (pair_command (codes "cancel"))
-unfolding command_set clap_on_literals
-named = (
-  record { entry = refl; well = refl; found = refl; name_is = refl },
-  record { entry = refl; well = refl; found = refl; name_is = refl },
-  record { entry = refl; well = refl; found = refl; name_is = refl },
-  record { entry = refl; well = refl; found = refl; name_is = refl },
-  record { entry = refl; well = refl; found = refl; name_is = refl },
-  record { entry = refl; well = refl; found = refl; name_is = refl },
-  record { entry = refl; well = refl; found = refl; name_is = refl },
-  record { entry = refl; well = refl; found = refl; name_is = refl },
-)
 
 -- the commands of a first word and options
 prove_options : IsOptionCommand (leaf prove_command) (codes "file") parser.String prove_spans (codes "no-models" ∷ [])
@@ -97,7 +82,7 @@ refute_options = record {
 refute_accepted : (words : List Text) (x : RefuteCall) → NamesRefute words x → IsTaken words × MatchesGive (subcommand_of command_set words) (Refute x)
 refute_accepted words x n =
     let read = reads_number refute_options x.file n.given n.options in
-    accepted_as (codes "refute") refute_command (Refute x) named.2 n.words_are (option_level refute_options x.file n.given n.options n.file refl) (
+    accepted_as (codes "refute") refute_command (Refute x) named.1 n.words_are (option_level refute_options x.file n.given n.options n.file refl) (
       refl,
       record {
         file = ap text_in (first_kept refute_options x.file n.given n.options);
@@ -122,7 +107,7 @@ bench_accepted words x n =
     let v : Text = decimal x.size in
     let fits : x.size < 2 ^ 64 = omega (arith, n.most) in
     let l = option_level bench_options v n.given n.options (decimal_word x.size fits) (decimal_passes 1 size_limit x.size fits n.least n.most) in
-    accepted_as (codes "bench") bench_command (Bench x) named.4 n.words_are l (
+    accepted_as (codes "bench") bench_command (Bench x) named.2 n.words_are l (
       refl,
       record {
         size = ap number_in (first_kept bench_options v n.given n.options) ∙ ap Some (decimal_value x.size fits);
@@ -192,10 +177,6 @@ pair_accepted name words x call is_named n gives =
 -- each accepted list
 pub accepted : (words : List Text) (call : Call) → Names words call → IsTaken words × MatchesGive (subcommand_of command_set words) call
 accepted words (Prove x) n = prove_accepted words x n
-accepted words (Check x) n = pair_accepted (codes "check") words x (Check x) named.1 n (λ rows g. (refl, g))
 accepted words (Refute x) n = refute_accepted words x n
-accepted words (Model x) n = pair_accepted (codes "model") words x (Model x) named.3 n (λ rows g. (refl, g))
 accepted words (Bench x) n = bench_accepted words x n
-accepted words (Confirm x) n = pair_accepted (codes "confirm") words x (Confirm x) named.5 n (λ rows g. (refl, g))
-accepted words (Explain x) n = pair_accepted (codes "explain") words x (Explain x) named.6 n (λ rows g. (refl, g))
-accepted words (Cancel x) n = pair_accepted (codes "cancel") words x (Cancel x) named.7 n (λ rows g. (refl, g))
+accepted words (Evidence command x) n = pair_accepted (name_of command) words x (Evidence command x) (evidence_named command) n (λ rows g. (refl, g))

@@ -11,10 +11,12 @@ use Rattle.clap.specs.Matches.{ReadsOne}
 use Rattle.clap.specs.Words.{Row}
 use Rattle.in_order_parallel.specs.Limits.{worker_limit}
 use Rattle.command_words.specs.Limits.{pair_limit, step_limit, seed_limit, format_limit, size_limit}
-use Rattle.command_words.specs.Present.{HasNumber, HasProve, HasRefute, HasBench, HasPair, HasCommand, IsPairName, MatchesHave}
+use Rattle.command_words.specs.CommandSet.{name_of}
+use Rattle.command_words.proofs.Members.{not_other}
+use Rattle.command_words.specs.Present.{HasNumber, HasProve, HasRefute, HasBench, HasPair, HasCommand, IsEvidenceName, MatchesHave}
 use Rattle.command_words.specs.Calls.{number_of, IsWithin, IsInRange, GivesCall, MatchesGive}
 use Rattle.command_words.specs.declared.call.Call.{Call}
-use Rattle.command_words.specs.declared.call.Call.TheVariants.{Prove, Check, Refute, Model, Bench, Confirm, Explain, Cancel}
+use Rattle.command_words.specs.declared.call.Call.TheVariants.{Prove, Refute, Bench, Evidence}
 
 pub some_text : (o : Option (Bor (List ℕ))) (t : List ℕ) → option_map (λ s. s.now) o ≡ Some t → IsSome o
 some_text None t e = cc
@@ -36,53 +38,29 @@ apart a b differ e =
 
 pub is_prove : (name : List ℕ) (rows : List Row) → HasCommand name rows → name ≡ codes "prove" → HasProve rows
 is_prove name rows (inl h) e = h.1
-is_prove name rows (inr (inl h)) e = absurd (apart (codes "check") (codes "prove") refl (sym h.0 ∙ e))
-is_prove name rows (inr (inr (inl h))) e = absurd (apart (codes "refute") (codes "prove") refl (sym h.0 ∙ e))
-is_prove name rows (inr (inr (inr (inl h)))) e = absurd (apart (codes "model") (codes "prove") refl (sym h.0 ∙ e))
-is_prove name rows (inr (inr (inr (inr (inl h))))) e = absurd (apart (codes "bench") (codes "prove") refl (sym h.0 ∙ e))
-is_prove name rows (inr (inr (inr (inr (inr (inl h)))))) e = absurd (apart (codes "confirm") (codes "prove") refl (sym h.0 ∙ e))
-is_prove name rows (inr (inr (inr (inr (inr (inr (inl h))))))) e = absurd (apart (codes "explain") (codes "prove") refl (sym h.0 ∙ e))
-is_prove name rows (inr (inr (inr (inr (inr (inr (inr h))))))) e = absurd (apart (codes "cancel") (codes "prove") refl (sym h.0 ∙ e))
+is_prove name rows (inr (inl h)) e = absurd (apart (codes "refute") (codes "prove") refl (sym h.0 ∙ e))
+is_prove name rows (inr (inr (inl h))) e = absurd (apart (codes "bench") (codes "prove") refl (sym h.0 ∙ e))
+is_prove name rows (inr (inr (inr h))) e = absurd (apart (name_of h.0.0) (codes "prove") (not_other h.0.0).0 (sym h.0.1 ∙ e))
 
 pub is_refute : (name : List ℕ) (rows : List Row) → HasCommand name rows → name ≡ codes "refute" → HasRefute rows
 is_refute name rows (inl h) e = absurd (apart (codes "prove") (codes "refute") refl (sym h.0 ∙ e))
-is_refute name rows (inr (inl h)) e = absurd (apart (codes "check") (codes "refute") refl (sym h.0 ∙ e))
-is_refute name rows (inr (inr (inl h))) e = h.1
-is_refute name rows (inr (inr (inr (inl h)))) e = absurd (apart (codes "model") (codes "refute") refl (sym h.0 ∙ e))
-is_refute name rows (inr (inr (inr (inr (inl h))))) e = absurd (apart (codes "bench") (codes "refute") refl (sym h.0 ∙ e))
-is_refute name rows (inr (inr (inr (inr (inr (inl h)))))) e = absurd (apart (codes "confirm") (codes "refute") refl (sym h.0 ∙ e))
-is_refute name rows (inr (inr (inr (inr (inr (inr (inl h))))))) e = absurd (apart (codes "explain") (codes "refute") refl (sym h.0 ∙ e))
-is_refute name rows (inr (inr (inr (inr (inr (inr (inr h))))))) e = absurd (apart (codes "cancel") (codes "refute") refl (sym h.0 ∙ e))
+is_refute name rows (inr (inl h)) e = h.1
+is_refute name rows (inr (inr (inl h))) e = absurd (apart (codes "bench") (codes "refute") refl (sym h.0 ∙ e))
+is_refute name rows (inr (inr (inr h))) e = absurd (apart (name_of h.0.0) (codes "refute") (not_other h.0.0).1 (sym h.0.1 ∙ e))
 
 pub is_bench : (name : List ℕ) (rows : List Row) → HasCommand name rows → name ≡ codes "bench" → HasBench rows
 is_bench name rows (inl h) e = absurd (apart (codes "prove") (codes "bench") refl (sym h.0 ∙ e))
-is_bench name rows (inr (inl h)) e = absurd (apart (codes "check") (codes "bench") refl (sym h.0 ∙ e))
-is_bench name rows (inr (inr (inl h))) e = absurd (apart (codes "refute") (codes "bench") refl (sym h.0 ∙ e))
-is_bench name rows (inr (inr (inr (inl h)))) e = absurd (apart (codes "model") (codes "bench") refl (sym h.0 ∙ e))
-is_bench name rows (inr (inr (inr (inr (inl h))))) e = h.1
-is_bench name rows (inr (inr (inr (inr (inr (inl h)))))) e = absurd (apart (codes "confirm") (codes "bench") refl (sym h.0 ∙ e))
-is_bench name rows (inr (inr (inr (inr (inr (inr (inl h))))))) e = absurd (apart (codes "explain") (codes "bench") refl (sym h.0 ∙ e))
-is_bench name rows (inr (inr (inr (inr (inr (inr (inr h))))))) e = absurd (apart (codes "cancel") (codes "bench") refl (sym h.0 ∙ e))
+is_bench name rows (inr (inl h)) e = absurd (apart (codes "refute") (codes "bench") refl (sym h.0 ∙ e))
+is_bench name rows (inr (inr (inl h))) e = h.1
+is_bench name rows (inr (inr (inr h))) e = absurd (apart (name_of h.0.0) (codes "bench") (not_other h.0.0).2 (sym h.0.1 ∙ e))
 
--- another command is one of a statement and a file of evidence
-pub is_pair : (name : List ℕ) (rows : List Row) → HasCommand name rows → (name ≡ codes "prove" → ⊥) → (name ≡ codes "refute" → ⊥) → (name ≡ codes "bench" → ⊥)
-    → IsPairName name × HasPair rows
-is_pair name rows (inl h) prove refute bench = absurd (prove h.0)
-is_pair name rows (inr (inl h)) prove refute bench = (inl h.0, h.1)
-is_pair name rows (inr (inr (inl h))) prove refute bench = absurd (refute h.0)
-is_pair name rows (inr (inr (inr (inl h)))) prove refute bench = (inr (inl h.0), h.1)
-is_pair name rows (inr (inr (inr (inr (inl h))))) prove refute bench = absurd (bench h.0)
-is_pair name rows (inr (inr (inr (inr (inr (inl h)))))) prove refute bench = (inr (inr (inl h.0)), h.1)
-is_pair name rows (inr (inr (inr (inr (inr (inr (inl h))))))) prove refute bench = (inr (inr (inr (inl h.0))), h.1)
-is_pair name rows (inr (inr (inr (inr (inr (inr (inr h))))))) prove refute bench = (inr (inr (inr (inr h.0))), h.1)
-
-pub is_cancel : (name : List ℕ) → IsPairName name → (name ≡ codes "check" → ⊥) → (name ≡ codes "model" → ⊥) → (name ≡ codes "confirm" → ⊥) → (name ≡ codes "explain" → ⊥)
-    → name ≡ codes "cancel"
-is_cancel name (inl h) check model confirm explain = absurd (check h)
-is_cancel name (inr (inl h)) check model confirm explain = absurd (model h)
-is_cancel name (inr (inr (inl h))) check model confirm explain = absurd (confirm h)
-is_cancel name (inr (inr (inr (inl h)))) check model confirm explain = absurd (explain h)
-is_cancel name (inr (inr (inr (inr h)))) check model confirm explain = h
+-- another command is one of evidence
+pub is_evidence : (name : List ℕ) (rows : List Row) → HasCommand name rows → (name ≡ codes "prove" → ⊥) → (name ≡ codes "refute" → ⊥) → (name ≡ codes "bench" → ⊥)
+    → IsEvidenceName name × HasPair rows
+is_evidence name rows (inl h) prove refute bench = absurd (prove h.0)
+is_evidence name rows (inr (inl h)) prove refute bench = absurd (refute h.0)
+is_evidence name rows (inr (inr (inl h))) prove refute bench = absurd (bench h.0)
+is_evidence name rows (inr (inr (inr h))) prove refute bench = h
 
 within : (id : List ℕ) (low high n : ℕ) (rows : List Row) → HasNumber id low high rows → number_of id rows ≡ Some n → IsWithin low high n
 within id low high n rows h e =
@@ -106,11 +84,7 @@ in_range name rows (Refute r) has g =
 in_range name rows (Bench b) has g =
     let h = is_bench name rows has g.0 in
     (within (codes "size") 1 size_limit b.size rows h.size g.1.size, within (codes "workers") 1 worker_limit b.workers rows h.workers g.1.workers)
-in_range name rows (Check p) has g = tt
-in_range name rows (Model p) has g = tt
-in_range name rows (Confirm p) has g = tt
-in_range name rows (Explain p) has g = tt
-in_range name rows (Cancel p) has g = tt
+in_range name rows (Evidence command p) has g = tt
 
 pub call_in_range : (o : Option (List ℕ × List Row)) (call : Call) → MatchesHave o → MatchesGive o call → IsInRange call
 call_in_range None call has g = absurd g

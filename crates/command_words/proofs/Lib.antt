@@ -5,9 +5,11 @@ pub mod Ends
 pub mod Top
 pub mod Numbers
 pub mod Gives
-pub mod Commands
 pub mod Rows
 pub mod Taken
+pub mod Members
+pub mod Entered
+pub mod Commands
 pub mod NamedCall
 pub mod Simple
 pub mod Getters

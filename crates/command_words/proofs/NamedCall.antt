@@ -11,12 +11,12 @@ use Rattle.command_words.specs.CommandSet.{command_set, IsTaken}
 use Rattle.command_words.specs.Present.{HasNumber, HasFlag, HasProve, HasRefute, HasBench, HasPair, HasCommand, MatchesHave}
 use Rattle.command_words.specs.Calls.{number_of, flag_of, GivesProve, GivesRefute, GivesBench, GivesPair, GivesCall, MatchesGive}
 use Rattle.command_words.specs.declared.call.Call.{Call}
-use Rattle.command_words.specs.declared.call.Call.TheVariants.{Prove, Check, Refute, Model, Bench, Confirm, Explain, Cancel}
+use Rattle.command_words.specs.declared.call.Call.TheVariants.{Prove, Refute, Bench, Evidence}
 use Rattle.command_words.specs.declared.call.ProveCall.{ProveCall}
 use Rattle.command_words.specs.declared.call.RefuteCall.{RefuteCall}
 use Rattle.command_words.specs.declared.call.BenchCall.{BenchCall}
 use Rattle.command_words.specs.declared.call.PairCall.{PairCall}
-use Rattle.command_words.proofs.Taken.{taken_has}
+use Rattle.command_words.proofs.Entered.{taken_has}
 
 number_given : (id : Text) (least most : ℕ) (rows : List Row) → HasNumber id least most rows → (n : ℕ) × (number_of id rows ≡ Some n)
 number_given id least most rows h = (digits_value 10 (without_leading_plus h.0), ap (option_map (λ text. digits_value 10 (without_leading_plus text))) h.1)
@@ -61,26 +61,14 @@ call_given name rows (inl h) =
     let p = prove_call rows h.1 in
     (Prove p.0, (h.0, p.1))
 call_given name rows (inr (inl h)) =
-    let p = pair_call rows h.1 in
-    (Check p.0, (h.0, p.1))
-call_given name rows (inr (inr (inl h))) =
     let r = refute_call rows h.1 in
     (Refute r.0, (h.0, r.1))
-call_given name rows (inr (inr (inr (inl h)))) =
-    let p = pair_call rows h.1 in
-    (Model p.0, (h.0, p.1))
-call_given name rows (inr (inr (inr (inr (inl h))))) =
+call_given name rows (inr (inr (inl h))) =
     let b = bench_call rows h.1 in
     (Bench b.0, (h.0, b.1))
-call_given name rows (inr (inr (inr (inr (inr (inl h)))))) =
+call_given name rows (inr (inr (inr h))) =
     let p = pair_call rows h.1 in
-    (Confirm p.0, (h.0, p.1))
-call_given name rows (inr (inr (inr (inr (inr (inr (inl h))))))) =
-    let p = pair_call rows h.1 in
-    (Explain p.0, (h.0, p.1))
-call_given name rows (inr (inr (inr (inr (inr (inr (inr h))))))) =
-    let p = pair_call rows h.1 in
-    (Cancel p.0, (h.0, p.1))
+    (Evidence h.0.0 p.0, (h.0.1, p.1))
 
 matches_given : (o : Option (Text × List Row)) → MatchesHave o → (call : Call) × MatchesGive o call
 matches_given None h = absurd h

@@ -2,7 +2,8 @@
 use Rattle.std.proofs.Common.{refl, inl, inr, false, [], ◌∷◌, arith, codes}
 use Rattle.command_words.specs.Accepted.{number, flag}
 use Rattle.command_words.specs.Calls.{Names}
-use Rattle.command_words.specs.declared.call.Call.TheVariants.{Prove, Check}
+use Rattle.command_words.specs.declared.evidence.EvidenceCommand.TheVariants.{Check}
+use Rattle.command_words.specs.declared.call.Call.TheVariants.{Prove, Evidence}
 use Rattle.command_words.specs.declared.call.ProveCall.{ProveCall}
 use Rattle.command_words.specs.declared.call.PairCall.{PairCall}
 use Rattle.std.proofs.lemmas.Fmt.{decimal_digit}
@@ -28,6 +29,6 @@ two_options = record {
 pub files : PairCall
 files = record { statement = codes "s"; evidence = codes "c" }
 
-pub two_files : Names (codes "check" ∷ codes "s" ∷ codes "c" ∷ []) (Check files)
+pub two_files : Names (codes "check" ∷ codes "s" ∷ codes "c" ∷ []) (Evidence Check files)
 unfolding files
 two_files = record { words_are = refl; statement = λ e. cc; evidence = λ e. cc }

@@ -1,8 +1,7 @@
--- a command that is taken has its words, and its numbers are in range
+-- The words of a command, and its numbers, which are in range.
 use Rattle.std.proofs.Common.{◌≡◌, ◌∙◌, ◌⊎◌, ⊎_elim, inl, inr, ap, sym, subst, refl, ℕ, Bool, true, false, List, [], ◌∷◌, Option, Some, None, codes, not, ◌||◌, ◌&&◌, fold}
-use Rattle.std.specs.Prelude.{find, slice_get, option_and_then, option_map, is_some}
+use Rattle.std.specs.Prelude.{slice_get, option_and_then}
 use Rattle.std.specs.List.{AllByRecursion, list_any}
-use Rattle.std.specs.Option.{option_map_or}
 use Rattle.std.specs.Str.{bytes_eq}
 use Rattle.std.proofs.lemmas.Slice.Eq.{bytes_eq-Decides}
 use Rattle.clap.specs.Facts.{parser_of_value, unwrap_or_range}
@@ -10,12 +9,11 @@ use Rattle.clap.specs.Values.{Accepts}
 use Rattle.clap.specs.ValueTests.{accepts}
 use Rattle.clap.proofs.ValueTestLemmas.{accepts-Accepts}
 use Rattle.clap.specs.Takes.{is_given}
-use Rattle.clap.specs.Walk.{Row, Rule, Text, Walk, Held, with_default, rows_after, nothing_held, walk_from, settled, arg_by_id, one_of, idle, answers_to, row_text, finished, stop_after, reading_by, action_of, has_short}
+use Rattle.clap.specs.Walk.{Row, Rule, Text, Walk, Held, with_default, rows_after, nothing_held, walk_from, settled, arg_by_id, one_of, idle, row_text, reading_by, action_of, has_short}
 use Rattle.clap.specs.Walk.{walk as whole_walk}
-use Rattle.clap.specs.Simple.{Shape, subcommand_of, built, names_of, entered, label_of, rows_at, argument_words, filled}
-use Rattle.clap.specs.Faults.{check_fault, level_fault, entered_fault, settle_fault, walk_fault, defaults_fault}
+use Rattle.clap.specs.Simple.{Shape, filled}
+use Rattle.clap.specs.Faults.{check_fault, level_fault, settle_fault, walk_fault, defaults_fault}
 use Rattle.clap.specs.Kinds.{value_kinds, check_kinds}
-use Rattle.clap.proofs.OnLiterals.{clap_on_literals}
 use Rattle.clap.specs.declared.builder.ArgAction.{ArgAction}
 use Rattle.clap.specs.declared.builder.ArgAction.TheVariants.{Set, SetTrue}
 use Rattle.clap.specs.declared.builder.range.ValueRange.{ValueRange}
@@ -26,8 +24,8 @@ use Rattle.clap.specs.declared.builder.value_parser.Reading.TheVariants.{AsWritt
 use Rattle.in_order_parallel.specs.Limits.{worker_limit}
 use Rattle.command_words.specs.Limits.{pair_limit, step_limit, seed_limit, format_limit, size_limit}
 use Rattle.command_words.specs.Limits.{default_pairs_word, default_steps_word, default_workers_word, default_seed_word, default_format_word}
-use Rattle.command_words.specs.CommandSet.{command_set, IsTaken, prove_command, refute_command, bench_command, pair_command, number_option, flag_option}
-use Rattle.command_words.specs.Present.{HasText, HasNumber, HasFlag, HasProve, HasRefute, HasBench, HasPair, HasCommand, MatchesHave}
+use Rattle.command_words.specs.CommandSet.{prove_command, refute_command, bench_command, pair_command, number_option, flag_option}
+use Rattle.command_words.specs.Present.{HasText, HasNumber, HasFlag, HasProve, HasRefute, HasBench, HasPair}
 use Rattle.command_words.proofs.Found.{found}
 use Rattle.command_words.proofs.Ends.{place, row_at, row_kept, row_defaulted, default_list}
 use Rattle.command_words.proofs.Gives.{not_there}
@@ -192,11 +190,8 @@ module _ {s : Shape} {words : List Text} (g : GoodLevel s words) (id : Text) whe
           ⊎_elim (λ yes. inl (v.1 ∙ ap Some yes)) (λ no. inr (v.1 ∙ ap Some no))
           (either v.0 (bytes_eq v.0 (codes "true")) (bytes_eq v.0 (codes "false")) refl refl v.2)
 
--- the words of a command without a fault have what its name says
-abbrev IsRead : Shape → Type 0
-IsRead s = (words : List Text) → level_fault s [] nothing_held words false [] ≡ [] → HasCommand s.name (rows_after s.rules [] words)
-
-prove_has : (words : List Text) → level_fault (leaf prove_command) [] nothing_held words false [] ≡ [] → HasProve (rows_after (leaf prove_command).rules [] words)
+-- what the words of a command without a fault have
+pub prove_has : (words : List Text) → level_fault (leaf prove_command) [] nothing_held words false [] ≡ [] → HasProve (rows_after (leaf prove_command).rules [] words)
 prove_has words e =
     let plain : ArePlainRules (leaf prove_command).rules (leaf prove_command).rules =
     (takes_one refl, (takes_one refl, (takes_one refl, (takes_one refl, (takes_one refl, (takes_one refl, (takes_none refl refl, tt))))))) in
@@ -211,7 +206,7 @@ prove_has words e =
       models = flag_read g (codes "no-models") refl refl;
     }
 
-refute_has : (words : List Text) → level_fault (leaf refute_command) [] nothing_held words false [] ≡ [] → HasRefute (rows_after (leaf refute_command).rules [] words)
+pub refute_has : (words : List Text) → level_fault (leaf refute_command) [] nothing_held words false [] ≡ [] → HasRefute (rows_after (leaf refute_command).rules [] words)
 refute_has words e =
     let g = good_level (leaf refute_command) (takes_one refl, (takes_one refl, (takes_one refl, tt))) refl words e in
     record {
@@ -220,67 +215,12 @@ refute_has words e =
       seed = number_read g (codes "seed") 0 seed_limit default_seed_word refl refl refl;
     }
 
-bench_has : (words : List Text) → level_fault (leaf bench_command) [] nothing_held words false [] ≡ [] → HasBench (rows_after (leaf bench_command).rules [] words)
+pub bench_has : (words : List Text) → level_fault (leaf bench_command) [] nothing_held words false [] ≡ [] → HasBench (rows_after (leaf bench_command).rules [] words)
 bench_has words e =
     let g = good_level (leaf bench_command) (takes_one refl, (takes_one refl, tt)) refl words e in
     record { size = value_read g (codes "size") 1 1 size_limit refl refl; workers = number_read g (codes "workers") 1 worker_limit default_workers_word refl refl refl }
 
-pair_has : (name : Text) (words : List Text) → level_fault (leaf (pair_command name)) [] nothing_held words false [] ≡ [] → HasPair (rows_after (leaf (pair_command name)).rules [] words)
+pub pair_has : (name : Text) (words : List Text) → level_fault (leaf (pair_command name)) [] nothing_held words false [] ≡ [] → HasPair (rows_after (leaf (pair_command name)).rules [] words)
 pair_has name words e =
     let g = good_level (leaf (pair_command name)) (takes_one refl, (takes_one refl, tt)) refl words e in
     record { statement = text_read g (codes "statement") 1 parser.String refl refl; evidence = text_read g (codes "evidence") 2 parser.String refl refl }
-
-all_read : AllByRecursion IsRead (built command_set).subs
-unfolding command_set clap_on_literals
-all_read = (
-  λ words e. inl (refl, prove_has words e),
-  (
-    λ words e. inr (inl (refl, pair_has (codes "check") words e)),
-    (
-      λ words e. inr (inr (inl (refl, refute_has words e))),
-      (
-        λ words e. inr (inr (inr (inl (refl, pair_has (codes "model") words e)))),
-        (
-          λ words e. inr (inr (inr (inr (inl (refl, bench_has words e))))),
-          (
-            λ words e. inr (inr (inr (inr (inr (inl (refl, pair_has (codes "confirm") words e)))))),
-            (
-              λ words e. inr (inr (inr (inr (inr (inr (inl (refl, pair_has (codes "explain") words e))))))),
-              (λ words e. inr (inr (inr (inr (inr (inr (inr (refl, pair_has (codes "cancel") words e))))))), tt),
-            ),
-          ),
-        ),
-      ),
-    ),
-  ),
-)
-
--- a command was entered, since one is required
-wants_command : (rows : List Row) → check_fault (built command_set).top rows false ≡ [] → ⊥
-unfolding command_set
-wants_command rows e = absurd cc
-
-entered_has : (rows : List Row) (stop : Option (Text × List Text)) → entered_fault (built command_set) stop ≡ []
-    → check_fault (built command_set).top rows (is_some (entered (built command_set) stop)) ≡ [] → MatchesHave (entered (built command_set) stop)
-entered_has rows None below check = wants_command rows check
-entered_has rows (Some p) below check = go (find (λ s. answers_to p.0 (label_of s)) (built command_set).subs) refl below check
-  where
-    go : (o : Option Shape) → find (λ s. answers_to p.0 (label_of s)) (built command_set).subs ≡ o
-        → option_map_or (λ s. level_fault s [] nothing_held p.1 false []) o [] ≡ []
-        → check_fault (built command_set).top rows (is_some (option_map (λ s. rows_at s p.1) o)) ≡ [] → MatchesHave (option_map (λ s. rows_at s p.1) o)
-    go None is b c = wants_command rows c
-    go (Some s) is b c = (found IsRead (λ x. answers_to p.0 (label_of x)) (built command_set).subs s all_read is).0 p.1 b
-
-pub taken_has : (words : List Text) → IsTaken words → MatchesHave (subcommand_of command_set words)
-unfolding IsTaken
-taken_has words taken =
-    let s : Shape = (built command_set).top in
-    let names = names_of (built command_set) in
-    let given = argument_words command_set words in
-    let end : Held = (whole_walk s.rules names nothing_held given).held in
-    let stop = stop_after s.rules names given in
-    let a = both_none (walk_fault s names (walk_from nothing_held) given) _ taken in
-    let b = both_none (entered_fault (built command_set) stop) _ a.1 in
-    let c = both_none (settle_fault s.rules s.args_override_self end) _ b.1 in
-    let d = both_none (defaults_fault (settled s.rules end).rows s.rules) _ c.1 in
-    entered_has (finished s.rules end) stop b.0 d.1

@@ -3,13 +3,16 @@ use Rattle.std.proofs.Common.{◌≡◌, ◌∙◌, ap, sym, refl, ℕ, Bool, tr
 use Rattle.std.specs.Prelude.{if◌then◌else◌, unwrap_or}
 use Rattle.std.specs.Str.{bytes_eq}
 use Rattle.clap.specs.Words.{Row, Text, first_of}
+use Rattle.command_words.specs.declared.evidence.EvidenceCommand.{EvidenceCommand}
+use Rattle.command_words.specs.CommandSet.{name_of}
 use Rattle.command_words.specs.Calls.{number_of, flag_of, GivesProve, GivesRefute, GivesBench, GivesPair, GivesCall, MatchesGive}
 use Rattle.command_words.specs.declared.call.Call.{Call}
-use Rattle.command_words.specs.declared.call.Call.TheVariants.{Prove, Check, Refute, Model, Bench, Confirm, Explain, Cancel}
+use Rattle.command_words.specs.declared.call.Call.TheVariants.{Prove, Refute, Bench, Evidence}
 use Rattle.command_words.specs.declared.call.ProveCall.{ProveCall}
 use Rattle.command_words.specs.declared.call.RefuteCall.{RefuteCall}
 use Rattle.command_words.specs.declared.call.BenchCall.{BenchCall}
 use Rattle.command_words.specs.declared.call.PairCall.{PairCall}
+use Rattle.command_words.proofs.Members.{not_other, command_at, command_at-name_of}
 
 text_at : Text → List Row → Text
 text_at id rows = unwrap_or (first_of id rows) []
@@ -79,12 +82,14 @@ pair_is rows p g = rw (is_text (codes "statement") rows p.statement g.statement,
 
 call_from : Text → List Row → Call
 call_from name rows = if bytes_eq name (codes "prove") then Prove (prove_from rows)
-    else (if bytes_eq name (codes "check") then Check (pair_from rows)
     else (if bytes_eq name (codes "refute") then Refute (refute_from rows)
-    else (if bytes_eq name (codes "model") then Model (pair_from rows)
-    else (if bytes_eq name (codes "bench") then Bench (bench_from rows)
-    else (if bytes_eq name (codes "confirm") then Confirm (pair_from rows)
-    else (if bytes_eq name (codes "explain") then Explain (pair_from rows) else Cancel (pair_from rows)))))))
+    else (if bytes_eq name (codes "bench") then Bench (bench_from rows) else Evidence (command_at name) (pair_from rows)))
+
+evidence_from : (command : EvidenceCommand) (rows : List Row) → call_from (name_of command) rows ≡ Evidence command (pair_from rows)
+unfolding call_from
+evidence_from command rows =
+    let other = not_other command in
+    rw (other.0, other.1, other.2) (ap (λ c. Evidence c (pair_from rows)) (command_at-name_of command))
 
 named : (name other : Text) (rows : List Row) (call : Call) → name ≡ other → call_from other rows ≡ call → call_from name rows ≡ call
 named name other rows call e f = ap (λ t. call_from t rows) e ∙ f
@@ -92,13 +97,9 @@ named name other rows call e f = ap (λ t. call_from t rows) e ∙ f
 call_is : (name : Text) (rows : List Row) (call : Call) → GivesCall name rows call → call_from name rows ≡ call
 unfolding call_from
 call_is name rows (Prove p) g = named name (codes "prove") rows (Prove p) g.0 (ap (λ x. Prove x) (prove_is rows p g.1))
-call_is name rows (Check p) g = named name (codes "check") rows (Check p) g.0 (ap (λ x. Check x) (pair_is rows p g.1))
 call_is name rows (Refute r) g = named name (codes "refute") rows (Refute r) g.0 (ap (λ x. Refute x) (refute_is rows r g.1))
-call_is name rows (Model p) g = named name (codes "model") rows (Model p) g.0 (ap (λ x. Model x) (pair_is rows p g.1))
 call_is name rows (Bench b) g = named name (codes "bench") rows (Bench b) g.0 (ap (λ x. Bench x) (bench_is rows b g.1))
-call_is name rows (Confirm p) g = named name (codes "confirm") rows (Confirm p) g.0 (ap (λ x. Confirm x) (pair_is rows p g.1))
-call_is name rows (Explain p) g = named name (codes "explain") rows (Explain p) g.0 (ap (λ x. Explain x) (pair_is rows p g.1))
-call_is name rows (Cancel p) g = named name (codes "cancel") rows (Cancel p) g.0 (ap (λ x. Cancel x) (pair_is rows p g.1))
+call_is name rows (Evidence command p) g = named name (name_of command) rows (Evidence command p) g.0 (evidence_from command rows ∙ ap (λ x. Evidence command x) (pair_is rows p g.1))
 
 pub one_call : (o : Option (Text × List Row)) (a b : Call) → MatchesGive o a → MatchesGive o b → a ≡ b
 one_call None a b g h = absurd g

@@ -6,9 +6,10 @@ use Rattle.clap.specs.Words.{Row, Text, first_of, one_of}
 use Rattle.in_order_parallel.specs.Limits.{worker_limit}
 use Rattle.command_words.specs.Limits.{pair_limit, step_limit, seed_limit, format_limit, size_limit}
 use Rattle.command_words.specs.Limits.{default_pairs, default_steps, default_workers, default_seed, default_format}
+use Rattle.command_words.specs.CommandSet.{name_of}
 use Rattle.command_words.specs.Accepted.{Given, given_words, IsFileWord, Span, AreOptions, option_of, number_or, is_flag}
 use Rattle.command_words.specs.declared.call.Call.{Call}
-use Rattle.command_words.specs.declared.call.Call.TheVariants.{Prove, Check, Refute, Model, Bench, Confirm, Explain, Cancel}
+use Rattle.command_words.specs.declared.call.Call.TheVariants.{Prove, Refute, Bench, Evidence}
 use Rattle.command_words.specs.declared.call.ProveCall.{ProveCall}
 use Rattle.command_words.specs.declared.call.RefuteCall.{RefuteCall}
 use Rattle.command_words.specs.declared.call.BenchCall.{BenchCall}
@@ -46,13 +47,9 @@ pub record GivesPair (rows : List Row) (p : PairCall) : Type 0 where
 -- the command of these matches, by its name and its rows
 abbrev pub GivesCall : Text → List Row → Call → Type 0
 GivesCall name rows (Prove p) = (name ≡ codes "prove") × GivesProve rows p
-GivesCall name rows (Check p) = (name ≡ codes "check") × GivesPair rows p
 GivesCall name rows (Refute r) = (name ≡ codes "refute") × GivesRefute rows r
-GivesCall name rows (Model p) = (name ≡ codes "model") × GivesPair rows p
 GivesCall name rows (Bench b) = (name ≡ codes "bench") × GivesBench rows b
-GivesCall name rows (Confirm p) = (name ≡ codes "confirm") × GivesPair rows p
-GivesCall name rows (Explain p) = (name ≡ codes "explain") × GivesPair rows p
-GivesCall name rows (Cancel p) = (name ≡ codes "cancel") × GivesPair rows p
+GivesCall name rows (Evidence command p) = (name ≡ name_of command) × GivesPair rows p
 
 abbrev pub MatchesGive : Option (Text × List Row) → Call → Type 0
 MatchesGive None call = ⊥
@@ -68,11 +65,7 @@ IsInRange (Prove p) =
     × IsWithin 1 format_limit p.format
 IsInRange (Refute r) = IsWithin 1 worker_limit r.workers × IsWithin 0 seed_limit r.seed
 IsInRange (Bench b) = IsWithin 1 size_limit b.size × IsWithin 1 worker_limit b.workers
-IsInRange (Check p) = ⊤
-IsInRange (Model p) = ⊤
-IsInRange (Confirm p) = ⊤
-IsInRange (Explain p) = ⊤
-IsInRange (Cancel p) = ⊤
+IsInRange (Evidence command p) = ⊤
 
 -- of an accepted list
 abbrev pub prove_spans : List Span
@@ -126,10 +119,6 @@ pub record NamesPair (name : Text) (words : List Text) (p : PairCall) : Type 0 w
 -- the list of words is accepted, and names this
 abbrev pub Names : List Text → Call → Type 0
 Names words (Prove p) = NamesProve words p
-Names words (Check p) = NamesPair (codes "check") words p
 Names words (Refute r) = NamesRefute words r
-Names words (Model p) = NamesPair (codes "model") words p
 Names words (Bench b) = NamesBench words b
-Names words (Confirm p) = NamesPair (codes "confirm") words p
-Names words (Explain p) = NamesPair (codes "explain") words p
-Names words (Cancel p) = NamesPair (codes "cancel") words p
+Names words (Evidence command p) = NamesPair (name_of command) words p

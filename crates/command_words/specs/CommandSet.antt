@@ -1,9 +1,12 @@
 -- The commands, their words, options, ranges and defaults.
 use Rattle.std.specs.Prelude.{◌≡◌, ℕ, true, List, [], ◌∷◌, Some, codes}
+use Rattle.std.specs.List.{fold}
 use Rattle.clap.specs.Words.{App, Rule, Text, new_app, new_rule, with_rule, with_subcommand, fault_of}
 use Rattle.clap.specs.declared.builder.ArgAction.TheVariants.{Set, SetTrue}
 use Rattle.clap.specs.declared.builder.value_parser.ValueParser.TheVariants as parser
 use Rattle.in_order_parallel.specs.Limits.{worker_limit}
+use Rattle.command_words.specs.declared.evidence.EvidenceCommand.{EvidenceCommand}
+use Rattle.command_words.specs.declared.evidence.EvidenceCommand.TheVariants.{Check, Model, Confirm, Explain, Cancel}
 use Rattle.command_words.specs.Limits.{pair_limit, step_limit, seed_limit, format_limit, size_limit}
 use Rattle.command_words.specs.Limits.{default_pairs_word, default_steps_word, default_workers_word, default_seed_word, default_format_word}
 
@@ -50,7 +53,15 @@ refute_command = with_rule (with_rule (with_rule (new_app (codes "refute")) (req
 abbrev pub bench_command : App
 bench_command = with_rule (with_rule (new_app (codes "bench")) (required_number (codes "size") 1 size_limit)) workers_option
 
--- a command of a statement and a second file
+-- the names of the commands of evidence
+abbrev pub name_of : EvidenceCommand → Text
+name_of Check = codes "check"
+name_of Model = codes "model"
+name_of Confirm = codes "confirm"
+name_of Explain = codes "explain"
+name_of Cancel = codes "cancel"
+
+-- a command of a statement and a file of evidence
 abbrev pub pair_command : Text → App
 pair_command name = with_rule (with_rule (new_app name) (required_word (codes "statement"))) (required_word (codes "evidence"))
 
@@ -60,17 +71,18 @@ bare_command =
     let a = new_app (codes "opprove") in
     record a { top = record a.top { no_binary_name = true; disable_help_flag = true; disable_help_subcommand = true; subcommand_required = true } }
 
+-- a command of evidence is one of the commands
+abbrev pub with_evidence : App → EvidenceCommand → App
+with_evidence app command = with_subcommand app (pair_command (name_of command)).top
+
+-- those that stand last
+abbrev pub last_commands : List EvidenceCommand
+last_commands = Confirm ∷ Explain ∷ Cancel ∷ []
+
 unfoldable pub command_set : App
-command_set = with_subcommand (with_subcommand
-    (with_subcommand (with_subcommand (with_subcommand (with_subcommand (with_subcommand (with_subcommand bare_command
-    prove_command.top)
-    (pair_command (codes "check")).top)
-    refute_command.top)
-    (pair_command (codes "model")).top)
-    bench_command.top)
-    (pair_command (codes "confirm")).top)
-    (pair_command (codes "explain")).top)
-    (pair_command (codes "cancel")).top
+command_set = fold with_evidence
+    (with_subcommand (with_evidence (with_subcommand (with_evidence (with_subcommand bare_command prove_command.top) Check) refute_command.top) Model) bench_command.top)
+    last_commands
 
 -- clap's stated function of the command set takes the words after the program's name
 unfoldable pub IsTaken : List Text → Type 0

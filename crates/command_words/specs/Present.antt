@@ -3,6 +3,8 @@ use Rattle.std.specs.Prelude.{◌≡◌, ◌⊎◌, ℕ, List, Option, Some, Non
 use Rattle.clap.specs.Values.{IsUnsignedIn}
 use Rattle.clap.specs.Words.{Row, Text, first_of, one_of}
 use Rattle.in_order_parallel.specs.Limits.{worker_limit}
+use Rattle.command_words.specs.declared.evidence.EvidenceCommand.{EvidenceCommand}
+use Rattle.command_words.specs.CommandSet.{name_of}
 use Rattle.command_words.specs.Limits.{pair_limit, step_limit, seed_limit, format_limit, size_limit}
 
 abbrev pub HasText : Text → List Row → Type 0
@@ -37,14 +39,13 @@ pub record HasPair (rows : List Row) : Type 0 where
   pub statement : HasText (codes "statement") rows
   pub evidence : HasText (codes "evidence") rows
 
--- the name of a command of a statement and a file of evidence
-abbrev pub IsPairName : Text → Type 0
-IsPairName name = (name ≡ codes "check") ⊎ (name ≡ codes "model") ⊎ (name ≡ codes "confirm") ⊎ (name ≡ codes "explain") ⊎ (name ≡ codes "cancel")
+-- the name of a command of evidence
+abbrev pub IsEvidenceName : Text → Type 0
+IsEvidenceName name = (command : EvidenceCommand) × (name ≡ name_of command)
 
 abbrev pub HasCommand : Text → List Row → Type 0
-HasCommand name rows = ((name ≡ codes "prove") × HasProve rows) ⊎ ((name ≡ codes "check") × HasPair rows)
-    ⊎ ((name ≡ codes "refute") × HasRefute rows) ⊎ ((name ≡ codes "model") × HasPair rows) ⊎ ((name ≡ codes "bench") × HasBench rows)
-    ⊎ ((name ≡ codes "confirm") × HasPair rows) ⊎ ((name ≡ codes "explain") × HasPair rows) ⊎ ((name ≡ codes "cancel") × HasPair rows)
+HasCommand name rows = ((name ≡ codes "prove") × HasProve rows) ⊎ ((name ≡ codes "refute") × HasRefute rows)
+    ⊎ ((name ≡ codes "bench") × HasBench rows) ⊎ (IsEvidenceName name × HasPair rows)
 
 abbrev pub MatchesHave : Option (Text × List Row) → Type 0
 MatchesHave None = ⊥

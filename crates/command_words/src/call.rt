@@ -1,4 +1,5 @@
 //! The commands with their files, numbers and options.
+use crate::evidence::EvidenceCommand;
 use lists::Text;
 
 /// `prove FILE` with its options.
@@ -54,18 +55,10 @@ pub struct PairCall {
 pub enum Call {
     /// Decides each claim of a statement.
     Prove(ProveCall),
-    /// Checks certificates.
-    Check(PairCall),
     /// Searches models that refute the claims of a statement.
     Refute(RefuteCall),
-    /// Confirms models.
-    Model(PairCall),
     /// Decides the claims of a statement that the program makes.
     Bench(BenchCall),
-    /// Checks closed rule sets by themselves.
-    Confirm(PairCall),
-    /// Prints proofs as chains of equations.
-    Explain(PairCall),
-    /// Checks proofs that cancel monic and epic maps.
-    Cancel(PairCall),
+    /// Judges a file of evidence over a statement.
+    Evidence(EvidenceCommand, PairCall),
 }

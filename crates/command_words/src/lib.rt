@@ -2,12 +2,14 @@
 #![tactic(auto)]
 
 mod call;
+mod evidence;
 mod limits;
 mod read;
 mod set;
 mod usage;
 
 pub use call::{BenchCall, Call, PairCall, ProveCall, RefuteCall};
+pub use evidence::EvidenceCommand;
 pub use limits::{
     DEFAULT_PAIRS, DEFAULT_SEED, DEFAULT_STEPS, FORMAT_LIMIT, PAIR_LIMIT, SIZE_LIMIT, STEP_LIMIT,
 };

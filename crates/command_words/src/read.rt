@@ -1,11 +1,12 @@
 //! The words after the program's name, read by clap.
 ghost use Rattle.std.specs.Prelude.{◌≡◌, IfOk, IsErrOf, List, MatchResult, Some, codes, map, string_bytes, ℕ};
-ghost use Rattle.clap.specs.Words.{Row, subcommand_of, subcommand_rows_of, kind_of, rows_of, found_of, first_of};
+ghost use Rattle.clap.specs.Words.{subcommand_of, subcommand_rows_of, kind_of, rows_of, found_of, first_of};
 ghost use Rattle.command_words.specs.CommandSet.{command_set, IsTaken};
 ghost use Rattle.command_words.specs.Calls.{number_of, flag_of, GivesPair, GivesCall, MatchesGive, Names, IsInRange};
-ghost use Rattle.command_words.specs.Present.{HasText, HasNumber, HasFlag, HasProve, HasRefute, HasBench, HasPair, HasCommand, IsPairName, MatchesHave};
+ghost use Rattle.command_words.specs.Present.{HasText, HasNumber, HasFlag, HasProve, HasRefute, HasBench, HasPair, HasCommand, IsEvidenceName, MatchesHave};
 
 use crate::call::{BenchCall, Call, PairCall, ProveCall, RefuteCall};
+use crate::evidence::evidence_command;
 use crate::set::command_set;
 use clap::error::ErrorKind;
 use clap::{ArgMatches, Error};
@@ -88,18 +89,13 @@ fn pair_of(alloc: Global, matches: &ArgMatches) -> Result<PairCall, AllocError>
     })
 }
 
-// The command of this name with its files.
-fn pair_call(name: &str, pair: PairCall) -> Call
-    requires { IsPairName name.now }
-    ensures { (rows : List Row) → GivesPair rows pair → GivesCall name.now rows result }
+fn evidence_of(alloc: Global, name: &str, matches: &ArgMatches) -> Result<Call, AllocError>
+    requires named { IsEvidenceName name.now }
+    requires files { HasPair (rows_of (found_of matches.now)) }
+    ensures { IfOk result (λ call. GivesCall name.now (rows_of (found_of matches.now)) call) }
 {
-    match name {
-        "check" => Call::Check(pair),
-        "model" => Call::Model(pair),
-        "confirm" => Call::Confirm(pair),
-        "explain" => Call::Explain(pair),
-        _ => Call::Cancel(pair),
-    }
+    let command = evidence_command(name);
+    Ok(Call::Evidence(command, pair_of(alloc, matches)?))
 }
 
 fn call_of(alloc: Global, name: &str, matches: &ArgMatches) -> Result<Call, AllocError>
@@ -110,7 +106,7 @@ fn call_of(alloc: Global, name: &str, matches: &ArgMatches) -> Result<Call, Allo
         "prove" => prove_of(alloc, matches),
         "refute" => refute_of(alloc, matches),
         "bench" => Ok(bench_of(matches)),
-        _ => Ok(pair_call(name, pair_of(alloc, matches)?)),
+        _ => evidence_of(alloc, name, matches),
     }
 }
 

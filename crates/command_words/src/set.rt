@@ -1,11 +1,13 @@
 //! The commands as clap gets them: what `specs/CommandSet.antt` says.
 ghost use Rattle.std.specs.Prelude.{◌≡◌, IfOk, false};
+ghost use Rattle.std.specs.List.{fold};
 ghost use Rattle.clap.specs.Words.{App, Rule, app_of, rule_of, with_rule, with_subcommand};
 ghost use Rattle.clap.specs.declared.builder.command.Command.TheViews.{out-Command as fields_of};
 ghost use Rattle.command_words.specs.CommandSet.{command_set, bare_command, prove_command, refute_command, bench_command};
-ghost use Rattle.command_words.specs.CommandSet.{pair_command, required_word, required_number, number_option, workers_option, seed_option};
+ghost use Rattle.command_words.specs.CommandSet.{name_of, pair_command, with_evidence, required_word, required_number, number_option, workers_option, seed_option};
 ghost use Rattle.command_words.specs.CommandSet.{flag_option};
 
+use crate::evidence::{EvidenceCommand, LAST_COMMANDS};
 use crate::limits::{
     DEFAULT_FORMAT_WORD, DEFAULT_PAIRS_WORD, DEFAULT_SEED_WORD, DEFAULT_STEPS_WORD,
     DEFAULT_WORKERS_WORD, FORMAT_LIMIT, PAIR_LIMIT, SIZE_LIMIT, STEP_LIMIT,
@@ -69,7 +71,7 @@ fn flag_option<'a>(alloc: Global, id: &'a str) -> Arg<'a>
     Arg::new(alloc, id).long(id).action(ArgAction::SetTrue)
 }
 
-// The command with the argument behind those that it has, where there was memory for the command.
+// The command with one argument more, where there was memory for the command.
 fn with_arg<'a>(
     command: Result<Command<'a>, AllocError>,
     arg: Arg<'a>,
@@ -125,11 +127,11 @@ fn bench_command<'a>(alloc: Global) -> Result<Command<'a>, AllocError>
     with_arg(command, workers_option(alloc))
 }
 
-fn pair_command<'a>(alloc: Global, name: &'a str) -> Result<Command<'a>, AllocError>
-    ensures app { IfOk result (λ c. app_of c ≡ pair_command name.entry.now) }
+fn pair_command<'a>(alloc: Global, command: EvidenceCommand) -> Result<Command<'a>, AllocError>
+    ensures app { IfOk result (λ c. app_of c ≡ pair_command (name_of command)) }
     ensures local { IfOk result (λ c. (fields_of c).has_globals ≡ false) }
 {
-    let command = Ok(Command::new(alloc, name));
+    let command = Ok(Command::new(alloc, command.name()));
     let command = with_arg(command, required_word(alloc, "statement"));
     with_arg(command, required_word(alloc, "evidence"))
 }
@@ -183,16 +185,43 @@ fn with_other<'a>(
     }
 }
 
+// The command with one of evidence below it, where there was memory for both.
+fn with_pair<'a>(
+    alloc: Global,
+    command: Result<Command<'a>, AllocError>,
+    below: &EvidenceCommand,
+) -> Result<Command<'a>, AllocError>
+    requires { IfOk command (λ c. (fields_of c).has_globals ≡ false) }
+    ensures app { (a : App) → IfOk command.entry (λ c. app_of c ≡ a) → IfOk result (λ c. app_of c ≡ with_evidence a below.now) }
+    ensures local { IfOk result (λ c. (fields_of c).has_globals ≡ false) }
+{
+    with_command(command, pair_command(alloc, *below))
+}
+
+// The command with these of evidence below it, where there was memory for all.
+fn with_evidence<'a>(
+    alloc: Global,
+    command: Result<Command<'a>, AllocError>,
+    below: &[EvidenceCommand],
+) -> Result<Command<'a>, AllocError>
+    requires { IfOk command (λ c. (fields_of c).has_globals ≡ false) }
+    ensures { (a : App) → IfOk command.entry (λ c. app_of c ≡ a) → IfOk result (λ c. app_of c ≡ fold with_evidence a below.now) }
+{
+    let mut set = command;
+    for other in below {
+        set = with_pair(alloc, set, other);
+    }
+    set
+}
+
 /// The commands with all that `specs/CommandSet.antt` says of them.
 pub fn command_set<'a>(alloc: Global) -> Result<Command<'a>, AllocError>
     ensures { IfOk result (λ c. app_of c ≡ command_set) }
 {
     let set = with_command(Ok(bare_command(alloc)), prove_command(alloc));
-    let set = with_command(set, pair_command(alloc, "check"));
+    let set = with_command(set, pair_command(alloc, EvidenceCommand::Check));
     let set = with_command(set, refute_command(alloc));
-    let set = with_command(set, pair_command(alloc, "model"));
+    let set = with_command(set, pair_command(alloc, EvidenceCommand::Model));
     let set = with_command(set, bench_command(alloc));
-    let set = with_command(set, pair_command(alloc, "confirm"));
-    let set = with_command(set, pair_command(alloc, "explain"));
-    with_command(set, pair_command(alloc, "cancel"))
+    with_evidence(alloc, set, LAST_COMMANDS)
 }

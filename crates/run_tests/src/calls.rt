@@ -5,6 +5,9 @@ use std::alloc::{AllocError, Global};
 use std::fmt::Debug;
 use std::process::Abort;
 
+/// What tables say of words that are no call: their status and their report, the usage line of the command set.
+pub const USAGE: &str = "2 usage line";
+
 /// The words as texts of their own.
 pub fn owned(alloc: Global, words: &[&str]) -> Result<Vec<String>, AllocError> {
     let mut all = Vec::new(alloc);

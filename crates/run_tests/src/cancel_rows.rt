@@ -1,4 +1,5 @@
 //! Runs of `cancel`, worked out by hand: the files, and the status with the report.
+use crate::calls::USAGE;
 use crate::limit_rows::LimitRow;
 use crate::limit_rows::Part::{self, Cancels, LongRows, Numbers, Plain, Times};
 use crate::test_rows::Row;
@@ -997,8 +998,6 @@ pub const BLOCKS: &[LimitRow] = &[
         &[Plain("7 # refused K5 line 1201 limit 100\n")],
     ),
 ];
-
-const USAGE: &str = "2 # usage: opprove prove|check|refute|model|bench|confirm|explain|cancel\n";
 
 /// That proof is none to other commands; other words, and files that aren't there.
 pub const CALLS: &[(&[&str], &str)] = &[

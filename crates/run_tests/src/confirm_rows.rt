@@ -1,4 +1,5 @@
 //! Runs of `confirm`, worked out by hand: the files, and the status with the report.
+use crate::calls::USAGE;
 use crate::limit_rows::LimitRow;
 use crate::limit_rows::Part::{self, Falling, Numbers, Padding, Plain, Times, Words};
 use crate::test_rows::Row;
@@ -1003,8 +1004,6 @@ pub const STEPS: &[LimitRow] = &[
         &[Plain("7 # block 1 refused B7 claim steps 1000000\n")],
     ),
 ];
-
-const USAGE: &str = "2 # usage: opprove prove|check|refute|model|bench|confirm|explain|cancel\n";
 
 /// A statement and a basis that is closed.
 pub const SOUND: Row = (

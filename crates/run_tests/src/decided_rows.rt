@@ -1,4 +1,5 @@
 //! Runs of `prove`, `refute` and `bench`: words, a statement, and the status with the report, worked out by hand.
+use crate::calls::USAGE;
 
 /// The words, the statement that they name by `s`, and the status with the report.
 pub type CallRow = (&'static [&'static str], &'static [u8], &'static str);
@@ -61,8 +62,6 @@ const REFUTE: &[&str] = &["refute", "s"];
 
 const BROKEN_BRAID: &str =
     "11 # claim 1 refuted\nmodel 1\nclaim 1\nmodulus 2\nside V 1\nmap a = 1\nmap b = 0\nend\n";
-
-const USAGE: &str = "2 # usage: opprove prove|check|refute|model|bench|confirm|explain|cancel\n";
 
 const BENCH: &str =
     "10 # claim 1 proved denominator 1 rows 79\n# claim 2 not derivable rules 241\n";

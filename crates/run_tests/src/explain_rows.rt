@@ -1,4 +1,5 @@
 //! Runs of `explain`, worked out by hand: what the files are put together from, and the status with the report.
+use crate::calls::USAGE;
 use crate::limit_rows::LimitRow;
 use crate::limit_rows::Part::{self, Numbers, Padding, Plain, Products, Times};
 
@@ -55,9 +56,7 @@ const CHAIN: Part = Plain(CHAIN_TEXT);
 
 const ANSWER: &[Part] = &[BLOCK, CHAIN];
 
-const USAGE: Part = Plain(
-    "2 # usage: opprove prove|check|refute|model|bench|confirm|explain|cancel\n",
-);
+const OTHER_WORDS: Part = Plain(USAGE);
 
 /// Rows in any order, and rows that are no steps.
 pub const STEPS: &[LimitRow] = &[
@@ -847,13 +846,13 @@ pub const CALLS: &[LimitRow] = &[
         &[Padding(67_108_865)],
         &[Plain("4 # too long c limit 67108864\n")],
     ),
-    (&["explain", "s"], INVERSES, &[], &[USAGE]),
-    (&["explain", "s", "c", "d"], INVERSES, &[], &[USAGE]),
+    (&["explain", "s"], INVERSES, &[], &[OTHER_WORDS]),
+    (&["explain", "s", "c", "d"], INVERSES, &[], &[OTHER_WORDS]),
     (
         &["explain", "s", "c", "--format", "1"],
         INVERSES,
         &[],
-        &[USAGE],
+        &[OTHER_WORDS],
     ),
 ];
 

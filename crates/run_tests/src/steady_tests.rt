@@ -4,6 +4,7 @@ ghost use Rattle.std.specs.Prelude.{◌≡◌, ◌≢◌, IsTrue};
 use crate::calls::{equal, owned};
 use category_laws::Parity;
 use command_runs::run;
+use command_words::usage_text;
 use flow_io::{SteadyShelf, SteadySink};
 use in_order_parallel::OpenGate;
 use lists::{Listing, Text};
@@ -21,8 +22,6 @@ type Row = (&'static [&'static str], &'static [u8], u8, u64);
 const ROWS: &[Row] = &[
     // # block 1 accepted claim 1 denominator 1
     (&["check", "s", "c"], STATEMENT, 0, 41),
-    // # usage: opprove prove|check|refute|model|bench|confirm|explain|cancel
-    (&["check", "s"], STATEMENT, 2, 71),
     // # refused S15
     (&["check", "s", "c"], b"object U\n", 3, 14),
 ];
@@ -64,6 +63,14 @@ fn steady_devices_take_whole_reports(rt: HostRuntime) -> Result<(), Fail> {
         let got = taken_over(&rt, rt.alloc(), words, statement)?;
         equal(&rt, &got, &(*status, *taken, true), "over a steady sink");
     }
+    let usage = usage_text(rt.alloc())?;
+    let got = taken_over(&rt, rt.alloc(), &["check", "s"], STATEMENT)?;
+    equal(
+        &rt,
+        &got,
+        &(2, usage.len() as u64 + 1, true),
+        "words that are no call",
+    );
     let long = vec![in rt.alloc(); b'x'; 1_048_577]?;
     let got = taken_over(&rt, rt.alloc(), &["check", "s", "c"], &long)?;
     equal(&rt, &got, &(4, 27, true), "a statement that is too long");

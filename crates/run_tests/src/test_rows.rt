@@ -1,4 +1,5 @@
 //! Runs of the program: statements, evidence and reports, worked out by hand.
+use crate::calls::USAGE;
 
 /// A statement, an evidence text, and the status with the report.
 pub type Row = (&'static [u8], &'static [u8], &'static str);
@@ -254,5 +255,3 @@ pub const CALLS: &[(&[&str], &str)] = &[
     (&["prove", "s", "c"], USAGE),
     (&["check", "s", "c", "c"], USAGE),
 ];
-
-const USAGE: &str = "2 # usage: opprove prove|check|refute|model|bench|confirm|explain|cancel\n";

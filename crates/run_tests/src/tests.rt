@@ -1,5 +1,5 @@
 //! Runs of the program over files and a sink in memory.
-use crate::calls::{owned, shelf_of};
+use crate::calls::{USAGE, owned, shelf_of};
 use crate::decided_rows::{
     BROKEN, CallRow, DOUBLED, INNER, OTHERS, PLAIN, PROVED, PROVED_PLAINLY, WITHOUT_FILES,
 };
@@ -9,6 +9,7 @@ use crate::model_rows::{FAULTS, MODELS};
 use crate::test_rows::{CALLS, EXAMPLES, JUDGED, REFUSED, Row, SOUND};
 use category_laws::Parity;
 use command_runs::run;
+use command_words::usage_text;
 use flow_io::{MemoryShelf, MemorySink};
 use in_order_parallel::OpenGate;
 use lists::Listing;
@@ -21,7 +22,7 @@ const CHECK: &[&str] = &["check", "s", "c"];
 
 const MODEL: &[&str] = &["model", "s", "c"];
 
-/// The status of a run and what is put.
+/// The status of a run and what is put, where the usage line is told as `USAGE`.
 pub fn answer_over<R: Threads + Sync>(
     rt: &R,
     alloc: Global,
@@ -30,6 +31,11 @@ pub fn answer_over<R: Threads + Sync>(
     sink: &mut MemorySink,
 ) -> Result<String, Fail> {
     let status = run(rt, alloc, &Parity, words, shelf, sink, &OpenGate);
+    let mut usage = usage_text(alloc)?;
+    usage.push(b'\n')?;
+    if status == 2 && sink.finished() && sink.bytes() == usage.as_slice() {
+        return Ok(String::from_str(alloc, USAGE)?);
+    }
     let put = String::from_utf8(sink.bytes().to_vec(alloc)?)?;
     let end = if sink.finished() { "" } else { " not finished" };
     Ok(format!(in alloc; "{status} {}{end}", put.as_str())?)

@@ -27,7 +27,8 @@ LIMITS: Dict[str, str] = {  # of the script opprove
 
 
 class Command(NamedTuple):
-    """A command of the program: its files, its options with a number and without, what it does, and its statuses."""
+    """A command of the program: its files, what it does, its statuses, its options with a number and without, the word of the blocks that it
+    reads, and the second program that reads them."""
 
     operands: Tuple[str, ...]
     summary: str
@@ -35,6 +36,8 @@ class Command(NamedTuple):
     statuses: Tuple[Tuple[int, str], ...]
     options: Tuple[str, ...] = ()
     flags: Tuple[str, ...] = ()
+    reads: str = ""
+    second: str = ""
 
 
 COMMANDS: Dict[str, Command] = {
@@ -49,7 +52,7 @@ COMMANDS: Dict[str, Command] = {
     "check": Command(
         ("STATEMENT", "CERTIFICATE"), "adds up certificates, and says whether they prove their claims",
         "Reads certificates, of either format, and says of each whether its rows add up to its denominator times its claim.",
-        ((0, "each is accepted"), (7, "one is refused, or its text has a fault")),
+        ((0, "each is accepted"), (7, "one is refused, or its text has a fault")), reads="certificate", second="check",
     ),
     "refute": Command(
         ("FILE",), "looks for matrices that make the assumptions true and a claim false",
@@ -59,7 +62,7 @@ COMMANDS: Dict[str, Command] = {
     "model": Command(
         ("STATEMENT", "MODEL"), "says of matrices whether they refute their claims",
         "Reads models, and says of each whether it makes all assumptions zero and its claim not.",
-        ((0, "each is confirmed"), (7, "one is refused, or its text has a fault")),
+        ((0, "each is confirmed"), (7, "one is refused, or its text has a fault")), reads="model", second="check_model",
     ),
     "bench": Command(
         ("N",), "decides a statement of size N, 1 to 60, that the program makes",
@@ -69,18 +72,19 @@ COMMANDS: Dict[str, Command] = {
     "confirm": Command(
         ("STATEMENT", "BASIS"), "says of rule sets whether they are closed, so that no sum of rows gives the claim",
         "Reads rule sets, and says of each whether it reduces all assumptions and all its own ambiguities to zero, and the claim not.",
-        ((0, "each is closed"), (7, "one is refused, or its text has a fault")),
+        ((0, "each is closed"), (7, "one is refused, or its text has a fault")), reads="basis", second="confirm",
     ),
     "explain": Command(
         ("STATEMENT", "CERTIFICATE"), "prints certificates without lemmas as chains of equations",
         "Prints each certificate over generators alone, as `prove --format 1` writes it, as a chain of equations from the claim down to 0."
         " `opprove chain` reads both formats.",
-        ((0, "each is explained"), (7, "one has lemmas or is refused, or its text has a fault")),
+        ((0, "each is explained"), (7, "one has lemmas or is refused, or its text has a fault")), reads="certificate", second="explain",
     ),
     "cancel": Command(
         ("STATEMENT", "PROOF"), "checks proofs that take monic and epic maps off",
         "Reads proofs that may take a letter off each word of an equation, in front where they declare it monic and at the end where epic.",
         ((0, "each is accepted; the line names the letters"), (7, "one is refused, or its text has a fault")),
+        reads="cancellation", second="cancel",
     ),
 }  # fmt: skip
 ALL_STATUSES: Tuple[Tuple[int, str], ...] = (

@@ -18,7 +18,7 @@ from opprove.words.parts import counted, listed
 
 SECONDS = 600  # for each second program
 # The second program of each command that reads evidence: what it prints is what the command prints.
-SECONDS_OF: Dict[str, str] = {"check": "check", "model": "check_model", "confirm": "confirm", "explain": "explain", "cancel": "cancel"}
+SECONDS_OF: Dict[str, str] = {name: command.second for name, command in calls.COMMANDS.items() if command.second}
 
 
 class Kind(NamedTuple):

@@ -11,6 +11,7 @@ from opprove.checkers import check_model
 from opprove.checkers import confirm
 from opprove.checkers.chain_text import Lines
 from opprove.checkers.check import Evidence, Poly, Problem, Refusal, add, is_name
+from opprove.words import calls
 from opprove.words.parts import LIMIT_OF_NUMBERS, Quote, Told, article, counted, did_you_mean, few, listed, short
 from opprove.words.statement import Statement
 
@@ -21,7 +22,7 @@ ROW, LEMMA_ROW = "`row C (LETTERS) G (LETTERS)`", "`row C (LETTERS) lemma K (LET
 
 
 # The blocks that a command reads, and those that are skipped then.
-READS = {"check": "certificate", "explain": "certificate", "model": "model", "confirm": "basis", "cancel": "cancellation"}
+READS = {name: command.reads for name, command in calls.COMMANDS.items() if command.reads}
 OTHERS = {
     "certificate": ("model", "basis"), "model": ("certificate", "basis"), "basis": ("certificate", "model", "cancellation"),
     "cancellation": ("certificate", "model", "basis"),

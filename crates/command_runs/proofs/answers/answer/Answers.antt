@@ -1,4 +1,4 @@
-use Rattle.std.proofs.Common.{◌≡◌, ◌∙◌, ◌≤◌, ℕ, List, [], length, get_or, sym, subst, rules, arith}
+use Rattle.std.proofs.Common.{◌≡◌, ◌∙◌, ◌≤◌, ℕ, List, [], length, sym, subst, rules, arith}
 use Rattle.command_words.specs.declared.call.Call.{Call}
 use Rattle.command_shape.specs.FileWords.{statement_limit, evidence_limit}
 use Rattle.command_shape.proofs.Stops.{memory_ends}

@@ -1,7 +1,7 @@
 use Rattle.std.proofs.Common.{subst, sym, IfOk}
 use Rattle.clap.specs.Words.{rows_of, found_of}
 use Rattle.command_words.specs.Calls.{GivesCall}
-use Rattle.command_words.proofs.Getters.{is_prove, is_refute, is_bench, is_pair}
+use Rattle.command_words.proofs.Getters.{is_prove, is_refute, is_bench, is_evidence}
 use Rattle.command_words.proofs.read.call_of.Goals as goal
 
 pub prove_of-requires : goal.prove_of-requires
@@ -22,15 +22,12 @@ bench_of-requires c = is_bench c.args.name.now (rows_of (found_of c.args.matches
 pub returns-in-bench : goal.returns-in-bench
 returns-in-bench c = subst (λ n. GivesCall n (rows_of (found_of c.args.matches.now)) c.bench_of.result) (sym c.in-bench.is) c.bench_of.ensures
 
-pub pair_of-requires : goal.pair_of-requires
-pair_of-requires c =
+pub evidence_of-requires-clause-named : goal.evidence_of-requires-clause-named
+evidence_of-requires-clause-named c =
     let other = c.in_default in
-    (is_pair c.args.name.now (rows_of (found_of c.args.matches.now)) c.requires other.not-prove other.not-refute other.not-bench).1
+    (is_evidence c.args.name.now (rows_of (found_of c.args.matches.now)) c.requires other.not-prove other.not-refute other.not-bench).0
 
-pub pair_call-requires : goal.pair_call-requires
-pair_call-requires c =
+pub evidence_of-requires-clause-files : goal.evidence_of-requires-clause-files
+evidence_of-requires-clause-files c =
     let other = c.in_default in
-    (is_pair c.args.name.now (rows_of (found_of c.args.matches.now)) c.requires other.not-prove other.not-refute other.not-bench).0
-
-pub returns-in_ok-pair_of-in_default : goal.returns-in_ok-pair_of-in_default
-returns-in_ok-pair_of-in_default c = c.pair_call.ensures (rows_of (found_of c.args.matches.now)) c.in_ok-pair_of-in_default.ensures
+    (is_evidence c.args.name.now (rows_of (found_of c.args.matches.now)) c.requires other.not-prove other.not-refute other.not-bench).1

@@ -6,7 +6,7 @@ use Rattle.command_words.specs.Present.{MatchesHave}
 use Rattle.command_words.specs.declared.read.Refusal.{Refusal}
 use Rattle.command_words.specs.declared.read.Refusal.TheVariants.{Words, Memory}
 use Rattle.command_words.proofs.Commands.{accepted}
-use Rattle.command_words.proofs.Taken.{taken_has}
+use Rattle.command_words.proofs.Entered.{taken_has}
 use Rattle.command_words.proofs.Unique.{one_call}
 use Rattle.command_words.proofs.Getters.{call_in_range}
 use Rattle.command_words.proofs.read.read_words.Goals as goal

@@ -9,6 +9,4 @@ returns c =
     let three = c.with_command-set-3.ensures.app _ _ two c.refute_command.ensures.app in
     let four = c.with_command-set-4.ensures.app _ _ three c.pair_command-2.ensures.app in
     let five = c.with_command-set-5.ensures.app _ _ four c.bench_command.ensures.app in
-    let six = c.with_command-set-6.ensures.app _ _ five c.pair_command-3.ensures.app in
-    let seven = c.with_command-set-7.ensures.app _ _ six c.pair_command-4.ensures.app in
-    c.with_command.ensures.app _ _ seven c.pair_command-5.ensures.app
+    c.with_evidence.ensures _ five

@@ -1,16 +1,20 @@
-use Rattle.std.proofs.Common.{◌≡◌, ◌∙◌, IfOk, codes, refl, rules}
-use Rattle.std.proofs.lemmas.Result.{IfOk-weaker}
+use Rattle.std.proofs.Common.{rules, ◌≡◌, ◌++◌, ◌∙◌, ap, sym, codes, map, append_assoc}
+use Rattle.std.proofs.lemmas.Simd.{map-map}
+use Rattle.clap.specs.Simple.{App, app_of, shape_of}
 use Rattle.command_words.specs.CommandSet.{command_set}
-use Rattle.command_words.specs.Usage.{usage_text}
+use Rattle.command_words.specs.Usage.{names_after}
 use Rattle.command_words.proofs.usage.usage_text.Goals as goal
 
--- the line that is written is that of the command set
-as_written : codes "# usage: opprove prove|check|refute|model|bench|confirm|explain|cancel" ≡ usage_text
-unfolding command_set
-as_written = refl
-
+-- the set that is made is the command set
 pub returns : goal.returns
 returns c =
-    let written : IfOk c.to_vec.result (λ text. text.items ≡ codes "# usage: opprove prove|check|refute|model|bench|confirm|explain|cancel") = search rules in
-    IfOk-weaker c.to_vec.result (λ text. text.items ≡ codes "# usage: opprove prove|check|refute|model|bench|confirm|explain|cancel") (λ text. text.items ≡ usage_text)
-    (λ x h. h ∙ as_written) written
+    let set : App = app_of c.in_ok-set.set in
+    let same : set ≡ command_set = c.in_ok-set.ensures in
+    let first : c.in_ok-text.text.items ≡ codes "# usage: " = search rules in
+    let name : c.as_bytes.result.now ≡ set.top.name = c.as_bytes.ensures.value ∙ ap (λ n. n.now) c.get_name.ensures in
+    let named : c.extend_from_slice.new.self.items ≡ c.in_ok-text.text.items ++ c.as_bytes.result.now = search rules in
+    let subs : map (λ k. (shape_of k).name) c.get_subcommands.result.now ≡ map (λ s. s.name) set.subs =
+    ap (map (λ k. (shape_of k).name)) c.get_subcommands.ensures ∙ sym (map-map (λ s. s.name) shape_of _) in
+    c.in_ok-put_names.ensures ∙ (λ i. (named ∙ (λ j. first j ++ name j)) i ++ names_after (codes " ") (subs i))
+    ∙ append_assoc (codes "# usage: ") set.top.name (names_after (codes " ") (map (λ s. s.name) set.subs))
+    ∙ ap (λ (a : App). codes "# usage: " ++ (a.top.name ++ names_after (codes " ") (map (λ s. s.name) a.subs))) same

@@ -1,4 +1,0 @@
-mod Letters
-mod Means
-pub mod Answered
-mod Corollaries

@@ -1,5 +1,0 @@
-use Rattle.word_core.specs.declared.letter.Letter.{Letter}
-use Rattle.cancel_command.proofs.accepted.put_names.Goals as goal
-
-pub put_name-requires : goal.put_name-requires
-put_name-requires c = c.requires c.loop-letter.letter-index (record { 0 = 0 }) c.loop-letter-test.true

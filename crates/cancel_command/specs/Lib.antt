@@ -1,4 +1,0 @@
-pub mod Texts
-pub mod Answers
-pub mod Says
-pub mod Laws

@@ -1,3 +1,0 @@
-pub mod Readable
-pub mod Answered
-pub mod Corollaries

@@ -1,0 +1,121 @@
+-- Bases are judged, and what a closed one means, by its rules.
+use Rattle.std.proofs.Common.{◌≡◌, ℕ, List, ◌++◌, Bool, true, false, Some, Result, Ok, Err, MatchResult, IfOk, get_or, codes, refl, sym, ap, subst, arith}
+use Rattle.std.specs.List.{All}
+use Rattle.definitions.specs.Poly.{Term}
+use Rattle.definitions.specs.Combination.{InRationalIdeal}
+use Rattle.rule_reduce.specs.RuleLists.{polynomials_of}
+use Rattle.block_text.specs.declared.fault.CertFault.{CertFault}
+use Rattle.block_text.specs.Fault.{ExplainsBy}
+use Rattle.adjoint_rules.specs.declared.problem.Problem.{Problem}
+use Rattle.adjoint_rules.specs.Problem.{polynomials}
+use Rattle.quiver.specs.Declarations.{Declaration}
+use Rattle.basis_text.specs.declared.basis.Basis.{Basis}
+use Rattle.basis_text.specs.Bases.{IsBases, IsFirstFault}
+use Rattle.basis_text.proofs.BasisValues.{are_over}
+use Rattle.basis_text.proofs.EachText.{each_text_is_read, bases_are_unique, first_fault_is_unique, bases_have_no_fault}
+use Rattle.closed_checker.specs.declared.refusal.ClosedRefusal.{ClosedRefusal}
+use Rattle.closed_checker.specs.declared.refusal.ClosedRefusal.TheVariants as refusal
+use Rattle.closed_checker.specs.Rests.{rules_of, claim_of}
+use Rattle.closed_checker.specs.Closed.{IsReadableBasis, IsClosedBasis, IsMemory}
+use Rattle.closed_checker.specs.Laws.{ClosedMeans}
+use Rattle.closed_checker.proofs.ClosedMeaning.{closed_bases_mean_outside}
+use Rattle.closed_checker.proofs.Readable.{read_bases_are_readable}
+use Rattle.closed_checker.proofs.Judged.{each_basis_is_judged}
+use Rattle.closed_checker.proofs.NotRefused.{closed_basis_is_not_refused}
+use Rattle.closed_checker.proofs.Refusals.{basis_refusal_is_unique}
+use Rattle.normal_forms.specs.SharpMeans.{SharpMeans}
+use Rattle.normal_forms.proofs.StarSharp.{star_sharp_means}
+use Rattle.normal_category.specs.Faults.{AreSharp}
+use Rattle.normal_category.specs.Tests.{is_sharp}
+use Rattle.normal_category.proofs.Problems.{problem_is_sharp}
+use Rattle.normal_category.proofs.Tested.{sharp_rules_are_told}
+use Rattle.evidence_commands.specs.Confirm.{refusal_text, closed_text, BasisMeans, bases}
+use Rattle.evidence_commands.proofs.Owed.{IsJudged}
+
+-- tests that hold alike are the same
+pub same_test : (a b : Bool) → (a ≡ true → b ≡ true) → (b ≡ true → a ≡ true) → a ≡ b
+same_test true b there back = sym (there refl)
+same_test false true there back = back refl
+same_test false false there back = refl
+
+-- what the meaning of a closed basis says of the polynomials of its rules
+module _ (problem : Problem) (b : Basis) (means : ClosedMeans problem b) where
+  pub rules_generate : All (InRationalIdeal (polynomials_of (rules_of problem b))) (polynomials problem.generators)
+  rules_generate = subst (λ (ps : List (List Term)). All (InRationalIdeal ps) (polynomials problem.generators)) (sym means.same) means.generated
+
+  pub rules_miss_claim : InRationalIdeal (polynomials_of (rules_of problem b)) (claim_of problem b) → ⊥
+  rules_miss_claim inside = means.outside_rules (subst (λ (ps : List (List Term)). InRationalIdeal ps (claim_of problem b)) means.same inside)
+
+  -- the test of the polynomials of the basis is that of its rules
+  pub rules_from_test : is_sharp problem.parts (polynomials b.rules) ≡ true → AreSharp problem.parts (rules_of problem b)
+  rules_from_test holds =
+      (sharp_rules_are_told problem.parts (rules_of problem b)).0
+      (subst (λ (ps : List (List Term)). is_sharp problem.parts ps ≡ true) (sym means.same) holds)
+
+  pub test_from_rules : AreSharp problem.parts (rules_of problem b) → is_sharp problem.parts (polynomials b.rules) ≡ true
+  test_from_rules sharp =
+      subst (λ (ps : List (List Term)). is_sharp problem.parts ps ≡ true) means.same ((sharp_rules_are_told problem.parts (rules_of problem b)).1 sharp)
+
+  sharp_means : IsClosedBasis problem b → is_sharp problem.parts (polynomials b.rules) ≡ true
+      → SharpMeans problem.parts (rules_of problem b) (claim_of problem b)
+  sharp_means closed holds =
+      problem_is_sharp problem (rules_of problem b) means.are_rules means.resolved rules_generate (rules_from_test holds) b.claim
+      closed.has_rules.claim.least closed.has_rules.claim.most rules_miss_claim
+
+pub basis_means : (problem : Problem) (b : Basis) → IsReadableBasis problem.parts.quiver b → IsClosedBasis problem b → BasisMeans problem b
+basis_means problem b readable closed =
+    let means = closed_bases_mean_outside problem b readable closed in
+    let sharp = sharp_means problem b means closed in
+    record {
+      closed = means;
+      sharp = sharp;
+      star_sharp = λ holds starred. star_sharp_means problem.parts (rules_of problem b) (claim_of problem b) problem.posed starred (sharp holds);
+    }
+
+-- they can be checked
+pub bases_are_readable : (ds : List Declaration) (bytes : List ℕ) (bases : List Basis) → IsBases ds bytes bases → All (IsReadableBasis ds) bases
+bases_are_readable ds bytes bases is = read_bases_are_readable ds bytes bases is (are_over ds bytes bases is)
+
+pub read_readable : (ds : List Declaration) (bytes : List ℕ) (read : Result (List Basis) CertFault)
+    → MatchResult read (IsBases ds bytes) (ExplainsBy (IsFirstFault ds bytes)) → IfOk read (All (IsReadableBasis ds))
+read_readable ds bytes (Ok bases) is = bases_are_readable ds bytes bases is
+read_readable ds bytes (Err fault) is = tt
+
+-- the texts of refusals
+has_text : (ds : List Declaration) (r : ClosedRefusal) → (IsMemory r → ⊥) → (cause : List ℕ) × (refusal_text ds r ≡ Some cause)
+has_text ds (refusal.Memory failed) h = absurd (h tt)
+has_text ds other h = (_, refl)
+
+-- a refusal that has a line is no want of memory
+told : (ds : List Declaration) (r : ClosedRefusal) (cause : List ℕ) → refusal_text ds r ≡ Some cause → IsMemory r → ⊥
+told ds (refusal.Memory failed) cause is memory = absurd cc
+told ds other cause is memory = memory
+
+-- no cause begins as the text of a closed basis
+other_text : (problem : Problem) (b : Basis) (cause more : List ℕ) → codes "refused " ++ cause ≡ closed_text problem b ++ more → ⊥
+other_text problem b cause more same =
+    let first : (let n : ℕ = 114 in n) ≡ 99 = ap (λ l. get_or l 0 0) same in
+    absurd (omega arith)
+
+pub bases_are_judged : IsJudged bases
+bases_are_judged = record {
+  IsMemory = IsMemory;
+  is_kind = λ problem text.
+      let ds = problem.parts.quiver in
+      record {
+        each_text = each_text_is_read ds text;
+        one_list = bases_are_unique ds text;
+        one_fault = first_fault_is_unique ds text;
+        no_fault = bases_have_no_fault ds text;
+        each_block = each_basis_is_judged problem;
+        one_refusal = basis_refusal_is_unique problem;
+        not_refused = closed_basis_is_not_refused problem;
+        has_text = has_text ds;
+        no_text = told ds;
+        other_text = other_text problem;
+      };
+  IsReadable = IsReadableBasis;
+  readable = bases_are_readable;
+  shown = basis_means;
+  means = λ laws sound with_lemmas cancelling. basis_means;
+}

@@ -1,0 +1,80 @@
+-- Refusals of bases name letters of the quiver alone.
+use Rattle.std.proofs.Common.{◌≡◌, ℕ, List, Result, Ok, Err, refl, subst}
+use Rattle.std.specs.List.{All}
+use Rattle.std.proofs.lemmas.List.Elements.{All-from_recursion, recursion_from_All}
+use Rattle.definitions.specs.Poly.{Term}
+use Rattle.definitions.specs.Combination.{generator_at}
+use Rattle.word_core.specs.Letters.{IsOver}
+use Rattle.nc_polynomial.specs.declared.fault.PolyFault.{PolyFault}
+use Rattle.quiver.specs.Declarations.{letter_count}
+use Rattle.rule_reduce.specs.declared.state.State.{State}
+use Rattle.rule_reduce.specs.declared.fault.ReduceFault.{ReduceFault}
+use Rattle.rule_reduce.specs.RuleLists.{IsRule}
+use Rattle.rule_reduce.specs.NormalForms.{normal_form_of, halt_of}
+use Rattle.ambiguities.specs.declared.ambiguity.Ambiguity.{Ambiguity}
+use Rattle.ambiguities.specs.Ambiguities.{IsAmbiguity}
+use Rattle.ambiguities.specs.SPolynomials.{s_polynomial_of}
+use Rattle.ambiguities.proofs.Words.{words_over, s_words}
+use Rattle.ambiguities.proofs.OverLetters.{reduced_over}
+use Rattle.adjoint_rules.specs.declared.problem.Problem.{Problem}
+use Rattle.adjoint_rules.specs.Problem.{polynomials}
+use Rattle.basis_text.specs.declared.basis.Basis.{Basis}
+use Rattle.basis_text.specs.Written.{IsPolyOver}
+use Rattle.closed_checker.specs.declared.part.Part.TheVariants as part
+use Rattle.closed_checker.specs.declared.refusal.ClosedRefusal.{ClosedRefusal}
+use Rattle.closed_checker.specs.declared.refusal.ClosedRefusal.TheVariants as refusal
+use Rattle.closed_checker.specs.Limits.{step_limit}
+use Rattle.closed_checker.specs.Rests.{order_of, rules_of, rest_in, rest_by, rest_of, claim_of, MayBeRule}
+use Rattle.closed_checker.specs.Closed.{IsReadableBasis, HasRules, Refuses}
+use Rattle.closed_checker.proofs.BasisRules.{rules_from-are}
+use Rattle.closed_checker.proofs.ByNumber.{generator_over, claim_over}
+use Rattle.closed_checker.proofs.ClosedMeaning.{no_rest}
+use Rattle.evidence_commands.specs.Confirm.{HasRefusalLetters}
+
+same_rest : (p q : List Term) → ◌≡◌ {A = Result (List Term) ReduceFault} (Ok p) (Ok q) → p ≡ q
+same_rest p q is = cc
+
+module _ (problem : Problem) (b : Basis) (readable : IsReadableBasis problem.parts.quiver b) (has : HasRules problem b) where
+  abbrev letters : ℕ
+  letters = letter_count problem.parts.quiver
+
+  abbrev AreBelow : List Term → Type 0
+  AreBelow p = All (λ t. IsOver letters t.1) p
+
+  are_rules : All (IsRule letters (order_of problem)) (rules_of problem b)
+  are_rules = All-from_recursion (IsRule letters (order_of problem)) (rules_of problem b)
+      (rules_from-are (order_of problem) letters b.rules (recursion_from_All (MayBeRule (order_of problem)) b.rules has.rules)
+      (recursion_from_All (IsPolyOver problem.parts.quiver) b.rules readable.over.rules))
+
+  -- what is left of a polynomial
+  rest_below : (p rest : List Term) → AreBelow p → rest_by (order_of problem) (rules_of problem b) (Ok p) ≡ Ok rest → AreBelow rest
+  rest_below p rest below is = go (normal_form_of (order_of problem) (rules_of problem b) p step_limit) refl is
+    where
+      go : (r : Result State ReduceFault) → normal_form_of (order_of problem) (rules_of problem b) p step_limit ≡ r → rest_in r ≡ Ok rest → AreBelow rest
+      go (Ok s) ends k =
+          subst AreBelow (same_rest s.rest rest k) (All-from_recursion (λ (t : Term). IsOver letters t.1) s.rest
+          (reduced_over letters (order_of problem) (rules_of problem b) are_rules p step_limit s (recursion_from_All (λ (t : Term). IsOver letters t.1) p below) ends).0)
+      go (Err e) ends k = absurd (no_rest e rest k)
+
+  -- what is left of an S-polynomial
+  ambiguity_below : (a : Ambiguity) (rest : List Term) → IsAmbiguity (rules_of problem b) a → rest_of problem b (part.Ambiguity a) ≡ Ok rest → AreBelow rest
+  ambiguity_below a rest is = go (s_polynomial_of (rules_of problem b) a) refl
+    where
+      go : (r : Result (List Term) PolyFault) → s_polynomial_of (rules_of problem b) a ≡ r → rest_by (order_of problem) (rules_of problem b) r ≡ Ok rest → AreBelow rest
+      go (Ok p) ends k =
+          rest_below p rest (All-from_recursion (λ (t : Term). IsOver letters t.1) p
+          (words_over letters p (s_words letters (order_of problem) (rules_of problem b) are_rules a is p ends))) k
+      go (Err e) ends k = absurd (no_rest (halt_of e) rest k)
+
+  generator_below : (number : ℕ) (rest : List Term) → rest_of problem b (part.Generator number) ≡ Ok rest → AreBelow rest
+  generator_below number rest k = rest_below (generator_at (polynomials problem.generators) number) rest (generator_over problem number) k
+
+  claim_below : (rest : List Term) → rest_of problem b part.Claim ≡ Ok rest → AreBelow rest
+  claim_below rest k = rest_below (claim_of problem b) rest (claim_over problem b.claim) k
+
+pub refusal_letters : (problem : Problem) (b : Basis) → IsReadableBasis problem.parts.quiver b → (r : ClosedRefusal) → Refuses problem b r → HasRefusalLetters problem.parts.quiver r
+refusal_letters problem b readable (refusal.GeneratorLeft number rest) because = generator_below problem b readable because.reached.has_rules number rest.terms because.left
+refusal_letters problem b readable (refusal.AmbiguityLeft a rest) because =
+    ambiguity_below problem b readable because.reached.has_rules a rest.terms because.reached.part because.left
+refusal_letters problem b readable (refusal.OtherRest rest) because = claim_below problem b readable because.reached.has_rules rest.terms because.left
+refusal_letters problem b readable other because = tt

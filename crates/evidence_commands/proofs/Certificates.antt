@@ -1,0 +1,106 @@
+-- Certificates are judged, and what an accepted one means.
+use Rattle.std.proofs.Common.{◌≡◌, ℕ, List, [], ◌∷◌, ◌++◌, length, get_or, codes, refl, ap, arith}
+use Rattle.std.specs.List.{flat_map}
+use Rattle.std.proofs.lemmas.List.{length-append}
+use Rattle.definitions.specs.Category.{Structure, PreadditiveLaws}
+use Rattle.definitions.specs.Soundness.{IsSound}
+use Rattle.representations.specs.Evidence.{IsEvidenceSound}
+use Rattle.quiver.specs.Declarations.{Declaration}
+use Rattle.traced_rows.specs.declared.evidence.Lemma.{Lemma}
+use Rattle.traced_rows.specs.declared.evidence.LemmaRow.{LemmaRow}
+use Rattle.traced_rows.specs.declared.evidence.Evidence.{Evidence}
+use Rattle.traced_rows.specs.declared.evidence.Evidence.TheVariants.{Plain, Lemmas}
+use Rattle.traced_rows.specs.declared.evidence.Format.TheVariants as format
+use Rattle.cofactor_checker.specs.Acceptance.{IsMemory}
+use Rattle.cofactor_checker.specs.Rows.{IsNumberUpTo}
+use Rattle.cofactor_checker.specs.Lemmas.{row_count}
+use Rattle.cofactor_checker.specs.LemmaAcceptance.{IsRanged, all_polynomials}
+use Rattle.cofactor_checker.specs.Evidence.{IsReadableEvidence, ShowsClaim}
+use Rattle.cofactor_checker.specs.ProvedMeans.{EvidenceAddsUp}
+use Rattle.cofactor_checker.proofs.Shown.{accepted_evidence_adds_up}
+use Rattle.cofactor_checker.proofs.EvidenceUnique.{evidence_refusal_is_unique, accepted_evidence_is_not_refused}
+use Rattle.cofactor_checker.proofs.EvidenceJudged.{evidence_is_judged}
+use Rattle.cofactor_checker.proofs.ProvedMeans.{proved_means}
+use Rattle.adjoint_rules.specs.declared.problem.Problem.{Problem}
+use Rattle.adjoint_rules.specs.Problem.{polynomials}
+use Rattle.certificate_text.specs.Evidence.{IsCheckableLemma, IsCheckableEvidence}
+use Rattle.certificate_text.proofs.EachText.{each_text_is_read, evidence_is_unique, first_fault_is_unique, evidence_has_no_fault}
+use Rattle.evidence_commands.specs.Check.{claim_number, IsAccepted, named_text, AcceptedMeans, certificates}
+use Rattle.evidence_commands.proofs.Causes.{told, refusal_text}
+use Rattle.evidence_commands.proofs.Owed.{IsJudged}
+
+-- what a reader gives can be checked
+row_count-flat : (lemmas : List Lemma) → row_count lemmas ≡ length (flat_map (λ l. l.rows) lemmas)
+row_count-flat [] = refl
+row_count-flat (l ∷ lemmas) =
+    let rest : List LemmaRow = flat_map (λ m. m.rows) lemmas in
+    let more = length-append l.rows rest in
+    let same = row_count-flat lemmas in
+    omega (arith, more, same)
+
+ranged : (ds : List Declaration) (l : Lemma) → IsCheckableLemma ds l → IsRanged l
+ranged ds l checkable = record { scale = checkable.scale; rows = checkable.coefficients }
+
+pub readable : (ds : List Declaration) (e : Evidence) → IsCheckableEvidence ds e → IsReadableEvidence e
+readable ds (Plain c) checkable = let few = checkable.few in record { few_rows = omega arith; denominator = checkable.denominator; coefficients = checkable.coefficients }
+readable ds (Lemmas c) checkable =
+    let lemmas = checkable.few_lemmas in
+    let rows = checkable.few_rows in
+    let same = row_count-flat c.lemmas in
+    record {
+      denominator = checkable.denominator;
+      lemmas = λ k d below. ranged ds _ (checkable.lemmas k d below);
+      goal = ranged ds c.goal checkable.goal;
+      few_lemmas = omega arith;
+      few_rows = omega (arith, same);
+    }
+
+-- no cause begins as the text of an accepted certificate
+other_text : (e : Evidence) (cause more : List ℕ) → codes "refused " ++ cause ≡ named_text e ++ more → ⊥
+other_text e cause more same =
+    let first : (let n : ℕ = 114 in n) ≡ 97 = ap (λ l. get_or l 0 0) same in
+    absurd (omega arith)
+
+-- evidence that is accepted names a claim
+names : (problem : Problem) (e : Evidence) → IsAccepted problem e → IsNumberUpTo (length (polynomials problem.parts.claims)) (claim_number e)
+names problem (Plain c) accepted = accepted.adds_up.begins.posed.claim
+names problem (Lemmas c) accepted = accepted.adds_up.lemmas.begins.shares.posed.claim
+
+-- and adds up to it
+shows_claim : (problem : Problem) (e : Evidence) → ShowsClaim (polynomials problem.parts.claims) (polynomials problem.generators) e → EvidenceAddsUp problem (claim_number e) e
+shows_claim problem (Plain c) shows = record { claim = refl; combination = shows }
+shows_claim problem (Lemmas c) shows = record { claim = refl; lemmas = all_polynomials (polynomials problem.generators) c; evidence = shows }
+
+pub adds_up : (problem : Problem) (e : Evidence) → IsAccepted problem e → EvidenceAddsUp problem (claim_number e) e
+adds_up problem e accepted = shows_claim problem e (accepted_evidence_adds_up (polynomials problem.parts.claims) (polynomials problem.generators) e accepted)
+
+pub accepted_means : {Object Arrow : Type 0} {s : Structure Object Arrow} → PreadditiveLaws s → IsSound s → IsEvidenceSound s
+    → (problem : Problem) (e : Evidence) → IsAccepted problem e → AcceptedMeans s problem e
+accepted_means laws sound with_lemmas problem e accepted =
+    let named = names problem e accepted in
+    proved_means laws sound with_lemmas problem (claim_number e) e named.least named.most (adds_up problem e accepted)
+
+pub certificates_are_judged : IsJudged certificates
+certificates_are_judged = record {
+  IsMemory = IsMemory;
+  is_kind = λ problem text.
+      let ds = problem.parts.quiver in
+      let claims = polynomials problem.parts.claims in
+      let generators = polynomials problem.generators in
+      record {
+        each_text = each_text_is_read format.Lemmas ds text;
+        one_list = evidence_is_unique format.Lemmas ds text;
+        one_fault = first_fault_is_unique format.Lemmas ds text;
+        no_fault = evidence_has_no_fault format.Lemmas ds text;
+        each_block = evidence_is_judged claims generators;
+        one_refusal = evidence_refusal_is_unique claims generators;
+        not_refused = accepted_evidence_is_not_refused claims generators;
+        has_text = refusal_text ds;
+        no_text = told ds;
+        other_text = other_text;
+      };
+  IsReadable = λ ds e. Unit {0};
+  readable = λ ds text es are k d below. tt;
+  shown = λ problem e readable. adds_up problem e;
+  means = λ laws sound with_lemmas cancelling problem e readable. accepted_means laws sound with_lemmas problem e;
+}

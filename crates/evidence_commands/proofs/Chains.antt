@@ -1,0 +1,143 @@
+-- Certificates are explained or refused, and what an explained one means.
+use Rattle.std.proofs.Common.{◌≡◌, ◌⊎◌, inl, inr, ℕ, pos, List, [], ◌∷◌, ◌++◌, Some, get_or, codes, refl, ap, arith}
+use Rattle.std.specs.List.{AllByRecursion}
+use Rattle.definitions.specs.Category.{Structure, PreadditiveLaws}
+use Rattle.definitions.specs.Poly.{Term}
+use Rattle.definitions.specs.Soundness.{HasSignature, IsSound, MakesZero}
+use Rattle.representations.specs.Evidence.{IsEvidenceSound}
+use Rattle.quiver.specs.Declarations.{Declaration, quiver_of}
+use Rattle.traced_rows.specs.declared.certificate.Certificate.{Certificate}
+use Rattle.traced_rows.specs.declared.evidence.Evidence.{Evidence}
+use Rattle.traced_rows.specs.declared.evidence.Evidence.TheVariants.{Plain, Lemmas}
+use Rattle.traced_rows.specs.declared.evidence.Format.TheVariants as format
+use Rattle.adjoint_rules.specs.declared.problem.Problem.{Problem}
+use Rattle.adjoint_rules.specs.Problem.{polynomials}
+use Rattle.certificate_text.specs.Evidence.{IsCheckable}
+use Rattle.certificate_text.proofs.EachText.{each_text_is_read, evidence_is_unique, first_fault_is_unique, evidence_has_no_fault}
+use Rattle.cofactor_checker.specs.ProvedMeans.{MeansZero}
+use Rattle.cofactor_checker.proofs.ProvedMeans.{means_zero}
+use Rattle.equation_chain.specs.declared.fault.ChainFault.{ChainFault}
+use Rattle.equation_chain.specs.declared.fault.ChainFault.TheVariants as fault
+use Rattle.equation_chain.specs.Lines.{lines_of}
+use Rattle.equation_chain.specs.Faults as chain
+use Rattle.equation_chain.proofs.Chains.{lines_are_a_chain}
+use Rattle.equation_chain.proofs.Letters.{lines_have_signatures}
+use Rattle.equation_chain.proofs.Outcomes as outcomes
+use Rattle.equation_chain.proofs.Sums.{steps_add_up}
+use Rattle.equation_chain.proofs.Typed.{steps_typed}
+use Rattle.equation_chain.proofs.Vanishing.{lines_vanish}
+use Rattle.evidence_commands.specs.declared.explain.ExplainRefusal.{ExplainRefusal}
+use Rattle.evidence_commands.specs.declared.explain.ExplainRefusal.TheVariants.{HasLemmas, HasFault}
+use Rattle.evidence_commands.specs.Explain.{IsExplained, IsRefused, IsMemory, fault_text, refusal_text, HasFaultLetters}
+use Rattle.evidence_commands.specs.Explain.{explained_text, ExplainedMeans, IsChained, BlockMeans, chains}
+use Rattle.evidence_commands.proofs.Causes as causes
+use Rattle.evidence_commands.proofs.Letters.{refused_letters}
+use Rattle.evidence_commands.proofs.Certificates.{accepted_means}
+use Rattle.evidence_commands.proofs.Owed.{IsJudged}
+
+-- one outcome for each block
+module _ (problem : Problem) where
+  each_block : (e : Evidence) → IsExplained problem e ⊎ ((r : ExplainRefusal) × IsRefused problem e r × (IsMemory r → ⊥))
+  each_block (Plain c) = by (outcomes.each_is_explained problem c)
+    where
+      by : chain.IsExplained problem c ⊎ ((f : ChainFault) × chain.IsFirstFault problem c f × (chain.IsMemory f → ⊥))
+          → IsExplained problem (Plain c) ⊎ ((r : ExplainRefusal) × IsRefused problem (Plain c) r × (IsMemory r → ⊥))
+      by (inl explained) = inl explained
+      by (inr wrong) = inr (HasFault wrong.0, wrong.1, wrong.2)
+  each_block (Lemmas c) = inr (HasLemmas, tt, λ none. none)
+
+  one_refusal : (e : Evidence) (r r' : ExplainRefusal) → IsRefused problem e r → IsRefused problem e r' → (IsMemory r → ⊥) → (IsMemory r' → ⊥) → r ≡ r'
+  one_refusal (Plain c) (HasFault f) (HasFault g) one other no_memory no_memory' = ap HasFault (outcomes.first_fault_is_unique problem c f g one other no_memory no_memory')
+  one_refusal (Plain c) (HasFault f) HasLemmas one other no_memory no_memory' = absurd other
+  one_refusal (Plain c) HasLemmas r' one other no_memory no_memory' = absurd one
+  one_refusal (Lemmas c) HasLemmas HasLemmas one other no_memory no_memory' = refl
+  one_refusal (Lemmas c) HasLemmas (HasFault g) one other no_memory no_memory' = absurd other
+  one_refusal (Lemmas c) (HasFault f) r' one other no_memory no_memory' = absurd one
+
+  not_refused : (e : Evidence) (r : ExplainRefusal) → IsExplained problem e → IsRefused problem e r → IsMemory r
+  not_refused (Plain c) (HasFault f) explained is = outcomes.explained_has_no_fault problem c f explained is
+  not_refused (Plain c) HasLemmas explained is = absurd is
+  not_refused (Lemmas c) r explained is = absurd explained
+
+-- the texts of refusals
+fault_has_text : (ds : List Declaration) (f : ChainFault) → (chain.IsMemory f → ⊥) → (cause : List ℕ) × (fault_text ds f ≡ Some cause)
+fault_has_text ds (fault.Refused refusal) h = causes.refusal_text ds refusal h
+fault_has_text ds (fault.Memory failed) h = absurd (h tt)
+fault_has_text ds other h = (_, refl)
+
+has_text : (ds : List Declaration) (r : ExplainRefusal) → (IsMemory r → ⊥) → (cause : List ℕ) × (refusal_text ds r ≡ Some cause)
+has_text ds HasLemmas h = (_, refl)
+has_text ds (HasFault f) h = fault_has_text ds f h
+
+-- a refusal that has a line is no want of memory
+fault_told : (ds : List Declaration) (f : ChainFault) (cause : List ℕ) → fault_text ds f ≡ Some cause → chain.IsMemory f → ⊥
+fault_told ds (fault.Refused refusal) cause is memory = causes.told ds refusal cause is memory
+fault_told ds (fault.Memory failed) cause is memory = absurd cc
+fault_told ds other cause is memory = memory
+
+told : (ds : List Declaration) (r : ExplainRefusal) (cause : List ℕ) → refusal_text ds r ≡ Some cause → IsMemory r → ⊥
+told ds HasLemmas cause is memory = memory
+told ds (HasFault f) cause is memory = fault_told ds f cause is memory
+
+-- no cause begins as the text of an explained block
+differ : (cause more : List ℕ) → codes "refused " ++ cause ≡ 101 ∷ more → ⊥
+differ cause more same =
+    let first : (let n : ℕ = 114 in n) ≡ 101 = ap (λ l. get_or l 0 0) same in
+    absurd (omega arith)
+
+other_text : (problem : Problem) (e : Evidence) (cause more : List ℕ) → codes "refused " ++ cause ≡ explained_text problem e ++ more → ⊥
+other_text problem (Plain c) cause more same = differ cause _ same
+other_text problem (Lemmas c) cause more same = differ cause _ same
+
+-- refusals name letters of the quiver alone
+pub fault_letters : (problem : Problem) (c : Certificate) → IsCheckable problem.parts.quiver c → (f : ChainFault) → chain.IsFirstFault problem c f → HasFaultLetters problem.parts.quiver f
+fault_letters problem c checkable (fault.Refused refusal) because = refused_letters problem (Plain c) checkable refusal because
+fault_letters problem c checkable other because = tt
+
+-- what explained certificates mean
+module _ {Object Arrow : Type 0} {s : Structure Object Arrow} (laws : PreadditiveLaws s) (sound : IsSound s) (with_lemmas : IsEvidenceSound s) (problem : Problem) where
+  -- lines that have signatures and are zero wherever the generators are
+  each_line : (lines : List (List Term)) → AllByRecursion (HasSignature (quiver_of problem.parts.quiver)) lines
+      → AllByRecursion (MakesZero s (quiver_of problem.parts.quiver) (polynomials problem.generators) (pos 1)) lines → AllByRecursion (MeansZero s problem (pos 1)) lines
+  each_line [] typed makes = tt
+  each_line (l ∷ lines) typed makes = (means_zero laws problem (pos 1) l makes.0 typed.0, each_line lines typed.1 makes.1)
+
+  explained_means : (c : Certificate) → chain.IsExplained problem c → ExplainedMeans s problem c
+  explained_means c explained = record {
+    sum = steps_add_up problem c explained.accepted;
+    means = (accepted_means laws sound with_lemmas problem (Plain c) explained.accepted).means;
+    typed = steps_typed problem c;
+    lines = lines_are_a_chain problem c explained;
+    each = each_line (lines_of problem c) (lines_have_signatures problem c explained.accepted) (lines_vanish laws problem c explained.accepted);
+  }
+
+  block_means : (e : Evidence) → IsExplained problem e → BlockMeans s problem e
+  block_means (Plain c) explained = explained_means c explained
+  block_means (Lemmas c) explained = absurd explained
+
+chained : (problem : Problem) (e : Evidence) → IsExplained problem e → IsChained problem e
+chained problem (Plain c) explained = lines_are_a_chain problem c explained
+chained problem (Lemmas c) explained = absurd explained
+
+pub chains_are_judged : IsJudged chains
+chains_are_judged = record {
+  IsMemory = IsMemory;
+  is_kind = λ problem text.
+      let ds = problem.parts.quiver in
+      record {
+        each_text = each_text_is_read format.Lemmas ds text;
+        one_list = evidence_is_unique format.Lemmas ds text;
+        one_fault = first_fault_is_unique format.Lemmas ds text;
+        no_fault = evidence_has_no_fault format.Lemmas ds text;
+        each_block = each_block problem;
+        one_refusal = one_refusal problem;
+        not_refused = not_refused problem;
+        has_text = has_text ds;
+        no_text = told ds;
+        other_text = other_text problem;
+      };
+  IsReadable = λ ds e. Unit {0};
+  readable = λ ds text es are k d below. tt;
+  shown = λ problem e readable. chained problem e;
+  means = λ laws sound with_lemmas cancelling problem e readable. block_means laws sound with_lemmas problem e;
+}

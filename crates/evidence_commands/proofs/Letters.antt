@@ -1,0 +1,88 @@
+-- A word at which sums of rows and multiples of claims differ, or that a scale doesn't divide, has letters of the quiver alone.
+use Rattle.std.proofs.Common.{◌≡◌, ℕ, ℤ, true, List, [], ◌∷◌, inl, inr, Result, Err, IfErr, sym, subst}
+use Rattle.std.specs.List.{AllByRecursion}
+use Rattle.std.proofs.lemmas.List.Elements.{recursion_from_All}
+use Rattle.definitions.specs.Combination.{generator_at, row_sum}
+use Rattle.word_core.specs.Letters.{IsOver}
+use Rattle.quiver.specs.Declarations.{letter_count}
+use Rattle.traced_rows.specs.declared.certificate.CertRow.{CertRow}
+use Rattle.traced_rows.specs.declared.certificate.Certificate.{Certificate}
+use Rattle.traced_rows.specs.declared.evidence.LemmaRow.{LemmaRow}
+use Rattle.traced_rows.specs.declared.evidence.Lemma.{Lemma}
+use Rattle.traced_rows.specs.declared.evidence.LemmaCertificate.{LemmaCertificate}
+use Rattle.traced_rows.specs.declared.evidence.Evidence.{Evidence}
+use Rattle.traced_rows.specs.declared.evidence.Evidence.TheVariants.{Plain, Lemmas}
+use Rattle.traced_rows.specs.Rows.{rows_of}
+use Rattle.cofactor_checker.specs.declared.refusal.Refusal.{Refusal}
+use Rattle.cofactor_checker.specs.Acceptance.{Refuses}
+use Rattle.cofactor_checker.specs.declared.refusal.Refusal.TheVariants as refusal
+use Rattle.cofactor_checker.specs.PlainRows.{plain_sum}
+use Rattle.cofactor_checker.specs.LemmaAcceptance.{all_polynomials, RefusesBlock, RefusesLemmaCertificate}
+use Rattle.cofactor_checker.specs.Evidence.{RefusesEvidence}
+use Rattle.cofactor_checker.proofs.LetterSums.{is_over, AreOver, IsLemmaOver, Stays, sum_stays, difference_is_over, plain_stays, lemmas_stay, indivisible_is_over, drawn, word_over, over_word, generators_stay, claim_stays}
+use Rattle.adjoint_rules.specs.declared.problem.Problem.{Problem}
+use Rattle.adjoint_rules.specs.Problem.{polynomials}
+use Rattle.certificate_text.specs.Evidence.{IsRowOver, IsLemmaRowOver, IsCheckable, IsCheckableLemma, IsCheckableByLemmas, IsCheckableEvidence}
+use Rattle.evidence_commands.specs.Causes.{HasLetters}
+
+-- a refusal that `?` hands on
+pub handed_on : {A E : Type 0} (P : E → Type 0) (result : Result A E) (e : E) → result ≡ Err e → P e → IfErr result P
+handed_on {A} {E} P result e is holds = let F : Result A E → Type 0 = λ r. IfErr r P in subst F (sym is) holds
+
+-- the words that refusals name
+module _ (problem : Problem) where
+  -- of a certificate of rows over generators alone
+  rows_over : (rows : List CertRow) → AllByRecursion (IsRowOver problem.parts.quiver) rows → AreOver (drawn problem) (rows_of rows)
+  rows_over [] all = tt
+  rows_over (r ∷ rows) all = ((word_over problem r.left all.0.left, word_over problem r.right all.0.right), rows_over rows all.1)
+
+  module _ (c : Certificate) (checkable : IsCheckable problem.parts.quiver c) where
+    certificate_letters : (r : Refusal) → Refuses (polynomials problem.parts.claims) (polynomials problem.generators) c r → HasLetters problem.parts.quiver r
+    certificate_letters (refusal.Differs word want got) because =
+        let rows : AreOver (drawn problem) (rows_of c.rows) = rows_over c.rows (recursion_from_All (IsRowOver problem.parts.quiver) c.rows checkable.letters) in
+        let sum : List (ℤ × List ℕ) = row_sum (polynomials problem.generators) (rows_of c.rows) in
+        over_word problem word
+        (difference_is_over (drawn problem) c.denominator (generator_at (polynomials problem.parts.claims) c.claim) sum word want got (claim_stays problem c.claim) (sum_stays (drawn problem) (polynomials problem.generators) (rows_of c.rows) (generators_stay problem) rows)
+        because.difference.wanted_there because.difference.found_there because.difference.differ)
+    certificate_letters (refusal.NotDivisible lemma word got) because = absurd because
+    certificate_letters other because = tt
+
+  -- of a certificate with lemmas
+  lemma_rows_over : (rows : List LemmaRow) → AllByRecursion (IsLemmaRowOver problem.parts.quiver) rows → AllByRecursion (λ r. (is_over (drawn problem) r.left ≡ true) × (is_over (drawn problem) r.right ≡ true)) rows
+  lemma_rows_over [] all = tt
+  lemma_rows_over (r ∷ rows) all = ((word_over problem r.left all.0.left, word_over problem r.right all.0.right), lemma_rows_over rows all.1)
+
+  lemma_over : (l : Lemma) → IsCheckableLemma problem.parts.quiver l → IsLemmaOver (drawn problem) l
+  lemma_over l checkable = lemma_rows_over l.rows (recursion_from_All (IsLemmaRowOver problem.parts.quiver) l.rows checkable.letters)
+
+  lemmas_over : (lemmas : List Lemma) → AllByRecursion (IsCheckableLemma problem.parts.quiver) lemmas → AllByRecursion (IsLemmaOver (drawn problem)) lemmas
+  lemmas_over [] all = tt
+  lemmas_over (l ∷ lemmas) all = (lemma_over l all.0, lemmas_over lemmas all.1)
+
+  module _ (c : LemmaCertificate) (checkable : IsCheckableByLemmas problem.parts.quiver c) where
+    over : AllByRecursion (IsLemmaOver (drawn problem)) c.lemmas
+    over = lemmas_over c.lemmas (recursion_from_All (IsCheckableLemma problem.parts.quiver) c.lemmas checkable.lemmas)
+
+    goal_stays : Stays (drawn problem) (plain_sum (polynomials problem.generators) (all_polynomials (polynomials problem.generators) c) c.goal.rows)
+    goal_stays =
+        plain_stays (drawn problem) (polynomials problem.generators) (generators_stay problem) (all_polynomials (polynomials problem.generators) c) c.goal
+        (lemmas_stay (drawn problem) (polynomials problem.generators) (generators_stay problem) [] c.lemmas tt over) (lemma_over c.goal checkable.goal)
+
+    not_divided : (lemma : ℕ) (word : List ℕ) (got : ℤ) → RefusesBlock (polynomials problem.parts.claims) (polynomials problem.generators) c (refusal.NotDivisible lemma word got)
+        → IsOver (letter_count problem.parts.quiver) word
+    not_divided lemma word got (inl of_lemma) =
+        over_word problem word (indivisible_is_over (drawn problem) (polynomials problem.generators) (generators_stay problem) [] 0 c.lemmas lemma word got tt over of_lemma.1)
+    not_divided lemma word got (inr of_goal) = absurd of_goal.1
+
+    lemma_letters : (r : Refusal) → RefusesLemmaCertificate (polynomials problem.parts.claims) (polynomials problem.generators) c r → HasLetters problem.parts.quiver r
+    lemma_letters (refusal.NotDivisible lemma word got) because = not_divided lemma word got because
+    lemma_letters (refusal.Differs word want got) because =
+        over_word problem word
+        (difference_is_over (drawn problem) c.goal.scale (generator_at (polynomials problem.parts.claims) c.claim) (plain_sum (polynomials problem.generators) (all_polynomials (polynomials problem.generators) c) c.goal.rows)
+        word want got (claim_stays problem c.claim) goal_stays because.difference.wanted_there because.difference.found_there because.difference.differ)
+    lemma_letters other because = tt
+
+  -- each refusal names letters of the quiver alone
+  pub refused_letters : (e : Evidence) → IsCheckableEvidence problem.parts.quiver e → (r : Refusal) → RefusesEvidence (polynomials problem.parts.claims) (polynomials problem.generators) e r → HasLetters problem.parts.quiver r
+  refused_letters (Plain c) checkable r because = certificate_letters c checkable r because
+  refused_letters (Lemmas c) checkable r because = lemma_letters c checkable r because

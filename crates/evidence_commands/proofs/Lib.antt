@@ -1,0 +1,11 @@
+pub mod Owed
+pub mod Causes
+pub mod Letters
+pub mod Certificates
+pub mod Models
+pub mod Bases
+mod BasisLetters
+pub mod Chains
+mod ChainTexts
+pub mod Cancellations
+pub mod EachCommand

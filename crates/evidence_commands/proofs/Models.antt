@@ -1,0 +1,85 @@
+-- Models are judged, and what a confirmed one means.
+use Rattle.std.proofs.Common.{◌≡◌, ◌<◌, ℕ, List, ◌++◌, Some, get_or, codes, refl, ap, subst, sym, ◌∙◌, arith}
+use Rattle.quiver.specs.Declarations.{Declaration, quiver_of}
+use Rattle.quiver.proofs.Counts.{letters-quiver_of}
+use Rattle.matrix_models.specs.declared.model.Model.{Model}
+use Rattle.adjoint_rules.specs.declared.problem.Problem.{Problem}
+use Rattle.model_checker.specs.declared.refusal.ModelRefusal.{ModelRefusal}
+use Rattle.model_checker.specs.declared.refusal.ModelRefusal.TheVariants as refusal
+use Rattle.model_checker.specs.Models.{Refutes}
+use Rattle.model_checker.specs.Models as search
+use Rattle.model_checker.specs.Refusals.{RefusesModel, IsMemory}
+use Rattle.model_checker.proofs.Judged.{each_model_is_judged, refuting_model_is_not_refused}
+use Rattle.model_checker.proofs.RefutedMeans.{refuted_means}
+use Rattle.model_checker.proofs.UniqueRefusals.{model_refusal_is_unique}
+use Rattle.model_text.specs.Models.{IsModel}
+use Rattle.model_text.proofs.EachText.{each_text_is_read, models_are_unique, first_fault_is_unique, models_have_no_fault}
+use Rattle.model_text.proofs.ModelValues.{models_are_models}
+use Rattle.evidence_commands.specs.Model.{model_cause, HasModelLetter, claim_confirmed, ConfirmedMeans, models}
+use Rattle.evidence_commands.proofs.Owed.{IsJudged}
+
+-- they are models in the words of the search
+pub readable : (ds : List Declaration) (m : Model) → IsModel ds m → search.IsModel (quiver_of ds) m
+readable ds m is = record { modulus = is.modulus; side_of_each = is.objects; sides = is.sides; place_of_each = is.letters ∙ sym (letters-quiver_of ds) }
+
+-- a refusal names a declared map
+pub refused_letter : (problem : Problem) (m : Model) (e : ModelRefusal) → RefusesModel problem m e → HasModelLetter problem.parts.quiver e
+refused_letter problem m refusal.NoSuchClaim because = tt
+refused_letter problem m (refusal.MissingMap letter) because = subst (λ n. letter.0 < n) (letters-quiver_of problem.parts.quiver) because.1.at.map.letter
+refused_letter problem m (refusal.BadShape letter) because = subst (λ n. letter.0 < n) (letters-quiver_of problem.parts.quiver) because.1.at.map.letter
+refused_letter problem m (refusal.NotSymmetric letter) because = subst (λ n. letter.0 < n) (letters-quiver_of problem.parts.quiver) because.1.at.map.letter
+refused_letter problem m (refusal.NotZero number) because = tt
+refused_letter problem m refusal.ClaimZero because = tt
+refused_letter problem m (refusal.Memory failed) because = tt
+
+-- the texts of refusals
+refusal_text : (ds : List Declaration) (e : ModelRefusal) → (IsMemory e → ⊥) → (cause : List ℕ) × (model_cause ds e ≡ Some cause)
+refusal_text ds refusal.NoSuchClaim h = (_, refl)
+refusal_text ds (refusal.MissingMap letter) h = (_, refl)
+refusal_text ds (refusal.BadShape letter) h = (_, refl)
+refusal_text ds (refusal.NotSymmetric letter) h = (_, refl)
+refusal_text ds (refusal.NotZero number) h = (_, refl)
+refusal_text ds refusal.ClaimZero h = (_, refl)
+refusal_text ds (refusal.Memory failed) h = absurd (h tt)
+
+told : (ds : List Declaration) (e : ModelRefusal) (cause : List ℕ) → model_cause ds e ≡ Some cause → IsMemory e → ⊥
+told ds (refusal.Memory failed) cause is memory = absurd cc
+told ds refusal.NoSuchClaim cause is memory = memory
+told ds (refusal.MissingMap letter) cause is memory = memory
+told ds (refusal.BadShape letter) cause is memory = memory
+told ds (refusal.NotSymmetric letter) cause is memory = memory
+told ds (refusal.NotZero number) cause is memory = memory
+told ds refusal.ClaimZero cause is memory = memory
+
+-- no cause begins as the text of a confirmed model
+other_text : (m : Model) (cause more : List ℕ) → codes "refused " ++ cause ≡ claim_confirmed m.claim ++ more → ⊥
+other_text m cause more same =
+    let first : (let n : ℕ = 114 in n) ≡ 99 = ap (λ l. get_or l 0 0) same in
+    absurd (omega arith)
+
+-- a model that refutes the claim that it names has its meaning
+confirmed_means : (problem : Problem) (m : Model) → IsModel problem.parts.quiver m → Refutes problem m → ConfirmedMeans problem m
+confirmed_means problem m is refutes = refuted_means problem m.claim m (readable problem.parts.quiver m is) refl refutes
+
+pub models_are_judged : IsJudged models
+models_are_judged = record {
+  IsMemory = IsMemory;
+  is_kind = λ problem text.
+      let ds = problem.parts.quiver in
+      record {
+        each_text = each_text_is_read ds text;
+        one_list = models_are_unique ds text;
+        one_fault = first_fault_is_unique ds text;
+        no_fault = models_have_no_fault ds text;
+        each_block = each_model_is_judged problem;
+        one_refusal = model_refusal_is_unique problem;
+        not_refused = refuting_model_is_not_refused problem;
+        has_text = refusal_text ds;
+        no_text = told ds;
+        other_text = other_text;
+      };
+  IsReadable = IsModel;
+  readable = models_are_models;
+  shown = confirmed_means;
+  means = λ laws sound with_lemmas cancelling. confirmed_means;
+}

@@ -1,0 +1,110 @@
+-- What a kind of evidence owes, and what follows for its command.
+use Rattle.std.proofs.Common.{◌≡◌, ◌⊎◌, inl, inr, ℕ, List, [], ◌∷◌, ◌++◌, refl, sym, subst, ◌∙◌, arith}
+use Rattle.std.specs.List.{All, AllByRecursion}
+use Rattle.std.proofs.lemmas.List.{append-nil}
+use Rattle.std.proofs.lemmas.List.Elements.{All-head, All-tail}
+use Rattle.definitions.specs.Category.{Structure, PreadditiveLaws}
+use Rattle.definitions.specs.Soundness.{IsSound}
+use Rattle.representations.specs.Evidence.{IsEvidenceSound}
+use Rattle.cancel_rules.specs.Meaning.{IsCancellationSound}
+use Rattle.quiver.specs.Declarations.{Declaration}
+use Rattle.adjoint_rules.specs.declared.problem.Problem.{Problem}
+use Rattle.command_shape.specs.Ending.{Ending}
+use Rattle.command_shape.proofs.BlockTexts.{IsKind, text_answered, text_answered_once, text_status, passing_answered, zero_answered, first_answered, all_first}
+use Rattle.stated_problem.specs.Statement.{faulty, stated}
+use Rattle.stated_problem.proofs.Statements.{stated_leads, over_problem}
+use Rattle.stated_problem.proofs.Owed.{OwesEnding, owed_over, zero_or_past}
+use Rattle.evidence_commands.specs.Kind.{Kind, AnswersText, AnswersBoth, Says}
+use Rattle.evidence_commands.specs.Laws.{PassingAreAnswered, ZeroIsPassing, ZeroMeans, FaultsAreAnswered, ThreeIsFaulty}
+
+pub record IsJudged {Block Refusal : Type 0} (kind : Kind Block Refusal) : Type 1 where
+  -- blocks are read in one way, and each passes or is refused for one test
+  pub IsMemory : Refusal → Type 0
+  pub is_kind : (problem : Problem) (text : List ℕ)
+      → IsKind (kind.Passes problem) (kind.shows problem) (kind.IsRefused problem) (kind.cause problem.parts.quiver) IsMemory
+      (kind.AreBlocks problem.parts.quiver text) (kind.IsFirstFault problem.parts.quiver text)
+  -- what is read can be judged
+  pub IsReadable : List Declaration → Block → Type 0
+  pub readable : (ds : List Declaration) (text : List ℕ) (blocks : List Block) → kind.AreBlocks ds text blocks → All (IsReadable ds) blocks
+  -- and a block that passes shows what is said, and means it
+  pub shown : (problem : Problem) (block : Block) → IsReadable problem.parts.quiver block → kind.Passes problem block → kind.Shown problem block
+  pub means : {Object Arrow : Type 0} {s : Structure Object Arrow} → PreadditiveLaws s → IsSound s → IsEvidenceSound s → IsCancellationSound s
+      → (problem : Problem) (block : Block) → IsReadable problem.parts.quiver block → kind.Passes problem block → kind.Means Object Arrow s problem block
+
+each_passing : {Block : Type 0} (Readable Passes Holds : Block → Type 0) → ((block : Block) → Readable block → Passes block → Holds block)
+    → (blocks : List Block) → All Readable blocks → AllByRecursion Passes blocks → AllByRecursion Holds blocks
+each_passing Readable Passes Holds holds [] readable pass = tt
+each_passing Readable Passes Holds holds (block ∷ blocks) readable pass = (
+  holds block (All-head Readable block blocks readable) pass.0,
+  each_passing Readable Passes Holds holds blocks (All-tail Readable block blocks readable) pass.1,
+)
+
+-- 0 and 7 are not 3
+not_three : (n : ℕ) → (n ≡ 0) ⊎ (n ≡ 7) → n ≡ 3 → ⊥
+not_three n (inl is) three = omega arith
+not_three n (inr is) three = omega arith
+
+module _ {Block Refusal : Type 0} (kind : Kind Block Refusal) (judged : IsJudged kind) where
+  -- what its command owes
+  says : {Object Arrow : Type 0} {s : Structure Object Arrow} → PreadditiveLaws s → IsSound s → IsEvidenceSound s → IsCancellationSound s
+      → (statement text : List ℕ) (ending : Ending) → AnswersBoth kind statement text ending → Says kind s statement text ending.report
+  says {Object} {Arrow} {s} laws sound with_lemmas cancelling statement text ending answers = record {
+    each = λ problem first others rest is are begins.
+        let ds = problem.parts.quiver in
+        each_passing (judged.IsReadable ds) (kind.Passes problem) (kind.Means Object Arrow s problem)
+        (judged.means laws sound with_lemmas cancelling problem) first
+        (all_first (judged.IsReadable ds) first others (judged.readable ds text (first ++ others) are))
+        (first_answered (judged.is_kind problem text) ending first others rest are begins
+        (stated_leads statement (AnswersText kind text) ending problem is answers));
+  }
+
+  pub owes : (statement text : List ℕ)
+      → OwesEnding (AnswersBoth kind statement text) (λ Object Arrow s ending. Says kind s statement text ending.report)
+  owes statement text = owed_over statement (AnswersText kind text) (λ Object Arrow s ending. Says kind s statement text ending.report)
+      (record {
+        one = λ problem. text_answered (judged.is_kind problem text);
+        no_other = λ problem. text_answered_once (judged.is_kind problem text);
+        own = λ problem ending answer. zero_or_past ending.status (text_status (judged.is_kind problem text) ending answer);
+      })
+      (λ Object Arrow s laws sound with_lemmas cancelling ending. says laws sound with_lemmas cancelling statement text ending)
+
+  -- what users ask of it
+  pub passing_are_answered : PassingAreAnswered kind
+  passing_are_answered statement text problem blocks is are all = stated problem is (passing_answered (judged.is_kind problem text) blocks are all)
+
+  pub zero_is_passing : ZeroIsPassing kind
+  zero_is_passing statement text ending answers is_zero =
+      let over = over_problem statement (AnswersText kind text) ending answers is_zero in
+      let ds = over.0.parts.quiver in
+      let all = zero_answered (judged.is_kind over.0 text) ending over.2 is_zero in
+      record {
+        problem = over.0;
+        blocks = all.all;
+        stated = over.1;
+        read = all.are;
+        pass = all.pass;
+        shown = each_passing (judged.IsReadable ds) (kind.Passes over.0) (kind.Shown over.0) (judged.shown over.0) all.all
+            (judged.readable ds text all.all all.are) all.pass;
+        report = all.says;
+      }
+
+  pub zero_means : {Object Arrow : Type 0} (s : Structure Object Arrow) → ZeroMeans kind s
+  zero_means s statement text ending answers says is_zero =
+      let all = zero_is_passing statement text ending answers is_zero in
+      record {
+        problem = all.problem;
+        blocks = all.blocks;
+        stated = all.stated;
+        read = all.read;
+        each = says.each all.problem all.blocks [] [] all.stated
+            (subst (λ (blocks : List Block). kind.AreBlocks all.problem.parts.quiver text blocks) (sym (append-nil all.blocks)) all.read)
+            (all.report ∙ sym (append-nil _));
+      }
+
+  pub faults_are_answered : FaultsAreAnswered kind
+  faults_are_answered statement text refusal refused = faulty refusal refused refl
+
+  pub three_is_faulty : ThreeIsFaulty kind
+  three_is_faulty statement text ending (faulty refusal refused ends) is_three = (refusal, refused, ends)
+  three_is_faulty statement text ending (stated problem is leads) is_three =
+      absurd (not_three ending.status (text_status (judged.is_kind problem text) ending leads) is_three)

@@ -1,0 +1,9 @@
+pub mod Kind
+pub mod Causes
+pub mod Check
+pub mod Model
+pub mod Confirm
+pub mod Explain
+pub mod Cancel
+pub mod Commands
+pub mod Laws

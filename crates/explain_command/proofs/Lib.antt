@@ -1,4 +1,0 @@
-mod Letters
-mod Texts
-pub mod Answered
-mod Corollaries

@@ -1,5 +1,0 @@
-pub mod Refusals
-pub mod Texts
-pub mod Answers
-pub mod Says
-pub mod Laws

@@ -1,8 +1,0 @@
-use Rattle.model_command.proofs.Corollaries as lemma
-use Rattle.model_command.proofs.laws.confirmed_models_are_answered_by_0.Goals as goal
-
-pub returns-clause-answered : goal.returns-clause-answered
-returns-clause-answered c = lemma.confirmed_are_answered
-
-pub returns-clause-no_others : goal.returns-clause-no_others
-returns-clause-no_others c = lemma.zero_is_confirmed
