@@ -19,18 +19,18 @@ import presentations
 from opprove.checkers import tree
 from opprove.checkers.check import Problem
 from measuring import NO_MEMORY, OPPROVE, Text, Usage, bound, build, head, least, line, load, quotient, quotient_text, told, write
-from trying import EXAMPLES, installed, need, run
+from trying import LIBRARY, installed, need, run
 
 PAIRS = [1000, 5000, 20000]
 ENDED = (0, 10, 12)  # the statuses of proved, underivable and undecided claims
 
 
 def example(name: str) -> Callable[[], str]:
-    return lambda: (EXAMPLES / name).read_text(encoding="utf-8")
+    return lambda: (LIBRARY / name).read_text(encoding="utf-8")
 
 
 PROBLEMS: Dict[str, Callable[[], str]] = {
-    "braid on three strands, `gallery/braid_relation.op`": example("gallery/braid_relation.op"),
+    "braid on three strands, `false/braid_relation.op`": example("false/braid_relation.op"),
     "braid on four strands, `presentations.py braid 4`": lambda: presentations.braid(4),
     "plactic monoid, `plactic 4`": lambda: presentations.plactic(4),
     "Coxeter group of a path, `coxeter 3 3 5 3`": lambda: presentations.coxeter(3, 3, 5, 3),

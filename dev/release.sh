@@ -117,7 +117,7 @@ fill() {
   made share/fish/vendor_completions.d/opprove.fish completions fish
   put share/vim/vimfiles editors/vim/ftdetect editors/vim/syntax
   put share/opprove/editors editors/textmate
-  put share/doc/opprove README.md CHANGELOG.md CONTRIBUTING.md docs examples ${licences[@]+"${licences[@]}"}
+  put share/doc/opprove README.md CHANGELOG.md CONTRIBUTING.md docs examples library ${licences[@]+"${licences[@]}"}
   ((authors == 0)) || put share/doc/opprove CITATION.cff
   put share/doc/opprove/python python/README.md
 }

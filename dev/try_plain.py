@@ -29,12 +29,12 @@ import test_models
 import test_words
 from opprove.checkers.check import MODULI, Problem, Refusal
 from measuring import OPPROVE, build
-from trying import EXAMPLES, TOP, Answer, checker, is_second, need, reads_language_2, run, run_checks
+from trying import EXAMPLES, GALLERY, LIBRARY, TOP, Answer, checker, is_second, need, reads_language_2, run, run_checks
 
 SEEDS = [1, 7, 2**64 - 1]
 COUNT = 500
 MANY = 3000  # candidates that candidates.py tries soon
-EXAMPLE_FILES = sorted([*EXAMPLES.glob("*.op"), *EXAMPLES.glob("gallery/*.op")])
+EXAMPLE_FILES = sorted([*EXAMPLES.glob("*.op"), *GALLERY.values()])
 
 
 # ---- Random statements
@@ -242,7 +242,7 @@ SECOND: List[Tuple[str, str, List[str]]] = [
 def by_hand(folder: Path) -> str:
     """The tables of head lines."""
     plain, statement = build("plain_run", folder), folder / "statement.op"
-    gallery = [((EXAMPLES / f"gallery/{name}.op").read_text(encoding="utf-8"), words, want) for name, words, want in SECOND]
+    gallery = [(GALLERY[name].read_text(encoding="utf-8"), words, want) for name, words, want in SECOND]
     for text, words, want in HEADS + gallery:
         statement.write_text(text, encoding="utf-8")
         answer = run(plain, write_tree(statement, folder), *words.split())
@@ -313,7 +313,7 @@ def same_run(statement: Path, plain: str, folder: Path) -> None:
 def runs(folder: Path, count: int = COUNT) -> str:
     plain, statement = build("plain_run", folder), folder / "statement.op"
     maker, made = Maker(2), 0
-    examples = [path.read_text(encoding="utf-8") for path in [*EXAMPLE_FILES, *sorted(EXAMPLES.glob("harder/*.op"))]]
+    examples = [path.read_text(encoding="utf-8") for path in [*EXAMPLE_FILES, *sorted(LIBRARY.glob("harder/*.op"))]]
     for text in [*examples, *(make(*numbers) for make, numbers in RUN), *(maker.statement() for _ in range(count))]:
         statement.write_text(text, encoding="utf-8")
         if not refusal(statement):

@@ -19,7 +19,7 @@ from typing import Callable, Dict, List, Tuple
 
 sys.dont_write_bytecode = True
 from opprove.cli import TOOLS
-from trying import TOP, Answer, Skipped, installed, need, run, run_checks
+from trying import STATEMENTS, TOP, Answer, Skipped, installed, need, run, run_checks
 
 STAND_IN = r"""
 #include <stdio.h>
@@ -178,7 +178,7 @@ def archive(checkout: Checkout) -> str:
               "share/fish/vendor_completions.d/opprove.fish", "share/vim/vimfiles/ftdetect/opprove.vim",
               "share/vim/vimfiles/syntax/opprovecert.vim", "share/opprove/editors/textmate/package.json",
               "share/opprove/python/opprove/checkers/check.py", "share/opprove/python/opprove/translations/chain.py",
-              "share/doc/opprove/docs/FORMATS.md", "share/doc/opprove/examples/gallery/woodbury.op",
+              "share/doc/opprove/docs/FORMATS.md", "share/doc/opprove/library/block_matrices/woodbury.op",
               "share/doc/opprove/licences/clap/LICENSE-MIT", "share/doc/opprove/licences/strsim/LICENSE-MIT"]  # fmt: skip
     missing = [name for name in wanted if name not in inside and not (checkout.is_real and "strsim" in name)]
     odd = [name for name in inside if re.search(r"__pycache__|/try(_\w+)?\.py|\.rt$|\.antt$|/dev/|/tests/", name)]
@@ -194,7 +194,7 @@ def answers(checkout: Checkout) -> str:
     environment = {"PATH": "/usr/bin:/bin", "LC_ALL": "C"}
     packed = checkout.tree / "usr"
     programs = [packed / "bin" / "opprove", packed / "lib" / "opprove" / "opprove", packed / "lib" / "opprove" / "opprove-static"]
-    calls = calls_on(packed / "share" / "doc" / "opprove" / "examples")
+    calls = calls_on(packed / "share" / "doc" / "opprove")
     for call in calls:
         found: List[Tuple[int, bytes]] = []
         for program in (checkout.out / "opprove", *(program for program in programs if program.exists())):
@@ -207,10 +207,10 @@ def answers(checkout: Checkout) -> str:
     return f"{len(calls)} calls are answered by the packed programs and the script as by the built one"
 
 
-def calls_on(examples: Path) -> List[List[str]]:
-    """Words for the program: all statements and certificates of the examples."""
-    calls = [["prove"], ["prove", "missing.op"]]
-    for path in sorted(examples.glob("**/*.op")):
+def calls_on(documents: Path) -> List[List[str]]:
+    """Words for the program: statements and certificates of the examples, and some of the library."""
+    calls, examples = [["prove"], ["prove", "missing.op"]], documents / "examples"
+    for path in [documents / statement.relative_to(TOP) for statement in STATEMENTS]:
         is_long = path.stem == "braid_relation" or path.parent.name == "harder"
         options = ["--pairs", "20", "--no-models"] if is_long else []
         calls += [["prove", str(path), "--format", number, *options] for number in "12"]

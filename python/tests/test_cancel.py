@@ -18,7 +18,7 @@ import cancel_rows
 import test_chains
 from opprove.checkers.check import Problem
 from opprove.checkers.check import DONE, REFUSED
-from trying import Answer, EXAMPLES, checker, main, need, run, tool
+from trying import Answer, GALLERY, checker, main, need, run, tool
 from trying_second import Files, Second, files_in
 
 COUNT = 60  # random proofs
@@ -56,11 +56,16 @@ def told(files: Files) -> int:
     return len(found)
 
 
+def gallery_proofs() -> List[Path]:
+    """The proofs of the gallery that cancel, each beside its statement."""
+    return sorted(path.with_suffix(".cert") for path in GALLERY.values() if path.with_suffix(".cert").exists())
+
+
 def chains(folder: Path) -> str:
     """What `opprove chain` makes of the rows and the gallery."""
     files, count = Files(folder, None), 0
     cases = [(row.statement, row.proof) for row in cancel_rows.runs() if " refused " not in row.report and len(row.proof) < LARGE]
-    for evidence in sorted(EXAMPLES.glob("gallery/*.cert")):
+    for evidence in gallery_proofs():
         cases.append((evidence.with_suffix(".op").read_text("utf-8"), evidence.read_text("utf-8")))
     for statement, proof in cases:
         if len(statement) < LARGE and "m200" not in statement:
@@ -113,7 +118,7 @@ def others(folder: Path) -> str:
 def gallery(folder: Path) -> str:
     """The proofs of the gallery."""
     files, claims = files_in(folder), 0
-    for evidence in sorted(EXAMPLES.glob("gallery/*.cert")):
+    for evidence in gallery_proofs():
         files.write(evidence.with_suffix(".op").read_text("utf-8"), evidence.read_text("utf-8"))
         answer = cancelled(files)
         need(answer.status == DONE, (evidence, answer))

@@ -15,7 +15,7 @@ from typing import Callable, Dict, Iterator, List, NamedTuple, Optional, Set, Tu
 from opprove.translations import chain as to_chain
 from opprove.checkers.check import Certificate, Evidence, Line, Poly, Problem, Row, Share, Signature, Value, Word, add, judge, loaded, tokens_of
 import trying
-from trying import Answer, EXAMPLES, PROGRAM, Skipped, decided, installed, main, need, run, tool
+from trying import EXAMPLES, GALLERY, PROGRAM, Answer, Skipped, decided, installed, main, need, run, tool
 
 TOOL = tool("chain")
 STORED = {"pseudoinverses": EXAMPLES / "pseudoinverses.cert", "halved": EXAMPLES / "tools" / "halved.cert"}
@@ -461,7 +461,7 @@ def latex(folder: Path) -> str:
     for number, (words, text) in enumerate(CASES):
         (folder / f"typeset{number}.op").write_text(words, encoding="utf-8")
         (folder / f"typeset{number}.cert").write_text(text, encoding="utf-8")
-    statements = [path for part in ("*", "gallery/*", "tools/*") for path in EXAMPLES.glob(f"{part}.op")] + list(folder.glob("typeset*.op"))
+    statements = [*EXAMPLES.glob("*.op"), *EXAMPLES.glob("tools/*.op"), *GALLERY.values()] + list(folder.glob("typeset*.op"))
     statements = sorted((path for path in statements if path.read_text("utf-8").isascii()), key=lambda path: -len(path.stem))
     for evidence in sorted([*EXAMPLES.glob("*.cert"), *EXAMPLES.glob("tools/*.cert"), *folder.glob("*[0-9].cert")]):
         fitting = [path for path in statements if evidence.stem.startswith(path.stem)]

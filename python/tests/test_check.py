@@ -12,7 +12,9 @@ import test_models
 import trying_node
 from opprove.checkers.check import status_of
 from test_translations import TRANSLATIONS
-from trying import EXAMPLES, PROGRAM, Answer, Skipped, checker, decided, is_second, main, need, reads_language_2, run, stored, tool
+from trying import (
+    EXAMPLES, PROGRAM, STATEMENTS, Answer, Skipped, checker, decided, is_second, main, need, reads_language_2, run, stored, tool,
+)  # fmt: skip
 
 # ---- The two checkers
 
@@ -60,7 +62,7 @@ def told(count: int, by_both: int, what: str) -> str:
 def examples(folder: Path) -> str:
     cases = list(stored())
     by_both = sum(expect("refused" not in evidence.stem, statement, evidence) for statement, evidence in cases)
-    for statement in EXAMPLES.glob("**/*.op"):
+    for statement in STATEMENTS:
         answer = run(*checker("check"), statement, os.devnull)
         need(answer == Answer(7, "# refused K7\n", ""), (statement, answer))
     return told(len(cases), by_both, "certificates of the examples are answered by the same line")

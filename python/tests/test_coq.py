@@ -23,7 +23,7 @@ from coq_statements import CASES, NAMED, Proofs, expressions, large_model, many_
 from opprove.checkers.check import Refusal
 from opprove.coq import export
 from opprove.text import EvidenceText, StatementText
-from trying import EXAMPLES, PROGRAM
+from trying import EXAMPLES, PROGRAM, STATEMENTS, decided
 
 TOOLS = EXAMPLES / "tools"
 HAS_PROGRAM = os.access(PROGRAM, os.X_OK)
@@ -113,7 +113,7 @@ class Exports(unittest.TestCase):
         self.coq.add(text, found)
 
     def test_stored_evidence(self) -> None:
-        places = [(path, path.with_suffix(suffix)) for path in EXAMPLES.glob("**/*.op") for suffix in (".cert", ".star")]
+        places = [(path, path.with_suffix(suffix)) for path in STATEMENTS for suffix in (".cert", ".star")]
         pairs = [pair for pair in places if pair[1].exists()]
         pairs += [(EXAMPLES / "equal_maps.op", EXAMPLES / f"equal_maps_{name}.cert") for name in ("refused", "untyped")]
         for path, evidence in pairs:
@@ -132,7 +132,7 @@ class Exports(unittest.TestCase):
     def test_reports(self) -> None:
         """All reports of prove on the examples, in both formats."""
         count = 0
-        for path in sorted([*EXAMPLES.glob("*.op"), *EXAMPLES.glob("gallery/*.op")]):
+        for path in decided():
             for number in (1, 2):
                 _, report = program("prove", path, "--pairs", 2000, "--format", number)
                 if EvidenceText(report.encode()).blocks:
@@ -211,10 +211,12 @@ class Exports(unittest.TestCase):
 # Statements and evidence of each kind, and the command that judges it.
 CHANGED = {
     "certificate": ["pseudoinverses.op pseudoinverses.cert", "pasted_squares.op pasted_squares.cert", "tools/halved.op tools/halved.cert"],
-    "cancellation": [f"gallery/{name}.op gallery/{name}.cert" for name in ("short_five_lemma", "normal_equations")],
+    "cancellation": [
+        f"../library/{name}.op ../library/{name}.cert" for name in ("diagrams/short_five_lemma", "linear_equations/normal_equations")
+    ],
     "star": ["tools/normal_idempotent.op tools/normal_idempotent.star"],
-    "basis": ["gallery/one_sided_inverse.op tools/one_sided_inverse.report"],
-    "model": ["gallery/one_sided_inverse.op tools/one_sided_inverse.report"],
+    "basis": ["../library/false/one_sided_inverse.op tools/one_sided_inverse.report"],
+    "model": ["../library/false/one_sided_inverse.op tools/one_sided_inverse.report"],
 }  # fmt: skip
 COMMANDS = {"certificate": "check", "model": "model", "basis": "confirm", "cancellation": "cancel"}
 

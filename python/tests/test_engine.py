@@ -9,9 +9,8 @@ from typing import Dict
 from opprove.checkers.check import Problem
 from opprove.search import rationals, spans, squares
 from opprove.search.engine import Alphabet, Bounds, Generator, Ledger, Poly, Sum, add, started
-from searching import ROOT
+from trying import GALLERY
 
-GALLERY = sorted((ROOT / "examples" / "gallery").glob("*.op"))
 # The group with a a = b b = 1 and (a b)^3 = 1 has the normal forms 1, a, b, a b, b a and a b a.
 GROUP = b"object V\nmap a b : V -> V\nassume a a = [V]\nassume b b = [V]\nassume a b a b a b = [V]\nclaim a b a = b a b\nclaim a b = b a\n"
 
@@ -20,7 +19,7 @@ GROUP = b"object V\nmap a b : V -> V\nassume a a = [V]\nassume b b = [V]\nassume
 
 class Engine(unittest.TestCase):
     def test_rows(self) -> None:
-        for path in GALLERY:
+        for path in GALLERY.values():
             alphabet = Alphabet(Problem(str(path)))
             ledger = Ledger(alphabet)
             basis = started(ledger)

@@ -20,7 +20,7 @@ sys.dont_write_bytecode = True
 from opprove.search import join
 from opprove.search import variants
 from opprove.checkers.check import Certificate, Evidence, Poly, Problem, Refusal, Row, Share, add, judge
-from trying import EXAMPLES, PROGRAM, Answer, Skipped, checker, need, run, run_checks, tool
+from trying import EXAMPLES, GALLERY, LIBRARY, PROGRAM, Answer, Skipped, checker, need, run, run_checks, tool
 
 OPPROVE = os.environ.get("OPPROVE", str(PROGRAM))
 
@@ -302,7 +302,7 @@ def answer_of(process: "subprocess.Popen[str]") -> Answer:
     return Answer(process.returncode, out, error)
 
 
-# The statements of examples/harder, each with the status of `opprove search`.
+# The statements of library/harder, each with the status of `opprove search`.
 SETTLED = {
     "commuting_inverses": 0, "common_solution": 0, "halved_lemma": 0, "normal_pseudoinverse": 0, "one_sided_beside": 10,
     "pseudoinverse_chain": 0, "pseudoinverse_of_row": 0, "twice_a_braid": 11,
@@ -327,7 +327,7 @@ def settled(folder: Path, statement: Path) -> Tuple[float, Answer]:
 def statements(folder: Path) -> str:
     built()
     times = []
-    for path in sorted((EXAMPLES / "harder").glob("*.op")):
+    for path in sorted((LIBRARY / "harder").glob("*.op")):
         seconds, answer = settled(folder, path)
         times.append(seconds)
         need(answer.status == SETTLED[path.stem], (path, seconds, answer.status, answer.error[-500:]))
@@ -360,7 +360,7 @@ def lemmas(folder: Path) -> str:
 def kept(folder: Path) -> str:
     """The variants that are kept can be run by hand; a basis of another order has a statement file with that order."""
     built()
-    statement, keep = EXAMPLES / "harder" / "one_sided_beside.op", folder / "kept"
+    statement, keep = LIBRARY / "harder" / "one_sided_beside.op", folder / "kept"
     answer = answer_of(harder(statement, "--keep", keep, "--only", "given,defined"))
     need(answer.status == 10 and answer.out.startswith("# claim 1 not derivable rules 14\nbasis 1\n"), answer)
     words = re.search("^# found by given defined: opprove (.*)$", answer.out, flags=re.MULTILINE).group(1).split(" ")
@@ -381,14 +381,14 @@ def by_lemmas(folder: Path) -> str:
     }  # fmt: skip
     for name, (texts, count) in parts.items():
         words = ["--only", "lemmas,inside,written", "--jobs", 1]
-        answer = answer_of(harder(EXAMPLES / "harder" / f"{name}.op", *words))
+        answer = answer_of(harder(LIBRARY / "harder" / f"{name}.op", *words))
         need(answer.status == 0 and all(answer.out.count(text) >= count for text in texts), (name, answer))
     return f"{len(parts)} statements go through by lemmas"
 
 
 def table(folder: Path) -> None:
     """What prove says without a search for models, which variants did it, how long that took, and how many rows."""
-    for path in sorted((EXAMPLES / "harder").glob("*.op")):
+    for path in sorted((LIBRARY / "harder").glob("*.op")):
         default = run(built(), "prove", path, "--workers", "1", "--no-models")
         said = [" ".join(line.split(" ")[3:6]) for line in default.out.split("\n") if line.startswith("# claim ")]
         seconds, answer = settled(folder, path)
@@ -450,7 +450,7 @@ def interrupts(folder: Path) -> str:
     built()
     if not Path("/proc/self/stat").exists():
         raise Skipped("there is no /proc")
-    statement = EXAMPLES / "gallery" / "braid_relation.op"
+    statement = GALLERY["braid_relation"]
     undecided = folder / "undecided.op"
     undecided.write_text(statement.read_text().replace("claim a = b", "claim a b a = b a b\nclaim a = b"))
     for number in (signal.SIGINT, signal.SIGTERM, signal.SIGKILL):
@@ -473,7 +473,7 @@ def interrupts(folder: Path) -> str:
 
 def stand_ins(folder: Path) -> str:
     """A program whose runs are killed leaves the claim undecided; one that can't write its reports ends the search."""
-    statement, stand_in = EXAMPLES / "gallery" / "braid_relation.op", folder / "stand_in"
+    statement, stand_in = GALLERY["braid_relation"], folder / "stand_in"
     for line, status, beginning in (("kill -9 $$", 12, ""), ("exit 5", 1, "search: [Errno 28] ")):
         stand_in.write_text(f'#!/bin/sh\ncase "$*" in *"--pairs 1 "*|bench*) exec {built()} "$@";; *) {line};; esac\n')
         stand_in.chmod(0o700)

@@ -13,7 +13,7 @@ from typing import Callable, Iterator, List, NamedTuple, Optional
 
 import test_words
 from opprove.checkers.check import Problem, Refusal
-from trying import Answer, EXAMPLES, PROGRAM, checker, is_second, main, need, reads_language_2, run
+from trying import EXAMPLES, GALLERY, PROGRAM, STATEMENTS, Answer, checker, is_second, main, need, reads_language_2, run
 
 ZERO = "certificate 2 / claim 1 / denominator 1 / goal scale 1 / end"
 ACCEPTED = "# block 1 accepted claim 1 denominator 1"
@@ -250,7 +250,7 @@ def further_down(said: object, bytes_more: int) -> object:
 
 def statements_of_language_1() -> Iterator[bytes]:
     """Those of the examples, those of the words on faults, and random edits of both."""
-    texts = [path.read_bytes() for path in [*EXAMPLES.glob("**/*.op")] if not is_second(path)]
+    texts = [path.read_bytes() for path in STATEMENTS if not is_second(path)]
     texts += [test_words.expanded(case.files["s.op"]) for case in test_words.cases() if "s.op" in case.files]
     texts = [text for text in texts if len(text) < 20000 and not re.search(rb"\^|language|eliminate|m201", text)]
     yield from texts
@@ -278,7 +278,7 @@ def reports_in_front(folder: Path) -> str:
     if not reads_language_2():
         return "skipped: no opprove is built that reads language 2"
     path, count = folder / "row.op", 0
-    for example in filter(lambda example: not is_second(example), [*EXAMPLES.glob("*.op"), *EXAMPLES.glob("gallery/*.op")]):
+    for example in filter(lambda example: not is_second(example), [*EXAMPLES.glob("*.op"), *GALLERY.values()]):
         for words in ([], ["--format", "1"]):
             path.write_bytes(example.read_bytes())
             answer = run(PROGRAM, "prove", path, *words)

@@ -14,7 +14,7 @@ from opprove import tool
 from opprove.checkers import candidates
 from opprove.checkers import check_model
 from opprove.checkers.check import Problem, Refusal
-from trying import Answer, EXAMPLES, PROGRAM, Skipped, checker, decided, main, need, run
+from trying import GALLERY, PROGRAM, Answer, Skipped, checker, decided, main, need, run
 
 MAPS = b"object U V\nmap p : U -> U self\nmap a : U -> V\nclaim a = 0\n"
 RIGHT = b"object U V\nmap a : U -> V\nmap b : V -> U\nassume a b = [V]\nclaim b a = [U]\n"
@@ -152,7 +152,7 @@ SEARCHED: List[Tuple[str, List[int]]] = [
     ("object U\nclaim [U] = 0\nmodel 6\n", [1]),
 ]
 
-# The report on examples/gallery/one_sided_inverse.op: the first of 16 candidates in which a b is 1.
+# The report on library/false/one_sided_inverse.op: the first of 16 candidates in which a b is 1.
 ONE_SIDED = "# claim 1 refuted\nmodel 1\nclaim 1\nmodulus 2\nside U 2\nside V 1\nmap a = 1 0\nmap b = 1 ; 0\nend\n"
 
 PCG32 = [0xA15C02B7, 0x7B47F409, 0xBA1D3330, 0x83D2F293, 0xBFA4784B, 0xCBED606E]  # for the seed 42 and the stream 54
@@ -276,7 +276,7 @@ def searches(folder: Path) -> str:
         for seed in seeds:
             searched(statement, seed, folder)
             count += 1
-    answer = run(*checker("candidates"), EXAMPLES / "gallery" / "one_sided_inverse.op", "--seed", 5)
+    answer = run(*checker("candidates"), GALLERY["one_sided_inverse"], "--seed", 5)
     need(answer == Answer(11, ONE_SIDED, ""), answer)
     return f"{count} searches are made, and their models are confirmed, {by_both('candidates.py', 'refute')}"
 

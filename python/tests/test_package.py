@@ -23,7 +23,7 @@ from opprove import program as programs
 from opprove.checkers import check
 import trying
 from opprove import Expression, NotTyped, Object, Refused, Statement, Verdict, from_sympy
-from trying import EXAMPLES, PROGRAM, TESTS, TOP, Failed, Skipped, decided, need, run, tool, usage_line
+from trying import EXAMPLES, GALLERY, PROGRAM, STATEMENTS, TESTS, TOP, Failed, Skipped, decided, need, run, tool, usage_line
 
 NAMED = os.environ.get("OPPROVE") or str(PROGRAM)
 
@@ -166,9 +166,9 @@ def gallery(folder: Path) -> str:
     """The statements from objects are those of the files, which are read and written back."""
     for build in WRITTEN:
         build(built := Statement())
-        path = EXAMPLES / "gallery" / f"{build.__name__}.op"
+        path = GALLERY[build.__name__]
         need(polys(problem_of(folder, str(built))) == polys(check.Problem(str(path))), (path, str(built)))
-    paths = sorted(EXAMPLES.glob("**/*.op"))
+    paths = STATEMENTS
     for path in paths:
         built, read, problem = Builder(path).statement, Statement.read(path), check.Problem(str(path))
         need(polys(problem_of(folder, str(built))) == polys(problem), (path, str(built)))
@@ -190,7 +190,7 @@ def heads(folder: Path) -> str:
     rows = [(name, text) for name, text in rows if text.startswith("`# claim ")]
     wanted = {name: (re.findall("`# ([^`]*)`", text), "".join(re.findall(r"\(`([^`]*)`\)", text))) for name, text in rows}
     count = 0
-    paths = [path for path in decided() if path.parent.name == "gallery" and path.stem in wanted]
+    paths = [path for path in decided() if GALLERY.get(path.stem) == path and path.stem in wanted]
     proofs: List[str] = []
     for path in paths:
         lines, options = wanted[path.stem]
@@ -252,7 +252,7 @@ def stored(folder: Path) -> str:
     wrong = Verdict(1, s.claims[0], "proved", "denominator 1 rows 1", text, str(s))
     need(wrong.recheck() is False, wrong)
     raised(lambda: wrong.chain(), Refused, "# block 1 refused C6 word b want 0 got -1")
-    s = Statement.read(EXAMPLES / "gallery" / "one_sided_inverse.op")
+    s = Statement.read(GALLERY["one_sided_inverse"])
     text = "model 1\nclaim 1\nmodulus 2\nside U 2\nside V 1\nmap a = 1 0\nmap b = 1 ; 0\nend\n"
     refuted = Verdict(1, s.claims[0], "refuted", "", text, str(s))
     need(confirmed(refuted) and refuted.model == {"a": [[1, 0]], "b": [[1], [0]]}, refuted.model)
@@ -502,7 +502,7 @@ def real_statuses(folder: Path) -> str:
 
 def notebook(folder: Path) -> str:
     """What a notebook shows: pictures that are XML, and proofs that are typeset."""
-    for path in sorted(EXAMPLES.glob("**/*.op")):
+    for path in STATEMENTS:
         found = xml.etree.ElementTree.fromstring(Statement.read(path)._repr_svg_())
         need(found.tag == "{http://www.w3.org/2000/svg}svg", path)
     need(Statement()._repr_svg_() is None, "a picture of nothing")

@@ -16,8 +16,8 @@ from browser import Browser
 from opprove.checkers.check import Refusal
 from opprove.page.page import page_of
 from opprove.program import path as path_of_program
+from trying import EXAMPLES, GALLERY, STATEMENTS
 
-EXAMPLES = Path(__file__).resolve().parents[2] / "examples"
 STORED = EXAMPLES / "tools" / "pseudoinverses.html"
 INVERSES = "object U V\nmap a : U -> V\nmap b : V -> U\nassume a b = [V]\nclaim b a = [U]\n"
 MODEL = "# claim 1 refuted\nmodel 1\nclaim 1\nmodulus 2\nside U 2\nside V 1\nmap a = 1 0\nmap b = 1 ; 0\nend\n"
@@ -115,7 +115,7 @@ class Shown(unittest.TestCase):
 class Pages(Shown):
     def test_proofs_of_the_gallery(self) -> None:
         opprove, count = program(), 0
-        for statement in sorted(EXAMPLES.glob("gallery/*.op")):
+        for statement in sorted(GALLERY.values()):
             for number in ("1", "2"):
                 words = [opprove, "prove", str(statement), "--format", number, "--pairs", "2000", "--no-models"]
                 report = subprocess.run(words, stdout=subprocess.PIPE, timeout=120).stdout.decode()
@@ -127,7 +127,7 @@ class Pages(Shown):
         self.assertGreaterEqual(count, 40)
 
     def test_stored_proofs(self) -> None:
-        for statement in sorted(EXAMPLES.glob("*.op")) + sorted(EXAMPLES.glob("gallery/*.op")):
+        for statement in STATEMENTS:
             evidence = statement.with_suffix(".cert")
             if evidence.exists():
                 with self.subTest(statement=statement.stem):
@@ -136,7 +136,7 @@ class Pages(Shown):
                     self.all_recomputed()
 
     def test_a_proof_that_cancels_shows_its_letters(self) -> None:
-        statement = EXAMPLES / "gallery" / "full_rank_factorization.op"
+        statement = GALLERY["full_rank_factorization"]
         self.show(page_of(statement, [statement.with_suffix(".cert")]))
         self.assertEqual(self.checks(), [("check right", "# block 1 accepted claim 1 denominator 1 monic f epic g")])
         meaning = self.browser.run("return document.querySelector('.meaning').textContent")
@@ -207,7 +207,7 @@ class Pages(Shown):
     def test_what_is_checked_within_a_second(self) -> None:
         if os.getloadavg()[0] > BUSY:
             self.skipTest(f"the machine is busy (load {os.getloadavg()[0]:.0f}), and no time is compared")
-        statement = EXAMPLES / "gallery" / "two_sided_equation_condition.op"
+        statement = GALLERY["two_sided_equation_condition"]
         report = subprocess.run([program(), "prove", str(statement)], stdout=subprocess.PIPE, timeout=120).stdout.decode()
         self.show(self.page(statement.read_text("utf-8"), report))
         self.assertLess(self.browser.run("return performance.getEntriesByType('navigation')[0].loadEventEnd"), 1000)
@@ -289,7 +289,7 @@ class Written(unittest.TestCase):
         self.assertEqual(STORED.read_text("utf-8"), again, "the stored page is another one: see docs/GUIDE.md for the call that makes it")
 
     def test_a_page_is_small_and_holds_its_bytes(self) -> None:
-        statement = EXAMPLES / "gallery" / "moore_penrose_unique.op"
+        statement = GALLERY["moore_penrose_unique"]
         evidence = EXAMPLES / "pseudoinverses.cert"
         self.assertLess(len(page_of(EXAMPLES / "pseudoinverses.op", [evidence]).encode()), MOST)
         text = page_of(EXAMPLES / "pseudoinverses.op", [evidence])

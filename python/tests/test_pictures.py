@@ -12,9 +12,8 @@ from typing import Callable, List
 
 from opprove.translations import picture as quiver
 from opprove.checkers.check import Problem
-from trying import Answer, EXAMPLES, Skipped, installed, main, need, run, tool
+from trying import EXAMPLES, STATEMENTS, Answer, Skipped, installed, main, need, run, tool
 
-STATEMENTS = sorted(EXAMPLES.glob("**/*.op"))
 
 # Statements whose pictures are hard: names beyond ASCII and long ones, many maps with the same ends, objects with no map,
 # loops on all sides, and more arrows than have a place beside objects.

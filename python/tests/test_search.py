@@ -15,7 +15,7 @@ from pathlib import Path
 
 from searching import ROOT, accepted, environment, needs_program, tool
 
-GALLERY = ROOT / "examples" / "gallery"
+LIBRARY = ROOT / "library"
 NILPOTENT = "object V\nmap a : V -> V\nassume a a' = a' a\nassume a a = 0\nclaim a = 0\n"
 SUM = "object U V\nmap a b : V -> V\nassume a a' + b b' = 0\nclaim a = 0\nclaim b a = 0\n"
 SHEAR = "object V\nmap a x : V -> V\npinv a x\nassume a x = x a\nclaim a a' = a' a\n"
@@ -36,9 +36,9 @@ class Search(unittest.TestCase):
 
     def test_named_letters(self) -> None:
         for path, words, granted in (
-            (GALLERY / "full_rank_factorization.op", ["--monic", "f", "--epic", "g"], ["monic f epic g"]),
-            (GALLERY / "normal_equations.op", ["--monic", "r'"], ["monic r'"]),
-            (GALLERY / "short_five_lemma.op", ["--monic", "a,c,j"], ["monic c", "monic j a"]),
+            (LIBRARY / "other_inverses" / "full_rank_factorization.op", ["--monic", "f", "--epic", "g"], ["monic f epic g"]),
+            (LIBRARY / "linear_equations" / "normal_equations.op", ["--monic", "r'"], ["monic r'"]),
+            (LIBRARY / "diagrams" / "short_five_lemma.op", ["--monic", "a,c,j"], ["monic c", "monic j a"]),
         ):
             answer = tool("search", path, "--seconds", 30, "--jobs", 2, *words)
             self.assertEqual((answer.status, answer.last), (0, "# ended: each claim is settled"), answer.out)

@@ -16,6 +16,7 @@ from urllib.parse import urlsplit
 
 from browser import Browser
 from opprove.program import path as path_of_program
+from trying import GALLERY, LIBRARY
 
 PACKAGE = str(Path(__file__).resolve().parents[1] / "src")
 UNENDING = "object V\nmap a b c : V -> V\nassume a b a = b c b a\nassume c a c = a b c a\nclaim a = b\n"
@@ -181,7 +182,7 @@ class Runs(Served):
             self.assertEqual([words for words in going(self.folder.name) if " serve" not in words], [])
 
     def test_search_tells_what_it_tries(self) -> None:
-        statement = (Path(PACKAGE).parents[1] / "examples" / "harder" / "commuting_inverses.op").read_text("utf-8")
+        statement = (LIBRARY / "harder" / "commuting_inverses.op").read_text("utf-8")
         run = self.told("search", {"statement": statement, "seconds": 60})["run"]
         state = self.ended(run)
         self.assertEqual(state["status"], 0, state)
@@ -286,7 +287,7 @@ class Worked(Served):
         self.assertIn("moore_penrose_unique", names)
         choose = "const at = document.getElementById('gallery'); at.value = 'jacobson_lemma'; at.dispatchEvent(new Event('change'));"
         self.browser.run(choose)
-        statement = (Path(PACKAGE).parents[1] / "examples" / "gallery" / "jacobson_lemma.op").read_text("utf-8")
+        statement = GALLERY["jacobson_lemma"].read_text("utf-8")
         self.assertEqual(self.browser.run("return document.getElementById('statement').value"), statement)
 
 

@@ -13,7 +13,7 @@ from typing import List
 
 import opprove
 from opprove.cli import TOOLS
-from trying import EXAMPLES, PROGRAM, SOURCE, TOP, Answer, checker, run, tool
+from trying import EXAMPLES, GALLERY, PROGRAM, SOURCE, TOP, Answer, checker, run, tool
 
 STATEMENT, EVIDENCE = EXAMPLES / "pseudoinverses.op", EXAMPLES / "pseudoinverses.cert"
 OF_FILES = {"chain": 2, "coq": 2, "latex": 2, "singular": 2, "sympy": 2, "second-check": 2, "picture": 1, "shorten": 1, "candidates": 1}
@@ -102,7 +102,7 @@ class Statuses(unittest.TestCase):
         """A report without a proof is answered in words."""
         report = self.file("# claim 1 not derivable rules 7\nbasis 1\nclaim 1\nrest b a - [U]\nend\n")
         for word in ("chain", "latex", "singular", "sympy"):
-            found = run(*tool(word), EXAMPLES / "gallery" / "one_sided_inverse.op", report)
+            found = run(*tool(word), GALLERY["one_sided_inverse"], report)
             said = "# refused K7: there is no proof to be written: claim 1 is not derivable\n"
             self.assertEqual(found, Answer(7, "", said), word)
 

@@ -20,7 +20,7 @@ sys.dont_write_bytecode = True
 from opprove.words import calls, why
 from opprove.words import statement as why_statement
 from opprove.checkers.check import Problem, Refusal
-from trying import Answer, PROGRAM, SOURCE, Skipped, TOP, decided, installed, main, need, reads_language_2, run, tool, usage_line
+from trying import GALLERY, PROGRAM, SOURCE, TOP, Answer, Skipped, decided, installed, main, need, reads_language_2, run, tool, usage_line
 from opprove.words.parts import Screen, on_screen
 
 DATA = TOP / "python" / "tests" / "data"
@@ -176,7 +176,7 @@ def answer_of(path: Path) -> str:
 
 def edits(folder: Path, count: int = 100, seed: int = 1) -> str:
     chance, path, faults = random.Random(seed), folder / "edited.op", 0
-    gallery = [path for path in decided() if path.parent.name == "gallery"]
+    gallery = [path for path in decided() if path in GALLERY.values()]
     for _ in range(count):
         text = edited(chance.choice(gallery).read_text(), chance)
         path.write_text(text)

@@ -13,7 +13,23 @@ from typing import Callable, Iterable, Iterator, List, NamedTuple, Tuple
 from opprove.checkers.check import Refusal
 
 TOP = Path(__file__).resolve().parents[2]
-EXAMPLES, SOURCE, TESTS = TOP / "examples", TOP / "python" / "src", TOP / "python" / "tests"
+EXAMPLES, LIBRARY, SOURCE, TESTS = TOP / "examples", TOP / "library", TOP / "python" / "src", TOP / "python" / "tests"
+# The statements of the library that the gate's tables have too, by name.
+GALLERY = {
+    name: LIBRARY / chapter / f"{name}.op"
+    for chapter, names in (
+        ("block_matrices", "pseudoinverse_of_row woodbury"),
+        ("diagrams", "short_five_lemma"),
+        ("false", "braid_relation one_sided_inverse two_sided_equation_condition"),
+        ("linear_equations", "common_solution normal_equations two_sided_equation"),
+        ("moore_penrose", "adjoint_of_pseudoinverse moore_penrose_unique"),
+        ("other_inverses", "drazin_commutes full_rank_factorization"),
+        ("reverse_order_laws", "reverse_order_inverse"),
+        ("rings", "commutator_square evaluation_idempotent jacobson_lemma left_and_right_inverse push_through resolvent"),
+    )
+    for name in names.split()
+}  # fmt: skip
+STATEMENTS = sorted([*EXAMPLES.glob("**/*.op"), *GALLERY.values(), *LIBRARY.glob("harder/*.op")])  # that tools are tried on
 os.environ["PYTHONPATH"] = f"{SOURCE}:{TESTS}"  # for the scripts that are run
 # The program that OPPROVE names, and else that of a gate here, or of `./opprove build`.
 BUILT = [TOP / "crates" / "opprove" / "out" / "opprove", TOP / "out" / "opprove"]
@@ -54,7 +70,7 @@ def run(*words: object, folder: Path = TOP, seconds: int = 120) -> Answer:
 @functools.lru_cache(maxsize=None)
 def reads_language_2(program: Path = PROGRAM) -> bool:
     """Whether the program is built, and reads statements of language 2."""
-    statement = EXAMPLES / "gallery" / "drazin_commutes.op"
+    statement = GALLERY["drazin_commutes"]
     return os.access(program, os.X_OK) and run(program, "check", statement, os.devnull).status == 7
 
 
@@ -64,9 +80,9 @@ def is_second(statement: Path) -> bool:
 
 
 def decided() -> List[Path]:
-    """The statements of the examples that prove decides by default: all but those for searches around the program, and
+    """The statements of the examples and the gallery that prove decides by default: all but those for searches around the program, and
     without those of language 2 where the program that is built doesn't read it."""
-    statements = sorted([*EXAMPLES.glob("*.op"), *EXAMPLES.glob("gallery/*.op")])
+    statements = sorted([*EXAMPLES.glob("*.op"), *GALLERY.values()])
     return [path for path in statements if reads_language_2() or not is_second(path)]
 
 

@@ -41,7 +41,7 @@ EXAMPLES = (
      ("opprove prove examples/pasted_squares.op >report", "opprove check examples/pasted_squares.op report",
       "opprove chain examples/pasted_squares.op report")),
     ("Look for matrices, and check what was found:",
-     ("opprove refute examples/gallery/one_sided_inverse.op >report", "opprove model examples/gallery/one_sided_inverse.op report")),
+     ("opprove refute library/false/one_sided_inverse.op >report", "opprove model library/false/one_sided_inverse.op report")),
     ("A statement:",
      ("object U V", "map a : U -> V", "map x y : V -> U", "pinv a x", "pinv a y", "claim x = y")),
 )  # fmt: skip

@@ -32,7 +32,7 @@ from opprove.tool import parser, say
 BODY_LIMIT = 2**20  # bytes of a request
 LOOK_SECONDS = 20  # for a look at a statement, and for a page
 ABOVE = Path(__file__).resolve().parents[4]
-GALLERIES = (ABOVE / "examples" / "gallery", ABOVE / "doc" / "opprove" / "examples" / "gallery")  # of a checkout, and of a release
+LIBRARIES = (ABOVE / "library", ABOVE / "doc" / "opprove" / "library")  # of a checkout, and of a release
 PACKAGE = str(Path(__file__).resolve().parents[2])  # where the package is found by those that are started
 # The numbers that a run of `prove` takes from the page, with their least and greatest values.
 BUDGETS = {"pairs": (1, 1000000), "steps": (1, 1000000), "seed": (0, 2**64 - 1), "format": (1, 2)}
@@ -91,8 +91,8 @@ class Desk:
         return Answer(HTTPStatus.OK, "text/plain; charset=utf-8", run.report.read_bytes()) if run else NOT_FOUND
 
     def gallery(self) -> Answer:
-        paths = sorted(path for folder in GALLERIES for path in folder.glob("*.op"))
-        return data({"statement": self.statement, "gallery": {path.stem: path.read_text("utf-8") for path in paths}})
+        paths = sorted(path for folder in LIBRARIES for path in folder.glob("*/*.op"))
+        return data({"statement": self.statement, "gallery": {f"{path.parent.name}/{path.stem}": path.read_text("utf-8") for path in paths}})
 
     # ---- What a POST does
 
