@@ -284,8 +284,8 @@ class Worked(Served):
     def test_the_gallery_is_a_menu(self) -> None:
         self.open()
         names = self.browser.run("return [...document.querySelectorAll('#gallery option')].map((at) => at.value)")
-        self.assertIn("moore_penrose_unique", names)
-        choose = "const at = document.getElementById('gallery'); at.value = 'jacobson_lemma'; at.dispatchEvent(new Event('change'));"
+        self.assertIn("moore_penrose/moore_penrose_unique", names)
+        choose = "const at = document.getElementById('gallery'); at.value = 'rings/jacobson_lemma'; at.dispatchEvent(new Event('change'));"
         self.browser.run(choose)
         statement = GALLERY["jacobson_lemma"].read_text("utf-8")
         self.assertEqual(self.browser.run("return document.getElementById('statement').value"), statement)
