@@ -22,7 +22,7 @@ sys.dont_write_bytecode = True
 from opprove import program as programs
 from opprove.checkers import check
 import trying
-from opprove import Expression, NotTyped, Object, Refused, Statement, Verdict, from_sympy
+from opprove import Expression, NotTyped, Object, Refused, Report, Statement, Verdict, from_sympy
 from trying import EXAMPLES, GALLERY, PROGRAM, STATEMENTS, TESTS, TOP, Failed, Skipped, decided, need, run, tool, usage_line
 
 NAMED = os.environ.get("OPPROVE") or str(PROGRAM)
@@ -526,7 +526,35 @@ def typeset(folder: Path, proofs: List[str]) -> bool:
     return program is not None
 
 
-CHECKS: List[Callable[[Path], str]] = [gallery, expressions, refusals, stored, statuses, sympy, notebook, real_statuses, heads]
+SHOWN = """\
+statement.op:3:11
+    claim a = a'
+              ^
+S11: both sides of an equation have one source and one target: a goes U -> V, and a' goes V -> U; the adjoint of the second goes as the
+first does"""
+
+
+def in_words(folder: Path) -> str:
+    """Options are taken by their names, a refusal says in words what is wrong, and what is claimed is text."""
+    s = Statement.read(GALLERY["one_sided_inverse"])
+    need((s.assumptions, s.claims) == (["a b = [V]"], ["b a = [U]"]), (s.assumptions, s.claims))
+    by_name = s.prove(pairs=10, no_models=True, format=1, program=program())
+    need(by_name == s.prove("--pairs", 10, "--no-models", "--format", 1, program=program()) and isinstance(by_name, Report), by_name)
+    need(repr(by_name).startswith("1. b a = [U]: undecided pairs 10 "), by_name)
+    made = Statement()
+    V = made.object("V")
+    p, q = made.maps("p q", V, V)
+    made.projection(p)
+    made.assume(p * q == q)
+    need((made.assumptions, made.claims) == (["projection p", "p q = q"], []), made.assumptions)
+    try:
+        Statement.parse("object U V\nmap a : U -> V\nclaim a = a'\n")
+    except Refused as refused:
+        need(" ".join(str(refused).split()) == " ".join(SHOWN.split()) and refused.status == 3, str(refused))
+    return "options by their names, a refusal in words, and claims as text"
+
+
+CHECKS: List[Callable[[Path], str]] = [gallery, expressions, refusals, stored, statuses, sympy, notebook, real_statuses, heads, in_words]
 
 # ---- In a fresh venv
 

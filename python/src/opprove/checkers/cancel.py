@@ -14,10 +14,10 @@ from typing import TYPE_CHECKING, Any, Dict, Iterator, List, NamedTuple, Set, Tu
 
 if TYPE_CHECKING or __package__:
     from .chain_text import LETTERS_OF_A_WORD, Bounded, Lines, add_row, greatness
-    from .check import Blocks, Poly, Problem, Refusal, Row, Share, Source, Word, answered, is_letter, script
+    from .check import Blocks, Poly, Problem, Refusal, Row, Share, Source, Word, answering, is_letter, script
 else:  # run as a file by itself
     from chain_text import LETTERS_OF_A_WORD, Bounded, Lines, add_row, greatness
-    from check import Blocks, Poly, Problem, Refusal, Row, Share, Source, Word, answered, is_letter, script
+    from check import Blocks, Poly, Problem, Refusal, Row, Share, Source, Word, answering, is_letter, script
 
 TERMS_OF_A_POLYNOMIAL, TERMS_OF_ITEMS, PROOFS, ITEMS = 20000, 1000000, 100, 200000
 
@@ -214,10 +214,7 @@ def report(statement: Source, evidence: Source) -> Iterator[str]:
         yield f"# block {block} {accepted(problem, proof)}"
 
 
-def main(words: List[str]) -> int:
-    """Writes the report, and gives the status."""
-    return answered(report, "cancel.py STATEMENT PROOF", words)
-
+main = answering(report, "cancel.py STATEMENT PROOF")
 
 if __name__ == "__main__":
     script(main)

@@ -577,11 +577,15 @@ def finished(made: Callable[[], Tuple[Iterable[str], int]]) -> int:
     return status if is_written else NO_OUTPUT
 
 
-def answered(report: Report, usage: str, words: List[str]) -> int:
-    """Writes the report on the two files that the words are, and gives the status."""
-    if len(words) != 2:
-        return finished(lambda: ([f"# usage: {usage}"], USAGE))
-    return finished(lambda: (report(*loaded(words)), DONE))
+def answering(report: Report, usage: str) -> Callable[[List[str]], int]:
+    """What runs for the words of a call: it writes the report on the two files that these are, and gives the status."""
+
+    def main(words: List[str]) -> int:
+        if len(words) != 2:
+            return finished(lambda: ([f"# usage: {usage}"], USAGE))
+        return finished(lambda: (report(*loaded(words)), DONE))
+
+    return main
 
 
 def script(main: Callable[[List[str]], int]) -> NoReturn:
@@ -592,10 +596,7 @@ def script(main: Callable[[List[str]], int]) -> NoReturn:
     sys.exit(main(sys.argv[1:]))
 
 
-def main(words: List[str]) -> int:
-    """Writes the report, and gives the status."""
-    return answered(report, "check.py STATEMENT EVIDENCE", words)
-
+main = answering(report, "check.py STATEMENT EVIDENCE")
 
 if __name__ == "__main__":
     script(main)

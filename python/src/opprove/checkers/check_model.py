@@ -17,9 +17,9 @@ from fractions import Fraction
 from typing import TYPE_CHECKING, Dict, Iterator, List, NamedTuple, Optional, Tuple, Union
 
 if TYPE_CHECKING or __package__:
-    from .check import Blocks, Poly, Problem, Refusal, Source, Word, answered, is_name, script
+    from .check import Blocks, Poly, Problem, Refusal, Source, Word, answering, is_name, script
 else:  # run as a file by itself
-    from check import Blocks, Poly, Problem, Refusal, Source, Word, answered, is_name, script
+    from check import Blocks, Poly, Problem, Refusal, Source, Word, answering, is_name, script
 
 Number = Union[int, Fraction]
 Matrix = List[List[Number]]  # its rows; all numbers are from 0 to one less than a modulus, where there is one
@@ -216,10 +216,7 @@ def report(statement: Source, evidence: Source) -> Iterator[str]:
         yield f"# block {block} confirmed claim {model.claim}"
 
 
-def main(words: List[str]) -> int:
-    """Writes the report, and gives the status."""
-    return answered(report, "check_model.py STATEMENT MODELS", words)
-
+main = answering(report, "check_model.py STATEMENT MODELS")
 
 if __name__ == "__main__":
     script(main)

@@ -18,12 +18,12 @@ from typing import TYPE_CHECKING, DefaultDict, Dict, Iterable, Iterator, List, N
 if TYPE_CHECKING or __package__:
     from . import check
     from .chain_text import MOST, NUMBERS, operated
-    from .check import Blocks, Problem, Refusal, Source, answered, is_name, script
+    from .check import Blocks, Problem, Refusal, Source, answering, is_name, script
     from .tree import measures_of
 else:  # run as a file by itself
     import check
     from chain_text import MOST, NUMBERS, operated
-    from check import Blocks, Problem, Refusal, Source, answered, is_name, script
+    from check import Blocks, Problem, Refusal, Source, answering, is_name, script
     from tree import measures_of
 
 LETTERS_OF_A_WORD, TERMS, RULES, BASES, STEPS = 500, 20000, 100000, 100, 1000000
@@ -350,10 +350,7 @@ def report(statement: Source, evidence: Source) -> Iterator[str]:
         yield f"# block {block} closed claim {basis.claim}" + (" sharp" if is_sharp(problem, basis) else "")
 
 
-def main(words: List[str]) -> int:
-    """Writes the report, and gives the status."""
-    return answered(report, "confirm.py STATEMENT BASIS", words)
-
+main = answering(report, "confirm.py STATEMENT BASIS")
 
 if __name__ == "__main__":
     script(main)

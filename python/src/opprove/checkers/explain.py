@@ -8,14 +8,14 @@ A referee reads 970 lines: this file, check.py and chain_text.py, and no other b
 """
 from __future__ import annotations
 
-from typing import TYPE_CHECKING, Iterator, List
+from typing import TYPE_CHECKING, Iterator
 
 if TYPE_CHECKING or __package__:
     from .chain_text import Bounded, Lines, explained
-    from .check import Problem, Source, answered, script
+    from .check import Problem, Source, answering, script
 else:  # run as a file by itself
     from chain_text import Bounded, Lines, explained
-    from check import Problem, Source, answered, script
+    from check import Problem, Source, answering, script
 
 
 def report(statement: Source, evidence: Source) -> Iterator[str]:
@@ -27,10 +27,7 @@ def report(statement: Source, evidence: Source) -> Iterator[str]:
         yield from explained(lines, block, certificate, has_lemmas)
 
 
-def main(words: List[str]) -> int:
-    """Writes the report, and gives the status."""
-    return answered(report, "explain.py STATEMENT CERTIFICATE", words)
-
+main = answering(report, "explain.py STATEMENT CERTIFICATE")
 
 if __name__ == "__main__":
     script(main)

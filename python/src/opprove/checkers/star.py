@@ -17,11 +17,11 @@ from typing import TYPE_CHECKING, Iterator, List, NamedTuple, Union
 if TYPE_CHECKING or __package__:
     from .cancel import ITEMS, Cancel, Cancellation, Cancellations, Items, TERMS_OF_A_POLYNOMIAL, accepted, is_typed, judge
     from .chain_text import LETTERS_OF_A_WORD, MOST, NUMBERS, Lines
-    from .check import Poly, Problem, Refusal, Source, add, answered, is_letter, script
+    from .check import Poly, Problem, Refusal, Source, add, answering, is_letter, script
 else:  # run as a file by itself
     from cancel import ITEMS, Cancel, Cancellation, Cancellations, Items, TERMS_OF_A_POLYNOMIAL, accepted, is_typed, judge
     from chain_text import LETTERS_OF_A_WORD, MOST, NUMBERS, Lines
-    from check import Poly, Problem, Refusal, Source, add, answered, is_letter, script
+    from check import Poly, Problem, Refusal, Source, add, answering, is_letter, script
 
 PRODUCTS = 1000000  # of terms, in the squares of one item
 
@@ -133,10 +133,7 @@ def report(statement: Source, evidence: Source) -> Iterator[str]:
         yield f"# block {block} {accepted(problem, proof, granted(proof))}"
 
 
-def main(words: List[str]) -> int:
-    """Writes the report, and returns the status."""
-    return answered(report, "star.py STATEMENT PROOF", words)
-
+main = answering(report, "star.py STATEMENT PROOF")
 
 if __name__ == "__main__":
     script(main)

@@ -39,7 +39,7 @@ from opprove.checkers.cancel import Cancel, Cancellation, Cancellations
 from opprove.checkers.star import Root, StarItems, StarProofs
 from opprove.checkers.chain_text import ChainText, Lines, Texts, judge_chain
 from opprove.checkers.check import (
-    Blocks, Certificate, Line, Poly, Problem, Refusal, Row, Share, Signature, Source, Token, Word, add, content, judge, loaded,
+    Blocks, Certificate, Line, Poly, Problem, Row, Share, Signature, Source, Token, Word, add, content, judge, loaded,
 )  # fmt: skip
 from opprove.tool import ended
 from opprove.translations.translation import explained, of_two_files
