@@ -114,6 +114,7 @@ class Refused(Served):
             (413, "POST", path + "look", None, {"Content_Length": str(2**20 + 1)}), (411, "POST", path + "look", None, {}),
             (411, "POST", path + "look", b"", {"Transfer_Encoding": "chunked"}),
             (411, "POST", path + "look", None, {"Content_Length": "-1"}),
+            (411, "POST", path + "look", None, {"Content_Length": "\xb2"}),
             (404, "GET", path + "..%2f..%2fetc/passwd", None, {}), (404, "GET", path + "../../etc/passwd", None, {}),
             (404, "GET", path + "page/../../../etc/passwd", None, {}), (404, "GET", path + "page/9", None, {}),
             (404, "GET", path + "state/x", None, {}),

@@ -193,7 +193,7 @@ class Handler(BaseHTTPRequestHandler):
 
     def oversized(self) -> Optional[Answer]:
         length = self.headers.get("Content-Length", "")
-        if "Transfer-Encoding" in self.headers or not length.isdigit():
+        if "Transfer-Encoding" in self.headers or not length.isdecimal():
             return told(HTTPStatus.LENGTH_REQUIRED, "no length")
         return told(HTTPStatus.REQUEST_ENTITY_TOO_LARGE, f"more than {BODY_LIMIT} bytes") if int(length) > BODY_LIMIT else None
 
@@ -207,7 +207,7 @@ class Handler(BaseHTTPRequestHandler):
         if words == ["gallery"]:
             return desk.gallery()
         by_number: Dict[str, Callable[[str], Answer]] = {"page": desk.page, "state": desk.state, "report": desk.report}
-        is_known = len(words) == 2 and words[0] in by_number and words[1].isdigit() and len(words[1]) < 10
+        is_known = len(words) == 2 and words[0] in by_number and words[1].isdecimal() and len(words[1]) < 10
         return by_number[words[0]](words[1]) if is_known else NOT_FOUND
 
     def posted(self) -> Answer:
@@ -267,7 +267,7 @@ def count(least: int, most: int) -> Callable[[str], int]:
     """Reads a number between these, for the words of the call."""
 
     def number(text: str) -> int:
-        if not text.isdigit() or not least <= int(text) <= most:
+        if not text.isdecimal() or not least <= int(text) <= most:
             raise argparse.ArgumentTypeError(f"a number from {least} to {most}")
         return int(text)
 
@@ -280,7 +280,7 @@ def interrupted(*what: object) -> None:
 
 def served(statement: str, limits: Limits) -> int:
     """Serves until it is interrupted, and gives the status."""
-    is_put = False
+    is_put = True
     for number in (signal.SIGINT, signal.SIGTERM, signal.SIGHUP):
         signal.signal(number, interrupted)
     with tempfile.TemporaryDirectory(prefix="opprove-") as folder, Server(Desk(Path(folder), limits, statement)) as server:
