@@ -13,6 +13,7 @@ SAID = {
     "pinv": "${x}$ is the Moore--Penrose inverse of ${a}$", "inverse": "${x}$ is the inverse of ${a}$",
     "inner": "${x}$ is an inner inverse of ${a}$", "projection": "${x}$ is a projection",
 }  # fmt: skip
+LINES = 100  # in a display, after which another one begins
 Names = Dict[str, str]  # how maps and objects are written, by their names
 
 
@@ -94,7 +95,13 @@ def power(name: str, count: int) -> str:
 
 
 def aligned(rows: List[str]) -> List[str]:
-    return [r"\begin{align*}", " \\\\\n".join(rows), r"\end{align*}"]
+    """The rows of a display, and of several where they are long, since TeX holds each whole."""
+    parts: List[List[str]] = [[]]
+    for row in rows:
+        if sum(it.count("\n") + 1 for it in parts[-1]) > LINES:
+            parts.append([])
+        parts[-1].append(row)
+    return [line for part in parts for line in (r"\begin{align*}", " \\\\\n".join(part), r"\end{align*}")]
 
 
 def in_lines(writer: Writer, poly: Poly, ends: Signature) -> str:
