@@ -18,7 +18,7 @@ class Said(NamedTuple):
     level: int
     term: str
     size: int = 1  # how many terms it has when it is multiplied out, and none are put together
-    negated: Optional[Said] = None  # what stands behind its minus, where it has one
+    negated: Optional[Said] = None  # what its minus negates, where it has one
 
     def within(self, level: int) -> str:
         """Where a text of this level stands, in brackets if it needs them."""
