@@ -80,7 +80,7 @@ def followed(folder: Path, is_wanted: Callable[[Command, Path], bool]) -> int:
     for command in guide.commands:
         stored = re.search(r" \| tee (\S+)$", command.line)
         if is_wanted(command, place):
-            answer = run("bash", "-c", as_run(command.line), folder=place)
+            answer = run("bash", "-c", as_run(command.line), folder=place, seconds=600)
             need(answer.out == command.shown, f"$ {command.line}\n{answer.out}{answer.error}and the guide has\n{command.shown}")
             error = "".join(line for line in answer.error.splitlines(True) if not line.startswith("# expanded "))
             need(not error or "./opprove search " in command.line, f"$ {command.line}\n{error}")
