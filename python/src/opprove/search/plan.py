@@ -13,12 +13,12 @@ PAIRS, STEPS, LIMIT, SECONDS = 500, 20_000, 1_000_000, 1  # of level 0; each lev
 # did it for another goal; models; the statement as it is; letters and stars that are taken off, those that were named or any;
 # models of rational numbers; and the statement as it is with many pairs, once. Cheap ones have a low rank.
 FEWER, OTHER, BOTH, ALONE, AGAIN, MODELS, AS_WRITTEN, NAMED, ANY, RATIONAL, LARGE = range(11)
-RANKS = [0, 0, 1, 2, 0, 1, 0, -1, 1, 1, 0]
+RANKS = [0, 0, 1, 2, 0, 1, 0, -1, 1, -1, 0]
 AS_IT_IS, LARGER = "the statement as it is", "the statement with many pairs"
 LARGE_LEVEL, LARGE_SECONDS = 7, 12  # the pairs of that level, for some seconds
 WORKER = {NAMED: "cancellations", ANY: "any cancellations", RATIONAL: "rational matrices"}  # what is run in Python
-WORKER_SECONDS = 2  # of level 0
-TRIED = 1  # the level to which letters are tried for a claim that is refuted
+WORKER_SECONDS = 4  # of level 0
+TRIED = 0  # the level to which letters are tried for a claim that is refuted
 
 
 class Goal:
@@ -156,7 +156,8 @@ class Plan:
         """A search in Python for the claims that want it. The text has a comment more, so that no other job has it."""
         options = self.options
         goals = [goal for goal in self.claims if goal.wants(kind)]
-        words = ["worker", "rational" if kind == RATIONAL else "cancel", str(WORKER_SECONDS << level)]
+        seconds = (WORKER_SECONDS << level) // (2 if kind == RATIONAL else 1)
+        words = ["worker", "rational" if kind == RATIONAL else "cancel", str(seconds)]
         words.append(",".join(str(goal.number) for goal in goals))
         words += ["*", ""] if kind == ANY else [",".join(options.monic), ",".join(options.epic)]
         words.append(str(level + 1) if kind == RATIONAL else str(int(options.complex and kind == NAMED)))
