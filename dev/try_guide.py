@@ -73,7 +73,8 @@ def followed(folder: Path, is_wanted: Callable[[Command, Path], bool]) -> int:
     place = Path(tempfile.mkdtemp(dir=folder))
     for name, text in guide.files.items():
         (place / name).write_text(text, encoding="utf-8")
-    (place / "examples").symlink_to(EXAMPLES)
+    for name in ("examples", "library"):
+        (place / name).symlink_to(TOP / name)
     coq_files = SOURCE / "opprove" / "coq" / "theories"
     others = lambda _, names: {name for name in names if name[-2:] != ".v"}
     shutil.copytree(coq_files, place / coq_files.relative_to(TOP), ignore=others)
@@ -135,7 +136,8 @@ def readme(folder: Path) -> str:
     statement = (EXAMPLES / "pseudoinverses.op").read_text(encoding="utf-8")
     need(blocks[0] in statement, "the statement of README")
     place = Path(tempfile.mkdtemp(dir=folder))
-    (place / "examples").symlink_to(EXAMPLES)
+    for name in ("examples", "library"):
+        (place / name).symlink_to(TOP / name)
     parts = [part.partition("\n") for block in blocks if block[:2] == "$ " for part in re.split(r"^\$ ", block, flags=re.MULTILINE)[1:]]
     for line, _, shown in parts:
         answer = run("bash", "-c", as_run(line), folder=place)
