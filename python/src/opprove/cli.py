@@ -37,6 +37,7 @@ TOOLS: List[Tool] = [
     Tool("sympy", "translations.sympy", "a certificate as a script that SymPy adds up"),
     Tool("picture", "translations.picture", "the quiver of a statement as SVG, TikZ or a graph"),
     Tool("page", "page.page", "a statement and its evidence as one HTML file that checks itself"),
+    Tool("pages", "page.pages", "a folder of statements as a site of pages, with an index", asks=True),
     Tool("serve", "page.serve", "a page to work in, on this machine alone", asks=True),
     Tool("expand", "notation.expand", "the statements that a file of the notation stands for", takes_notation=True),
     Tool("implications", "notation.implications", "which of the cases of a file of the notation follow from which", asks=True, takes_notation=True),

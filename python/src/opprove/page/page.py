@@ -14,7 +14,7 @@ import re
 import shlex
 from html import escape
 from pathlib import Path
-from typing import Callable, Dict, Iterator, List, NamedTuple, Sequence, Tuple
+from typing import Callable, Dict, Iterator, List, NamedTuple, Optional, Sequence, Tuple
 
 from opprove.checkers import cancel, check_model, confirm, star
 from opprove.checkers.chain_text import Lines
@@ -124,11 +124,19 @@ def bases(reader: Reader, number: int, report: bytes) -> Iterator[Piece]:
 # ---- The statement
 
 
+def comments_of(text: str) -> List[str]:
+    """The comments in front of a statement, line by line."""
+    lines = [line.strip() for line in re.split("\r?\n", text) if line.split()[:1] != ["language"]]
+    first = next((number for number, line in enumerate(lines) if line and line[0] != "#"), len(lines))
+    return [line.lstrip("#").strip() for line in lines[:first]]
+
+
 class StatementWriter:
     """Writes a statement: as formulas, as a quiver, and as it stands in its file."""
 
-    def __init__(self, reader: Reader, text: str) -> None:
+    def __init__(self, reader: Reader, text: str, about: Optional[Sequence[str]] = None) -> None:
         self.reader, self.text = reader, text
+        self.about = [" ".join(comments_of(text)).strip()] if about is None else about
         self.writer = Writer(reader.problem, MATHML)
 
     def glance(self) -> Iterator[str]:
@@ -146,7 +154,7 @@ class StatementWriter:
 
     def written(self) -> Iterator[str]:
         yield '<section class="statement"><h2>The statement</h2>'
-        yield from (f'<p class="about">{escape(line)}</p>' for line in self.about())
+        yield from (f'<p class="about">{escape(line)}</p>' for line in self.about if line)
         yield from self.glance()
         lines = re.split("\r?\n", self.text)
         lines = lines[:-1] if len(lines) > 1 and not lines[-1] else lines
@@ -154,13 +162,6 @@ class StatementWriter:
         yield f'<details{is_open}><summary>As it is written</summary><pre class="source">'
         shown = "\n".join(f'<span id="L{number}">{escape(line)}</span>' for number, line in enumerate(lines, 1))
         yield f"{shown}</pre></details></section>"
-
-    def about(self) -> List[str]:
-        """What the comments in front of the statement say, as one paragraph."""
-        lines = [line.strip() for line in re.split("\r?\n", self.text) if line.split()[:1] != ["language"]]
-        first = next((number for number, line in enumerate(lines) if line and line[0] != "#"), len(lines))
-        told = " ".join(line.lstrip("#").strip() for line in lines[:first]).strip()
-        return [told] if told else []
 
     def maps(self) -> Iterator[str]:
         problem, writer = self.reader.problem, self.writer
@@ -180,11 +181,19 @@ class StatementWriter:
 # ---- The page
 
 
+def verdicts_of(pieces: Sequence[Piece]) -> List[str]:
+    return list(dict.fromkeys(piece.verdict for piece in pieces)) or ["no evidence"]
+
+
+def badge(verdict: str, text: str = "") -> str:
+    """The sign of a verdict."""
+    return f'<span class="verdict {verdict.split(" ")[0]}">{text or verdict}</span>'
+
+
 def claim_lines(reader: Reader, number: int, pieces: Sequence[Piece]) -> Iterator[str]:
     """The section of a claim."""
     found = reader.claims[number - 1]
-    verdicts = list(dict.fromkeys(piece.verdict for piece in pieces)) or ["no evidence"]
-    badges = " ".join(f'<span class="verdict {verdict.split(" ")[0]}">{verdict}</span>' for verdict in verdicts)
+    badges = " ".join(map(badge, verdicts_of(pieces)))
     yield f'<section class="claim" id="claim{number}"><h2>Claim {number} {badges}</h2>'
     yield f'<p class="formula">{equation(Writer(reader.problem, MATHML), found.left, found.right, found.ends)}</p>'
     for piece in pieces:
@@ -239,26 +248,60 @@ def head(title: str, style: str, programs: Sequence[str]) -> str:
     )
 
 
-def page_of(
-    statement: Path, reports: Sequence[Path], title: str = "", comment: str = "", links: Sequence[Tuple[str, str]] = ()
-) -> str:
-    """The page of a statement and its reports. Its title is the name of the statement where none is given; links, each a name and an
-    address, stand above it, and the comment in front of all. A Refusal is raised for what is wrong with the files."""
-    contents = loaded([str(path) for path in (statement, *reports)], [*MOST_BYTES[:1], *MOST_BYTES[1:] * len(reports)])
+class Found(NamedTuple):
+    """A statement and its reports as they were read, and what the reports have of its claims."""
+
+    paths: List[Path]
+    contents: List[bytes]
+    reader: Reader
+    pieces: List[Piece]
+
+    def of_claim(self, number: int) -> List[Piece]:
+        return [piece for piece in self.pieces if piece.claim == number]
+
+    def verdicts(self) -> List[List[str]]:
+        """Those on each claim, each once."""
+        return [verdicts_of(self.of_claim(number)) for number in range(1, len(self.reader.claims) + 1)]
+
+
+def found_in(statement: Path, reports: Sequence[Path]) -> Found:
+    """Reads and checks a statement and its reports. A Refusal is raised for what is wrong with the files."""
+    paths = [statement, *reports]
+    contents = loaded(list(map(str, paths)), [*MOST_BYTES[:1], *MOST_BYTES[1:] * len(reports)])
     reader = Reader(Problem(contents[0]))
     pieces = [piece for number, report in enumerate(contents[1:]) for piece in pieces_of(reader, number, report)]
-    shown = title or statement.stem.replace("_", " ")
+    return Found(paths, contents, reader, pieces)
+
+
+def navigation(links: Sequence[Tuple[str, str]]) -> List[str]:
+    """Links, each a name and an address, on a line; none where there are none."""
+    around = " ".join(f'<a href="{escape(address)}">{escape(name)}</a>' for name, address in links)
+    return [f"<nav>{around}</nav>"] * bool(links)
+
+
+def page_with(
+    found: Found, title: str = "", comment: str = "", links: Sequence[Tuple[str, str]] = (), about: Optional[Sequence[str]] = None
+) -> str:
+    """The page of what was found. Its title is the name of the statement where none is given; links, each a name and an address, stand
+    above it, the comment in front of all, and paragraphs about the statement in the place of its first comments."""
+    shown = title or found.paths[0].stem.replace("_", " ")
     style, programs = part("style.css"), [part("check.js"), part("shown.js"), part("view.js")]
     lines = ["<!doctype html>"] + [f"<!-- {comment.replace('--', '- -').replace('>', '')} -->"] * bool(comment)
     lines += [f'<html lang="en">{head(shown, style, programs)}<body>']
-    around = " ".join(f'<a href="{escape(address)}">{escape(name)}</a>' for name, address in links)
-    lines += ["<header>", *[f"<nav>{around}</nav>"] * bool(links), f"<h1>{escape(shown)}</h1>"]
+    lines += ["<header>", *navigation(links), f"<h1>{escape(shown)}</h1>"]
     lines += ['<p id="checked" role="status"></p></header><main>']
-    lines += StatementWriter(reader, contents[0].decode()).written()
-    for number in range(1, len(reader.claims) + 1):
-        lines += claim_lines(reader, number, [piece for piece in pieces if piece.claim == number])
-    lines += ["</main>", *footer([statement, *reports], contents, pieces)]
+    lines += StatementWriter(found.reader, found.contents[0].decode(), about).written()
+    for number in range(1, len(found.reader.claims) + 1):
+        lines += claim_lines(found.reader, number, found.of_claim(number))
+    lines += ["</main>", *footer(found.paths, found.contents, found.pieces)]
     return "\n".join([*lines, *(f"<script>{program}</script>" for program in programs), "</body></html>"]) + "\n"
+
+
+def page_of(
+    statement: Path, reports: Sequence[Path], title: str = "", comment: str = "", links: Sequence[Tuple[str, str]] = ()
+) -> str:
+    """The page of a statement and its reports. A Refusal is raised for what is wrong with the files."""
+    return page_with(found_in(statement, reports), title, comment, links)
 
 
 def main(words: List[str]) -> int:
