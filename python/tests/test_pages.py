@@ -151,6 +151,9 @@ class Site(unittest.TestCase):
         shown = "return [...document.querySelectorAll('section:not([hidden])')].map((at) => at.id)"
         self.assertEqual(browser.run(f"{find} {shown}", "product"), ["rings"])
         self.assertEqual(browser.run("return document.querySelector('#count').textContent"), "1 of 4 theorems")
+        browser.run(find, "")
+        signs = "return [...document.querySelectorAll('.theorem > .verdict')].map((at) => at.textContent)"
+        self.assertEqual(browser.run(signs), ["not derivable", "proved", "2 proved", "proved", "refuted"])
 
 
 if __name__ == "__main__":

@@ -235,16 +235,21 @@ def item(entry: Entry, made: Dict[str, Made]) -> Iterator[str]:
     shapes = dict.fromkeys(shape for place in places for shape in made[place].shapes)
     yield f'<li class="theorem" data-shapes="{escape(chr(10).join(shapes))}">'
     links = [link(place, one.name, made[place]) for place, one in zip(places, entry.statements)]
-    yield links[0] if len(links) == 1 else f"<b>{escape(title_of(entry.path.stem))}</b>"
+    every = [verdict for place in places for verdict in made[place].verdicts]
+    yield links[0] if len(links) == 1 else f"<b>{escape(title_of(entry.path.stem))}</b> {badges(every)}"
     yield f'<p class="about">{escape(entry.fields["THEOREM"] or entry.fault)}</p>'
     yield f'<p class="place">{escape(entry.fields["SOURCE"])}</p>' * bool(entry.fields["SOURCE"])
     yield f"<details><summary>{len(links)} statements</summary>{'<br>'.join(links)}</details></li>" if len(links) > 1 else "</li>"
 
 
+def badges(verdicts: List[str]) -> str:
+    """The signs of verdicts, with their counts."""
+    counts = [(verdict, verdicts.count(verdict)) for verdict in dict.fromkeys(verdicts)]
+    return " ".join(badge(verdict, f"{count} {verdict}" if count > 1 else verdict) for verdict, count in counts)
+
+
 def link(place: str, name: str, made: Made) -> str:
-    counts = [(verdict, made.verdicts.count(verdict)) for verdict in dict.fromkeys(made.verdicts)]
-    badges = " ".join(badge(verdict, f"{count} {verdict}" if count > 1 else verdict) for verdict, count in counts)
-    return f'<a href="{quote(place)}">{escape(title_of(name))}</a> {badges}'
+    return f'<a href="{quote(place)}">{escape(title_of(name))}</a> {badges(made.verdicts)}'
 
 
 def index_of(title: str, entries: Sequence[Entry], made: Dict[str, Made]) -> str:
