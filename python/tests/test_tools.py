@@ -10,6 +10,7 @@ import textwrap
 import unittest
 from pathlib import Path
 from typing import List
+from unittest.mock import patch
 
 import opprove
 from opprove.cli import TOOLS
@@ -128,7 +129,8 @@ class Package(unittest.TestCase):
         self.assertEqual(len([line for line in lines if line]), 10)
         if not os.access(PROGRAM, os.X_OK):
             self.skipTest("opprove isn't built")
-        done = run(sys.executable, "-c", "\n".join(lines))
+        with patch.dict(os.environ, OPPROVE=str(PROGRAM)):
+            done = run(sys.executable, "-c", "\n".join(lines))
         self.assertEqual((done.status, done.out.split("\n")[0].split(" Claim")[0], done.error), (0, "x = y: proved denominator 1 rows 23 True", ""))
 
     def test_help(self) -> None:
