@@ -58,7 +58,8 @@ def told(files: Files) -> int:
 
 def gallery_proofs() -> List[Path]:
     """The proofs of the gallery that cancel, each beside its statement."""
-    return sorted(path.with_suffix(".cert") for path in GALLERY.values() if path.with_suffix(".cert").exists())
+    stored = [path.with_suffix(".cert") for path in GALLERY.values()]
+    return sorted(path for path in stored if path.exists() and "cancellation 1\n" in path.read_text(encoding="utf-8"))
 
 
 def chains(folder: Path) -> str:

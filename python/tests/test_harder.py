@@ -22,7 +22,7 @@ from opprove.search import variants
 from opprove.checkers.check import Certificate, Evidence, Poly, Problem, Refusal, Row, Share, add, judge
 from trying import EXAMPLES, GALLERY, LIBRARY, PROGRAM, Answer, Skipped, checker, need, run, run_checks, tool
 
-OPPROVE = os.environ.get("OPPROVE", str(PROGRAM))
+OPPROVE = os.environ.setdefault("OPPROVE", str(PROGRAM))
 
 
 def built() -> str:

@@ -19,7 +19,10 @@ from opprove.program import path as path_of_program
 from trying import GALLERY, LIBRARY
 
 PACKAGE = str(Path(__file__).resolve().parents[1] / "src")
-UNENDING = "object V\nmap a b c : V -> V\nassume a b a = b c b a\nassume c a c = a b c a\nclaim a = b\n"
+UNENDING = (  # braids on five strands
+    "object V\nmap a b c d : V -> V\nassume a b a = b a b\nassume b c b = c b c\nassume c d c = d c d\nassume a c = c a\nassume a d = d a\n"
+    "assume b d = d b\nclaim a b c d = d c b a\n"
+)
 INVERSES = "object U V\nmap a : U -> V\nmap b : V -> U\nassume a b = [V]\nclaim b a = [U]\n"
 BUDGETS = {"pairs": 100, "steps": 1000, "seed": 1, "format": 2}
 LONG = {"pairs": 1000000, "steps": 1000000, "seed": 1, "format": 2, "models": False}
