@@ -142,7 +142,7 @@ def readme(folder: Path) -> str:
     for line, _, shown in parts:
         answer = run("bash", "-c", as_run(line), folder=place)
         need(answer.out == shown and not answer.error, (line, answer))
-    need(len(parts) == 2, parts)
+    need(len(parts) == 3, parts)
     return f"{len(parts)} commands of README print what stands there"
 
 
