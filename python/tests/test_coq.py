@@ -114,7 +114,7 @@ class Exports(unittest.TestCase):
 
     def test_stored_evidence(self) -> None:
         places = [(path, path.with_suffix(suffix)) for path in STATEMENTS for suffix in (".cert", ".star")]
-        pairs = [pair for pair in places if pair[1].exists()]
+        pairs = [(path, it) for path, it in places if it.exists() and not it.read_text(encoding="utf-8").startswith("rational model")]
         pairs += [(EXAMPLES / "equal_maps.op", EXAMPLES / f"equal_maps_{name}.cert") for name in ("refused", "untyped")]
         for path, evidence in pairs:
             self.add(path, evidence.read_text(encoding="utf-8"), "refused" not in evidence.stem)
