@@ -17,7 +17,7 @@ from pathlib import Path
 from typing import List
 
 TESTS = Path(__file__).resolve().parent
-QUICK = ["check", "models", "language", "types", "tools", "text", "notation", "star"]
+QUICK = ["check", "models", "language", "types", "tools", "text", "notation", "star", "library"]
 
 
 def run(name: str) -> bool:
