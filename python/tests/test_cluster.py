@@ -37,7 +37,8 @@ class Cluster:
     def __init__(self, python: str, folder: Path, workers: int, **more: str) -> None:
         self.python, self.folder, self.more = python, folder, {"OPPROVE": PROGRAM, **more}
         file = folder / "scheduler.json"
-        self.processes = [self.start("dask_scheduler", "--port", "0", "--no-dashboard", "--scheduler-file", str(file))]
+        words = ("--host", "127.0.0.1", "--port", "0", "--no-dashboard", "--scheduler-file", str(file))
+        self.processes = [self.start("dask_scheduler", *words)]
         wait_for(file.exists)
         text = file.read_text()
         wait_for(lambda: '"address"' in file.read_text())
