@@ -6,12 +6,11 @@ opprove.fish in ~/.config/fish/completions. A package installs them.
 from __future__ import annotations
 
 import re
-import sys
 from typing import Callable, Dict, Iterator, List, Tuple
 
 from opprove.cli import TOOLS
 from opprove.help import OF_THE_SCRIPT, page
-from opprove.tool import parser
+from opprove.tool import ended, parser
 from opprove.words.calls import COMMANDS, LIMITS, SAID_OF
 
 ENDINGS = ("op", "opn", "cert", "report")  # of files that are offered
@@ -130,5 +129,4 @@ def main(words: List[str]) -> int:
     """Writes the file for the shell that is named."""
     made = parser("completions", __doc__)
     made.add_argument("shell", metavar="SHELL", choices=[*SHELLS], help="bash, zsh or fish")
-    sys.stdout.write("\n".join(SHELLS[made.parse_args(words).shell]()) + "\n")
-    return 0
+    return ended(SHELLS[made.parse_args(words).shell])

@@ -9,7 +9,7 @@ from importlib import import_module
 from typing import Iterable, List, Tuple
 
 from opprove.cli import BY_WORD, TOOLS, unknown
-from opprove.tool import parser
+from opprove.tool import ended, parser
 from opprove.words.calls import ALL_STATUSES, COMMANDS, LIMITS, OPTIONS, SAID_OF, form
 
 WIDTH = 100
@@ -27,8 +27,7 @@ def main(words: List[str]) -> int:
     if word and word not in COMMANDS and word not in BY_WORD:
         sys.stderr.write(f"opprove: {unknown(word)}\n")
         return 2
-    sys.stdout.write(page(word) if word else listed())
-    return 0
+    return ended(lambda: (page(word) if word else listed()).rstrip("\n").split("\n"))
 
 
 def page(word: str) -> str:

@@ -6,14 +6,13 @@ from __future__ import annotations
 
 import os
 import re
-import sys
 import textwrap
 import time
 from typing import Iterator, List
 
 from opprove.cli import TOOLS
 from opprove.help import page
-from opprove.tool import parser
+from opprove.tool import ended, parser
 from opprove.version import VERSION
 from opprove.words.calls import ALL_STATUSES, COMMANDS, LIMITS, OPTIONS, SAID_OF
 
@@ -130,5 +129,4 @@ def lines() -> Iterator[str]:
 def main(words: List[str]) -> int:
     """Writes the page."""
     parser("manual", __doc__).parse_args(words)
-    sys.stdout.write("\n".join(lines()) + "\n")
-    return 0
+    return ended(lines)
