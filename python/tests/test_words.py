@@ -187,7 +187,7 @@ def edits(folder: Path, count: int = 100, seed: int = 1) -> str:
         faults += 1
         told = why.explanation(["prove", str(path)], why.Answer(3, line))
         need(len(told) == 1 and told[0].sentence.startswith(place[1] + ": "), (text, line, told))
-        need(told[0].sentence[len(place[1]) + 2 :] != why_statement.RULES[place[1]], (text, line, told))
+        need(told[0].sentence[len(place[1]) + 2 :] != why_statement.RULES[place[1]].text, (text, line, told))
         if place[2]:
             need_caret(on_screen(told, SCREEN), text.split("\n")[int(place[2]) - 1], int(place[3]))
     return f"{faults} faults of {count} edits of the gallery are told with a caret at their column"

@@ -6,20 +6,20 @@ a letter may be taken off an item: in front where the proof calls it monic, behi
 named in the answer; or the first thing that is wrong ends the report. The statuses are those of the program. It is written from
 the rules of docs/FORMATS.md and shares nothing with opprove. Statements are read by check.py, and so are rows: the faults S4 and
 S13 of statements, of numbers that are too large, are not looked at.
-A referee reads 1,157 lines: this file, check.py and chain_text.py, and no other but Python's own library.
+A referee reads 1,113 lines: this file, check.py and chain_text.py, and no other but Python's own library.
 """
 from __future__ import annotations
 
 from typing import TYPE_CHECKING, Any, Dict, Iterator, List, NamedTuple, Set, Tuple, Type
 
 if TYPE_CHECKING or __package__:
-    from .chain_text import LETTERS_OF_A_WORD, Bounded, Lines, add_row, greatness
-    from .check import Blocks, Poly, Problem, Refusal, Row, Share, Source, Word, answering, is_letter, script
+    from .chain_text import LETTERS_OF_A_WORD, Bounded, Lines, add_row, compare
+    from .check import Blocks, Poly, Problem, Row, Share, Source, Word, answering, check_numbers, greatness, is_letter, require, script
 else:  # run as a file by itself
-    from chain_text import LETTERS_OF_A_WORD, Bounded, Lines, add_row, greatness
-    from check import Blocks, Poly, Problem, Refusal, Row, Share, Source, Word, answering, is_letter, script
+    from chain_text import LETTERS_OF_A_WORD, Bounded, Lines, add_row, compare
+    from check import Blocks, Poly, Problem, Row, Share, Source, Word, answering, check_numbers, greatness, is_letter, require, script
 
-TERMS_OF_A_POLYNOMIAL, TERMS_OF_ITEMS, PROOFS, ITEMS = 20000, 1000000, 100, 200000
+TERMS_OF_A_POLYNOMIAL, TERMS_OF_ITEMS, ITEMS = 20000, 1000000, 200000
 
 
 class Cancel(NamedTuple):
@@ -55,9 +55,7 @@ class Cancellations(Bounded):
         self.read_all(self.HEAD.split(" ")[0], self.proofs, self.proof, self.OTHERS)
 
     def proof(self) -> Cancellation:
-        place = self.number
-        self.take(self.HEAD)
-        self.limit(place, len(self.proofs) + 1, PROOFS)
+        self.begin(self.HEAD, len(self.proofs))
         self.read = [0, 0]
         claim, denominator = self.take_number("claim"), self.take_number("denominator")
         declared: Dict[str, Dict[int, None]] = {"monic": {}, "epic": {}}
@@ -92,24 +90,8 @@ class Cancellations(Bounded):
         self.require(place, "K3", name in self.letters)
         return self.letters[name]
 
-    def require(self, place: int, code: str, is_met: bool) -> None:
-        """Raises the fault of the line at this place, unless what it is about is met."""
-        if not is_met:
-            raise Refusal(f"# refused {code} line {place}")
-
 
 # ---- What is said of a proof
-
-
-def check_scales(problem: Problem, proof: Cancellation, refused: str) -> None:
-    shares = [(number, item) for number, item in enumerate(proof.items, 1) if isinstance(item, Share)]
-    if not 1 <= proof.claim <= len(problem.claims):
-        raise Refusal(f"{refused} C1")
-    if min(proof.denominator, *(share.scale for _, share in shares)) < 1:
-        raise Refusal(f"{refused} C3")
-    for number, share in shares:
-        if proof.denominator % share.scale:
-            raise Refusal(f"{refused} C10 lemma {number % len(proof.items)}")
 
 
 class Items:
@@ -125,8 +107,10 @@ class Items:
     def add(self, item: Any) -> None:
         self.polys.append(self.divided(item) if isinstance(item, Share) else self.other(item))
         self.terms += len(self.polys[-1])
-        if self.terms > TERMS_OF_ITEMS:
-            raise Refusal(f"{self.refused} C11 row {self.row} limit {TERMS_OF_ITEMS}")
+        self.test(self.terms <= TERMS_OF_ITEMS, f"C11 row {self.row} limit {TERMS_OF_ITEMS}")
+
+    def test(self, is_met: bool, fault: str) -> None:
+        require(is_met, f"{self.refused} {fault}")
 
     def sum(self, share: Share) -> Poly:
         """What the rows add up to."""
@@ -134,8 +118,7 @@ class Items:
         for row in share.rows:
             self.row += 1
             code, count = ("C7", len(self.polys)) if row.is_lemma else ("C2", len(self.lines.generators))
-            if not 1 <= row.number <= count:
-                raise Refusal(f"{self.refused} {code} row {self.row}")
+            self.test(1 <= row.number <= count, f"{code} row {self.row}")
             add_row(total, row, self.terms_of(row), self.refused, self.row)
         return total
 
@@ -151,11 +134,9 @@ class Items:
         """The polynomial of a lemma."""
         total, number = self.sum(share), len(self.polys) + 1
         rests = [word for word in total if total[word] % share.scale]
-        if rests:
-            word = min(rests, key=greatness)
-            raise Refusal(f"{self.refused} C8 lemma {number} word {self.lines.problem.text(word)} got {total[word]}")
-        if len(total) > TERMS_OF_A_POLYNOMIAL or max(map(len, total), default=0) > LETTERS_OF_A_WORD:
-            raise Refusal(f"{self.refused} C9 lemma {number}")
+        least = min(rests, key=greatness, default=())
+        self.test(not rests, f"C8 lemma {number} word {self.lines.problem.text(least)} got {total.get(least)}")
+        self.test(len(total) <= TERMS_OF_A_POLYNOMIAL and max(map(len, total), default=0) <= LETTERS_OF_A_WORD, f"C9 lemma {number}")
         return {word: value // share.scale for word, value in total.items()}
 
     def other(self, item: Any) -> Poly:
@@ -165,15 +146,11 @@ class Items:
     def stripped(self, cancel: Cancel) -> Poly:
         """The polynomial of an earlier item, with the letter off each word."""
         place = f"item {len(self.polys) + 1}"
-        if not 1 <= cancel.item <= len(self.polys):
-            raise Refusal(f"{self.refused} X1 {place}")
-        if cancel.letter not in (self.monic if cancel.is_left else self.epic):
-            raise Refusal(f"{self.refused} X2 {place}")
+        self.test(1 <= cancel.item <= len(self.polys), f"X1 {place}")
+        self.test(cancel.letter in (self.monic if cancel.is_left else self.epic), f"X2 {place}")
         poly, end = self.polys[cancel.item - 1], 0 if cancel.is_left else -1
-        if not is_typed(self.lines.problem, poly):
-            raise Refusal(f"{self.refused} X3 {place}")
-        if any(len(word) == 1 or word[end] != cancel.letter for word in poly):
-            raise Refusal(f"{self.refused} X4 {place}")
+        self.test(is_typed(self.lines.problem, poly), f"X3 {place}")
+        self.test(all(len(word) > 1 and word[end] == cancel.letter for word in poly), f"X4 {place}")
         return {word[1:] if cancel.is_left else word[:-1]: value for word, value in poly.items()}
 
 
@@ -185,15 +162,14 @@ def is_typed(problem: Problem, poly: Poly) -> bool:
 
 def judge(lines: Lines, proof: Cancellation, refused: str, kind: Type[Items] = Items) -> List[Poly]:
     """Raises the first test of the proof that fails, where one does. Gives the polynomials of the items but the goal."""
-    check_scales(lines.problem, proof, refused)
+    scales = {number % len(proof.items): item.scale for number, item in enumerate(proof.items, 1) if isinstance(item, Share)}
+    check_numbers(lines.problem, proof.claim, proof.denominator, scales, refused)
     goal = proof.items[-1]
     want = lines.first(proof.claim, goal.scale, f"{refused} C4 row 0")
     items = kind(lines, proof, refused)
     for item in proof.items[:-1]:
         items.add(item)
-    different = lines.difference(want, items.sum(goal))
-    if different:
-        raise Refusal(f"{refused} C6 {different}")
+    compare(lines, want, items.sum(goal), f"{refused} C6")
     return items.polys
 
 

@@ -7,7 +7,7 @@ makes all assumptions zero and not the claim, or that none does: the report of `
 
 It is written from docs/FORMATS.md and shares nothing with opprove. Statements are read by check.py, with the limits that
 it doesn't look at.
-A referee reads 1,133 lines: this file, check.py, check_model.py and tree.py, and no other but Python's own library.
+A referee reads 1,149 lines: this file, check.py, check_model.py and tree.py, and no other but Python's own library.
 """
 from __future__ import annotations
 

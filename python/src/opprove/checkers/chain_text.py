@@ -11,13 +11,15 @@ from itertools import chain
 from typing import TYPE_CHECKING, Dict, List, NamedTuple, Tuple
 
 if TYPE_CHECKING or __package__:
-    from .check import Blocks, Certificate, Evidence, Line, Poly, Problem, Refusal, Row, Signature, Source, Token, Word, add, is_letter
+    from .check import Blocks, Certificate, Evidence, Line, Poly, Problem, Refusal, Row, Signature, Source, Token, Word
+    from .check import add, check_numbers, difference, greatness, require, sum_text
 else:  # run as a file by itself
-    from check import Blocks, Certificate, Evidence, Line, Poly, Problem, Refusal, Row, Signature, Source, Token, Word, add, is_letter
+    from check import Blocks, Certificate, Evidence, Line, Poly, Problem, Refusal, Row, Signature, Source, Token, Word
+    from check import add, check_numbers, difference, greatness, require, sum_text
 
 NUMBERS, MOST = 2**32 - 1, 2**127 - 1
 LETTERS_OF_A_WORD, TERMS_OF_A_LINE, LETTERS_OF_LINES, TERMS_OF_A_SUM = 500, 20000, 10000000, 200000
-CHAINS, STEPS, LETTERS_OF_STEPS = 100, 200000, 1000000
+STEPS, LETTERS_OF_STEPS = 200000, 1000000
 # Of the numbers of a line of evidence that begins with the word.
 BOUNDS: Dict[str, List[int]] = {
     "claim": [NUMBERS], "denominator": [MOST], "lemma": [NUMBERS, MOST], "goal": [MOST], "row": [MOST, NUMBERS],
@@ -36,11 +38,6 @@ class ChainText(NamedTuple):
 
 
 # ---- Lines
-
-
-def greatness(word: Word) -> Tuple[int, Word]:
-    """By which words are compared."""
-    return len(word), word
 
 
 def operated(left: int, operation: str, right: int, refused: str) -> int:
@@ -88,11 +85,7 @@ class Lines:
 
     def ends_of_zero(self, tokens: List[Token]) -> Signature:
         """Those that a claim has where its two sides are equal."""
-        line = Line(tokens, self.problem)
-        line.place = 1
-        left, _ = line.sum()
-        line.take("=")
-        right, _ = line.sum()
+        (_, (left, _)), (_, (right, _)) = Line(tokens, self.problem).sides()
         return left or right or (0, 0)
 
     def is_step(self, claim: int, row: Row) -> bool:
@@ -115,8 +108,7 @@ class Lines:
     def take_off(self, line: Poly, step: Row, refused: str, place: str) -> None:
         """Takes a step off a line, unless something on the way is too large."""
         generator = self.generators[step.number - 1]
-        if len(step.left) + len(generator[0][0]) + len(step.right) > LETTERS_OF_A_WORD:
-            raise Refusal(f"{refused} E3 {place}")
+        require(len(step.left) + len(generator[0][0]) + len(step.right) <= LETTERS_OF_A_WORD, f"{refused} E3 {place}")
         overflow = f"{refused} E2 {place}"
         values = [operated(-step.coefficient, "times", coefficient, overflow) for _, coefficient in generator]
         for (middle, _), value in zip(generator, values):
@@ -124,28 +116,14 @@ class Lines:
             total = operated(line.pop(word, 0), "plus", value, overflow)
             if total:
                 line[word] = total
-        if len(line) > TERMS_OF_A_LINE:
-            raise Refusal(f"{refused} E3 {place}")
+        require(len(line) <= TERMS_OF_A_LINE, f"{refused} E3 {place}")
 
     def line_text(self, line: Poly) -> str:
         """The line of text, the greatest word first."""
-        texts = []
-        for word, coefficient in self.terms(line):
-            number = "" if abs(coefficient) == 1 else f"{abs(coefficient)} "
-            texts.append(f"{'-' if coefficient < 0 else '+'} {number}{self.problem.text(word)}")
-        text = " ".join(texts) or "0"
-        return "line " + (text[2:] if text[0] == "+" else text)
+        return "line " + sum_text((self.problem.text(word), coefficient) for word, coefficient in self.terms(line))
 
     def use_text(self, step: Row) -> str:
         return f"use {step.coefficient} ({self.problem.text(step.left)}) {step.number} ({self.problem.text(step.right)})"
-
-    def difference(self, want: Poly, got: Poly) -> str:
-        """The least word at which the two differ, with both coefficients; or nothing."""
-        different = [word for word in {**want, **got} if want.get(word) != got.get(word)]
-        if not different:
-            return ""
-        word = min(different, key=greatness)
-        return f"word {self.problem.text(word)} want {want.get(word, 0)} got {got.get(word, 0)}"
 
 
 # ---- Chains of certificates
@@ -154,26 +132,19 @@ class Lines:
 def judge_rows(lines: Lines, certificate: Certificate, refused: str) -> None:
     """Raises the first test of `check` that fails, of a certificate of rows over generators."""
     claim, denominator, (share,) = certificate
-    if not 1 <= claim <= len(lines.problem.claims):
-        raise Refusal(f"{refused} C1")
-    if denominator < 1:
-        raise Refusal(f"{refused} C3")
+    check_numbers(lines.problem, claim, denominator, {}, refused)
     want = lines.first(claim, denominator, f"{refused} C4 row 0")
     total: Poly = {}
     for number, row in enumerate(share.rows, 1):
-        if not 1 <= row.number <= len(lines.generators):
-            raise Refusal(f"{refused} C2 row {number}")
+        require(1 <= row.number <= len(lines.generators), f"{refused} C2 row {number}")
         add_row(total, row, lines.generators[row.number - 1], refused, number)
-    different = lines.difference(want, total)
-    if different:
-        raise Refusal(f"{refused} C6 {different}")
+    compare(lines, want, total, f"{refused} C6")
 
 
 def explained(lines: Lines, block: int, certificate: Certificate, has_lemmas: bool) -> List[str]:
     """The lines of text of a block, which are its head line and its chain."""
     refused = f"# block {block} refused"
-    if has_lemmas:
-        raise Refusal(f"{refused} E1")
+    require(not has_lemmas, f"{refused} E1")
     judge_rows(lines, certificate, refused)
     claim, denominator, (share,) = certificate
     line = lines.first(claim, denominator, refused)
@@ -183,8 +154,7 @@ def explained(lines: Lines, block: int, certificate: Certificate, has_lemmas: bo
             continue
         lines.take_off(line, row, refused, f"row {number}")
         steps, letters = steps + 1, letters + letters_in(line)
-        if letters > LETTERS_OF_LINES:
-            raise Refusal(f"{refused} E4 row {number} limit {LETTERS_OF_LINES}")
+        require(letters <= LETTERS_OF_LINES, f"{refused} E4 row {number} limit {LETTERS_OF_LINES}")
         text += [lines.use_text(row), lines.line_text(line)]
     head = f"# block {block} explained claim {claim} denominator {denominator} steps {steps}"
     return [head, "chain 1", f"claim {claim}", f"denominator {denominator}", *text, "end"]
@@ -209,13 +179,11 @@ class Bounded(Evidence):
         groups = super().take(pattern)
         numbers = [int(group) for group in groups if re.fullmatch("-?[0-9]+", group or "")]
         self.is_large = any(abs(number) > most for number, most in zip(numbers, bounds))
-        if self.is_large and is_last:
-            raise Refusal(f"# refused K4 line {place}")
+        self.require(place, "K4", not (self.is_large and is_last))
         return groups
 
     def limit(self, place: int, count: int, most: int) -> None:
-        if self.is_large:
-            raise Refusal(f"# refused K4 line {place}")
+        self.require(place, "K4", not self.is_large)
         super().limit(place, count, most)
 
 
@@ -237,14 +205,11 @@ class Texts(Evidence):
                 self.chains.append(self.chain())
             else:
                 self.skip("model|basis")
-        if not self.certificates and not self.chains:
-            raise Refusal("# refused K7")
+        require(bool(self.certificates or self.chains), "# refused K7")
 
     def chain(self) -> ChainText:
         """A block of a chain."""
-        place = self.number
-        self.take("chain 1")
-        self.limit(place, len(self.chains) + 1, CHAINS)
+        self.begin("chain 1", len(self.chains))
         self.counts = [0, 0, 0]  # steps, their letters, and those of lines
         claim, denominator = self.bounded_number("claim"), self.bounded_number("denominator")
         steps: List[Tuple[int, Row]] = []
@@ -256,33 +221,19 @@ class Texts(Evidence):
         return ChainText(claim, denominator, steps, lines)
 
     def bounded_number(self, word: str) -> int:
-        place = self.number
-        number = self.take_number(word)
-        self.bound(place, number, BOUNDS[word][0])
+        place, number = self.number, self.take_number(word)
+        self.require(place, "K4", number <= BOUNDS[word][0])
         return number
-
-    def bound(self, place: int, number: int, most: int) -> None:
-        if abs(number) > most:
-            raise Refusal(f"# refused K4 line {place}")
 
     def count(self, place: int, which: int, more: int, most: int) -> None:
         self.counts[which] += more
         self.limit(place, self.counts[which], most)
 
-    def words(self, place: int, texts: List[str]) -> List[Word]:
-        """The words of these letters. That one has no form comes before that one isn't declared."""
-        names = {name for text in texts for name in re.findall("[^ ]+", text)}
-        for code, fits in (("K2", is_letter), ("K3", self.letters.__contains__)):
-            if not all(map(fits, names)):
-                raise Refusal(f"# refused {code} line {place}")
-        return [tuple(self.letters[name] for name in re.findall("[^ ]+", text)) for text in texts]
-
     def step(self) -> Row:
         place = self.number
         coefficient, left_text, number, right_text = self.take(USE)
         left, right = self.words(place, [left_text, right_text])
-        for value, most in ((int(coefficient), MOST), (int(number), NUMBERS)):
-            self.bound(place, value, most)
+        self.require(place, "K4", abs(int(coefficient)) <= MOST and int(number) <= NUMBERS)
         self.limit(place, max(len(left), len(right)), LETTERS_OF_A_WORD)
         self.count(place, 0, 1, STEPS)
         self.count(place, 1, len(left) + len(right), LETTERS_OF_STEPS)
@@ -295,12 +246,11 @@ class Texts(Evidence):
         # Signs and terms in turn.
         pieces = re.split("(?:^| )([+-]) ", text if text[:2] == "- " else f"+ {text}")[1:] if text != "0" else []
         terms = [re.findall("^(?:([0-9]+)(?: |$))?(.*)", piece)[0] for piece in pieces[1::2]]
-        if not all(letters for _, letters in terms):
-            raise Refusal(f"# refused K2 line {place}")
+        self.require(place, "K2", all(letters for _, letters in terms))
         words = self.words(place, [letters for _, letters in terms])
         total: Poly = {}
         for sign, (number, _), word in zip(pieces[::2], terms, words):
-            self.bound(place, int(number or 1), MOST)
+            self.require(place, "K4", int(number or 1) <= MOST)
             add(total, int(sign + (number or "1")), {word: 1})
         self.limit(place, max(map(len, words), default=0), LETTERS_OF_A_WORD)
         self.limit(place, len(words), TERMS_OF_A_LINE)
@@ -311,24 +261,18 @@ class Texts(Evidence):
 def judge_chain(lines: Lines, told: ChainText, refused: str) -> None:
     """Raises the first thing that is wrong with a chain: what is no step, or the first line that isn't the one before less its
     step. The last one is 0."""
-    if not 1 <= told.claim <= len(lines.problem.claims):
-        raise Refusal(f"{refused} C1")
-    if told.denominator < 1:
-        raise Refusal(f"{refused} C3")
+    check_numbers(lines.problem, told.claim, told.denominator, {}, refused)
     place, got = told.lines[0]
     want = lines.first(told.claim, told.denominator, f"{refused} C4 line {place}")
     compare(lines, want, got, f"{refused} line {place}")
     for (use, step), (place, got) in zip(told.steps, told.lines[1:]):
-        if not 1 <= step.number <= len(lines.generators):
-            raise Refusal(f"{refused} C2 line {use}")
-        if not lines.is_step(told.claim, step):
-            raise Refusal(f"{refused} line {use} no step")
+        require(1 <= step.number <= len(lines.generators), f"{refused} C2 line {use}")
+        require(lines.is_step(told.claim, step), f"{refused} line {use} no step")
         lines.take_off(want, step, refused, f"line {use}")
         compare(lines, want, got, f"{refused} line {place}")
     compare(lines, {}, want, f"{refused} line {place}")
 
 
 def compare(lines: Lines, want: Poly, got: Poly, refused: str) -> None:
-    different = lines.difference(want, got) if want != got else ""
-    if different:
-        raise Refusal(f"{refused} {different}")
+    different = difference(lines.problem, want, got)
+    require(not different, f"{refused} {different}")

@@ -9,7 +9,7 @@ the statement, 4 where a file can't be loaded, 7 for a fault of the evidence or 
 It is written from docs/FORMATS.md and shares nothing with opprove; codes and places are those of that page. It reads both
 languages of statements. Numbers and sums of rows have any size: S4, S13, K4, C4, C5, C9 and C11 are not looked at. Names
 follow this Python's version of Unicode. A text that begins with a `cancellation` is checked by cancel.py, beside this file.
-A referee reads 600 lines, which are this file, and no other but Python's own library.
+A referee reads 639 lines, which are this file, and no other but Python's own library.
 """
 from __future__ import annotations
 
@@ -31,6 +31,12 @@ class Refusal(Exception):
     """The line that says what is wrong."""
 
 
+def require(is_met: bool, line: str) -> None:
+    """Raises the line that says what is wrong, unless what it is about is met."""
+    if not is_met:
+        raise Refusal(line)
+
+
 def add(total: Poly, factor: int, poly: Poly, left: Word = (), right: Word = ()) -> Poly:
     """Adds factor * left * poly * right to the total, and gives the total."""
     for middle, coefficient in poly.items():
@@ -39,6 +45,11 @@ def add(total: Poly, factor: int, poly: Poly, left: Word = (), right: Word = ())
         if value:
             total[word] = value
     return total
+
+
+def greatness(word: Word) -> Tuple[int, Word]:
+    """By which words are compared."""
+    return len(word), word
 
 
 def is_name(text: str) -> bool:
@@ -152,15 +163,19 @@ class Line:
 
     def equation(self) -> Poly:
         """The left side minus the right side."""
-        self.place = 1
-        first, (left_ends, left) = self.next(), self.sum()
-        self.take("=")
-        second, (right_ends, right) = self.next(), self.sum()
+        (first, (left_ends, left)), (second, (right_ends, right)) = self.sides()
         if left_ends is None and right_ends is None:
             raise fault("S12", first)
         if left_ends and right_ends and left_ends != right_ends:
             raise fault("S11", second, arrows(self.problem, left_ends, right_ends))
         return self.sized(add(left, -1, right))
+
+    def sides(self) -> Tuple[Tuple[Token, Value], Tuple[Token, Value]]:
+        """Both sides of an equation, each behind its first token."""
+        self.place = 1
+        left = self.next(), self.sum()
+        self.take("=")
+        return left, (self.next(), self.sum())
 
     def sum(self, depth: int = 0) -> Value:
         terms: List[Tuple[Token, Value]] = []
@@ -178,7 +193,7 @@ class Line:
 
     def product(self, left: Poly, right: Poly) -> Poly:
         total: Poly = {}
-        for word in sorted(left, key=lambda word: (len(word), word), reverse=True):
+        for word in sorted(left, key=greatness, reverse=True):
             add(total, left[word], right, left=word)
             if len(total) > 20000 or len(word) + max(map(len, right), default=0) > 500:
                 return self.too_large()
@@ -433,9 +448,19 @@ class Blocks:
     def take_number(self, words: str) -> int:
         return int(self.take(words + " ([0-9]+)")[0])
 
+    def begin(self, head: str, count: int) -> Tuple[str, ...]:
+        """Takes the first line of a block, where so many were read, and there may be 100."""
+        place, groups = self.number, self.take(head)
+        self.limit(place, count + 1, 100)
+        return groups
+
     def limit(self, place: int, count: int, most: int) -> None:
-        if count > most:
-            raise Refusal(f"# refused K5 line {place} limit {most}")
+        self.require(place, "K5", count <= most, f" limit {most}")
+
+    def require(self, place: int, code: str, is_met: bool, more: str = "") -> None:
+        """Raises the fault of the line at this place, unless what it is about is met."""
+        if not is_met:
+            raise Refusal(f"# refused {code} line {place}{more}")
 
 
 class Evidence(Blocks):
@@ -448,8 +473,7 @@ class Evidence(Blocks):
         self.read_all("certificate", self.certificates, self.certificate, "model|basis")
 
     def certificate(self) -> Certificate:
-        place, has_lemmas = self.number, self.take("certificate ([12])") == ("2",)
-        self.limit(place, len(self.certificates) + 1, 100)
+        has_lemmas = self.begin("certificate ([12])", len(self.certificates)) == ("2",)
         self.read = [0, 0]  # rows and letters
         claim, denominator = self.take_number("claim"), self.take_number("denominator")
         shares: List[Share] = []
@@ -463,8 +487,7 @@ class Evidence(Blocks):
     def lemma(self, wanted: int) -> Share:
         """A lemma with its rows, which has this number."""
         place, (number, scale) = self.number, map(int, self.take("lemma ([0-9]+) scale ([0-9]+)"))
-        if number != wanted:
-            raise Refusal(f"# refused K2 line {place}")
+        self.require(place, "K2", number == wanted)
         self.limit(place, number, 200000)
         return Share(scale, self.rows(True))
 
@@ -472,47 +495,61 @@ class Evidence(Blocks):
         rows = []
         while self.line.startswith("row "):
             place = self.number
-            coefficient, left, lemma, number, right = self.take(ROW % ("lemma " if has_lemmas else "(?!)"))
-            words = [letters.split(" ")[:-1] for letters in (left, right)]
-            for code, fits in (("K2", is_letter), ("K3", self.letters.__contains__)):
-                if not all(map(fits, words[0] + words[1])):
-                    raise Refusal(f"# refused {code} line {place}")
-            self.read = [self.read[0] + 1, self.read[1] + len(words[0]) + len(words[1])]
-            for count, limit in zip((max(map(len, words)), *self.read), (500, 200000, 1000000)):
+            coefficient, left_text, lemma, number, right_text = self.take(ROW % ("lemma " if has_lemmas else "(?!)"))
+            left, right = self.words(place, [left_text, right_text])
+            self.read = [self.read[0] + 1, self.read[1] + len(left) + len(right)]
+            for count, limit in zip((max(len(left), len(right)), *self.read), (500, 200000, 1000000)):
                 self.limit(place, count, limit)
-            left_word, right_word = (tuple(self.letters[letter] for letter in word) for word in words)
-            rows.append(Row(int(coefficient), left_word, lemma is not None, int(number), right_word))
+            rows.append(Row(int(coefficient), left, lemma is not None, int(number), right))
         return rows
+
+    def words(self, place: int, texts: Iterable[str]) -> List[Word]:
+        """The words of these letters. That one has no form comes before that one isn't declared."""
+        words = [re.findall("[^ ]+", text) for text in texts]
+        for code, fits in (("K2", is_letter), ("K3", self.letters.__contains__)):
+            self.require(place, code, all(all(map(fits, word)) for word in words))
+        return [tuple(map(self.letters.__getitem__, word)) for word in words]
+
+
+def check_numbers(problem: Problem, claim: int, denominator: int, scales: Dict[int, int], refused: str) -> None:
+    """Raises the first of these that is wrong: the claim, or the denominator beside the scales of lemmas, of which 0 is the goal's."""
+    require(1 <= claim <= len(problem.claims), f"{refused} C1")
+    require(min(denominator, 1, *scales.values()) == 1, f"{refused} C3")
+    for number, scale in scales.items():
+        require(denominator % scale == 0, f"{refused} C10 lemma {number}")
+
+
+def sum_text(terms: Iterable[Tuple[str, int]]) -> str:
+    """A sum of words with their coefficients, as evidence has it."""
+    texts = (f"{'-' if number < 0 else '+'} {'' if abs(number) == 1 else f'{abs(number)} '}{word}" for word, number in terms)
+    return re.sub(r"^\+ ", "", " ".join(texts)) or "0"
+
+
+def difference(problem: Problem, want: Poly, got: Poly) -> str:
+    """The least word at which the two differ, with both coefficients; or nothing."""
+    different = [word for word in {**want, **got} if want.get(word) != got.get(word)] if want != got else []
+    word = min(different, key=greatness, default=())
+    return f"word {problem.text(word)} want {want.get(word, 0)} got {got.get(word, 0)}" if different else ""
 
 
 def judge(problem: Problem, certificate: Certificate, refused: str) -> None:
     """Raises the first test of the certificate that fails, where one does, behind what is refused."""
     claim, denominator, shares = certificate
-    if not 1 <= claim <= len(problem.claims):
-        raise Refusal(f"{refused} C1")
-    if min(denominator, *(share.scale for share in shares)) < 1:
-        raise Refusal(f"{refused} C3")
-    for number, share in enumerate(shares, 1):
-        if denominator % share.scale:
-            raise Refusal(f"{refused} C10 lemma {number % len(shares)}")
+    check_numbers(problem, claim, denominator, {number % len(shares): share.scale for number, share in enumerate(shares, 1)}, refused)
     generators, place = problem.generators(), 0
     lemmas: List[Poly] = []
     for share in shares:
         total: Poly = {}
         for place, row in enumerate(share.rows, place + 1):
             code, polys = ("C7", lemmas) if row.is_lemma else ("C2", generators)
-            if not 1 <= row.number <= len(polys):
-                raise Refusal(f"{refused} {code} row {place}")
+            require(1 <= row.number <= len(polys), f"{refused} {code} row {place}")
             add(total, row.coefficient, polys[row.number - 1], row.left, row.right)
-        rests = [(len(word), word) for word in total if total[word] % share.scale]
-        if rests and share is not shares[-1]:
-            raise Refusal(f"{refused} C8 lemma {len(lemmas) + 1} word {problem.text(min(rests)[1])} got {total[min(rests)[1]]}")
+        rests = [word for word in total if total[word] % share.scale] if share is not shares[-1] else []
+        least = min(rests, key=greatness, default=())
+        require(not rests, f"{refused} C8 lemma {len(lemmas) + 1} word {problem.text(least)} got {total.get(least)}")
         lemmas.append({word: total[word] // share.scale for word in total})
-    want = add({}, shares[-1].scale, problem.claims[claim - 1])
-    different = [(len(word), word) for word in {**want, **total} if want.get(word) != total.get(word)]
-    if different:
-        word = min(different)[1]
-        raise Refusal(f"{refused} C6 word {problem.text(word)} want {want.get(word, 0)} got {total.get(word, 0)}")
+    different = difference(problem, add({}, shares[-1].scale, problem.claims[claim - 1]), total)
+    require(not different, f"{refused} C6 {different}")
 
 
 def report(statement: Source, evidence: Source) -> Iterator[str]:

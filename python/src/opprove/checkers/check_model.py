@@ -9,17 +9,17 @@ and is computed with exactly.
 
 It is written from docs/FORMATS.md and shares nothing with opprove; codes and places are those of that page. Statements
 are read by check.py, with the limits that it doesn't look at; those of models are all looked at.
-A referee reads 824 lines: this file and check.py, and no other but Python's own library.
+A referee reads 840 lines: this file and check.py, and no other but Python's own library.
 """
 from __future__ import annotations
 
 from fractions import Fraction
-from typing import TYPE_CHECKING, Dict, Iterator, List, NamedTuple, Optional, Tuple, Union
+from typing import TYPE_CHECKING, Dict, Iterator, List, NamedTuple, Tuple, Union
 
 if TYPE_CHECKING or __package__:
-    from .check import Blocks, Poly, Problem, Refusal, Source, Word, answering, is_name, script
+    from .check import Blocks, Poly, Problem, Source, Word, answering, is_name, require, script
 else:  # run as a file by itself
-    from check import Blocks, Poly, Problem, Refusal, Source, Word, answering, is_name, script
+    from check import Blocks, Poly, Problem, Source, Word, answering, is_name, require, script
 
 Number = Union[int, Fraction]
 Matrix = List[List[Number]]  # its rows; all numbers are from 0 to one less than a modulus, where there is one
@@ -42,90 +42,72 @@ class Model(NamedTuple):
 class Models(Blocks):
     """The models of an evidence text."""
 
+    HEAD, OTHERS, MAP_LINE = "model 1", "certificate|basis", MAP
+
     def __init__(self, problem: Problem, source: Source) -> None:
         super().__init__(source)
         self.problem = problem
         self.models: List[Model] = []
-        self.read_all("model", self.models, self.model, "certificate|basis")
+        self.read_all(self.HEAD.split(" ")[0], self.models, self.model, self.OTHERS)
 
     def model(self) -> Model:
-        place = self.number
-        self.take("model 1")
-        if len(self.models) == 100:
-            raise Refusal(f"# refused K5 line {place} limit 100")
-        claim, modulus = self.number_within("claim", 0, 2**32 - 1), self.number_within("modulus", 2, 2**31 - 1)
-        model = Model(claim, modulus, [1 for name in self.problem.names if name[0] == "["], {})
-        self.lines_of(model)
-        return model
-
-    def lines_of(self, model: Model, map_line: str = MAP) -> None:
-        """The lines on sides and maps, to the last one."""
+        self.begin(self.HEAD, len(self.models))
+        model = Model(self.number_within("claim", 0, 2**32 - 1), self.modulus(), [1 for name in self.problem.names if name[0] == "["], {})
         names: List[str] = []
         while self.line.startswith(("side ", "map ")):
             place, is_side = self.number, self.line.startswith("side ")
-            name, text = self.take("side ([^ ]+) ([0-9]+)" if is_side else map_line)[:2]
-            self.check(place, "K2", is_name(name) and name not in names)
+            name, text = self.take("side ([^ ]+) ([0-9]+)" if is_side else self.MAP_LINE)[:2]
+            self.require(place, "K2", is_name(name) and name not in names)
             if is_side:
                 self.add_side(model, place, name, int(text))
             else:
                 self.add_map(model, place, name, [[self.entry(place, number) for number in row.split(" ")] for row in text.split(" ; ")])
             names.append(name)
         self.take("end")
+        return model
+
+    def modulus(self) -> int:
+        return self.number_within("modulus", 2, 2**31 - 1)
 
     def entry(self, place: int, text: str) -> Number:
         return int(text)
 
     def number_within(self, word: str, least: int, most: int) -> int:
         place, number = self.number, self.take_number(word)
-        self.check(place, "K2", number >= least)
-        self.check(place, "K4", number <= most)
+        self.require(place, "K2", number >= least)
+        self.require(place, "K4", number <= most)
         return number
 
     def add_side(self, model: Model, place: int, name: str, side: int) -> None:
-        self.check(place, "K2", side > 0)
+        self.require(place, "K2", side > 0)
         letter = self.letter(place, f"[{name}]")
-        self.check(place, "K5", side <= 64, " limit 64")
+        self.limit(place, side, 64)
         model.sides[letter] = side
 
     def add_map(self, model: Model, place: int, name: str, rows: Matrix) -> None:
-        self.check(place, "K2", all(len(row) == len(rows[0]) for row in rows))
+        self.require(place, "K2", all(len(row) == len(rows[0]) for row in rows))
         letter = self.letter(place, name)
-        self.check(place, "K4", not model.modulus or all(number < model.modulus for row in rows for number in row))
-        self.check(place, "K5", max(len(rows), len(rows[0])) <= 64, " limit 64")
+        self.require(place, "K4", not model.modulus or all(number < model.modulus for row in rows for number in row))
+        self.limit(place, max(len(rows), len(rows[0])), 64)
         model.maps[letter] = rows
 
     def letter(self, place: int, text: str) -> int:
-        self.check(place, "K3", text in self.problem.numbers)
+        self.require(place, "K3", text in self.problem.numbers)
         return self.problem.numbers[text]
-
-    def check(self, place: int, code: str, is_met: bool, more: str = "") -> None:
-        """Raises the fault of the line at this place, unless what it is about is met."""
-        if not is_met:
-            raise Refusal(f"# refused {code} line {place}{more}")
 
 
 class RationalModels(Models):
     """The rational models of an evidence text."""
 
-    def __init__(self, problem: Problem, source: Source) -> None:
-        Blocks.__init__(self, source)
-        self.problem = problem
-        self.models: List[Model] = []
-        self.read_all("rational", self.models, self.model, "certificate|model|basis|cancellation|star")
+    HEAD, OTHERS, MAP_LINE = "rational model 1", "certificate|model|basis|cancellation|star", RATIONAL_MAP
 
-    def model(self) -> Model:
-        place = self.number
-        self.take("rational model 1")
-        self.limit(place, len(self.models) + 1, 100)
-        claim = self.number_within("claim", 0, 2**32 - 1)
-        model = Model(claim, 0, [1 for name in self.problem.names if name[0] == "["], {})
-        self.lines_of(model, RATIONAL_MAP)
-        return model
+    def modulus(self) -> int:
+        return 0
 
     def entry(self, place: int, text: str) -> Number:
         parts = text.lstrip("-").split("/")
-        self.check(place, "K2", len(parts) == 1 or parts[1].strip("0") != "")
-        self.check(place, "K4", max(map(len, parts)) <= DIGITS)
+        self.require(place, "K2", len(parts) == 1 or parts[1].strip("0") != "")
+        self.require(place, "K4", max(map(len, parts)) <= DIGITS)
         return Fraction(text)
 
 
@@ -175,13 +157,16 @@ class Arrows:
             matrix = product(matrix, self.matrices[letter], self.modulus)
         return matrix
 
-    def is_zero(self, poly: Poly) -> bool:
-        """Whether the sum of all terms is the zero matrix. All words are paths with the same ends."""
-        total: Optional[Matrix] = None
+    def total(self, poly: Poly) -> Matrix:
+        """The sum of all terms, with no rows where there are none. All words are paths with the same ends."""
+        total: Matrix = []
         for word, coefficient in poly.items():
             value = [[coefficient * number for number in row] for row in self.value(word)]
             total = [[x + y for x, y in zip(*rows)] for rows in zip(total, value)] if total else value
-        return all(number % self.modulus == 0 if self.modulus else number == 0 for row in total or [] for number in row)
+        return [[number % self.modulus for number in row] for row in total] if self.modulus else total
+
+    def is_zero(self, poly: Poly) -> bool:
+        return not any(map(any, self.total(poly)))
 
 
 # ---- What is said of a model
@@ -189,22 +174,16 @@ class Arrows:
 
 def judge(problem: Problem, model: Model, refused: str) -> None:
     """Raises the first test of the model that fails, where one does, behind what is refused."""
-    if not 1 <= model.claim <= len(problem.claims):
-        raise Refusal(f"{refused} M1")
+    require(1 <= model.claim <= len(problem.claims), f"{refused} M1")
     for letter in declared_maps(problem):
-        matrix = model.maps.get(letter)
-        if matrix is None:
-            raise Refusal(f"{refused} M2 map {problem.names[letter]}")
-        if (len(matrix), len(matrix[0])) != sides_of(problem, model.sides, letter):
-            raise Refusal(f"{refused} M3 map {problem.names[letter]}")
-        if problem.stars[letter] == letter and matrix != transpose(matrix):
-            raise Refusal(f"{refused} M6 map {problem.names[letter]}")
+        name, matrix = problem.names[letter], model.maps.get(letter, [[]])
+        require(letter in model.maps, f"{refused} M2 map {name}")
+        require((len(matrix), len(matrix[0])) == sides_of(problem, model.sides, letter), f"{refused} M3 map {name}")
+        require(problem.stars[letter] != letter or matrix == transpose(matrix), f"{refused} M6 map {name}")
     arrows = Arrows(problem, model)
     for number, assumption in enumerate(problem.assumptions, 1):
-        if not arrows.is_zero(assumption):
-            raise Refusal(f"{refused} M4 assumption {number}")
-    if arrows.is_zero(problem.claims[model.claim - 1]):
-        raise Refusal(f"{refused} M5")
+        require(arrows.is_zero(assumption), f"{refused} M4 assumption {number}")
+    require(not arrows.is_zero(problem.claims[model.claim - 1]), f"{refused} M5")
 
 
 def report(statement: Source, evidence: Source) -> Iterator[str]:

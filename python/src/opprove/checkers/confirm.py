@@ -6,11 +6,12 @@ generators and all S-polynomials of their ambiguities to zero, and leave of its 
 first thing that is wrong, which ends the report. A closed basis is called sharp where its rules are typed and in play. The statuses
 are those of the program. It is written from docs/FORMATS.md and the rules of reduction and shares nothing with opprove. Statements
 are read by check.py: the faults S4 and S13, of numbers that are too large, are not looked at.
-A referee reads 1,400 lines: this file, check.py, chain_text.py and tree.py, and no other but Python's own library.
+A referee reads 1,360 lines: this file, check.py, chain_text.py and tree.py, and no other but Python's own library.
 """
 from __future__ import annotations
 
 from collections import defaultdict
+from functools import reduce
 from heapq import heapify, heappop, heappush
 from math import gcd
 from typing import TYPE_CHECKING, DefaultDict, Dict, Iterable, Iterator, List, NamedTuple, Optional, Tuple
@@ -18,15 +19,15 @@ from typing import TYPE_CHECKING, DefaultDict, Dict, Iterable, Iterator, List, N
 if TYPE_CHECKING or __package__:
     from . import check
     from .chain_text import MOST, NUMBERS, operated
-    from .check import Blocks, Problem, Refusal, Source, answering, is_name, script
+    from .check import Blocks, Problem, Refusal, Source, answering, is_name, require, script, sum_text
     from .tree import measures_of
 else:  # run as a file by itself
     import check
     from chain_text import MOST, NUMBERS, operated
-    from check import Blocks, Problem, Refusal, Source, answering, is_name, script
+    from check import Blocks, Problem, Refusal, Source, answering, is_name, require, script, sum_text
     from tree import measures_of
 
-LETTERS_OF_A_WORD, TERMS, RULES, BASES, STEPS = 500, 20000, 100000, 100, 1000000
+LETTERS_OF_A_WORD, TERMS, RULES, STEPS = 500, 20000, 100000, 1000000
 FIRST = 5000  # the character of letter 0; each later letter has the one before, so a greater word is a lesser text
 Word = str  # a character for each letter
 Poly = Dict[Word, int]  # words with their coefficients, none of which is 0
@@ -53,12 +54,7 @@ def terms_of(poly: Poly) -> List[Tuple[Word, int]]:
 
 
 def text_of(problem: Problem, poly: Poly) -> str:
-    texts = []
-    for word, coefficient in terms_of(poly):
-        number = [] if abs(coefficient) == 1 else [str(abs(coefficient))]
-        texts.append(" ".join(["-" if coefficient < 0 else "+", *number, *(problem.names[FIRST - ord(letter)] for letter in word)]))
-    text = " ".join(texts) or "0"
-    return text[2:] if text[0] == "+" else text
+    return sum_text((" ".join(problem.names[FIRST - ord(letter)] for letter in word), number) for word, number in terms_of(poly))
 
 
 def as_texts(poly: check.Poly) -> Poly:
@@ -109,9 +105,7 @@ class Bases(Blocks):
         self.read_all("basis", self.bases, self.basis, "certificate|model|cancellation")
 
     def basis(self) -> Basis:
-        place = self.number
-        self.take("basis 1")
-        self.limit(place, len(self.bases) + 1, BASES)
+        self.begin("basis 1", len(self.bases))
         place, claim = self.number, number_in(self.take("claim ([0-9]+)")[0])
         self.require(place, "K4", claim <= NUMBERS)
         rules: List[Poly] = []
@@ -153,11 +147,6 @@ class Bases(Blocks):
             self.require(place, "K2", letters != [] and all(map(is_written, letters)) and (number is None or number > 1))
             terms.append((sign * (number or 1), letters))
         return terms
-
-    def require(self, place: int, code: str, is_met: bool) -> None:
-        """Raises the fault of the line at this place, unless what it is about is met."""
-        if not is_met:
-            raise Refusal(f"# refused {code} line {place}")
 
 
 # ---- Rules
@@ -296,26 +285,20 @@ class Rules:
 
 def judge(problem: Problem, order: Order, basis: Basis, refused: str) -> None:
     """Raises the first test of the basis that fails, where one does."""
-    if not 1 <= basis.claim <= len(problem.claims):
-        raise Refusal(f"{refused} B1")
+    require(1 <= basis.claim <= len(problem.claims), f"{refused} B1")
     for number, poly in enumerate(basis.rules, 1):
-        if not poly or gcd_of(poly) > 1 or poly[min(poly, key=order.rank)] < 0:
-            raise Refusal(f"{refused} B2 rule {number}")
+        require(gcd_of(poly) == 1 and poly[min(poly, key=order.rank)] > 0, f"{refused} B2 rule {number}")
     rules = Rules(order, basis.rules)
     for number, generator in enumerate(problem.generators(), 1):
         rest = rules.normal_form(as_texts(generator), f"{refused} B7 generator {number}")
-        if rest:
-            raise Refusal(f"{refused} B3 generator {number} rest {text_of(problem, rest)}")
+        require(not rest, f"{refused} B3 generator {number} rest {text_of(problem, rest)}")
     for ambiguity in rules.ambiguities():
         stopped = f"{refused} B7 {ambiguity.text()}"
         rest = rules.normal_form(rules.s_polynomial(ambiguity, stopped), stopped)
-        if rest:
-            raise Refusal(f"{refused} B4 {ambiguity.text()} rest {text_of(problem, rest)}")
+        require(not rest, f"{refused} B4 {ambiguity.text()} rest {text_of(problem, rest)}")
     rest = rules.normal_form(as_texts(problem.claims[basis.claim - 1]), f"{refused} B7 claim")
-    if rest != basis.rest:
-        raise Refusal(f"{refused} B5 got {text_of(problem, rest)}")
-    if not rest:
-        raise Refusal(f"{refused} B6")
+    require(rest == basis.rest, f"{refused} B5 got {text_of(problem, rest)}")
+    require(rest != {}, f"{refused} B6")
 
 
 def is_sharp(problem: Problem, basis: Basis) -> bool:
@@ -334,10 +317,7 @@ def is_in_play(problem: Problem, letter: int) -> bool:
 
 
 def gcd_of(poly: Poly) -> int:
-    content = 0
-    for coefficient in poly.values():
-        content = gcd(content, coefficient)
-    return content
+    return reduce(gcd, poly.values(), 0)
 
 
 def report(statement: Source, evidence: Source) -> Iterator[str]:

@@ -4,7 +4,7 @@
 Prints the report of `opprove explain`, byte for byte: for each certificate of rows over generators the chain of equations from
 its denominator times the claim down to 0, a step at a time, and then the first block that has none, with the reason. The
 statuses are those of the program. The faults S4 and S13 of statements, of numbers that are too large, are not looked at.
-A referee reads 970 lines: this file, check.py and chain_text.py, and no other but Python's own library.
+A referee reads 950 lines: this file, check.py and chain_text.py, and no other but Python's own library.
 """
 from __future__ import annotations
 

@@ -7,7 +7,7 @@ squares, which holds where it is positive (r1' r1 + .. + rn' rn = 0 gives r1 = 0
 and what it takes for granted: `positive` or `proper`, and the letters that it calls monic and epic; or the first thing that is
 wrong ends the report. No command of the program reads such proofs. The form, the tests and their codes stand in docs/FORMATS.md,
 and the statuses are those of `cancel`.
-A referee reads 1,298 lines: this file, cancel.py, check.py and chain_text.py, and no other but Python's own library.
+A referee reads 1,248 lines: this file, cancel.py, check.py and chain_text.py, and no other but Python's own library.
 """
 from __future__ import annotations
 
@@ -17,11 +17,11 @@ from typing import TYPE_CHECKING, Iterator, List, NamedTuple, Union
 if TYPE_CHECKING or __package__:
     from .cancel import ITEMS, Cancel, Cancellation, Cancellations, Items, TERMS_OF_A_POLYNOMIAL, accepted, is_typed, judge
     from .chain_text import LETTERS_OF_A_WORD, MOST, NUMBERS, Lines
-    from .check import Poly, Problem, Refusal, Source, add, answering, is_letter, script
+    from .check import Poly, Problem, Source, add, answering, difference, script
 else:  # run as a file by itself
     from cancel import ITEMS, Cancel, Cancellation, Cancellations, Items, TERMS_OF_A_POLYNOMIAL, accepted, is_typed, judge
     from chain_text import LETTERS_OF_A_WORD, MOST, NUMBERS, Lines
-    from check import Poly, Problem, Refusal, Source, add, answering, is_letter, script
+    from check import Poly, Problem, Source, add, answering, difference, script
 
 PRODUCTS = 1000000  # of terms, in the squares of one item
 
@@ -68,14 +68,14 @@ class StarProofs(Cancellations):
         pieces = re.split("(?:^| )([+-]) ", text if text[:2] == "- " else f"+ {text}")[1:]
         terms = [piece.split(" ") for piece in pieces[1::2]]
         numbers = [term.pop(0) if re.fullmatch("[0-9]+", term[0]) else "1" for term in terms]
-        self.require(place, "K2", all(term and all(letter and is_letter(letter) for letter in term) for term in terms))
-        self.require(place, "K3", all(letter in self.letters for term in terms for letter in term))
+        self.require(place, "K2", all(term and all(term) for term in terms))
+        words = self.words(place, map(" ".join, terms))
         self.require(place, "K4", all(int(number) <= MOST for number in [scale, *numbers]))
         self.limit(place, len(terms), TERMS_OF_A_POLYNOMIAL)
-        self.limit(place, max(map(len, terms)), LETTERS_OF_A_WORD)
+        self.limit(place, max(map(len, words)), LETTERS_OF_A_WORD)
         poly: Poly = {}
-        for sign, number, term in zip(pieces[::2], numbers, terms):
-            add(poly, int(sign + number), {tuple(self.letters[letter] for letter in term): 1})
+        for sign, number, word in zip(pieces[::2], numbers, words):
+            add(poly, int(sign + number), {word: 1})
         return Square(int(scale), poly)
 
 
@@ -97,13 +97,9 @@ class StarItems(Items):
         self.test(min(scales) > 0 and (len(scales) > 1 or self.denominator % scales[0] == 0), f"P2 {place}")
         self.test(all(square.poly and is_typed(problem, square.poly) for square in root.squares), f"P3 {place}")
         self.test(sum(len(square.poly) ** 2 for square in root.squares) <= PRODUCTS, f"P4 {place} limit {PRODUCTS}")
-        different = self.lines.difference(sum_of(problem, root), self.polys[root.item - 1])
+        different = difference(problem, sum_of(problem, root), self.polys[root.item - 1])
         self.test(not different, f"P5 {place} {different}")
         return root.squares[0].poly
-
-    def test(self, is_met: bool, fault: str) -> None:
-        if not is_met:
-            raise Refusal(f"{self.refused} {fault}")
 
 
 def sum_of(problem: Problem, root: Root) -> Poly:

@@ -73,11 +73,14 @@ Origin = Union[Generator, Sum, Off, Root]
 
 def add(total: Poly, factor: int, poly: Poly, left: Word = "", right: Word = "") -> Poly:
     """Adds factor * left * poly * right to the total, and returns the total."""
-    for middle, coefficient in poly.items():
+    for middle, share in poly.items() if factor else ():
         word = left + middle + right
-        value = total.pop(word, 0) + factor * coefficient
-        if value:
-            total[word] = value
+        if word not in total:
+            total[word] = factor * share
+        elif total[word] == -factor * share:
+            del total[word]
+        else:
+            total[word] += factor * share
     return total
 
 

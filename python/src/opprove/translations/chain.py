@@ -139,11 +139,7 @@ class Reader:
         return (ends[-1][0], ends[0][1]) if is_path else None
 
     def equation(self, tokens: List[Token], shown: List[Token]) -> Equation:
-        line = Line(tokens, self.problem)
-        line.place = 1
-        left_ends, left = line.sum()
-        line.take("=")
-        right_ends, right = line.sum()
+        (_, (left_ends, left)), (_, (right_ends, right)) = Line(tokens, self.problem).sides()
         return Equation(left_ends or right_ends or (0, 0), self.bare(left), self.bare(right), shown)
 
     # ---- Certificates

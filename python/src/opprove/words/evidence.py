@@ -1,21 +1,27 @@
-"""What why.py tells of evidence that is refused: a function for each code, K1 to K7, C1 to C11, E1 to E4, M1 to M6, B1 to B7
-and X1 to X4, in one table."""
+"""What why.py tells of evidence that is refused: the codes K1 to K7, C1 to C11, E1 to E4, M1 to M6, B1 to B7 and X1 to X4, in one
+table, with functions for those that take more than a sentence."""
 from __future__ import annotations
 
 import functools
 import re
-from typing import Callable, Dict, Iterator, List, NamedTuple, Optional, Tuple
+from typing import Dict, Iterator, List, NamedTuple, Optional, Tuple
 
 from opprove.checkers import cancel
 from opprove.checkers import check_model
 from opprove.checkers import confirm
 from opprove.checkers.chain_text import Lines
-from opprove.checkers.check import Evidence, Poly, Problem, Refusal, add, is_name
+from opprove.checkers.check import Evidence, Poly, Problem, add, greatness, is_letter, sum_text
+from opprove.checkers.confirm import is_number
 from opprove.words import calls
-from opprove.words.parts import LIMIT_OF_NUMBERS, Quote, Told, article, counted, did_you_mean, few, listed, short
+from opprove.words.parts import LIMIT_OF_NUMBERS, Quote, Rule, Told, article, counted, did_you_mean, few, listed, short
 from opprove.words.statement import Statement
 
 OTHER_ORDER = "`opprove chain` finds an order of rows in which the sums stay short"
+HAS_LEMMAS = "explain takes certificates without lemmas, which prove writes with --format 1; `opprove chain` reads both formats"
+HOLDS = " holds in this model: both of its sides have one value"
+LARGE_STEP = " has a word of more than 500 letters, or the line after it has more than 20,000 terms"
+LARGE_LEMMA = " has more than 20,000 terms, or a word of more than 500 letters"
+LARGE_LEMMAS = "the polynomials of the lemmas so far have more than 1,000,000 terms"
 LARGE = 400000  # bytes: sums of larger evidence are not made again
 ITEMS = ("lemma", "cancel")  # the words that items of a block begin with
 ROW, LEMMA_ROW = "`row C (LETTERS) G (LETTERS)`", "`row C (LETTERS) lemma K (LETTERS)`"
@@ -113,21 +119,36 @@ class Fault(NamedTuple):
         return next(entry for entry in self.text.entries if entry.line == self.line)
 
     def problem(self) -> Problem:
-        problem = self.statement.problem()
-        if problem is None:
+        if self.statement.problem is None:
             raise LookupError
-        return problem
+        return self.statement.problem
+
+    def found(self, pattern: str) -> Tuple[str, ...]:
+        """The groups of a pattern that the program's line has."""
+        return re.search(pattern, self.rest).groups()  # type: ignore[union-attr]
 
     def number(self, word: str) -> int:
-        """The number behind a word of the program's line."""
-        return int(re.search(rf"\b{word} (-?[0-9]+)", self.rest).group(1))  # type: ignore[union-attr]
+        """The number after a word of the program's line."""
+        return int(self.found(rf"\b{word} (-?[0-9]+)")[0])
+
+    def operation(self) -> str:
+        return self.found("(-?[0-9]+ (?:times|plus) -?[0-9]+)")[0]
+
+    def first(self, *words: str) -> Entry:
+        """The first line of the block that begins with the first of these words for which there is one, or its first line."""
+        return next(entry for word in words or ("",) for entry in self.text.of_block(self.block, word))
 
     def row(self) -> Entry:
         return self.text.of_block(self.block, "row")[self.number("row") - 1]
 
-    def scale(self, lemma: int) -> Entry:
-        """The line of a lemma, or that of the goal for 0."""
-        return self.text.items_of(self.block)[lemma - 1] if lemma else self.text.of_block(self.block, "goal")[0]
+    def item(self, word: str) -> Entry:
+        """The line of the lemma or the item whose number stands after the word, or that of the goal for 0."""
+        number = self.number(word)
+        return self.text.items_of(self.block)[number - 1] if number else self.first("goal")
+
+    def of_row(self, sentence: str) -> Told:
+        """A sentence on the row that is named, in which its number stands for `{row}`."""
+        return self.told(sentence.format(row=self.number("row")), self.row())
 
     def told(self, sentence: str, entry: Entry, place: int = -1, more: Tuple[str, ...] = ()) -> Told:
         return Told(sentence, self.text.quote(entry.line, place), more)
@@ -216,7 +237,7 @@ def polynomial_detail(fault: Fault, words: List[str]) -> Tuple[int, str]:
         names = words[begins + is_number(words[begins]) : place] if begins < place else []
         if not names:
             return min(begins, len(words) - 1), ": a term has one or more letters"
-        problem = fault.statement.problem()
+        problem = fault.statement.problem
         if problem and all(name in problem.numbers for name in names):
             numbers = [problem.numbers[name] for name in names]
             other = next((at for at, name in enumerate(names) if problem.names[numbers[at]] != name), -1)
@@ -229,10 +250,6 @@ def polynomial_detail(fault: Fault, words: List[str]) -> Tuple[int, str]:
     return -1, ""
 
 
-def is_number(word: str) -> bool:
-    return word.isascii() and word.isdigit()
-
-
 def letters_of(words: List[str]) -> List[int]:
     """The places of letters in a polynomial, and elsewhere of what stands between brackets."""
     if words[0] in ("rule", "rest"):
@@ -242,11 +259,6 @@ def letters_of(words: List[str]) -> List[int]:
         depth += {"(": 1, ")": -1}.get(word, 0)
         places += [place] if depth and word != "(" else []
     return places
-
-
-def is_letter(text: str) -> bool:
-    text = text[:-1] if text[-1] == "'" else text
-    return is_name(text[1:-1] if text[:1] + text[-1:] == "[]" else text)
 
 
 def undeclared(fault: Fault) -> Told:
@@ -261,7 +273,7 @@ def undeclared(fault: Fault) -> Told:
         if other.kind != kind:
             told = f"{article(kind)} has to stand here, and '{name}' is {article(other.kind)} by line {other.token.line} of the statement"
             return fault.told(told, entry, place)
-    return fault.told(RULES["K3"], entry)
+    raise LookupError
 
 
 def bound(fault: Fault) -> Told:
@@ -313,8 +325,7 @@ def polynomial_limit(fault: Fault, entry: Entry, most: int) -> Told:
 
 
 def unended(fault: Fault) -> Told:
-    last = fault.text.entries[-1]
-    line = fault.text.quote(last.begins)
+    line = fault.text.quote(fault.text.entries[-1].begins)
     return Told("the text ends inside the block that begins here: the line `end` after it is missing", line)
 
 
@@ -332,15 +343,11 @@ def none_there(fault: Fault) -> Told:
 
 def shown(problem: Problem, poly: Poly, least: Tuple[int, ...] = (), most: int = 5) -> str:
     """A polynomial from the greatest word down; of a long one some terms, the one of the word among them."""
-    words = sorted(poly, key=lambda word: (len(word), word), reverse=True)
-    terms = []
-    for word in words if len(words) <= most else words[: most - 1] + [word for word in words[most - 1 :] if word == least]:
-        coefficient = poly[word]
-        size = "" if abs(coefficient) == 1 and word else f"{abs(coefficient)} "
-        terms.append(f"{'-' if coefficient < 0 else '+'} {size}{short(problem.text(word), 50)}".rstrip())
-    text = " ".join(terms) or "0"
-    left_out = f" and {len(words) - len(terms)} more terms" if len(terms) < len(words) else ""
-    return re.sub(r"^\+ |(?<=^-) ", "", text) + left_out
+    words = sorted(poly, key=greatness, reverse=True)
+    kept = words if len(words) <= most else words[: most - 1] + [word for word in words[most - 1 :] if word == least]
+    text = sum_text((short(problem.text(word), 50), poly[word]) for word in kept)
+    left_out = f" and {len(words) - len(kept)} more terms" if len(kept) < len(words) else ""
+    return re.sub("^- ", "-", text) + left_out
 
 
 def letters(problem: Problem, text: str) -> Tuple[int, ...]:
@@ -348,7 +355,7 @@ def letters(problem: Problem, text: str) -> Tuple[int, ...]:
 
 
 def claim_number(fault: Fault) -> Told:
-    entry, claims = fault.text.of_block(fault.block, "claim")[0], len(fault.problem().claims)
+    entry, claims = fault.first("claim"), len(fault.problem().claims)
     return fault.told(f"the {fault.noun()} names claim {entry.words[1]}, and the statement has {counted(claims, 'claim')}", entry, 1)
 
 
@@ -366,42 +373,15 @@ def zero_scale(fault: Fault) -> Told:
 
 
 def overflow(fault: Fault) -> Told:
-    operation = re.search("-?[0-9]+ (times|plus) -?[0-9]+", fault.rest).group()  # type: ignore[union-attr]
     row = fault.number("row")
-    entry = fault.row() if row else (fault.text.of_block(fault.block, "goal") or fault.text.of_block(fault.block, "denominator"))[0]
+    entry = fault.row() if row else fault.first("goal", "denominator")
     where = f"at row {row}" if row else "where the claim is multiplied by the denominator"
-    return fault.told(f"{where} {operation} leaves ±(2^127 - 1); `opprove second-check` has no such limit", entry)
-
-
-def has_lemmas(fault: Fault) -> Told:
-    entry = (fault.text.of_block(fault.block, "lemma") or fault.text.of_block(fault.block, "certificate"))[0]
-    return fault.told("explain takes certificates without lemmas, which prove writes with --format 1; `opprove chain` reads both formats", entry)
-
-
-def chain_overflow(fault: Fault) -> Told:
-    operation = re.search("-?[0-9]+ (times|plus) -?[0-9]+", fault.rest).group()  # type: ignore[union-attr]
-    return fault.told(f"in the line after row {fault.number('row')} {operation} leaves ±(2^127 - 1); {OTHER_ORDER}", fault.row())
-
-
-def chain_size(fault: Fault) -> Told:
-    told = f"row {fault.number('row')} has a word of more than 500 letters, or the line after it has more than 20,000 terms"
-    return fault.told(f"{told}; {OTHER_ORDER}", fault.row())
-
-
-def chain_letters(fault: Fault) -> Told:
-    told = f"the lines up to that after row {fault.number('row')} have more than 10,000,000 letters"
-    return fault.told(f"{told}; {OTHER_ORDER}", fault.row())
-
-
-def sum_terms(fault: Fault) -> Told:
-    return fault.told(f"after row {fault.number('row')} the running sum has more than 200,000 terms", fault.row())
+    return fault.told(f"{where} {fault.operation()} leaves ±(2^127 - 1); `opprove second-check` has no such limit", entry)
 
 
 def sum_differs(fault: Fault) -> Told:
-    match = re.search("word (.*) want (-?[0-9]+) got (-?[0-9]+)", fault.rest)
-    word, want, got = match.groups()  # type: ignore[union-attr]
-    entry = fault.text.of_block(fault.block, "claim")[0]
-    scale = int((fault.text.of_block(fault.block, "goal") or fault.text.of_block(fault.block, "denominator"))[0].words[-1])
+    word, want, got = fault.found("word (.*) want (-?[0-9]+) got (-?[0-9]+)")
+    entry, scale = fault.first("claim"), int(fault.first("goal", "denominator").words[-1])
     times = "the claim" if scale == 1 else f"{scale} times the claim"
     front = f"the rows don't add up to {times.replace('the claim', 'claim')} {entry.words[1]}"
     return fault.told(f"{front}: at the word {word} they have {got}, and {times} has {want}", entry, more=both_sums(fault, word, times))
@@ -445,29 +425,16 @@ def lemma_number(fault: Fault) -> Told:
 
 
 def lemma_divides(fault: Fault) -> Told:
-    match = re.search("word (.*) got (-?[0-9]+)", fault.rest)
-    word, got = match.groups()  # type: ignore[union-attr]
-    lemma = fault.number("lemma")
-    entry = fault.scale(lemma)
-    told = f"the rows of lemma {lemma} have {got} at the word {word}, which the lemma's scale {entry.words[-1]} doesn't divide"
+    (word, got), entry = fault.found("word (.*) got (-?[0-9]+)"), fault.item("lemma")
+    front = f"the rows of lemma {fault.number('lemma')} have {got} at the word {word}"
+    told = f"{front}, which the lemma's scale {entry.words[-1]} doesn't divide"
     return fault.told(told, entry, len(entry.words) - 1)
 
 
-def lemma_size(fault: Fault) -> Told:
-    lemma = fault.number("lemma")
-    return fault.told(f"the polynomial of lemma {lemma} has more than 20,000 terms, or a word of more than 500 letters", fault.scale(lemma))
-
-
 def lemma_scale(fault: Fault) -> Told:
-    lemma = fault.number("lemma")
-    entry, denominator = fault.scale(lemma), fault.text.of_block(fault.block, "denominator")[0].words[1]
+    lemma, entry, denominator = fault.number("lemma"), fault.item("lemma"), fault.first("denominator").words[1]
     what = f"lemma {lemma}" if lemma else "the goal"
     return fault.told(f"the scale {entry.words[-1]} of {what} doesn't divide the denominator {denominator}", entry, len(entry.words) - 1)
-
-
-def lemma_terms(fault: Fault) -> Told:
-    entry = fault.row() if fault.number("row") else fault.text.of_block(fault.block)[0]
-    return fault.told("the polynomials of the lemmas so far have more than 1,000,000 terms", entry)
 
 
 # ---- M1 to M6: models
@@ -478,15 +445,14 @@ def model_of(fault: Fault) -> check_model.Model:
 
 
 def map_entry(fault: Fault) -> Tuple[str, Entry]:
-    name = re.search("map ([^ ]+)", fault.rest).group(1)  # type: ignore[union-attr]
+    (name,) = fault.found("map ([^ ]+)")
     return name, next(entry for entry in fault.text.of_block(fault.block, "map") if entry.words[1] == name)
 
 
 def no_matrix(fault: Fault) -> Told:
-    name = re.search("map ([^ ]+)", fault.rest).group(1)  # type: ignore[union-attr]
+    (name,) = fault.found("map ([^ ]+)")
     ends = fault.statement.declared[name].ends or ("?", "?")
-    told = f"'{name}', which goes {ends[0]} -> {ends[1]}, has no line `map {name} = ..` in this model"
-    return fault.told(told, fault.text.of_block(fault.block)[0])
+    return fault.told(f"'{name}', which goes {ends[0]} -> {ends[1]}, has no line `map {name} = ..` in this model", fault.first())
 
 
 def wrong_shape(fault: Fault) -> Told:
@@ -515,25 +481,10 @@ def broken_assumption(fault: Fault) -> Told:
     line = [line for line in problem.lines for _ in (problem.equations(line) if line.tokens[0].text != "claim" else [])][number - 1]
     quote = fault.statement.quote(line.tokens[0].line)
     poly = problem.assumptions[number - 1]
-    arrows = check_model.Arrows(problem, model)
-    value = value_of(arrows, poly)
+    value = check_model.Arrows(problem, model).total(poly)
     which = "" if line.tokens[0].text == "assume" else f", which is {shown(problem, poly)} = 0 of this line,"
     told = f"assumption {number}{which} doesn't hold in this model: modulo {model.modulus} its left side minus its right side is"
     return Told(told, quote, (matrices([("", value)]),))
-
-
-def value_of(arrows: check_model.Arrows, poly: Poly) -> check_model.Matrix:
-    """The value of a polynomial that isn't zero."""
-    total: Optional[check_model.Matrix] = None
-    for word, coefficient in poly.items():
-        value = [[coefficient * number for number in row] for row in arrows.value(word)]
-        total = [[x + y for x, y in zip(*rows)] for rows in zip(total, value)] if total else value
-    return [[number % arrows.modulus for number in row] for row in total or []]
-
-
-def unbroken_claim(fault: Fault) -> Told:
-    entry = fault.text.of_block(fault.block, "claim")[0]
-    return fault.told(f"claim {entry.words[1]} holds in this model: both of its sides have one value", entry, 1)
 
 
 def matrices(named: List[Tuple[str, check_model.Matrix]], width: int = 76) -> str:
@@ -593,7 +544,7 @@ def generator_stays(fault: Fault) -> Told:
     number, problem = fault.number("generator"), fault.problem()
     told = f"the rules don't reduce generator {number} to zero, but leave {left_over(fault)}"
     more = f"  generator {number}: {shown(problem, problem.generators()[number - 1])}"
-    return fault.told(told, fault.text.of_block(fault.block)[0], more=(more,))
+    return fault.told(told, fault.first(), more=(more,))
 
 
 def ambiguity(kind: str, first: str, second: str, place: str) -> str:
@@ -602,7 +553,7 @@ def ambiguity(kind: str, first: str, second: str, place: str) -> str:
 
 
 def ambiguity_stays(fault: Fault) -> Told:
-    kind, first, second, place = re.search("(overlap|inclusion) ([0-9]+) ([0-9]+) ([0-9]+)", fault.rest).groups()  # type: ignore[union-attr]
+    kind, first, second, place = fault.found("(overlap|inclusion) ([0-9]+) ([0-9]+) ([0-9]+)")
     where = ambiguity(kind, first, second, place)
     told = f"the rules aren't closed: {where} leaves {left_over(fault)}, and has to leave 0"
     more = tuple(written_rule(fault, int(number)) for number in dict.fromkeys((first, second)))
@@ -610,18 +561,17 @@ def ambiguity_stays(fault: Fault) -> Told:
 
 
 def rest_differs(fault: Fault) -> Told:
-    claim, entry = fault.text.of_block(fault.block, "claim")[0].words[1], fault.text.of_block(fault.block, "rest")[0]
-    return fault.told(f"the rules leave {short(fault.rest.split('got ', 1)[1], 80)} of claim {claim}, and not this rest", entry)
+    told = f"the rules leave {short(fault.rest.split('got ', 1)[1], 80)} of claim {fault.first('claim').words[1]}, and not this rest"
+    return fault.told(told, fault.first("rest"))
 
 
 def zero_rest(fault: Fault) -> Told:
-    claim = fault.text.of_block(fault.block, "claim")[0].words[1]
-    told = f"the rules reduce claim {claim} to zero, so some positive multiple of it is a combination of the rules"
-    return fault.told(told, fault.text.of_block(fault.block, "rest")[0])
+    told = f"the rules reduce claim {fault.first('claim').words[1]} to zero, so some positive multiple of it is a combination of the rules"
+    return fault.told(told, fault.first("rest"))
 
 
 def basis_stops(fault: Fault) -> Told:
-    part, number = re.match("B7 (claim|[a-z]+ [0-9]+(?: [0-9]+ [0-9]+)?) (.*)", f"B7 {fault.rest}").groups()  # type: ignore[union-attr]
+    part, number = fault.found("^(claim|[a-z]+ [0-9]+(?: [0-9]+ [0-9]+)?) (.*)")
     words = part.split()
     where = {"claim": "the claim", "generator": f"generator {words[-1]}"}.get(words[0])
     where = where or ambiguity(*words)
@@ -631,7 +581,7 @@ def basis_stops(fault: Fault) -> Told:
     }  # fmt: skip
     cause = next((told for front, told in causes.items() if number.startswith(front)), "")
     told = f"the reduction of {where} stops: {cause or number.replace('overflow ', '') + ' leaves ±(2^127 - 1)'}"
-    return fault.told(f"{told}; so it isn't known whether the basis is closed", fault.text.of_block(fault.block)[0])
+    return fault.told(f"{told}; so it isn't known whether the basis is closed", fault.first())
 
 
 # ---- X1 to X4: letters that are taken off
@@ -650,18 +600,14 @@ def sums_of(fault: Fault, count: int = 0) -> cancel.Items:
     return items
 
 
-def item_entry(fault: Fault) -> Entry:
-    return fault.text.items_of(fault.block)[fault.number("item") - 1]
-
-
 def no_item(fault: Fault) -> Told:
-    entry, number = item_entry(fault), fault.number("item")
+    entry, number = fault.item("item"), fault.number("item")
     there = "there is no item before it" if number == 1 else "the only item before it is 1" if number == 2 else f"those before it are 1 to {number - 1}"
     return fault.told(f"item {number} takes a letter off item {entry.words[-1]}, and {there}", entry, len(entry.words) - 1)
 
 
 def not_declared(fault: Fault) -> Told:
-    entry = item_entry(fault)
+    entry = fault.item("item")
     letter, (where, word, other) = entry.words[2], (("in front", "monic", "epic") if entry.words[3] == "left" else ("at the end", "epic", "monic"))
     numbers = fault.problem().numbers
     has_other = any(numbers.get(it.words[1]) == numbers[letter] for it in fault.text.of_block(fault.block, other))
@@ -669,17 +615,21 @@ def not_declared(fault: Fault) -> Told:
     return fault.told(f"{letter} is taken off {where}, and the proof has no line `{word} {letter}`{more}", entry, 2)
 
 
+def stripped_of(fault: Fault, entry: Entry) -> Poly:
+    """The polynomial of the item that this one takes a letter off."""
+    return sums_of(fault, fault.number("item") - 1).polys[int(entry.words[-1]) - 1]
+
+
 def not_typed(fault: Fault) -> Told:
-    entry, problem = item_entry(fault), fault.problem()
-    poly = sums_of(fault, fault.number("item") - 1).polys[int(entry.words[-1]) - 1]
+    entry = fault.item("item")
     told = f"item {entry.words[-1]} isn't typed: its words aren't all maps with the same ends, so nothing is taken off it"
-    return fault.told(told, entry, len(entry.words) - 1, more=(f"  item {entry.words[-1]}: {shown(problem, poly)}",))
+    more = f"  item {entry.words[-1]}: {shown(fault.problem(), stripped_of(fault, entry))}"
+    return fault.told(told, entry, len(entry.words) - 1, more=(more,))
 
 
 def not_stripped(fault: Fault) -> Told:
-    entry, problem = item_entry(fault), fault.problem()
-    letter, is_left = entry.words[2], entry.words[3] == "left"
-    poly = sums_of(fault, fault.number("item") - 1).polys[int(entry.words[-1]) - 1]
+    entry, problem = fault.item("item"), fault.problem()
+    letter, is_left, poly = entry.words[2], entry.words[3] == "left", stripped_of(fault, entry)
     end, number = 0 if is_left else -1, problem.numbers[letter]
     word = max((word for word in poly if len(word) == 1 or word[end] != number), key=lambda word: (len(word), word))
     what = f"is {letter} alone" if word == (number,) else f"doesn't {'begin' if is_left else 'end'} with {letter}"
@@ -689,56 +639,65 @@ def not_stripped(fault: Fault) -> Told:
 
 # ---- The table
 
-RULES = {  # the rule alone, for where no more can be told
-    "K1": "evidence is UTF-8, and this text is not",
-    "K2": "the line doesn't fit the grammar at its place",
-    "K3": "a name of this line isn't declared in the statement, or is of the other kind",
-    "K4": "a number of this line exceeds its bound",
-    "K5": "a limit is passed: of letters, rows, lemmas, blocks, sides or matrices",
-    "K6": "the text ends inside a block",
-    "K7": "the text has no block of the kind that is asked for",
-    "C1": "the statement has no claim of this number",
-    "C2": "a row names no generator of the statement",
-    "C3": "the denominator or a scale is 0",
-    "C4": "a product or a sum leaves ±(2^127 - 1)",
-    "C5": "the running sum has more than 200,000 terms",
-    "C6": "the rows don't add up to the claim",
-    "C7": "a row names no lemma that stands before it",
-    "C8": "the scale of a lemma doesn't divide its rows' sum",
-    "C9": "the polynomial of a lemma has more than 20,000 terms, or a word of more than 500 letters",
-    "C10": "the scale of a lemma or of the goal doesn't divide the denominator",
-    "C11": "the polynomials of the lemmas so far have more than 1,000,000 terms",
-    "E1": "a certificate with lemmas has no chain",
-    "E2": "a line of the chain has a coefficient that leaves ±(2^127 - 1)",
-    "E3": "a step has a word of more than 500 letters, or a line of the chain more than 20,000 terms",
-    "E4": "the lines of the chain have more than 10,000,000 letters",
-    "M1": "the statement has no claim of this number",
-    "M2": "a map has no matrix",
-    "M3": "a matrix has other numbers of rows and columns than the sides of its map's target and source",
-    "M4": "an assumption isn't zero in the model",
-    "M5": "the claim is zero in the model",
-    "M6": "the matrix of a `self` map isn't its own transpose",
-    "B1": "the statement has no claim of this number",
-    "B2": "a rule is zero, has a content above 1, or a negative leading coefficient",
-    "B3": "the rules don't reduce a generator to zero",
-    "B4": "the rules aren't closed: an ambiguity leaves more than 0",
-    "B5": "the rules leave another rest of the claim",
-    "B6": "the rules reduce the claim to zero",
-    "B7": "a reduction stops at a limit",
-    "X1": "a letter is taken off what is no earlier item",
-    "X2": "a letter is taken off in front that has no line `monic`, or at the end that has no line `epic`",
-    "X3": "a letter is taken off an item whose words aren't all maps with the same ends",
-    "X4": "a word doesn't begin or end with the letter that is taken off, or is that letter alone",
+NO_CLAIM = Rule("the statement has no claim of this number", claim_number)
+RULES = {
+    "K1": Rule("evidence is UTF-8, and this text is not", utf8),
+    "K2": Rule("the line doesn't fit the grammar at its place", grammar),
+    "K3": Rule("a name of this line isn't declared in the statement, or is of the other kind", undeclared),
+    "K4": Rule("a number of this line exceeds its bound", bound),
+    "K5": Rule("a limit is passed: of letters, rows, lemmas, blocks, sides or matrices", limit),
+    "K6": Rule("the text ends inside a block", unended),
+    "K7": Rule("the text has no block of the kind that is asked for", none_there),
+    "C1": NO_CLAIM,
+    "C2": Rule("a row names no generator of the statement", generator),
+    "C3": Rule("the denominator or a scale is 0", zero_scale),
+    "C4": Rule("a product or a sum leaves ±(2^127 - 1)", overflow),
+    "C5": Rule(
+        "the running sum has more than 200,000 terms", lambda it: it.of_row("after row {row} the running sum has more than 200,000 terms")
+    ),
+    "C6": Rule("the rows don't add up to the claim", sum_differs),
+    "C7": Rule("a row names no lemma that stands before it", lemma_number),
+    "C8": Rule("the scale of a lemma doesn't divide its rows' sum", lemma_divides),
+    "C9": Rule(
+        f"the polynomial of a lemma{LARGE_LEMMA}",
+        lambda it: it.told(f"the polynomial of lemma {it.number('lemma')}{LARGE_LEMMA}", it.item("lemma")),
+    ),
+    "C10": Rule("the scale of a lemma or of the goal doesn't divide the denominator", lemma_scale),
+    "C11": Rule(LARGE_LEMMAS, lambda it: it.told(LARGE_LEMMAS, it.row() if it.number("row") else it.first())),
+    "E1": Rule("a certificate with lemmas has no chain", lambda it: it.told(HAS_LEMMAS, it.first("lemma", "certificate"))),
+    "E2": Rule(
+        "a line of the chain has a coefficient that leaves ±(2^127 - 1)",
+        lambda it: it.of_row(f"in the line after row {{row}} {it.operation()} leaves ±(2^127 - 1); {OTHER_ORDER}"),
+    ),
+    "E3": Rule(
+        "a step has a word of more than 500 letters, or a line of the chain more than 20,000 terms",
+        lambda it: it.of_row(f"row {{row}}{LARGE_STEP}; {OTHER_ORDER}"),
+    ),
+    "E4": Rule(
+        "the lines of the chain have more than 10,000,000 letters",
+        lambda it: it.of_row(f"the lines up to that after row {{row}} have more than 10,000,000 letters; {OTHER_ORDER}"),
+    ),
+    "M1": NO_CLAIM,
+    "M2": Rule("a map has no matrix", no_matrix),
+    "M3": Rule("a matrix has other numbers of rows and columns than the sides of its map's target and source", wrong_shape),
+    "M4": Rule("an assumption isn't zero in the model", broken_assumption),
+    "M5": Rule(
+        "the claim is zero in the model",
+        lambda it: it.told(f"claim {it.first('claim').words[1]}{HOLDS}", it.first("claim"), 1),
+    ),
+    "M6": Rule("the matrix of a `self` map isn't its own transpose", unequal_transpose),
+    "B1": NO_CLAIM,
+    "B2": Rule("a rule is zero, has a content above 1, or a negative leading coefficient", bad_rule),
+    "B3": Rule("the rules don't reduce a generator to zero", generator_stays),
+    "B4": Rule("the rules aren't closed: an ambiguity leaves more than 0", ambiguity_stays),
+    "B5": Rule("the rules leave another rest of the claim", rest_differs),
+    "B6": Rule("the rules reduce the claim to zero", zero_rest),
+    "B7": Rule("a reduction stops at a limit", basis_stops),
+    "X1": Rule("a letter is taken off what is no earlier item", no_item),
+    "X2": Rule("a letter is taken off in front that has no line `monic`, or at the end that has no line `epic`", not_declared),
+    "X3": Rule("a letter is taken off an item whose words aren't all maps with the same ends", not_typed),
+    "X4": Rule("a word doesn't begin or end with the letter that is taken off, or is that letter alone", not_stripped),
 }
-SENTENCES: Dict[str, Callable[[Fault], Told]] = {
-    "K1": utf8, "K2": grammar, "K3": undeclared, "K4": bound, "K5": limit, "K6": unended, "K7": none_there,
-    "C1": claim_number, "C2": generator, "C3": zero_scale, "C4": overflow, "C5": sum_terms, "C6": sum_differs, "C7": lemma_number,
-    "C8": lemma_divides, "C9": lemma_size, "C10": lemma_scale, "C11": lemma_terms,
-    "E1": has_lemmas, "E2": chain_overflow, "E3": chain_size, "E4": chain_letters,
-    "M1": claim_number, "M2": no_matrix, "M3": wrong_shape, "M4": broken_assumption, "M5": unbroken_claim, "M6": unequal_transpose,
-    "B1": claim_number, "B2": bad_rule, "B3": generator_stays, "B4": ambiguity_stays, "B5": rest_differs, "B6": zero_rest, "B7": basis_stops,
-    "X1": no_item, "X2": not_declared, "X3": not_typed, "X4": not_stripped,
-}  # fmt: skip
 LINE = re.compile(r"# (?:block (?P<block>[0-9]+) )?refused (?P<code>[A-Z][0-9]+)(?: line (?P<line>[0-9]+))?(?P<rest>.*)")
 
 
@@ -747,11 +706,7 @@ def told_of(statement: Statement, text: Text, report: str, briefly: bool = False
     match = LINE.fullmatch(report)
     if not match or match["code"] not in RULES:
         return None
-    code = match["code"]
     fault = Fault(statement, text, int(match["line"] or 0), int(match["block"] or 0), match["rest"].strip())
-    try:
-        told = Told(RULES[code], text.quote(fault.line)) if briefly else SENTENCES[code](fault)
-    except (Refusal, LookupError, StopIteration, ValueError, AttributeError, TypeError, RecursionError):
-        told = Told(RULES[code], text.quote(fault.line))
+    told = RULES[match["code"]].told(fault, text.quote(fault.line), briefly)
     where = f"block {fault.block}, " if fault.block else ""
-    return told._replace(sentence=f"{code}: {where}{told.sentence}")
+    return told._replace(sentence=f"{match['code']}: {where}{told.sentence}")

@@ -7,7 +7,7 @@ import subprocess
 from typing import Callable, Dict, Iterator, List, NamedTuple, Optional, Tuple
 
 from opprove.checkers import check_model
-from opprove.checkers.check import Line, Poly, Problem, Refusal, add
+from opprove.checkers.check import Line, Problem, Refusal, add
 from opprove.program import files, path
 from opprove.text import sections
 from opprove.translations import chain
@@ -47,7 +47,7 @@ class Asked(NamedTuple):
     is_waited_for: bool = False  # whether somebody at a terminal waits, for whom some seconds of search pay
 
     def problem(self) -> Optional[Problem]:
-        return self.statement.problem() if self.statement else None
+        return self.statement.problem if self.statement else None
 
     def quote(self, claim: int) -> Optional[Quote]:
         """The line of a claim."""
@@ -131,61 +131,31 @@ def refuted(asked: Asked, outcome: Outcome) -> Told:
     told = f"claim {outcome.claim} is refuted: these matrices modulo {modulus}, with transposes for adjoints, make all assumptions zero"
     rational = ["Of complex matrices this says nothing. Rational ones that break it are looked for by"]
     rational.append(f"  {typed(['search', *asked.call.operands[:1], '--over', 'q'])}")
-    return Told(told + ", and the claim not", asked.quote(outcome.claim), (*values(asked, outcome), *rational))
+    return Told(told + ", and the claim not", asked.quote(outcome.claim), (*shown_model(asked, outcome), *rational))
 
 
-def values(asked: Asked, outcome: Outcome) -> Iterator[str]:
+def shown_model(asked: Asked, outcome: Outcome) -> Iterator[str]:
     """The matrices, and the values of both sides of the claim."""
     shown = [(line.split()[1], rows_of(line)) for line in outcome.block if line.startswith("map ")]
     yield matrices(shown)
     problem = asked.problem()
     if problem is None:
         return
-    line = [line for line in problem.lines if line.tokens[0].text == "claim"][outcome.claim - 1]
-    arrows = check_model.Arrows(problem, model_of(problem, outcome))
-    tokens = line.tokens
+    tokens = [line.tokens for line in problem.lines if line.tokens[0].text == "claim"][outcome.claim - 1]
+    (model,) = check_model.Models(problem, "\n".join([*outcome.block, ""]).encode(errors="surrogateescape")).models
+    arrows = check_model.Arrows(problem, model)
     equals = next(place for place, token in enumerate(tokens) if token.kind == "=")
     text = asked.statement.texts[tokens[0].line - 1] if asked.statement else ""
     source = [text[tokens[1].column - 1 : tokens[equals].column - 1], text[tokens[equals + 1].column - 1 : tokens[-1].column - 1]]
-    sides = both_sides(line, problem)
-    ends = next(signature for signature, _ in sides if signature)
+    sides = [side for _, side in Line(tokens, problem).sides()]
+    columns, rows = (len(arrows.matrices[end]) for end in next(signature for signature, _ in sides if signature))
+    values = [arrows.total(poly) or [[0] * columns for _ in range(rows)] for _, poly in sides]
     yield "The sides of the claim are then"
-    yield matrices([(" ".join(it.split()), value(problem, arrows, poly, ends)) for it, (_, poly) in zip(source, sides)])
+    yield matrices([(" ".join(it.split()), value) for it, value in zip(source, values)])
 
 
 def rows_of(line: str) -> check_model.Matrix:
     return [[int(number) for number in row.split()] for row in line.split("=")[1].split(";")]
-
-
-def model_of(problem: Problem, outcome: Outcome) -> check_model.Model:
-    """The model of a block, which the program has written."""
-    model = check_model.Model(outcome.claim, 2, [1 for name in problem.names if name[0] == "["], {})
-    for line in outcome.block:
-        words = line.split()
-        if words[0] == "modulus":
-            model = model._replace(modulus=int(words[1]))
-        if words[0] == "side":
-            model.sides[problem.numbers[f"[{words[1]}]"]] = int(words[2])
-        if words[0] == "map":
-            model.maps[problem.numbers[words[1]]] = rows_of(line)
-    return model
-
-
-def both_sides(line: Line, problem: Problem) -> List[Tuple[Optional[Tuple[int, int]], Poly]]:
-    again = Line(line.tokens, problem)
-    again.place = 1
-    left = again.sum()
-    again.take("=")
-    return [left, again.sum()]
-
-
-def value(problem: Problem, arrows: check_model.Arrows, poly: Poly, ends: Tuple[int, int]) -> check_model.Matrix:
-    rows, columns = len(arrows.matrices[ends[1]]), len(arrows.matrices[ends[0]])
-    total: check_model.Matrix = [[0] * columns for _ in range(rows)]
-    for word, coefficient in poly.items():
-        matrix = arrows.value(word)
-        total = [[(x + coefficient * y) % arrows.modulus for x, y in zip(*pair)] for pair in zip(total, matrix)]
-    return total
 
 
 def not_refuted(asked: Asked, outcome: Outcome) -> Told:
@@ -253,7 +223,7 @@ def searched(asked: Asked, outcome: Outcome, problem: Problem) -> List[str]:
     sides = " ".join(" ".join(line.split()[1:]) for line in found[0].block if line.startswith("side "))
     head = f"A search for matrices found some that break it all the same, modulo {model}, with transposes for adjoints:"
     lines = f"With the line `model {model} {sides}` in the file{own and ', and `' + own[1:] + '`,'} they are printed as evidence by"
-    return [head, *values(asked, found[0]), lines, f"  {typed(call)}"]
+    return [head, *shown_model(asked, found[0]), lines, f"  {typed(call)}"]
 
 
 # ---- undecided

@@ -5,7 +5,9 @@ import difflib
 import re
 import textwrap
 import unicodedata
-from typing import Iterable, Iterator, List, NamedTuple, Optional, Sequence, Tuple
+from typing import Any, Callable, Iterable, Iterator, List, NamedTuple, Optional, Sequence, Tuple
+
+from opprove.checkers.check import Refusal
 
 LIMIT_OF_NUMBERS = 2**127 - 1
 
@@ -25,6 +27,21 @@ class Told(NamedTuple):
     sentence: str
     quote: Optional[Quote] = None
     more: Tuple[str, ...] = ()  # those that begin with a blank are laid out already
+
+
+class Rule(NamedTuple):
+    """What a code says: the rule alone, and what tells more of a fault."""
+
+    text: str
+    tell: Callable[[Any], Any]  # a sentence, or what is `Told`
+
+    def told(self, fault: object, quote: Optional[Quote], briefly: bool) -> Told:
+        """What is told of a fault that stands in this line; the rule alone where no more is asked for, or can be told."""
+        try:
+            found = self.text if briefly else self.tell(fault)
+        except (Refusal, LookupError, StopIteration, ValueError, AttributeError, TypeError, RecursionError):
+            found = self.text
+        return found if isinstance(found, Told) else Told(found, quote)
 
 
 class Screen(NamedTuple):

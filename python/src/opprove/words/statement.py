@@ -6,12 +6,13 @@ import functools
 import itertools
 import re
 import unicodedata
-from typing import Callable, Dict, List, NamedTuple, Optional, Set, Tuple
+from typing import Dict, List, NamedTuple, Optional, Set, Tuple
 
 from opprove.checkers.check import WORDS, Line, Problem, Refusal, Token, language_of, tokens_of
 from opprove.words.meant import Typed, meant
-from opprove.words.parts import LIMIT_OF_NUMBERS, Quote, Told, article, counted, did_you_mean, few, listed, ordinal, short
+from opprove.words.parts import LIMIT_OF_NUMBERS, Quote, Rule, Told, article, counted, did_you_mean, few, listed, ordinal, short
 
+NESTED = "round brackets are nested at most 64 deep"
 MODULI = "2, 3, 5, 7, 101, 32003 and 65537"
 Ends = Tuple[str, str]
 
@@ -41,7 +42,6 @@ class Statement:
         self.language = 1
         with contextlib.suppress(Refusal):
             self.language = language_of(next(filter(None, map(tokens_of, self.texts, itertools.count(1))), []))
-        self._problem: Optional[Problem] = None
 
     def quote(self, line: int, column: int = 0) -> Optional[Quote]:
         return Quote(self.path, line, self.texts[line - 1], column) if 1 <= line <= len(self.texts) else None
@@ -78,14 +78,12 @@ class Statement:
     def named(self, kind: str) -> List[str]:
         return [name for name, declared in self.declared.items() if declared.kind == kind]
 
+    @functools.cached_property
     def problem(self) -> Optional[Problem]:
         """What check.py makes of the file; none where it makes nothing of it."""
-        if self._problem is None:
-            try:
-                self._problem = Problem(self.path)
-            except Refusal:
-                return None
-        return self._problem
+        with contextlib.suppress(Refusal):
+            return Problem(self.path)
+        return None
 
 
 class Fault(NamedTuple):
@@ -149,14 +147,14 @@ def utf8(fault: Fault) -> Told:
         more = "; the file begins as UTF-16 does"
     elif 0xA0 <= data[byte]:
         more = f"; in Latin-1 it would be '{chr(data[byte])}'"
-    sentence = f"S1: a statement is UTF-8, and byte {byte + 1:,} of this one, {data[byte]:#04x}, begins no character of it{more}"
+    sentence = f"a statement is UTF-8, and byte {byte + 1:,} of this one, {data[byte]:#04x}, begins no character of it{more}"
     return Told(sentence, fault.statement.quote(line, column))
 
 
 def character(fault: Fault) -> str:
     text = fault.statement.texts[fault.line - 1][fault.column - 1 :]
     if not text:
-        return RULES["S2"]
+        return RULES["S2"].text
     name = next((text[:end] for end in range(len(text), 0, -1) if text[:end].isidentifier()), "")
     if name:
         return f"a name has at most 32 bytes, and '{short(name)}' has {len(name.encode())}"
@@ -167,10 +165,8 @@ def character(fault: Fault) -> str:
     return f"{named_sign(char)} has no meaning here: names have letters, digits and _, and the signs are {signs}"
 
 
-def meant_by(code: str, fault: Fault) -> Optional[str]:
+def meant_by(fault: Fault) -> Optional[str]:
     """What is meant by what is often typed in the place of a fault; none where that isn't known."""
-    if code not in ("S2", "S3", "S6"):
-        return None
     text, place = fault.statement.texts[fault.line - 1], fault.column - 1
     maps = {name: it.ends for name, it in fault.statement.declared.items() if it.ends}
     return meant(Typed(text[:place], text[place:], maps))
@@ -203,10 +199,8 @@ def grammar(fault: Fault) -> str:
     if place == 0:
         return first_word(token, found, fault.statement.language)
     line = Watched(tokens)
-    try:
+    with contextlib.suppress(Refusal):
         line.statement(fault.statement.language)
-    except Refusal:
-        pass
     if line.place != place:
         return f"{found} fits the grammar of `{FORMS[word]}` no more"
     wanted = WANTED.get(line.wanted, f"'{line.wanted}'")
@@ -239,10 +233,6 @@ def hint(tokens: List[Token], place: int, word: str, wanted: str) -> str:
     if word in ("pinv", "inverse", "inner", "projection") and wanted in ("map", "end"):
         return f": it is `{FORMS[word]}`, with names of maps alone"
     return f": the line is `{FORMS[word]}`"
-
-
-def brackets(fault: Fault) -> str:
-    return "round brackets are nested at most 64 deep, and this one is the 65th"
 
 
 # ---- Names and limits
@@ -444,7 +434,7 @@ def large_polynomial(fault: Fault) -> str:
 
 def claim(fault: Fault) -> Told:
     texts = fault.statement.texts
-    told = "S15: the file has no claim: a line `claim E = E` says what is to be decided"
+    told = "the file has no claim: a line `claim E = E` says what is to be decided"
     for line, text in enumerate(texts, 1):
         if re.match(r"[ \t]*#[# \t]*claim\b", text):
             return Told(f"{told}; here one stands in a comment", fault.statement.quote(line))
@@ -453,29 +443,34 @@ def claim(fault: Fault) -> Told:
 
 # ---- The table
 
-RULES = {  # the rule alone, for where no more can be told
-    "S1": "a statement is UTF-8, and this file is not",
-    "S2": "this character has no meaning in a statement, or the name that begins here has more than 32 bytes",
-    "S3": "this doesn't fit the grammar",
-    "S4": "a number is at most 2^127 - 1",
-    "S5": "round brackets are nested at most 64 deep",
-    "S6": "this name isn't declared, or names an object where a map has to stand, or a map where an object has to",
-    "S7": "a name is declared once; a file has one line `order` or `eliminate`; and a name stands once in these, `solve` or `model`",
-    "S8": "a file has at most 64 objects, 200 maps (1,000 in language 2), 500 assumptions, 100 claims and 16 shapes",
-    "S9": "a map that is its own adjoint has one object at both ends",
-    "S10": "in a product, and so in a power, the source of each part is the target of the one after it",
-    "S11": "the terms of a sum, and both sides of an equation, have one source and one target",
-    "S12": "a 0 alone has no source and target of its own, and can't be a factor or the base of a power, or stand on both sides",
-    "S13": "a coefficient leaves ±(2^127 - 1)",
-    "S14": "a polynomial has more than 20,000 terms, or a word more than 500 letters",
-    "S15": "the file has no claim",
-    "S16": f"a weight is from 1 to 1,000, a modulus one of {MODULI}, a side from 1 to 6, and an exponent from 1 to 500",
+RULES = {
+    "S1": Rule("a statement is UTF-8, and this file is not", utf8),
+    "S2": Rule(
+        "this character has no meaning in a statement, or the name that begins here has more than 32 bytes",
+        lambda it: meant_by(it) or character(it),
+    ),
+    "S3": Rule("this doesn't fit the grammar", lambda it: meant_by(it) or grammar(it)),
+    "S4": Rule("a number is at most 2^127 - 1", number),
+    "S5": Rule(NESTED, lambda _: f"{NESTED}, and this one is the 65th"),
+    "S6": Rule(
+        "this name isn't declared, or names an object where a map has to stand, or a map where an object has to",
+        lambda it: meant_by(it) or name(it),
+    ),
+    "S7": Rule(
+        "a name is declared once; a file has one line `order` or `eliminate`; and a name stands once in these, `solve` or `model`", twice
+    ),
+    "S8": Rule("a file has at most 64 objects, 200 maps (1,000 in language 2), 500 assumptions, 100 claims and 16 shapes", limit),
+    "S9": Rule("a map that is its own adjoint has one object at both ends", own_adjoint),
+    "S10": Rule("in a product, and so in a power, the source of each part is the target of the one after it", composed),
+    "S11": Rule("the terms of a sum, and both sides of an equation, have one source and one target", equal_ends),
+    "S12": Rule(
+        "a 0 alone has no source and target of its own, and can't be a factor or the base of a power, or stand on both sides", open_zero
+    ),
+    "S13": Rule("a coefficient leaves ±(2^127 - 1)", large_number),
+    "S14": Rule("a polynomial has more than 20,000 terms, or a word more than 500 letters", large_polynomial),
+    "S15": Rule("the file has no claim", claim),
+    "S16": Rule(f"a weight is from 1 to 1,000, a modulus one of {MODULI}, a side from 1 to 6, and an exponent from 1 to 500", range_of),
 }
-SENTENCES: Dict[str, Callable[[Fault], object]] = {
-    "S1": utf8, "S2": character, "S3": grammar, "S4": number, "S5": brackets, "S6": name, "S7": twice, "S8": limit,
-    "S9": own_adjoint, "S10": composed, "S11": equal_ends, "S12": open_zero, "S13": large_number, "S14": large_polynomial,
-    "S15": claim, "S16": range_of,
-}  # fmt: skip
 LINE = re.compile(r"# refused (?P<code>[A-JL-Z][0-9]+)(?: line (?P<line>[0-9]+) column (?P<column>[0-9]+))?(?P<rest>.*)")
 
 
@@ -484,13 +479,7 @@ def told_of(path: str, data: bytes, report: str, briefly: bool = False) -> Optio
     match = LINE.fullmatch(report)
     if not match or match["code"] not in RULES:
         return None
-    code = match["code"]
-    statement = Statement(path, data)
+    statement, code = Statement(path, data), match["code"]
     fault = Fault(statement, int(match["line"] or 1), int(match["column"] or 1), match["rest"].strip())
-    try:
-        told = RULES[code] if briefly else meant_by(code, fault) or SENTENCES[code](fault)
-    except (Refusal, LookupError, StopIteration, ValueError, AttributeError):
-        told = RULES[code]
-    if isinstance(told, Told):
-        return told
-    return Told(f"{code}: {told}", statement.quote(fault.line, fault.column) if match["line"] else None)
+    told = RULES[code].told(fault, statement.quote(fault.line, fault.column) if match["line"] else None, briefly)
+    return told._replace(sentence=f"{code}: {told.sentence}")
