@@ -2,19 +2,21 @@
 """Searches on folders of statements, as a table: measure_search.py [--before HARDER] [--seconds N] [--jobs N] [--complex NAME,..] FOLDER ..
 
 For each statement that `prove` leaves by its defaults, where some claim isn't proved: what it says, what `search` says within N
-seconds (60), by which means, and in what time; and what another search says, a file HARDER that takes a statement and the same
-options. Statements whose name begins with one of those behind --complex are asked with --complex. PYTHONPATH has python/src.
+seconds (60), and in how many seconds of the clock and of processors; and what another search says, a file HARDER that takes a
+statement and the same options. Statements whose name begins with one of those behind --complex are asked with --complex.
+PYTHONPATH has python/src.
 """
 from __future__ import annotations
 
 import argparse
 import os
 import re
+import resource
 import subprocess
 import sys
 import time
 from pathlib import Path
-from typing import List, Tuple
+from typing import List, NamedTuple
 
 from opprove import program
 
@@ -23,11 +25,28 @@ HEAD = re.compile(r"^# claim [0-9]+ (proved|refuted|not derivable|undecided)(.*)
 SHORT = {"proved": "p", "refuted": "r", "not derivable": "nd", "undecided": "u"}
 
 
-def run(command: List[str], seconds: int) -> Tuple[str, float]:
-    start = time.monotonic()
+class Run(NamedTuple):
+    """What a run printed, and its seconds of the clock and of processors."""
+
+    report: str
+    seconds: float
+    processor: float
+
+    def cells(self, more: str = "") -> List[str]:
+        return [counted(verdicts(self.report)) + more, f"{self.seconds:.1f}", f"{self.processor:.1f}"]
+
+
+def run(command: List[str], seconds: int) -> Run:
+    start, used = time.monotonic(), processor_seconds()
     environment = {**os.environ, "OPPROVE": OPPROVE}
     done = subprocess.run(command, stdout=subprocess.PIPE, stderr=subprocess.DEVNULL, timeout=seconds, env=environment)
-    return done.stdout.decode("utf-8", "replace"), time.monotonic() - start
+    return Run(done.stdout.decode("utf-8", "replace"), time.monotonic() - start, processor_seconds() - used)
+
+
+def processor_seconds() -> float:
+    """Those of all runs that have ended, and of what they ran."""
+    usage = resource.getrusage(resource.RUSAGE_CHILDREN)
+    return usage.ru_utime + usage.ru_stime
 
 
 def verdicts(report: str) -> List[str]:
@@ -46,18 +65,16 @@ def counted(words: List[str]) -> str:
 
 
 def rows(path: Path, options: argparse.Namespace) -> str:
-    report, _ = run([OPPROVE, "prove", str(path), "--workers", "1"], 600)
-    before = verdicts(report)
+    before = verdicts(run([OPPROVE, "prove", str(path), "--workers", "1"], 600).report)
     if all(word == "p" for word in before) and before:
         return ""
     words = [str(path), "--seconds", str(options.seconds), "--jobs", str(options.jobs)]
     cells = [path.stem, counted(before)]
     if options.before:
-        report, seconds = run([sys.executable, options.before, *words], options.seconds + 120)
-        cells += [counted(verdicts(report)), f"{seconds:.1f}"]
+        cells += run([sys.executable, options.before, *words], options.seconds + 120).cells()
     special = ["--complex"] if path.stem.startswith(tuple(options.complex)) else []
-    report, seconds = run([sys.executable, "-m", "opprove", "search", *words, *special], options.seconds + 120)
-    return "| " + " | ".join([*cells, counted(verdicts(report)) + " ".join(["", *special]), f"{seconds:.1f}"]) + " |"
+    asked = run([sys.executable, "-m", "opprove", "search", *words, *special], options.seconds + 120)
+    return "| " + " | ".join([*cells, *asked.cells(" ".join(["", *special]))]) + " |"
 
 
 def main() -> int:

@@ -109,7 +109,7 @@ class Search(unittest.TestCase):
                 break  # the other end is closed
         process.wait()
         os.close(ours)
-        self.assertRegex(text.decode(), r"search: [0-9]+ s, claims 1 open; [0-9]+ runs, now whole ")
+        self.assertRegex(text.decode(), r"search: [0-9]+ of 3 s, claim 1 open; [0-9]+ runs, now whole [a-z]+ [(][0-9]+ pairs[)]")
 
     def test_interrupt(self) -> None:
         """What was found before is printed."""

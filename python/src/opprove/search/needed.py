@@ -135,7 +135,7 @@ class Claim:
         text = self.text(units)
         seconds = max(1, int(self.marco.until - time.monotonic()) + 1)
         sets = f"{len(self.marco.least)} least sets, {len(self.marco.greatest)} greatest that don't do"
-        self.progress.tell(f"claim {self.number}: {sets}, {self.asker.count} runs, of {self.options.seconds} s")
+        self.progress.tell(f"claim {self.number}: {sets}, {self.asker.count} runs")
         words = ["prove", "--no-models", "--workers", "1", "--pairs", str(self.pairs)]
         _, report = self.asker.ask(words, text, seconds)
         for _, head, block in sections(report.decode("utf-8", "replace")):
@@ -258,7 +258,7 @@ def answer(words: List[str], folder: Path) -> Answer:
     options = options_of(words)
     statement = Statement(options.statement)
     program = Program(Path(programs.path()))
-    progress = Progress("needed")
+    progress = Progress("needed", options.seconds)
     with Asker(program, folder, options.scheduler) as asker:
         claims = [Claim(asker, statement, number, options, progress) for number in range(1, len(statement.claims) + 1)]
         for _ in side_by_side(options.jobs, lambda claim: claim.marco.run(), claims):

@@ -8,17 +8,23 @@ from typing import Dict, Iterator, List, NamedTuple, Optional, Sequence, Set, Tu
 from opprove.search import variants
 from opprove.search.variants import Equation, Order, Statement
 
-PAIRS, STEPS, LIMIT, SECONDS = 500, 20_000, 1_000_000, 1  # of level 0; each level has twice as much, to the limit
+PAIRS, STEPS, LIMIT = 1000, 40_000, 1_000_000  # of level 0; each level has twice as much, to the limit
 # What a batch tries: fewer assumptions; other orders for all goals in one run; both; other orders for a goal alone; what
 # did it for another goal; models; the statement as it is; letters and stars that are taken off, those that were named or any;
-# models of rational numbers; and the statement as it is with many pairs, once. Cheap ones have a low rank.
-FEWER, OTHER, BOTH, ALONE, AGAIN, MODELS, AS_WRITTEN, NAMED, ANY, RATIONAL, LARGE = range(11)
-RANKS = [0, 0, 1, 2, 0, 1, 0, -1, 1, -1, 0]
-AS_IT_IS, LARGER = "the statement as it is", "the statement with many pairs"
-LARGE_LEVEL, LARGE_SECONDS = 7, 12  # the pairs of that level, for some seconds
+# and models of rational numbers.
+FEWER, OTHER, BOTH, ALONE, AGAIN, MODELS, AS_WRITTEN, NAMED, ANY, RATIONAL = range(10)
+AS_IT_IS = "the statement as it is"
 WORKER = {NAMED: "cancellations", ANY: "any cancellations", RATIONAL: "rational matrices"}  # what is run in Python
-WORKER_SECONDS = 4  # of level 0
-TRIED = 0  # the level to which letters are tried for a claim that is refuted
+WORKER_SECONDS = {NAMED: 4, ANY: 4, RATIONAL: 1}  # of level 0; each level has twice as many
+# A batch has its turn by the logarithm, to the base 2, of the seconds that it is thought to take, so that each kind gets about as
+# much time as any other, and the statement as it is four times as much. Sixteen thousand pairs take a second or two, twice as many
+# four times as long, and the least run 1/64. NUMBERS are the logarithms of how many runs of `prove` a batch has.
+NUMBERS = {FEWER: 3, OTHER: 3, BOTH: 6, ALONE: 4, AS_WRITTEN: -2}
+A_SECOND, LEAST = 4, -6  # the level of a run of a second, and the logarithm of the seconds of the least one
+TURNS = {AGAIN: -20, MODELS: -6, NAMED: 0, ANY: 1, RATIONAL: -1}  # of level 0 of the other kinds
+EARLY = {NAMED: -9, RATIONAL: -7}  # of level 0 where that comes earlier: what was asked for, and what tells the most of a false claim
+GROWING = ("undecided pairs", "undecided steps")  # what a run may say that a larger budget changes
+TRIED, SETTLED_SECONDS = 0, 2  # the level to which letters are tried for a claim that is refuted, and the seconds
 
 
 class Goal:
@@ -32,6 +38,7 @@ class Goal:
         self.found_by: List[str] = []
         self.more: List[str] = []  # a proof that takes for granted what nobody named
         self.is_tried = False  # whether such a one was looked for
+        self.has_rows = False  # whether it has a proof by rows alone, and so may be a lemma
 
     def wants(self, kind: int) -> bool:
         """Whether a job of this kind may still say something of it."""
@@ -49,10 +56,31 @@ class Job(NamedTuple):
     words: List[str]  # of the command, behind its file
     level: int
     order: Order
-    kind: int = OTHER
+    kind: int
+    seconds: int  # of processor time, at most
 
     def is_open(self) -> bool:
         return any(goal.wants(self.kind) for goal in self.goals)
+
+    def told(self) -> str:
+        """Its name, and how far it goes."""
+        units = {"prove": "pairs", "worker": "s"}
+        return f"{self.name} ({self.words[2]} {units[self.words[0]]})" if self.words[0] in units else self.name
+
+
+def turn(kind: int, level: int) -> int:
+    """When a batch comes, where one claim is open: the least first."""
+    if kind in NUMBERS:
+        return NUMBERS[kind] + max(LEAST, 2 * (level - A_SECOND))
+    if level == 0 and kind in EARLY:
+        return EARLY[kind]
+    # each level of models is another try of the same size
+    return TURNS[kind] + (level.bit_length() if kind == MODELS else level)
+
+
+def most_seconds(level: int) -> int:
+    """A bound on the seconds of a run of `prove`: four times those that it is thought to take, and a second at least."""
+    return int(4 ** (level - A_SECOND + 1)) or 1
 
 
 def budget(level: int) -> List[str]:
@@ -60,7 +88,7 @@ def budget(level: int) -> List[str]:
     return ["prove", "--pairs", pairs, "--steps", steps, "--workers", "1", "--no-models"]
 
 
-Batch = Tuple[int, int, int, int]  # when, of which goal or 0, what, level
+Batch = Tuple[int, int, int, int]  # its turn, of which goal or 0, what, level
 
 
 class Plan:
@@ -85,7 +113,6 @@ class Plan:
                 self.push(MODELS, place, 0)
         if not options.only:
             self.push(AS_WRITTEN, 0, 0)
-            self.push(LARGE, 0, 0)
         if not options.only or "rationals" in options.only:
             self.push(RATIONAL, 0, 0)
         if not options.only or "cancellations" in options.only:
@@ -95,7 +122,8 @@ class Plan:
                 self.push(ANY, 0, 0)
 
     def push(self, kind: int, place: int, level: int) -> None:
-        batch = (RANKS[kind] + 2 * level, place, kind, level) if kind != AGAIN else (-1, place, kind, level)
+        others = sum(goal is not self.goals[place - 1] and not goal.verdict for goal in self.goals) if place else 0
+        batch = (turn(kind, level) + others.bit_length(), place, kind, level)  # a claim among many has its share
         if batch not in self.pending:
             self.pending.add(batch)
             heappush(self.batches, batch)
@@ -136,17 +164,16 @@ class Plan:
         goals = [self.goals[place - 1]] if place else self.goals
         found = [job for job in self.batch(goals, kind, level) if job.goals and job.is_open() and job.text not in self.closed]
         self.jobs = found[::-1]
-        if found and kind not in (AGAIN, LARGE) and PAIRS << level < LIMIT:
+        if found and kind != AGAIN and (kind == MODELS or PAIRS << level < LIMIT):
             self.push(kind, place, level + 1)
 
     def batch(self, goals: List[Goal], kind: int, level: int) -> Iterator[Job]:
         if kind == AS_WRITTEN:
-            yield Job(AS_IT_IS, self.claims, self.statement.text, budget(level), level, Order([]))
-        elif kind == LARGE:
-            yield Job(LARGER, self.claims, f"{self.statement.text}# {LARGER}\n", budget(LARGE_LEVEL), level, Order([]), LARGE)
+            yield Job(AS_IT_IS, self.claims, self.statement.text, budget(level), level, Order([]), kind, most_seconds(level))
         elif kind == MODELS:
             text = variants.model_text(self.statement, goals[0].number, level)
-            yield Job("models", goals, text, ["refute", "--workers", "1", "--seed", str(max(level, 1))], level, Order([]), MODELS)
+            words = ["refute", "--workers", "1", "--seed", str(max(level, 1))]
+            yield Job("models", goals, text, words, level, Order([]), kind, 1 << level.bit_length())
         elif kind in WORKER:
             yield self.work(kind, level)
         elif any(not goal.verdict for goal in goals):
@@ -156,18 +183,20 @@ class Plan:
         """A search in Python for the claims that want it. The text has a comment more, so that no other job has it."""
         options = self.options
         goals = [goal for goal in self.claims if goal.wants(kind)]
-        seconds = (WORKER_SECONDS << level) // (2 if kind == RATIONAL else 1)
+        seconds = WORKER_SECONDS[kind] << level
+        if kind == ANY and all(goal.verdict == "refuted" for goal in goals):
+            seconds = SETTLED_SECONDS  # the answer is known, and this is one more thing to tell
         words = ["worker", "rational" if kind == RATIONAL else "cancel", str(seconds)]
         words.append(",".join(str(goal.number) for goal in goals))
         words += ["*", ""] if kind == ANY else [",".join(options.monic), ",".join(options.epic)]
         words.append(str(level + 1) if kind == RATIONAL else str(int(options.complex and kind == NAMED)))
-        return Job(WORKER[kind], goals, f"{self.statement.text}# {WORKER[kind]}\n", words, level, Order([]), kind)
+        return Job(WORKER[kind], goals, f"{self.statement.text}# {WORKER[kind]}\n", words, level, Order([]), kind, 3 * seconds)
 
     def proofs(self, goals: List[Goal], kind: int, level: int) -> Iterator[Job]:
         """Variants by their size."""
         pool = list(self.statement.assumptions)
         for other in self.goals:
-            pool += [other.equation._replace(is_lemma=True)] if other.verdict == "proved" else []
+            pool += [other.equation._replace(is_lemma=True)] if other.has_rows else []
         group = [selection.__name__ for selection in [*variants.FEWER, *variants.ALL]]
         found = []
         selections = variants.FEWER if kind in (FEWER, BOTH) else variants.ALL
@@ -189,7 +218,7 @@ class Plan:
             made = order(self.statement, chosen, union(goals)) if is_asked and not is_as_it_is else None
             if made:
                 text = variants.text_of(self.statement, chosen, [goal.equation for goal in goals], made)
-                yield Job(f"{name} {order.__name__}", goals, text, budget(level), level, made)
+                yield Job(f"{name} {order.__name__}", goals, text, budget(level), level, made, kind, most_seconds(level))
 
 
 def union(goals: List[Goal]) -> Equation:

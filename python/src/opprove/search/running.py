@@ -144,8 +144,10 @@ class Progress:
 
     PAUSE = 0.2  # seconds
 
-    def __init__(self, name: str = "search") -> None:
+    def __init__(self, name: str, most: int = 0) -> None:
+        """With so many seconds where there is a limit."""
         self.name, self.is_terminal = name, sys.stderr.isatty()
+        self.limit = f" of {most}" if most else ""
         self.start = self.last = time.monotonic()
 
     def seconds(self) -> float:
@@ -154,7 +156,7 @@ class Progress:
     def tell(self, text: str, is_news: bool = False) -> None:
         if self.is_terminal and (is_news or time.monotonic() - self.last >= self.PAUSE):
             self.last = time.monotonic()
-            self.write("\r\033[K" + f"{self.name}: {self.seconds():.0f} s, {text}"[: os.get_terminal_size(2).columns - 1])
+            self.write("\r\033[K" + f"{self.name}: {self.seconds():.0f}{self.limit} s, {text}"[: os.get_terminal_size(2).columns - 1])
 
     def clear(self) -> None:
         if self.is_terminal:

@@ -35,7 +35,7 @@ from opprove.search import variants
 from opprove.program import path as path_of_program
 from opprove.checkers.check import Evidence, Poly, Problem, Refusal, judge
 from opprove.search import cluster, findings
-from opprove.search.plan import ANY, AS_IT_IS, LARGE, LARGE_SECONDS, SECONDS, TRIED, WORKER, WORKER_SECONDS, Goal, Job, Plan
+from opprove.search.plan import ANY, AS_IT_IS, GROWING, TRIED, WORKER, Goal, Job, Plan
 from opprove.search.running import Interrupts, Program, Progress, Runs, Unusable
 from opprove.search.variants import Statement
 from opprove.text import sections
@@ -77,16 +77,16 @@ class Search:
             name = re.sub("[^a-z0-9]+", "_", f"{job.goals[0].number if len(job.goals) == 1 else 'all'} {job.name}")
             path = self.write(f"{name}_{job.level}_{self.runs.count + 1}.op", job.text, self.options.keep)
             self.paths[job.text] = path
-            seconds = LARGE_SECONDS if job.kind == LARGE else (3 * WORKER_SECONDS if job.kind in WORKER else SECONDS) << job.level
-            self.runs.start(job, [job.words[0], str(path), *job.words[1:]], min(seconds, 1 << 20))
+            self.runs.start(job, [job.words[0], str(path), *job.words[1:]], job.seconds)
         return job is not None
 
     def under_way(self) -> str:
         claims = self.plan.claims
         settled = ", ".join(f"{goal.number} {goal.verdict or 'open'}" for goal in claims[:6]) + ", .." * (len(claims) > 6)
-        names = ", ".join(f"{job.name} level {job.level}" for job in self.runs.under_way())
+        names = ", ".join(job.told() for job in self.runs.under_way())
         left = len(self.plan.batches) + len(self.plan.jobs)
-        return f"claims {settled}; {self.runs.count} runs, now {names}; {left} more to try, of {self.options.seconds} s"
+        word = "claims" if len(claims) > 1 else "claim"
+        return f"{word} {settled}; {self.runs.count} runs, now {names}; {left} more to try"
 
     # ---- What was found
 
@@ -102,9 +102,10 @@ class Search:
             for goal in job.goals:
                 goal.is_tried = goal.is_tried or (job.kind == ANY and job.level >= TRIED)
             return
-        if status in (0, 2, 3, 4, 10):
+        found = list(sections(text))
+        if status in (0, 2, 3, 4, 10) or (status == 12 and not any(head.said.startswith(GROWING) for head, _ in found)):
             self.plan.closed.add(job.text)
-        for head, block in sections(text):
+        for head, block in found:
             if job.goals[head.claim - 1].wants(job.kind):
                 self.judge(job, job.goals[head.claim - 1], head.claim, head.said, block)
 
@@ -132,7 +133,10 @@ class Search:
         problem = self.problem(job)
         evidence = Evidence(problem, str(self.write("found.cert", block)))
         certificates = [one._replace(claim=number) for one in evidence.certificates]
-        piece = join.Piece(problem, certificates, variants.letter_names(self.statement, job.order))
+        self.joined(job, goal, join.Piece(problem, certificates, variants.letter_names(self.statement, job.order)))
+
+    def joined(self, job: Job, goal: Goal, piece: join.Piece) -> None:
+        """Takes over a proof by rows that may use lemmas, which are proved by the pieces before it."""
         whole = join.Join(self.statement.problem)
         try:
             for one in [*self.pieces, piece]:
@@ -143,6 +147,7 @@ class Search:
         lines = join.written(self.statement.problem, certificate) if certificate else []
         if not goal.number or self.is_accepted(lines):
             self.pieces.append(piece)
+            goal.has_rows = True
             self.settle(job, goal, "proved", lines)
             self.plan.begin(job)
 
@@ -176,6 +181,10 @@ class Search:
                 lines = self.for_program(goal, found["modular"], block)
             if lines:
                 self.settle(job, goal, "refuted", lines)
+            return
+        if findings.kind_of(block) == "certificate":
+            evidence = Evidence(self.statement.problem, str(self.write("found.cert", "\n".join(block) + "\n")))
+            self.joined(job, goal, join.Piece(self.statement.problem, evidence.certificates, {}))
             return
         granted = f" by {takes}" if takes else ""
         rows = sum(line.startswith("row ") for line in block)
@@ -221,7 +230,7 @@ class Search:
         name = self.options.statement if job.name == AS_IT_IS else name
         goal.found_by = [f"# found by {job.name}: opprove {job.words[0]} {name} {' '.join(job.words[1:])}"]
         if job.kind in WORKER:
-            goal.found_by = [f"# found by {job.name}, and the claim isn't derivable by rows" if before else f"# found by {job.name}"]
+            goal.found_by = [f"# found by {job.name}" + ", and the claim isn't derivable by rows" * (before != "" and verdict == "proved")]
         elif job.name != AS_IT_IS:
             goal.found_by += ["# the variant:"] + [f"#   {line}" for line in job.text.rstrip("\n").split("\n")]
         if verdict == "not derivable" and job.order.lines:
@@ -293,7 +302,7 @@ def options_of(words: List[str]) -> argparse.Namespace:
 
 def searched(options: argparse.Namespace, folder: Path) -> Tuple[List[str], int]:
     """The report, and the status. A fault of the statement is answered as opprove answers it."""
-    progress = Progress()
+    progress = Progress("search", options.seconds)
     program = Program(Path(path_of_program()))
     words = ["prove", options.statement, "--pairs", "1", "--steps", "1", "--workers", "1", "--no-models"]
     status, answer = program.report(words)
