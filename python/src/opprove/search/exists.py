@@ -14,7 +14,7 @@ from __future__ import annotations
 
 import argparse
 from pathlib import Path
-from typing import Dict, List, NamedTuple, Optional, Sequence, Tuple
+from typing import Dict, List, NamedTuple, Optional, Sequence, Set, Tuple
 
 from opprove import program as programs
 from opprove.checkers.check import Certificate, Evidence, Poly, Problem, Refusal, Row, Share, Word, add
@@ -143,9 +143,8 @@ def expression(problem: Problem, poly: Poly) -> str:
     return text[2:] if text[0] == "+" else text
 
 
-def new_statement(problem: Problem, text: str, claim: str, sides: Sequence[Optional[Side]]) -> str:
-    """The statement without the new maps and their assumptions, and with one claim."""
-    gone = {problem.names[side.letter].rstrip("'") for side in sides if side}
+def new_statement(problem: Problem, text: str, claim: str, gone: Set[str]) -> str:
+    """The statement without these maps and the assumptions on them, and with one claim."""
     lines: List[str] = []
     for line in with_claims(text, [claim]).splitlines():
         words = line.split("#")[0].split()
@@ -157,6 +156,10 @@ def new_statement(problem: Problem, text: str, claim: str, sides: Sequence[Optio
         elif first_word(line) in ("claim", "object", "language", "model") or not gone & set(names_in(problem, line)):
             lines.append(line)
     return "\n".join(lines) + "\n"
+
+
+def new_maps(problem: Problem, sides: Sequence[Optional[Side]]) -> Set[str]:
+    return {problem.names[side.letter].rstrip("'") for side in sides if side}
 
 
 def names_in(problem: Problem, line: str) -> List[str]:
@@ -233,38 +236,44 @@ def found(
     program: Program, folder: Path, problem: Problem, text: str, claim: int, options: argparse.Namespace
 ) -> Tuple[Optional[Finding], str]:
     """The solution for one claim, or why there is none."""
-    reader = Reader(problem)
-    poly = problem.claims[claim - 1]
-    sides = (reader.side(poly, True), reader.side(poly, False)) if poly else (None, None)
-    if not any(sides):
+    of_claims = [sides_of(Reader(problem), poly) for poly in problem.claims]
+    if not any(of_claims[claim - 1]):
         return None, "no new map stands in front of it or behind it, of which one assumption says what it makes zero"
-    claims = [expression(problem, poly) + " = 0"]
-    block = proved_block(program, folder, with_claims(text, claims), ["--format", "1", "--pairs", PAIRS], options.seconds)
+    asked = with_claims(text, [expression(problem, problem.claims[claim - 1]) + " = 0"])
+    block = proved_block(program, folder, asked, ["--format", "1", "--pairs", PAIRS], options.seconds)
     if not block:
         return None, "no proof by rows was found"
     path = folder / "rows.cert"
     path.write_text("\n".join(block) + "\n", encoding="utf-8")
-    single = Problem(with_claims(text, claims).encode())
+    single = Problem(asked.encode())
     certificate = Evidence(single, str(path)).certificates[0]
-    reader = Reader(single)
-    sides = (reader.side(single.claims[0], True), reader.side(single.claims[0], False))
-    witness = reader.witness(1, certificate.shares[0].rows, certificate.denominator, sides)
-    finding = finding_of(single, with_claims(text, claims), claim, witness, sides) if witness else None
-    if finding is None or not is_accepted(program, folder, finding.statement, finding.block):
-        return None, "the rows of its proof give no solution"
-    return finding, ""
+    sides = sides_of(Reader(single), single.claims[0])
+    witness = Reader(single).witness(1, certificate.shares[0].rows, certificate.denominator, sides)
+    own, others = new_maps(single, sides), new_maps(problem, [side for pair in of_claims for side in pair])
+    for gone in (own | others, own):  # the new maps of other claims too, where the proof does without them
+        finding = finding_of(single, asked, claim, witness, sides, gone) if witness else None
+        if finding and is_accepted(program, folder, finding.statement, finding.block):
+            return finding, ""
+    return None, "the rows of its proof give no solution"
 
 
-def finding_of(problem: Problem, text: str, claim: int, witness: Witness, sides: Sides) -> Optional[Finding]:
-    """The statement that claims what was found, with the rows of its certificate."""
+def sides_of(reader: Reader, poly: Poly) -> Sides:
+    return (reader.side(poly, True), reader.side(poly, False)) if poly else (None, None)
+
+
+def finding_of(problem: Problem, text: str, claim: int, witness: Witness, sides: Sides, gone: Set[str]) -> Optional[Finding]:
+    """The statement that claims what was found, without the maps that are gone, with the rows of its certificate."""
     scale = f"{witness.denominator} " if witness.denominator != 1 else ""
     texts = []
     for side, (divisor, solution) in zip([side for side in sides if side], witness.products):
         pair = (divisor, solution) if side is sides[0] else (solution, divisor)
         texts.append(" ".join(f"({expression(problem, poly)})" if poly else "0" for poly in pair) if solution else "0")
     right = " + ".join(one for one in texts if one != "0") or "0"
-    statement = new_statement(problem, text, f"{scale}({expression(problem, witness.u)}) = {right}", sides)
-    fresh = Problem(statement.encode())
+    statement = new_statement(problem, text, f"{scale}({expression(problem, witness.u)}) = {right}", gone)
+    try:
+        fresh = Problem(statement.encode())
+    except Refusal:
+        return None  # the claim has a map that is gone
     rows = moved(problem, fresh, witness)
     if rows is None:
         return None
@@ -281,7 +290,7 @@ def moved(problem: Problem, fresh: Problem, witness: Witness) -> Optional[List[R
     found: List[Row] = []
     for row in witness.rows:
         number = numbers.get(fresh_key(problem, generators[row.number - 1]))
-        if number is None:
+        if number is None or not all(problem.names[letter] in fresh.numbers for letter in (*row.left, *row.right)):
             return None
         left, right = (tuple(fresh.numbers[problem.names[letter]] for letter in word) for word in (row.left, row.right))
         found.append(Row(row.coefficient, left, False, number, right))
