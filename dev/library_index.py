@@ -1,9 +1,10 @@
 #!/usr/bin/env -S PYTHONPATH=python/src:python/tests python3
-"""Makes library/README.md, and prints the index of the library: library_index.py [page | --check]
+"""Makes library/README.md and library/index.tsv: library_index.py [page | --check]
 
 Each file of the library opens with comments of one form, `# FIELD: text` with the fields below, which go on in lines `#   text`. The index
-has a row for each: chapter, name, verdict, denominators, rows of all claims, steps of the longest chain, seconds, theorem and source. With
-`page` the page alone is made, which no run is needed for, and with --check it is compared. The program is that which OPPROVE names, or the built one.
+is a table with a row for each: chapter, name, verdict, denominators, rows of all claims, steps of the longest chain, seconds, the sections
+of the documents where it is used, theorem and source. With `page` the page alone is made, which no run is needed for, and with --check both
+are compared, but for the seconds. The program is that which OPPROVE names, or the built one.
 """
 from __future__ import annotations
 
@@ -16,18 +17,15 @@ from pathlib import Path
 from typing import Dict, List, NamedTuple, Tuple
 
 from opprove.notation.expansion import HEAD, Expansion
+from opprove.page.pages import ordered, table_of, titles_of
 from opprove.translations import chain
-from trying import LIBRARY, PROGRAM
+from trying import LIBRARY, PROGRAM, TOP
 
+INDEX = LIBRARY / "index.tsv"
 FIELDS = ("THEOREM", "SOURCE", "ASSUMES", "LEAVES OUT", "VERDICT")
-COLUMNS = ("chapter", "name", "verdict", "denominators", "rows", "steps", "seconds", "theorem", "source")
-CHAPTERS = {
-    "moore_penrose": "Moore-Penrose inverses", "reverse_order_laws": "Reverse order laws", "other_inverses": "Group, Drazin, core and other inverses",
-    "ep_normal_isometries": "EP and normal maps, partial isometries", "projections": "Idempotents and projections",
-    "partial_orders": "Partial orders", "linear_equations": "Linear equations", "block_matrices": "Block matrices and Schur complements",
-    "rings": "Rings", "diagrams": "Diagrams", "positivity": "True by positivity", "false": "False, or not to be derived",
-    "harder": "Made to be hard: settled by searches",
-}  # fmt: skip
+COLUMNS = ("chapter", "name", "verdict", "denominators", "rows", "steps", "seconds", "used in", "theorem", "source")
+BESIDE = re.compile("proved by (cancelling|search)|proved for complex|refuted")  # what evidence beside the file says alone
+DOCUMENTS = ("README.md", "docs/GUIDE.md", "docs/TOOLS.md", "docs/COMMANDS.md")  # in whose sections theorems are used
 
 
 class Fault(Exception):
@@ -88,8 +86,10 @@ def words_of(verdict: str) -> List[str]:
 
 
 def statements(path: Path) -> List[str]:
-    """The statements of a file: itself, or those that a file of the notation stands for."""
-    return [one.text for one in Expansion(str(path)).statements()] if path.suffix == ".opn" else [path.read_text("utf-8")]
+    """The statements of a file: itself, with the order that its verdict names, or those that a file of the notation stands for."""
+    if path.suffix == ".opn":
+        return [one.text for one in Expansion(str(path)).statements()]
+    return [ordered(path.read_text("utf-8"), header(path)["VERDICT"])]
 
 
 class Proved(NamedTuple):
@@ -116,30 +116,56 @@ def proved(path: Path, words: List[str]) -> List[Proved]:
     return found
 
 
-def steps(one: Proved) -> int:
-    """The steps of the longest chain of a report, 0 where nothing is proved."""
-    with tempfile.TemporaryDirectory() as folder:
-        statement, report = Path(folder, "statement.op"), Path(folder, "report")
-        statement.write_text(one.statement, encoding="utf-8")
-        report.write_text(one.report, encoding="utf-8")
-        lines = list(chain.written(str(statement), str(report))) if "\ncertificate " in one.report else []
+def evidence(path: Path) -> List[str]:
+    """The proofs that lie beside a file."""
+    files = [path.with_suffix(suffix) for suffix in (".cert", ".star")]
+    return [file.read_text("utf-8") for file in files if file.exists()]
+
+
+def asked(path: Path) -> List[Proved]:
+    """What `prove` says of the statements of a file, but for those that evidence beside it says alone."""
+    verdict = header(path)["VERDICT"]
+    return [] if all(BESIDE.match(part.kind) for part in verdicts(verdict)) else proved(path, words_of(verdict))
+
+
+def has_proof(text: str) -> bool:
+    """Whether a report or other evidence has one."""
+    return re.search("^(certificate|cancellation|star proof) ", text, re.MULTILINE) is not None
+
+
+def steps(statement: str, report: str) -> int:
+    """The steps of the longest chain of a report or other evidence, 0 where nothing is proved."""
+    lines = chain.written(statement.encode(), report.encode()) if has_proof(report) else []
     longest = count = 0
-    for line in "\n".join(lines).split("\n"):
-        count = count + 1 if line.startswith("= ") else 0
+    for line in lines:
+        count = count + 1 if line.startswith("= ") else count if line.startswith("    ") else 0
         longest = max(longest, count)
     return longest
 
 
-def row(path: Path) -> Dict[str, str]:
-    """The row of a file in the index."""
+def used_in(path: Path) -> str:
+    """The sections of the documents in which a file is used."""
+    found: Dict[str, None] = {}
+    for name in DOCUMENTS:
+        title, section = Path(name).stem, ""
+        for line in (TOP / name).read_text("utf-8").split("\n"):
+            section = line.lstrip("# ") if line.startswith("## ") else section
+            if f"{path.parent.name}/{path.name}" in line:
+                found[f"{title}, {section}" if section else title] = None
+    return "; ".join(found)
+
+
+def row(path: Path, found: List[Proved]) -> Dict[str, str]:
+    """The row of a file in the index, of which `prove` said this."""
     fields = header(path)
-    found = proved(path, words_of(fields["VERDICT"])) if "search" not in fields["VERDICT"] else []
-    heads = [re.fullmatch("proved denominator ([0-9]+) rows ([0-9]+)", head) for one in found for head in one.heads]
-    denominators = sorted({int(head[1]) for head in heads if head})
-    rows = sum(int(head[2]) for head in heads if head)
+    texts = [(one.statement, one.report) for one in found] + [(statements(path)[0], text) for text in evidence(path)]
+    proofs = [text for _, text in texts if has_proof(text)]
+    denominators = sorted({int(number) for text in proofs for number in re.findall("^denominator ([0-9]+)$", text, re.MULTILINE)})
+    rows = sum(len(re.findall("^row ", text, re.MULTILINE)) for text in proofs)
     cells = (
         path.parent.name, path.name, fields["VERDICT"], " ".join(map(str, denominators)), str(rows or ""),
-        str(max(map(steps, found), default=0) or ""), f"{sum(one.seconds for one in found):.2f}", fields["THEOREM"], fields.get("SOURCE", ""),
+        str(max((steps(*pair) for pair in texts), default=0) or ""), f"{sum(one.seconds for one in found):.2f}" if found else "",
+        used_in(path), fields["THEOREM"], fields.get("SOURCE", ""),
     )  # fmt: skip
     return dict(zip(COLUMNS, cells))
 
@@ -149,20 +175,34 @@ def table(rows: List[Dict[str, str]]) -> str:
     return "".join("\t".join(cells) + "\n" for cells in [COLUMNS, *([one[name] for name in COLUMNS] for one in rows)])
 
 
+def stored() -> Dict[str, Dict[str, str]]:
+    """The rows of the table that is stored, by chapter and name."""
+    return {f"{chapter}/{name}": found for (chapter, name), found in table_of(LIBRARY).items()}
+
+
+def different(rows: List[Dict[str, str]]) -> List[str]:
+    """The files whose rows aren't those that are stored, but for the seconds."""
+    known, found = stored(), {f"{one['chapter']}/{one['name']}": {**one, "seconds": ""} for one in rows}
+    return [name for name, one in found.items() if {**known.get(name, {}), "seconds": ""} != one]
+
+
 INTRODUCTION = """# The library
 
-Theorems on matrices and operators, a file each, in chapters. A file opens with its theorem, its source where that is certain, what is assumed
-besides, what is left out, and the verdict,
+Theorems on matrices and operators, a file each, in chapters. A file opens with its theorem, its source where that is certain, what is
+assumed besides, what is left out, and the verdict,
 which `python/tests/test_library.py all` compares with what the program and the second checkers say.
-What `prove` doesn't find by its defaults has its evidence beside it: `.cert` for `check`, `cancel` or, with rational matrices, `check_model.py`;
-`.model` for `model`; `.star` for `star.py`. The verdict of the others is that of `./opprove prove FILE`.
+What `prove` doesn't find by its defaults has its evidence beside it: `.cert` for `check`, `cancel` or, with rational matrices,
+`check_model.py`; `.model` for `model`; `.star` for `star.py`. The verdict of the others is that of `./opprove prove FILE`.
+
+[index.tsv](index.tsv) has a row for each file, with the denominators, the rows of all claims, the steps of the longest chain, the seconds
+of `prove`, and the sections of the documents where it is used; `dev/library_index.py` writes it and this page.
 """
 
 
 def page(rows: List[Dict[str, str]]) -> str:
     """The index as a page."""
     parts = [INTRODUCTION]
-    for chapter, title in CHAPTERS.items():
+    for chapter, title in titles_of(LIBRARY).items():
         parts.append(f"\n## {title}\n\n| Theorem | Verdict |\n|---|---|\n")
         for one in (one for one in rows if one["chapter"] == chapter):
             source = f" {one['source']}." if one["source"] else ""
@@ -179,18 +219,19 @@ def named(path: Path) -> Dict[str, str]:
 
 
 def main(words: List[str]) -> int:
-    """Writes the page or compares it, and prints the index."""
+    """Writes the page and the table, or compares them."""
     if words not in ([], ["page"], ["--check"]):
         print("usage: library_index.py [page | --check]")
         return 2
     readme, text = LIBRARY / "README.md", page([named(path) for path in paths()])
+    rows = [] if words == ["page"] else [row(path, asked(path)) for path in paths()]
     if words == ["--check"]:
-        same = readme.read_text("utf-8") == text
-        print(f"the page of {len(paths())} files is {'as stored' if same else 'another one'}")
-        return 0 if same else 1
+        others = [*different(rows), *(["README.md"] if readme.read_text("utf-8") != text else [])]
+        print(f"{len(rows)} files are as the index has them" if not others else f"not as stored: {', '.join(others)}")
+        return 1 if others else 0
     readme.write_text(text, encoding="utf-8")
-    if not words:
-        print(table([row(path) for path in paths()]), end="")
+    if rows:
+        INDEX.write_text(table(rows), encoding="utf-8")
     return 0
 
 

@@ -2,7 +2,7 @@
 """Tries what stands in the repository: try.py [NAME ..], with all names where none is named.
 
 A name is a file python/tests/test_NAME.py, or one of these: `checker`, what the gate runs, `files`, `opprove`, `guide`, `release`,
-`plain`, `editors` and `others`. What isn't installed is skipped with a line. The status is 0 where nothing failed, and else 1.
+`library`, all of it, `plain`, `editors` and `others`. What isn't installed is skipped with a line. The status is 0 where nothing failed, and else 1.
 """
 from __future__ import annotations
 
@@ -19,6 +19,7 @@ from typing import Callable, Dict, List
 sys.dont_write_bytecode = True
 import measure
 import try_guide
+import try_library
 import try_opprove
 import try_plain
 import try_release
@@ -205,7 +206,7 @@ def groups(folder: Path) -> Dict[str, List[Callable[[], str]]]:
             word: [functools.partial(check, folder) for check in checks]
             for word, checks in (
                 ("opprove", try_opprove.CHECKS), ("guide", try_guide.CHECKS), ("plain", try_plain.CHECKS),
-                ("release", [try_release.release]),
+                ("release", [try_release.release]), ("library", try_library.CHECKS),
             )
         },
         "editors": [
@@ -227,9 +228,9 @@ def main(words: List[str]) -> int:
     with tempfile.TemporaryDirectory() as name:
         checks = groups(Path(name))
         if not {"checker", *tests, *checks} >= {*words}:
-            print(f"try: usage: try.py [{' | '.join(['checker', *checks, *tests])}] ..", flush=True)
+            print(f"try: usage: try.py [{' | '.join(dict.fromkeys(['checker', *checks, *tests]))}] ..", flush=True)
             return 1
-        for word in words or [*tests, *checks]:
+        for word in words or dict.fromkeys([*tests, *checks]):
             own = checks["files"] if word == "checker" else checks.get(word, [])
             failed = word not in checks and tested(["--quick"] if word == "checker" else [word])
             if failed or run_checks("ok", own):

@@ -1,4 +1,4 @@
-"""Runs the commands of docs/GUIDE.md, and compares what they print with what stands there: try.py guide
+"""Runs the commands of docs/GUIDE.md and of the tutorials, and compares what they print with what stands there: try.py guide
 
 A block of the guide that begins with `# NAME.op` or `# NAME.opn` is that file. In a block of commands each line that begins with `$ ` is one,
 and what stands below it is its output. They run in a temporary folder that has these files, the examples and the sources for
@@ -19,6 +19,7 @@ from opprove import cli
 from trying import EXAMPLES, PROGRAM, SOURCE, TOP, Skipped, installed, need, run, tool
 
 GUIDE, README = TOP / "docs" / "GUIDE.md", TOP / "README.md"
+TUTORIALS = sorted((TOP / "docs" / "tutorials").glob("*.md"))
 TOOLS = "|".join(tool.word for tool in cli.TOOLS)
 ASKING = "|".join(tool.word for tool in cli.TOOLS if tool.asks)  # tools that run the program
 
@@ -67,9 +68,9 @@ def has_files(line: str, folder: Path) -> bool:
     return all((folder / word).exists() for word in line.split() if re.fullmatch(r"[\w/]+\.(opn?|report|model|v)", word))
 
 
-def followed(folder: Path, is_wanted: Callable[[Command, Path], bool]) -> int:
-    """Runs the commands that are wanted at their place, and tells how many they were."""
-    guide, count = read(GUIDE.read_text(encoding="utf-8")), 0
+def followed(folder: Path, is_wanted: Callable[[Command, Path], bool], page: Path = GUIDE) -> int:
+    """Runs the commands of a page that are wanted at their place, and tells how many they were."""
+    guide, count = read(page.read_text(encoding="utf-8")), 0
     place = Path(tempfile.mkdtemp(dir=folder))
     for name, text in guide.files.items():
         (place / name).write_text(text, encoding="utf-8")
@@ -82,7 +83,7 @@ def followed(folder: Path, is_wanted: Callable[[Command, Path], bool]) -> int:
         stored = re.search(r" \| tee (\S+)$", command.line)
         if is_wanted(command, place):
             answer = run("bash", "-c", as_run(command.line), folder=place, seconds=600)
-            need(answer.out == command.shown, f"$ {command.line}\n{answer.out}{answer.error}and the guide has\n{command.shown}")
+            need(answer.out == command.shown, f"$ {command.line}\n{answer.out}{answer.error}and {page.name} has\n{command.shown}")
             error = "".join(line for line in answer.error.splitlines(True) if not line.startswith("# expanded "))
             need(not error or "./opprove search " in command.line, f"$ {command.line}\n{error}")
             count += 1
@@ -109,6 +110,15 @@ def built(folder: Path) -> str:
     commands = read(GUIDE.read_text(encoding="utf-8")).commands
     need(count == sum(not command.asks_coq() for command in commands), f"{count} commands")
     return f"{count} commands of the guide print what stands there"
+
+
+def tutorials(folder: Path) -> str:
+    """Each of the tutorials, which asks the program."""
+    if not os.access(PROGRAM, os.X_OK):
+        raise Skipped("opprove is not built, and the tutorials are not followed")
+    counts = [followed(folder, lambda *_: True, page) for page in TUTORIALS]
+    need(len(counts) == 3 and min(counts) >= 9, counts)
+    return f"{sum(counts)} commands of {len(counts)} tutorials print what stands there"
 
 
 def coq(folder: Path) -> str:
@@ -163,4 +173,4 @@ def table(folder: Path) -> str:
     return f"{len(calls)} calls of the table of tools are made as they stand there"
 
 
-CHECKS: List[Callable[[Path], str]] = [alone, built, coq, readme, table]
+CHECKS: List[Callable[[Path], str]] = [alone, built, tutorials, coq, readme, table]

@@ -1,4 +1,5 @@
-"""A browser for the tests: Chromium without a window, led by chromedriver over its protocol, with the standard library alone."""
+"""A browser for the tests: Chromium without a window, led by chromedriver over its protocol, with the standard library alone; and what
+a page leads to, which is read without one."""
 from __future__ import annotations
 
 import json
@@ -8,8 +9,9 @@ import subprocess
 import tempfile
 import time
 import unittest
+from html.parser import HTMLParser
 from http.client import HTTPConnection
-from typing import Any, Dict, List, Tuple
+from typing import Any, Dict, List, Optional, Set, Tuple
 
 ELEMENT = "element-6066-11e4-a52e-4f735466cecf"  # how the protocol names an element
 
@@ -21,6 +23,21 @@ def needed(*names: str) -> List[str]:
             print(f"skipped: {name} is not installed", flush=True)
             raise unittest.SkipTest(f"{name} is not installed")
     return [str(shutil.which(name)) for name in names]
+
+
+class Links(HTMLParser):
+    """The addresses that a page leads to or loads, and its anchors; without data that stands in it."""
+
+    def __init__(self, text: str) -> None:
+        super().__init__()
+        self.addresses: List[str] = []
+        self.anchors: Set[str] = set()
+        self.feed(text)
+
+    def handle_starttag(self, tag: str, attributes: List[Tuple[str, Optional[str]]]) -> None:
+        found = {name: value or "" for name, value in attributes}
+        self.addresses += [found[name] for name in ("href", "src") if not found.get(name, "data:").startswith("data:")]
+        self.anchors.add(found.get("id", ""))
 
 
 class Browser:

@@ -1,17 +1,19 @@
 """Proves the library: test_library.py [all]
 
-Of a fixed sample of 40 files, or of all, the verdict that the header states is compared with what the program and the second checkers say:
-certificates go through `check` and check.py, bases through `confirm`, and what lies beside a file through the programs that read it.
+Of a fixed sample of 40 files, or of all, the verdict that the header states is compared with what the program and the second checkers
+say: certificates go through `check` and check.py, bases through `confirm`, and what lies beside a file through the programs that read it;
+and the row of the file with that which the index has. Lines say how many there are of each verdict.
 """
 from __future__ import annotations
 
 import collections
+import functools
 import os
 import re
 import sys
 import tempfile
 from pathlib import Path
-from typing import Counter, List
+from typing import Counter, List, Set
 
 import library_index as index
 from library_index import Part, Proved, paths
@@ -19,9 +21,17 @@ from opprove.checkers.check import Evidence, Problem, Refusal, judge
 from trying import PROGRAM, Failed, checker, need, run
 
 SAMPLE = 40
-WORD = {".model": ["model"], ".cert": ["cancel"], ".star": []}  # of the program, for evidence beside a file
-BESIDE = re.compile("proved by cancelling|proved for complex|refuted")  # what evidence beside the file says alone
-LATER = re.compile("(proved|not derivable|refuted) by search")
+# What reads evidence beside a file, by the word of its first block: a command of the program, and a second checker.
+READERS = {
+    "model": ("model", "check_model"), "rational": ("", "check_model"), "certificate": ("check", "check"),
+    "cancellation": ("cancel", "cancel"), "star": ("", "star"),
+}  # fmt: skip
+# Parts of verdicts that evidence beside the file says: the ending of its name, and the word of its blocks.
+KINDS = {
+    "proved by cancelling": (".cert", "cancellation"), "proved by search": (".cert", "certificate"),
+    "proved for complex": (".star", "star"), "refuted by rational": (".cert", "rational"),
+    "refuted modulo": (".model", "model"), "refuted by search": (".model", "model"),
+}  # fmt: skip
 
 
 def sample(all_paths: List[Path]) -> List[Path]:
@@ -46,44 +56,78 @@ def checked(one: Proved, folder: Path) -> None:
         need(answer.status == 0, answer)
 
 
+@functools.lru_cache(maxsize=None)
 def beside(path: Path, suffix: str) -> str:
     """The evidence that lies beside a file, which each program that reads it accepts, with the claims of all its blocks."""
     evidence = path.with_suffix(suffix)
     need(evidence.exists(), f"{evidence} is missing")
     text = evidence.read_text("utf-8")
     need(evidence.stat().st_size <= 200000, f"{evidence} is long")
-    is_rational = text.startswith("rational ")
-    seconds = {".model": "check_model", ".cert": "check_model" if is_rational else "cancel", ".star": "star"}
-    for command in ([PROGRAM, *WORD[suffix]] if WORD[suffix] and not is_rational else None, checker(seconds[suffix])):
-        if command:
-            answer = run(*command, path, evidence)
-            need(answer.status == 0 and " refused " not in answer.out, (path, answer))
+    first = re.search("^[a-z]+", text, re.MULTILINE)
+    word, second = READERS[first.group() if first else ""]
+    for command in [[PROGRAM, word]] * bool(word) + [checker(second)]:
+        answer = run(*command, path, evidence)
+        need(answer.status == 0 and " refused " not in answer.out, (path, answer))
     return text
 
 
-def needs(part: Part, path: Path, found: List[Proved]) -> None:
-    """That a part of a verdict is what the programs say."""
+def said_beside(part: Part, path: Path) -> Set[int]:
+    """The claims of a part of a verdict that evidence beside the file has to say; it has to be of these denominators and moduli."""
+    suffix, word = next((one for start, one in KINDS.items() if part.kind.startswith(start)), ("", ""))
+    if not suffix:
+        return set()
+    blocks = re.findall(f"^{word} .*\n(?:.*\n)*?end$", beside(path, suffix), re.MULTILINE)
+    numbers = {int(number) for number in re.findall("^claim ([0-9]+)$", "\n".join(blocks), re.MULTILINE)}
+    wanted = {*(part.claims or range(1, 1 + len(Problem(str(path)).claims)))}
+    need(numbers >= wanted, f"{path}: claims {numbers} have evidence, and not {wanted}")
+    lists = re.findall("([^ ,]+(?:, [^ ,]+)*) (monic|epic)", part.kind.partition(", ")[2])
+    granted = {f"{word} {name}" for names, word in lists for name in names.split(", ")}
+    cancelled = {*re.findall("^(?:monic|epic) .*$", "\n".join(blocks), re.MULTILINE)}
+    need(granted == cancelled, f"{path}: {part.kind} is said, and cancelled are {cancelled}")
+    number = re.search("(?:denominator|modulo) ([0-9]+)", part.kind)
+    for block in blocks if number else ():
+        claim, own = (re.search(f"^(?:{words}) ([0-9]+)$", block, re.MULTILINE) for words in ("claim", "denominator|modulus"))
+        is_same = claim and own and number and (int(claim[1]) not in wanted or own[1] == number[1])
+        need(is_same, f"{path}: {part.kind} is said, and not {block[:60]}")
+    return wanted
+
+
+def needs(part: Part, path: Path, found: List[Proved]) -> Set[int]:
+    """That a part of a verdict is what the programs say. The claims are given that evidence beside the file says."""
     heads = [head for one in found for number, head in enumerate(one.heads, 1) if not part.claims or number in part.claims]
-    kind = re.sub(", by --.*", "", part.kind)
-    proved = re.fullmatch("proved, denominator ([0-9]+)", kind)
-    evidence = {"proved by cancelling": ".cert", "proved for complex": ".star", "refuted by": ".cert", "refuted modulo": ".model"}
-    suffix = next((ending for start, ending in evidence.items() if kind.startswith(start)), "")
-    if proved:
-        wrong = [head for head in heads if not head.startswith(f"proved denominator {proved[1]} ")]
-    elif kind in ("not derivable", "undecided"):
-        wrong = [head for head in heads if not head.startswith(kind)]
-    else:
-        need(suffix, f"{path}: there is no verdict {kind}")
-        numbers = {int(number) for number in re.findall("^claim ([0-9]+)$", beside(path, suffix), re.MULTILINE)}
-        wanted = {*(part.claims or range(1, 1 + len(Problem(str(path)).claims)))}
-        need(numbers == wanted, f"{path}: claims {numbers} have evidence, and not {wanted}")
+    kind = re.sub(", by (--|order ).*", "", part.kind)
+    claims = said_beside(part, path)
+    if claims:
         wrong = [head for head in heads if head.startswith("proved") and not kind.startswith("proved")]
-    need((heads or suffix) and not wrong, f"{path}: {part.kind} is said, and not {wrong}")
+    else:
+        proved = re.fullmatch("proved, denominator ([0-9]+)", kind)
+        need(proved or kind in ("not derivable", "undecided"), f"{path}: there is no verdict {kind}")
+        want = f"proved denominator {proved[1]} " if proved else kind
+        wrong = [head for head in heads if not head.startswith(want)]
+        need(heads, f"{path}: nothing is said of {part.kind}")
+    need(not wrong, f"{path}: {part.kind} is said, and not {wrong}")
+    return claims
 
 
 def kind_of(verdict: str) -> str:
     """The verdict without what differs from file to file."""
-    return re.sub(",? (by --|modulo|[a-z]'?(, [a-z]'?)* (monic|epic)|denominators?).*", "", verdict) if ";" not in verdict else "several"
+    found = re.sub(",? (by --|by order|modulo|[a-z]'?(, [a-z]'?)* (monic|epic)|denominators?).*", "", verdict)
+    return "several" if ";" in verdict else found
+
+
+def tried(path: Path) -> str:
+    """The verdict of a file, which is compared; and its row of the index."""
+    verdict = index.header(path)["VERDICT"]
+    found = index.asked(path)
+    with tempfile.TemporaryDirectory() as folder:
+        for one in found:
+            checked(one, Path(folder))
+    claims = {claim for part in index.verdicts(verdict) for claim in needs(part, path, found)}
+    texts = [beside(path, suffix) for suffix in (".cert", ".model", ".star") if path.with_suffix(suffix).exists()]
+    shown = {int(number) for text in texts for number in re.findall("^claim ([0-9]+)$", text, re.MULTILINE)}
+    need(shown == claims, f"{path}: claims {shown} have evidence, and not {claims}")
+    need(not index.different([index.row(path, found)]), f"{path}: another row in the index, which dev/library_index.py writes")
+    return verdict
 
 
 def main(words: List[str]) -> int:
@@ -92,27 +136,15 @@ def main(words: List[str]) -> int:
         print("skipped: opprove is not built")
         return 0
     counts: Counter[str] = collections.Counter()
-    failed = 0
-    for path in paths() if words == ["all"] else sample(paths()):
+    chosen = paths() if words == ["all"] else sample(paths())
+    for path in chosen:
         try:
-            fields = index.header(path)
-            verdict = fields["VERDICT"]
-            if LATER.match(verdict):
-                counts["settled by search, which test_harder.py tries"] += 1
-                continue
-            found = [] if all(BESIDE.match(part.kind) for part in index.verdicts(verdict)) else index.proved(path, index.words_of(verdict))
-            with tempfile.TemporaryDirectory() as folder:
-                for one in found:
-                    checked(one, Path(folder))
-            for part in index.verdicts(verdict):
-                needs(part, path, found)
-            counts[kind_of(verdict)] += 1
+            counts[kind_of(tried(path))] += 1
         except (Failed, Refusal, index.Fault, OSError) as what:
             print(f"failed: {path.parent.name}/{path.name}: {what}", flush=True)
-            failed += 1
     for kind, count in counts.most_common():
         print(f"ok: {count} files: {kind}", flush=True)
-    return 1 if failed else 0
+    return 0 if sum(counts.values()) == len(chosen) else 1
 
 
 if __name__ == "__main__":

@@ -6,12 +6,11 @@ import subprocess
 import sys
 import tempfile
 import unittest
-from html.parser import HTMLParser
 from pathlib import Path
-from typing import Dict, List, Optional, Set, Tuple
+from typing import Dict
 from urllib.parse import unquote
 
-from browser import Browser
+from browser import Browser, Links
 from opprove.page.pages import fields_of
 from opprove.program import path as path_of_program
 
@@ -36,21 +35,6 @@ LINES = [
     "rules.html  not derivable, proved", "rings/cases-i-ii.html  proved", "rings/cases-ii-i.html  proved", "rings/unit.html  proved",
     "what_is_false/right_inverse.html  refuted",
 ]  # fmt: skip
-
-
-class Links(HTMLParser):
-    """The addresses that a page leads to or loads, and its anchors."""
-
-    def __init__(self, text: str) -> None:
-        super().__init__()
-        self.addresses: List[str] = []
-        self.anchors: Set[str] = set()
-        self.feed(text)
-
-    def handle_starttag(self, tag: str, attributes: List[Tuple[str, Optional[str]]]) -> None:
-        found = {name: value or "" for name, value in attributes}
-        self.addresses += [found[name] for name in ("href", "src") if name in found]
-        self.anchors.add(found.get("id", ""))
 
 
 class Site(unittest.TestCase):
@@ -91,11 +75,10 @@ class Site(unittest.TestCase):
         for page, links in read.items():
             for address in links.addresses:
                 place, _, anchor = address.partition("#")
-                if not address.startswith("data:"):
-                    target = (page.parent / unquote(place)).resolve() if place else page
-                    self.assertIn(target, read, address)
-                    self.assertTrue(not anchor or unquote(anchor) in read[target].anchors, address)
-                    reached |= {target} if page.name == "index.html" else set()
+                target = (page.parent / unquote(place)).resolve() if place else page
+                self.assertIn(target, read, address)
+                self.assertTrue(not anchor or unquote(anchor) in read[target].anchors, address)
+                reached |= {target} if page.name == "index.html" else set()
         self.assertEqual(reached, set(read))
 
     def test_text_is_no_markup(self) -> None:

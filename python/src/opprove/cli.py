@@ -33,6 +33,7 @@ TOOLS: List[Tool] = [
     Tool("chain", "translations.chain", "a proof as a chain of equal expressions, in text or LaTeX"),
     Tool("coq", "coq.export", "each proof, model and basis as a theorem for Coq, with its proof"),
     Tool("latex", "translations.latex", "the sum of a certificate as displayed formulas"),
+    Tool("chapter", "translations.chapter", "a folder of statements with their proofs as a paper in LaTeX", asks=True),
     Tool("singular", "translations.singular", "a certificate as a script that Singular adds up"),
     Tool("sympy", "translations.sympy", "a certificate as a script that SymPy adds up"),
     Tool("picture", "translations.picture", "the quiver of a statement as SVG, TikZ or a graph"),

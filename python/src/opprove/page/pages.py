@@ -5,7 +5,9 @@ stands beside it (NAME.cert, .star, .model or .report), and for claims that this
 has them by chapters, which are the folders, with a box that finds theorems by words, by equations and by maps. Nothing is loaded.
 
 Comments in front of a statement may say, each behind its word and a colon, THEOREM, SOURCE, ASSUMES, LEAVES OUT and VERDICT; of the last
-the options of `prove`, as --pairs 50000, are taken. A line is printed for each statement, with its verdicts; then what is wrong.
+the options of `prove`, as --pairs 50000, are taken, and `by order weight c 3` as this line of the statement. Where it is there,
+LIBRARY/chapters.txt has a line for each folder with its title, in the order of the chapters, and LIBRARY/index.tsv a table with a row for
+each file, which the index shows. A line is printed for each statement, with its verdicts; then what is wrong.
 
 Statuses: 0 where each page was made and no verdict differs from what its comments say; else the greatest of 3 (a statement is refused),
 4 (not loaded), 5 (a page isn't written), 6 (no memory), 7 (evidence is refused, or
@@ -13,6 +15,7 @@ another verdict) and 12 (a run that ended without a verdict).
 """
 from __future__ import annotations
 
+import argparse
 import os
 import re
 import shutil
@@ -37,6 +40,8 @@ from opprove.tool import parser, say
 EVIDENCE = (".cert", ".star", ".model", ".report")  # the names of files of evidence end so
 FIELDS = ("THEOREM", "SOURCE", "ASSUMES", "LEAVES OUT", "VERDICT")
 OPTIONS = re.compile(r"--(?:pairs|steps|seed) [0-9]+|--no-models")
+ORDER = re.compile(r"\bby (order [^;,]*)")  # of words, in which a basis is
+COLUMNS = ("denominators", "rows", "steps", "seconds", "used in")  # of the table of a library, those that the index shows
 NO_VERDICT = 12
 
 
@@ -90,6 +95,27 @@ def fields_of(comments: Sequence[str]) -> Dict[str, str]:
     return fields
 
 
+def titles_of(library: Path) -> Dict[str, str]:
+    """The titles of chapters by their folders, in the order of the chapters."""
+    file = library / "chapters.txt"
+    lines = [line.split(None, 1) for line in file.read_text("utf-8").splitlines()] if file.is_file() else []
+    return {words[0]: words[1].strip() for words in lines if len(words) == 2}
+
+
+def table_of(library: Path) -> Dict[Tuple[str, str], Dict[str, str]]:
+    """The rows of the table of a library, by chapter and name."""
+    file = library / "index.tsv"
+    lines = [line.split("\t") for line in file.read_text("utf-8").splitlines()] if file.is_file() else [[]]
+    rows = [dict(zip(lines[0], cells)) for cells in lines[1:]]
+    return {(row.get("chapter", ""), row.get("name", "")): row for row in rows}
+
+
+def ordered(text: str, verdict: str) -> str:
+    """A statement with the line on the order of words that its verdict is by, if there is one."""
+    found = ORDER.search(verdict)
+    return f"{text.rstrip()}\n{found[1]}\n" if found else text
+
+
 def entry_of(path: Path, library: Path) -> Entry:
     """A file of the library as it is read."""
     chapter = "" if path.parent == library else path.parent.relative_to(library).as_posix()
@@ -99,19 +125,29 @@ def entry_of(path: Path, library: Path) -> Entry:
         named = [(one.name, one.text) for one in expand.read(str(path)).statements] if is_notation else [(path.stem, text)]
     except Refusal as refusal:
         return Entry(path, chapter, fields_of([]), [], str(refusal))
+    fields = fields_of(comments_of(text))
     beside = {name: [path.with_name(name + ending) for ending in EVIDENCE] for name, _ in named}
-    statements = [Statement(name, text, [file for file in beside[name] if file.is_file()]) for name, text in named]
-    return Entry(path, chapter, fields_of(comments_of(text)), statements)
+    found = [(name, ordered(one, fields["VERDICT"]), [file for file in beside[name] if file.is_file()]) for name, one in named]
+    return Entry(path, chapter, fields, [Statement(*one) for one in found])
 
 
 def entries_of(library: Path) -> Iterator[Entry]:
     """The files of the library by chapters; what was expanded from another file is left out."""
     paths = [path for ending in ("*.op", f"*{expand.ENDING}") for path in library.rglob(ending) if path.is_file()]
-    for path in sorted(paths, key=lambda path: (path.parent, path.name)):
+    places = {library / name: place for place, name in enumerate(titles_of(library))}
+    for path in sorted(paths, key=lambda path: (places.get(path.parent, len(places)), path.parent, path.name)):
         with path.open("rb") as file:
             is_expanded = file.read(len(HEAD)) == HEAD.encode()
         if not is_expanded:
             yield entry_of(path, library)
+
+
+def files_of(library: Path) -> List[Entry]:
+    """The files of the library; where there are none, a line says so."""
+    entries = list(entries_of(library))
+    if not entries:
+        say(f"# load failed {library}: there are no statements")
+    return entries
 
 
 def title_of(name: str) -> str:
@@ -123,15 +159,15 @@ def place_of(chapter: str, name: str) -> str:
     return f"{chapter}/{name}.html" if chapter else f"{name}.html"
 
 
-def jobs_of(entries: Sequence[Entry], seconds: int) -> List[Job]:
-    """The pages, each with links to the index, its chapter and its neighbours."""
+def jobs_of(entries: Sequence[Entry], seconds: int, titles: Dict[str, str] = {}) -> List[Job]:
+    """The pages, each with links to the index, its chapter, by these titles, and its neighbours."""
     flat = [(entry, one) for entry in entries for one in entry.statements]
     places = [place_of(entry.chapter, one.name) for entry, one in flat]
     jobs = []
     for number, (entry, one) in enumerate(flat):
         up = "../" * places[number].count("/")
         links = [("Library", f"{up}index.html")]
-        links += [(title_of(entry.chapter), f"{up}index.html#{quote(entry.chapter)}")] * bool(entry.chapter)
+        links += [(titles.get(entry.chapter) or title_of(entry.chapter), f"{up}index.html#{quote(entry.chapter)}")] * bool(entry.chapter)
         beside = (("←", number - 1), ("→", number + 1))
         links += [(f"{sign} {title_of(flat[at][1].name)}", up + quote(places[at])) for sign, at in beside if 0 <= at < len(flat)]
         jobs.append(Job(places[number], one, entry.fields, links, seconds))
@@ -229,7 +265,21 @@ def put(path: Path, page: str) -> bool:
 # ---- The index
 
 
-def item(entry: Entry, made: Dict[str, Made]) -> Iterator[str]:
+class Library(NamedTuple):
+    """What the index has of a library besides its files: its title, those of its chapters, and its table."""
+
+    title: str
+    titles: Dict[str, str]
+    table: Dict[Tuple[str, str], Dict[str, str]]
+
+    def facts(self, entry: Entry) -> str:
+        """What the table says of a file."""
+        row = self.table.get((entry.chapter, entry.path.name), {})
+        units = {"denominators": "denominator {}", "rows": "{} rows", "steps": "{} steps", "seconds": "{} s", "used in": "used in {}"}
+        return " · ".join(units[column].format(row[column]) for column in COLUMNS if row.get(column))
+
+
+def item(entry: Entry, made: Dict[str, Made], facts: str) -> Iterator[str]:
     """A theorem: its name, its verdicts, its sentence, and its statements where they are several."""
     places = [place_of(entry.chapter, one.name) for one in entry.statements]
     shapes = dict.fromkeys(shape for place in places for shape in made[place].shapes)
@@ -238,7 +288,8 @@ def item(entry: Entry, made: Dict[str, Made]) -> Iterator[str]:
     every = [verdict for place in places for verdict in made[place].verdicts]
     yield links[0] if len(links) == 1 else f"<b>{escape(title_of(entry.path.stem))}</b> {badges(every)}"
     yield f'<p class="about">{escape(entry.fields["THEOREM"] or entry.fault)}</p>'
-    yield f'<p class="place">{escape(entry.fields["SOURCE"])}</p>' * bool(entry.fields["SOURCE"])
+    lines = [entry.fields["SOURCE"], facts]
+    yield from (f'<p class="place">{escape(line)}</p>' for line in lines if line)
     yield f"<details><summary>{len(links)} statements</summary>{'<br>'.join(links)}</details></li>" if len(links) > 1 else "</li>"
 
 
@@ -252,18 +303,20 @@ def link(place: str, name: str, made: Made) -> str:
     return f'<a href="{quote(place)}">{escape(title_of(name))}</a> {badges(made.verdicts)}'
 
 
-def index_of(title: str, entries: Sequence[Entry], made: Dict[str, Made]) -> str:
+def index_of(library: Library, entries: Sequence[Entry], made: Dict[str, Made]) -> str:
     """The first page of the site."""
+    title, titles = library.title, library.titles
     style, program = part("style.css") + part("pages.css"), part("pages.js")
     chapters = list(dict.fromkeys(entry.chapter for entry in entries))
     lines = ["<!doctype html>", f'<html lang="en">{head(title, style, [program])}<body><header><h1>{escape(title)}</h1>']
     lines += ['<p class="find" hidden><label>Find']
     lines += ['<input id="find" type="search" placeholder="Drazin, or a x a = a, or a : U -> V"></label>']
     lines += [' <span id="count" role="status"></span></p>']
-    lines += [*navigation([(title_of(chapter), f"#{quote(chapter)}") for chapter in chapters if chapter]), "</header><main>"]
+    names = {chapter: titles.get(chapter) or title_of(chapter) for chapter in chapters}
+    lines += [*navigation([(names[chapter], f"#{quote(chapter)}") for chapter in chapters if chapter]), "</header><main>"]
     for chapter in chapters:
-        lines += [f'<section id="{escape(chapter)}"><h2>{escape(title_of(chapter) or title)}</h2><ul class="theorems">']
-        lines += [line for entry in entries if entry.chapter == chapter for line in item(entry, made)]
+        lines += [f'<section id="{escape(chapter)}"><h2>{escape(names[chapter] or title)}</h2><ul class="theorems">']
+        lines += [line for entry in entries if entry.chapter == chapter for line in item(entry, made, library.facts(entry))]
         lines += ["</ul></section>"]
     return "\n".join([*lines, f"</main><script>{program}</script></body></html>"]) + "\n"
 
@@ -278,20 +331,27 @@ def twice(entries: Sequence[Entry]) -> List[str]:
     return [place for place in places if place in seen or seen.add(place)]  # type: ignore[func-returns-value]
 
 
-def site(entries: Sequence[Entry], out: Path, title: str, count: int, seconds: int) -> int:
+def site(entries: Sequence[Entry], out: Path, library: Library, count: int, seconds: int) -> int:
     """Makes all pages, prints a line for each, and gives the status."""
-    jobs, made, faults = jobs_of(entries, seconds), {}, [(status_of(one.fault), f"{one.path}: {one.fault}") for one in entries if one.fault]
+    jobs, made = jobs_of(entries, seconds, library.titles), {}
+    faults = [(status_of(one.fault), f"{one.path}: {one.fault}") for one in entries if one.fault]
     with ProcessPoolExecutor(count) as pool:
         for job, found in zip(jobs, pool.map(make, jobs, [out] * len(jobs))):
             made[job.place] = found
             faults += [(found.status, f"{job.place}: {found.fault}")] * bool(found.fault)
             if not written([f"{job.place}  {told(found.verdicts)}"]):
                 return NO_OUTPUT
-    if not put(out / "index.html", index_of(title, entries, made)):
+    if not put(out / "index.html", index_of(library, entries, made)):
         faults.append((NO_OUTPUT, f"{out / 'index.html'}: the page isn't written"))
     for _, line in faults:
         say(line)
     return max((status for status, _ in faults), default=DONE)
+
+
+def add_runs(asked: argparse.ArgumentParser) -> None:
+    """Adds the words that say how `prove` is run."""
+    asked.add_argument("--jobs", type=positive, default=os.cpu_count() or 1, metavar="N", help="runs at a time (a processor each)")
+    asked.add_argument("--seconds", type=positive, default=60, metavar="N", help="after which a run of prove ends (60)")
 
 
 def main(words: List[str]) -> int:
@@ -300,12 +360,10 @@ def main(words: List[str]) -> int:
     asked.add_argument("library", type=Path, metavar="LIBRARY", help="a folder of statements, in folders that are its chapters")
     asked.add_argument("out", type=Path, metavar="OUT", help="a folder for the site")
     asked.add_argument("--title", default="Library", help="of the index (Library)")
-    asked.add_argument("--jobs", type=positive, default=os.cpu_count() or 1, metavar="N", help="pages at a time (a processor each)")
-    asked.add_argument("--seconds", type=positive, default=60, metavar="N", help="after which a run of prove ends (60)")
+    add_runs(asked)
     given = asked.parse_args(words)
-    entries = list(entries_of(given.library))
+    entries = files_of(given.library)
     if not entries:
-        say(f"# load failed {given.library}: there are no statements")
         return NOT_LOADED
     if not shutil.which(path_of_program()):
         say(f"{path_of_program()} isn't there: ./opprove build makes it in a checkout, and OPPROVE may name another one")
@@ -314,4 +372,5 @@ def main(words: List[str]) -> int:
     if double:
         say(f"# not written {double[0]}: two pages have this name")
         return NO_OUTPUT
-    return site(entries, given.out, given.title, given.jobs, given.seconds)
+    library = Library(given.title, titles_of(given.library), table_of(given.library))
+    return site(entries, given.out, library, given.jobs, given.seconds)

@@ -2,11 +2,11 @@
 from __future__ import annotations
 
 import re
-from typing import Dict, Iterator, List
+from typing import Dict, Iterator, List, Optional, Set
 
 from opprove.checkers.check import Poly, Problem, Refusal, Signature
 from opprove.translations.chain import Chain, Equation, Proof, Reader, Writer, granted, has_powers, listed, not_used, reason, used
-from opprove.translations.latex import letter_in_latex, lines_of
+from opprove.translations.latex import WIDTH, letter_in_latex, lines_of
 
 # What an abbreviation says of its maps.
 SAID = {
@@ -19,10 +19,15 @@ Names = Dict[str, str]  # how maps and objects are written, by their names
 
 def names_of(problem: Problem, text: str) -> Names:
     """A table of names: a line each, as `x a^{\\dagger}`. Raises a `Refusal` at a line that names no map or object."""
-    known, names = {name.strip("[']") for name in problem.names}, {}
+    return table(text, {name.strip("[']") for name in problem.names})
+
+
+def table(text: str, known: Optional[Set[str]] = None) -> Names:
+    """The names of a table, which are all known where these are given."""
+    names = {}
     for number, line in enumerate(text.split("\n"), 1):
         words = line.split("#")[0].split(None, 1)
-        if words and (len(words) < 2 or words[0] not in known):
+        if words and (len(words) < 2 or (known is not None and words[0] not in known)):
             raise Refusal(f"# refused names line {number}")
         names.update({words[0]: words[1].strip()} if words else {})
     return names
@@ -81,13 +86,13 @@ def assumptions(reader: Reader, writer: Writer, numbers: List[int]) -> Iterator[
         yield equation(writer, other, f"({number})", rf" && \text{{{said}}}" if said else "")
 
 
-def steps(reader: Reader, writer: Writer, chain: Chain) -> Iterator[str]:
+def steps(reader: Reader, writer: Writer, chain: Chain, width: int = WIDTH) -> Iterator[str]:
     """The sums of a chain, each with the number of what it is by."""
-    yield r"  & \phantom{{} = {}} " + in_lines(writer, chain.start(), chain.ends)
+    yield r"  & \phantom{{} = {}} " + in_lines(writer, chain.start(), chain.ends, width)
     for step in chain.steps:
         number, is_adjoint = (step.row.number, False) if step.row.is_lemma else reader.sources[step.row.number - 1]
         by = f"Lemma {number}" if step.row.is_lemma else f"({number})" + "${}^{*}$" * is_adjoint
-        yield rf"  & = {in_lines(writer, step.total, chain.ends)} && \text{{by {by}}}"
+        yield rf"  & = {in_lines(writer, step.total, chain.ends, width)} && \text{{by {by}}}"
 
 
 def power(name: str, count: int) -> str:
@@ -104,13 +109,13 @@ def aligned(rows: List[str]) -> List[str]:
     return [line for part in parts for line in (r"\begin{align*}", " \\\\\n".join(part), r"\end{align*}")]
 
 
-def in_lines(writer: Writer, poly: Poly, ends: Signature) -> str:
-    return " \\\\\n  & \\quad ".join(lines_of(writer.terms(poly, ends)))
+def in_lines(writer: Writer, poly: Poly, ends: Signature, width: int) -> str:
+    return " \\\\\n  & \\quad ".join(lines_of(writer.terms(poly, ends), width))
 
 
-def equation(writer: Writer, shown: Equation, name: str, said: str) -> str:
+def equation(writer: Writer, shown: Equation, name: str, said: str, width: int = WIDTH) -> str:
     """An equation after its name, with what is said of it."""
-    left, right = (lines_of(writer.terms(poly, shown.ends)) for poly in (shown.left, shown.right))
+    left, right = (lines_of(writer.terms(poly, shown.ends), width) for poly in (shown.left, shown.right))
     lines = [*left, "= " + right[0], *right[1:]]
     lines = [" ".join(lines)] if len(lines) == 2 else lines
     return f"  {name + ' ' if name else ''}{'' if not name else chr(92) + 'quad '}& " + " \\\\\n  & \\quad ".join(lines) + said

@@ -12,7 +12,7 @@ from opprove.checkers.check import Certificate, Poly, Problem, Row
 from opprove.text.expressions import INSIDE, TIGHTNESS, Expression
 from opprove.translations.translation import generators_used, run
 
-TERMS_IN_A_LINE = 4
+WIDTH = 270  # of a sum in points, at the size of ten points, beside what it is by
 GREEK = """alpha beta gamma delta epsilon zeta eta theta iota kappa lambda mu nu xi pi rho sigma tau upsilon phi chi psi
 omega Gamma Delta Theta Lambda Xi Pi Sigma Upsilon Phi Psi Omega""".split()
 
@@ -61,11 +61,40 @@ def scaled(coefficient: int, factors: List[str]) -> str:
     return f"{sign} " + r" \, ".join(number + factors)
 
 
-def lines_of(terms: List[str]) -> List[str]:
-    """The terms of a sum in lines, the first without a + in front."""
-    groups = [terms[start : start + TERMS_IN_A_LINE] for start in range(0, len(terms), TERMS_IN_A_LINE)]
-    first, *others = [" ".join(group) for group in groups] or ["0"]
+def width_of(latex: str) -> int:
+    """About how wide a formula is, in points at the size of ten points."""
+    bare = re.sub(r"\\(?:mathit|text|mathrm) *", "", latex)
+    raised = "".join(re.findall(r"[\^_](?:\{([^{}]*)\})", bare))
+    bare = re.sub(r"[\^_]\{[^{}]*\}", "", bare)
+    small = len(re.sub(r"\\[A-Za-z]+", "x", raised))
+    spaces, signs = bare.count(r"\,"), len(re.findall(r" [-+=] ", f" {bare} "))
+    letters = re.sub(r"\\[A-Za-z]+", "x", re.sub(r"\\,|[{} ]", "", bare))
+    return 4 * small + 2 * spaces + 7 * signs + 6 * len(letters)
+
+
+def lines_of(terms: List[str], width: int = WIDTH) -> List[str]:
+    """The terms of a sum in lines of about this width, the first without a + in front; a term that is wider goes on behind a dot."""
+    lines: List[str] = []
+    for term in terms or ["0"]:
+        is_wide = width_of(term) > width
+        for piece in broken(term, width) if is_wide else [term]:
+            if lines and not is_wide and width_of(lines[-1]) + width_of(piece) <= width:
+                lines[-1] += " " + piece
+            else:
+                lines.append(piece)
+    first, *others = lines
     return [re.sub("^[+] ", "", first)] + ["{} " + line for line in others]
+
+
+def broken(term: str, width: int) -> List[str]:
+    """A product in pieces of this width, where its factors are narrower."""
+    pieces: List[str] = []
+    for factor in term.split(r" \, "):
+        if pieces and width_of(pieces[-1]) + width_of(factor) + 2 <= width:
+            pieces[-1] += rf" \, {factor}"
+        else:
+            pieces.append(rf"\cdot {factor}" if pieces else factor)
+    return pieces
 
 
 def definition(left: str, terms: List[str]) -> str:

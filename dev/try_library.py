@@ -1,0 +1,148 @@
+"""Tries the whole library: try.py library
+
+Each verdict, and each row of the index; the site, whose links are followed and whose pages check themselves in a browser; ten searches of
+its box; a paper of each chapter, set by pdflatex; and the theorems of a chapter for Coq. It takes some minutes.
+"""
+from __future__ import annotations
+
+import os
+import re
+import sys
+import tempfile
+from pathlib import Path
+from typing import Callable, Dict, List
+from unittest import SkipTest
+from urllib.parse import unquote
+
+from browser import Browser, Links
+from opprove.page.pages import entries_of, titles_of
+from trying import LIBRARY, PROGRAM, TESTS, Skipped, installed, need, run, tool
+
+OF_COQ = "linear_equations"  # the chapter whose theorems Coq checks
+POINTS = 4  # by which a line of a paper may be too wide
+FOUND = (  # what is typed into the box, and theorems that are to be found
+    ("moore-penrose unique", ["moore penrose unique"]), ("Cline formula", ["cline extended", "cline two factors"]),
+    ("Drazin 1958", ["drazin commutes"]), ("u v u = u", ["moore penrose unique", "urquhart"]), ("p p = p, q q = q", ["difference square"]),
+    ("s t = 1", []), ("[V] = a b", ["one sided inverse", "many right inverses"]), ("pinv", []),
+    ("woodbury", ["woodbury", "woodbury pseudoinverse"]),
+    ("x : U -> V, y : V -> U, x y x = x", ["moore penrose unique"]), ("reverse order, 1966", ["greville one condition"]),
+)  # fmt: skip
+
+
+def need_program() -> None:
+    if not os.access(PROGRAM, os.X_OK):
+        raise Skipped("opprove is not built, and the library is not tried")
+
+
+def verdicts(folder: Path) -> str:
+    """Each verdict is that of its header; the lines that say how many there are of each go on."""
+    need_program()
+    answer = run(sys.executable, TESTS / "test_library.py", "all", seconds=3000)
+    need(answer.status == 0, answer.out + answer.error)
+    return "the library, of which\n" + "\n".join(f"    {line[4:]}" for line in answer.out.splitlines())
+
+
+# ---- The site
+
+
+def site(folder: Path) -> str:
+    """It is made with no fault, each link leads to a page and a place that is there, and each page checks itself."""
+    need_program()
+    out = folder / "site"
+    answer = run(*tool("pages"), LIBRARY, out, seconds=1800)
+    need(answer.status == 0 and not answer.error, answer.error)
+    read = {page.resolve(): Links(page.read_text("utf-8")) for page in out.rglob("*.html")}
+    count = 0
+    for page, links in read.items():
+        for address in links.addresses:
+            place, _, anchor = address.partition("#")
+            target = (page.parent / unquote(place)).resolve() if place else page
+            need(target in read and (not anchor or unquote(anchor) in read[target].anchors), (page, address))
+            count += 1
+    try:
+        browser = Browser()
+    except SkipTest as what:
+        raise Skipped(str(what)) from None
+    try:
+        kinds = in_browser(browser, sorted(set(read) - {(out / "index.html").resolve()}))
+        searches(browser, out / "index.html")
+    finally:
+        browser.close()
+    told = ", ".join(f"{kinds[kind]} {kind}" for kind in sorted(kinds))
+    return f"{len(read)} pages with {count} links; in a browser {told}; {len(FOUND)} searches find what they should"
+
+
+def in_browser(browser: Browser, pages: List[Path]) -> Dict[str, int]:
+    """How many pages say that all of their evidence is right, and how many have evidence that they leave to others."""
+    kinds: Dict[str, int] = {}
+    for page in pages:
+        browser.open("about:blank")
+        browser.requests(), browser.logs()
+        browser.open(page.as_uri())
+        left = browser.run("return [...document.querySelectorAll('.check')].every((at) => !at.dataset.block)")
+        kind = "leave all to others" if left else "check themselves"
+        if not left:
+            need(browser.wait("return document.querySelector('#checked').className") == "right", page)
+        kinds[kind] = kinds.get(kind, 0) + 1
+        need([it for it in browser.requests() if not it.startswith("data:")] == [page.as_uri()] and not browser.logs(), page)
+    return kinds
+
+
+def searches(browser: Browser, index: Path) -> None:
+    """The box finds by names, words and shapes."""
+    browser.open(index.resolve().as_uri())
+    script = """const box = document.querySelector('#find'); box.value = arguments[0]; box.dispatchEvent(new Event('input'));
+        return [...document.querySelectorAll('.theorem:not([hidden])')].map((at) => at.querySelector('a').textContent)"""
+    every = browser.run(script, "")
+    for asked, wanted in FOUND:
+        found = browser.run(script, asked)
+        need({*wanted} <= {*found} and len(found) < len(every) // 2 and bool(found) == bool(wanted), (asked, wanted, found))
+
+
+# ---- Papers and Coq
+
+
+def papers(folder: Path) -> str:
+    """A paper of each chapter is set by pdflatex, with no line that is too wide."""
+    need_program()
+    program, pages = installed("pdflatex"), 0
+    for chapter in titles_of(LIBRARY):
+        answer = run(*tool("chapter"), LIBRARY / chapter, seconds=1800)
+        need(answer.status == 0 and not answer.error, (chapter, answer.error))
+        (folder / f"{chapter}.tex").write_text(answer.out, "utf-8")
+        said = run(program, "-interaction=nonstopmode", "-halt-on-error", f"{chapter}.tex", folder=folder, seconds=1800)
+        wide = [points for points in re.findall(r"Overfull \\hbox \(([0-9.]+)pt", said.out) if float(points) > POINTS]
+        need(said.status == 0 and not wide, (chapter, wide, said.out[-500:]))
+        found = re.search("\\(([0-9]+) pages?", said.out)
+        pages += int(found[1]) if found else 0
+    return f"{len(titles_of(LIBRARY))} papers with {pages} pages are set by pdflatex"
+
+
+def coq(folder: Path) -> str:
+    """Coq accepts each theorem of a chapter, and no axiom is used."""
+    need_program()
+    coqc, count = installed("coqc"), 0
+    answer = run(*tool("coq"), "--library", folder / "coq", seconds=1800)
+    need(answer.status == 0, answer)
+    for entry in entries_of(LIBRARY / OF_COQ):
+        for one in entry.statements:
+            (folder / "statement.op").write_text(one.text, "utf-8")
+            report = run(PROGRAM, "prove", folder / "statement.op", "--no-models", seconds=600).out
+            (folder / "report").write_text(report, "utf-8")
+            more = [folder / "report"] * bool(re.search("^(certificate|basis) ", report, re.MULTILINE))
+            export = run(*tool("coq"), folder / "statement.op", *one.evidence, *more)
+            need(export.status == 0, (one.name, export))
+            (folder / "theorem.v").write_text(export.out, "utf-8")
+            said = run(coqc, "-q", "-Q", "coq", "Opprove", "theorem.v", folder=folder, seconds=1800)
+            theorems = len(re.findall("^Theorem ", export.out, re.MULTILINE))
+            need(said.status == 0 and said.out == "Closed under the global context\n" * theorems and theorems > 0, (one.name, said))
+            count += theorems
+    return f"{count} theorems of {OF_COQ} are accepted by coqc"
+
+
+CHECKS: List[Callable[[Path], str]] = [verdicts, site, papers, coq]
+
+if __name__ == "__main__":
+    with tempfile.TemporaryDirectory() as name:
+        for check in CHECKS:
+            print(check(Path(name)), flush=True)
