@@ -48,6 +48,8 @@ class Words(unittest.TestCase):
                 found = answer(word, "x", OPPROVE=str(TOP / "none"))
                 self.assertEqual(found.status, 2)
                 self.assertEqual(re.findall("did you mean '(.*)'", found.error), [meant] * (meant != ""))
+        found = answer("prove", "x", OPPROVE=str(TOP / "none"))
+        self.assertEqual((found.status, found.error.split(",")[0]), (2, "opprove: 'prove' is a command of the program"))
 
     def test_version(self) -> None:
         version = (TOP / "VERSION").read_text().strip()

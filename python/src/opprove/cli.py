@@ -105,6 +105,8 @@ def usage() -> int:
 
 
 def unknown(word: str) -> str:
-    """What is said of a word that neither the program nor a tool has, with the nearest that one has."""
+    """What is said of a word that no tool has, with the nearest that the program or a tool has."""
+    if word in COMMANDS:
+        return f"{word!r} is a command of the program, and this runs the tools: call {path()} {word} .."
     near = difflib.get_close_matches(word.lower(), [*COMMANDS, *BY_WORD, "build"], n=1)
     return f"there is no command or tool {word!r}" + (f"; did you mean {near[0]!r}?" if near else "") + " (opprove help lists them)"
