@@ -11,6 +11,10 @@ right side in whatever order. Where a sum comes back, the steps between are left
 times the left side; a claim whose right side has more terms is read from there. A lemma that one row names is written out
 in its place; the others are chains of their own before the claim's, from their greatest word.
 
+Before that, fewer rows that add up to the same are looked for, around the words of those that are known: of all places of the equations there
+the least sum is taken, and a lemma is left out where that is shorter. No chain becomes longer by that. --effort N says how much is tried,
+where 1000000, about a second, is what is tried if nothing is said; with 0 the rows are taken as they were read.
+
 A report of `explain`, or other text whose first block is a `chain 1`, is read as such: its lines are made anew from its `use`
 lines, and the first that is another one is told with its number. What is written then has its sums in their order, each line
 plus the denominator times the right side; where the left side is 0 it is read from the end. Sums that come back are cut there too.
@@ -28,6 +32,7 @@ or no map with the claim's ends.
 from __future__ import annotations
 
 import sys
+from argparse import ArgumentTypeError
 from collections import Counter
 from heapq import heapify, heappop, heappush
 from itertools import groupby
@@ -42,11 +47,14 @@ from opprove.checkers.check import (
     Blocks, Certificate, Line, Poly, Problem, Row, Share, Signature, Source, Token, Word, add, content, judge, loaded,
 )  # fmt: skip
 from opprove.tool import ended
+from opprove.translations.least_sum import Effort
+from opprove.translations.shorten_chain import Equations, Item, Shortener, rows_of, steps_of
 from opprove.translations.translation import explained, of_two_files
 
 # Limits of evidence text. A lemma whose rows would have longer words in its place is a chain of its own.
 LETTERS_IN_A_WORD, LETTERS, MOST = 500, 1000000, 2**127 - 1
 WIDTH = 96  # of a sum in text
+EFFORT = 1000000  # in the search for shorter chains: about a second
 
 
 class Equation(NamedTuple):
@@ -90,6 +98,14 @@ class Chain(NamedTuple):
     def start(self) -> Poly:
         return add({}, self.scale, self.left)
 
+    def poly(self) -> Poly:
+        """Which the part says to be 0."""
+        sign = -1 if self.is_turned else 1
+        return add(add({}, sign, self.left), -sign, self.right)
+
+    def part(self) -> Part:
+        return Part(self.ends, self.scale, self.rows(), self.cancelled)
+
     def rows(self) -> List[Row]:
         """The rows of the part that are left."""
         sign = -1 if self.is_turned else 1
@@ -105,7 +121,8 @@ class Proof(NamedTuple):
 class Reader:
     """Makes proofs of the certificates of a problem, which have to be accepted."""
 
-    def __init__(self, problem: Problem) -> None:
+    def __init__(self, problem: Problem, effort: int = EFFORT) -> None:
+        self.effort = effort  # for shorter chains, 0 for none
         self.problem, self.exact, self.has_adjoints = problem, problem.generators(), problem.is_starred
         self.units = {letter for letter, name in enumerate(problem.names) if name[0] == "["}
         self.generators = [self.bare(poly) for poly in self.exact]
@@ -206,13 +223,31 @@ class Reader:
         return self.in_parts(proof, self.typed(proof.claim, proof.items, polys))
 
     def in_parts(self, certificate: Union[Certificate, Cancellation], parts: List[Part]) -> Proof:
-        parts = in_place(parts)
+        claim = self.claims[certificate.claim - 1]
+        chains = self.without_loops(in_place(parts), claim)
+        shorter = self.without_loops(in_place(self.shorter(chains)), claim)
+        return Proof(certificate, shorter if length(shorter) < length(chains) else chains)
+
+    def without_loops(self, parts: List[Part], claim: Equation) -> List[Chain]:
+        """Chains of the parts, or of those that are left where loops are cut."""
         while True:
-            chains = self.chains(parts, self.claims[certificate.claim - 1])
-            again = in_place([part._replace(rows=chain.rows()) for part, chain in zip(parts, chains)])
+            chains = self.chains(parts, claim)
+            again = in_place([chain.part() for chain in chains])
             if len(again) == len(parts):
-                return Proof(certificate, chains)
+                return chains
             parts = again  # as steps that were left out were all that named some lemma, or all but one
+
+    def shorter(self, chains: List[Chain]) -> List[Part]:
+        """The parts of chains, with fewer rows where shorten_chain.py finds them."""
+        equations, count = Equations(self.problem.ends), len(self.sources)
+        for poly, ends in zip(self.generators[:count], self.ends):
+            equations.append(poly, ends)
+        for chain in chains:
+            equations.append(chain.poly(), chain.ends)
+        items = [Item(chain.ends, chain.scale, None if chain.cancelled else steps_of(chain.rows(), count)) for chain in chains]
+        kept = [chain.cancelled.item - 1 for chain in chains if chain.cancelled]
+        found = Shortener(equations, count, items, kept, Effort(self.effort)).shortened()
+        return [chain.part()._replace(rows=rows_of(item.steps or {}, count)) for chain, item in zip(chains, found)]
 
     def chains(self, parts: List[Part], claim: Equation) -> List[Chain]:
         chains: List[Chain] = []
@@ -301,6 +336,11 @@ class Reader:
 
 
 # ---- Rows
+
+
+def length(chains: Sequence[Chain]) -> int:
+    """All steps."""
+    return sum(len(chain.steps) for chain in chains)
 
 
 def fits(row: Row) -> bool:
@@ -642,11 +682,11 @@ def judge_all(problem: Problem, texts: Texts) -> None:
             judge_chain(lines, told, f"# block {block} refused")
 
 
-def written(statement: Source, evidence: Source, *, form: str = "text", names: str = "") -> Iterator[str]:
+def written(statement: Source, evidence: Source, *, form: str = "text", names: str = "", effort: int = EFFORT) -> Iterator[str]:
     """The lines of all proofs of the evidence, in a form: text, latex, with the table of names in this file, or certificate."""
     from opprove.translations import chain_latex  # which stands on this file
 
-    reader = Reader(Problem(statement))
+    reader = Reader(Problem(statement), effort)
     proofs = proofs_of(reader, evidence)
     table = chain_latex.names_of(reader.problem, content(names).decode()) if names else {}
     if form == "certificate":
@@ -682,6 +722,13 @@ def proofs_of(reader: Reader, evidence: Source) -> List[Proof]:
     return [*map(reader.proof, texts.certificates), *map(reader.told, texts.chains)]
 
 
+def natural(text: str) -> int:
+    """A number of words, from 0."""
+    if not text.isdecimal():
+        raise ArgumentTypeError(f"{text} is no number")
+    return int(text)
+
+
 def main(words: List[str]) -> int:
     """Writes the chains, and gives the status."""
     made = of_two_files("chain", __doc__)
@@ -689,7 +736,8 @@ def main(words: List[str]) -> int:
     form.add_argument("--latex", dest="form", action="store_const", const="latex", default="text", help="for a paper that loads amsmath")
     form.add_argument("--certificate", dest="form", action="store_const", const="certificate", help="the rows of the steps as certificates")
     made.add_argument("--names", metavar="FILE", default="", help="how LaTeX has names, a line each, as `x a^{\\dagger}`")
+    made.add_argument("--effort", type=natural, default=EFFORT, metavar="N", help=f"for shorter chains, 0 for none ({EFFORT})")
     given = made.parse_args(words)
-    return ended(lambda: written(*loaded([given.statement, given.evidence]), form=given.form, names=given.names))
+    return ended(lambda: written(*loaded([given.statement, given.evidence]), form=given.form, names=given.names, effort=given.effort))
 
 

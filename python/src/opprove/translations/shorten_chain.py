@@ -1,0 +1,254 @@
+"""Shorter chains: fewer rows that add up to the same
+
+A chain has a step for each row. Around the words of the rows that are known lie others, and from one to another lead many steps: each
+equation at each of its places. Of all these the least sum that leads from one side to the other is taken, by least_sum.py: what it
+leaves out are detours, loops, and terms that are put in and cancel later. Long chains are made shorter piece by piece first. A lemma is
+left out where the rest is shorter without it. What is found is added up, and its length is no more than what was known.
+"""
+from __future__ import annotations
+
+from typing import Dict, Iterable, Iterator, List, Mapping, NamedTuple, Optional, Sequence, Set, Tuple
+
+from opprove.checkers.check import Poly, Row, Signature, Word
+from opprove.translations.least_sum import Effort, least
+
+Sum = Dict[str, int]  # words are texts of one sign a letter, in which places are found fast
+
+
+class Place(NamedTuple):
+    """An equation between two words, by its number."""
+
+    number: int
+    left: str
+    right: str
+
+
+Steps = Dict[Place, int]  # how many times each equation is taken at a place
+
+
+def coded(word: Word) -> str:
+    return "".join(map(chr, word))
+
+
+def steps_of(rows: Sequence[Row], generators: int) -> Steps:
+    """The steps that rows are, where so many generators come before lemmas."""
+    places = (Place(row.number - 1 + row.is_lemma * generators, coded(row.left), coded(row.right)) for row in rows)
+    return together(zip(places, (row.coefficient for row in rows)))
+
+
+def rows_of(steps: Steps, generators: int) -> List[Row]:
+    found = []
+    for place, factor in steps.items():
+        is_lemma = place.number >= generators
+        number = place.number + 1 - generators * is_lemma
+        found.append(Row(factor, tuple(map(ord, place.left)), is_lemma, number, tuple(map(ord, place.right))))
+    return found
+
+
+def words_of(values: Iterable[Mapping[str, int]]) -> Set[str]:
+    return {word for value in values for word in value}
+
+
+def together(steps: Iterable[Tuple[Place, int]]) -> Steps:
+    """Steps of which some may be at one place."""
+    total: Steps = {}
+    for place, factor in steps:
+        total[place] = total.get(place, 0) + factor
+    return {place: factor for place, factor in total.items() if factor}
+
+
+class Equations:
+    """Polynomials that are 0, with their ends, and where they stand in words."""
+
+    def __init__(self, ends_of_letters: Sequence[Signature]) -> None:
+        self.polys: List[Sum] = []
+        self.ends: List[Optional[Signature]] = []
+        self.sides: List[Tuple[int, str]] = []
+        self.longest: List[Tuple[int, str]] = []  # one side of each
+        self.of_letters = {chr(letter): ends for letter, ends in enumerate(ends_of_letters)}
+        self.values: Dict[Place, Sum] = {}
+
+    def append(self, poly: Poly, ends: Optional[Signature]) -> None:
+        number, made = len(self.polys), {coded(word): value for word, value in poly.items()}
+        self.polys.append(made)
+        self.ends.append(ends)
+        self.sides += [(number, word) for word in made]
+        self.longest += [(number, max(made, key=lambda word: (len(word), word)))] if made else []
+
+    def value(self, place: Place) -> Sum:
+        found = self.values.get(place)
+        if found is None:
+            found = {place.left + word + place.right: value for word, value in self.polys[place.number].items()}
+            self.values[place] = found
+        return found
+
+    def total(self, steps: Steps) -> Sum:
+        """What steps add up to."""
+        total: Sum = {}
+        for place, factor in steps.items():
+            for word, value in self.value(place).items():
+                total[word] = total.get(word, 0) + factor * value
+        return {word: value for word, value in total.items() if value}
+
+    def places(self, word: str, sides: Sequence[Tuple[int, str]], signature: Signature) -> Iterator[Place]:
+        """Where one of these sides of equations stands in a word with these ends."""
+        for number, side in sides:
+            if not side:
+                cuts = range(len(word) + 1)
+                yield from (Place(number, word[:cut], word[cut:]) for cut in cuts if self.ends_at(word, cut, signature) == self.ends[number])
+                continue
+            start = word.find(side)
+            while start >= 0:
+                yield Place(number, word[:start], word[start + len(side) :])
+                start = word.find(side, start + 1)
+
+    def ends_at(self, word: str, cut: int, signature: Signature) -> Signature:
+        """Of the identity at a place of a word."""
+        end = self.of_letters[word[cut - 1]][0] if cut else signature[1]
+        return end, end
+
+
+# How many words more are looked at in a round, and how many steps these may be away.
+ROUNDS = [(0, 0), (100, 1), (300, 1), (200, 2)]
+WINDOW, WINDOW_ROUNDS = 24, [(0, 0), (60, 1)]  # steps of a piece of a long chain
+LETTERS, TIMES = 500, 100  # of a word of evidence; that count for one that is known to be taken several times
+FAR = 2  # by how many letters more a word may be longer than those that are known
+GAIN = 1e-6
+
+
+class Search:
+    """Looks for fewer steps with a sum, by equations with these numbers. Words have these ends."""
+
+    def __init__(self, equations: Equations, numbers: Set[int], signature: Signature, effort: Effort) -> None:
+        self.equations, self.signature, self.effort = equations, signature, effort
+        self.sides = [side for side in equations.sides if side[0] in numbers]
+        self.longest = [side for side in equations.longest if side[0] in numbers]
+
+    def cost(self, place: Place) -> float:
+        """1, and a little more for long words."""
+        letters = sum(map(len, self.equations.value(place)))
+        return 1 + 0.05 * letters / (letters + 100)
+
+    def length(self, steps: Steps) -> Tuple[int, float]:
+        return len(steps), sum(map(self.cost, steps)) + GAIN
+
+    def within(self, words: Set[str]) -> List[Place]:
+        """The steps all of whose words are among these."""
+        self.effort.spend(len(words) * len(self.longest) // 4)
+        places = (place for word in words for place in self.equations.places(word, self.longest, self.signature))
+        return sorted(place for place in places if words.issuperset(self.equations.value(place)))
+
+    def around(self, words: Set[str], most: int) -> Set[str]:
+        """Words to which two steps or more lead from these: the shortest ones, and no more than so many."""
+        self.effort.spend(len(words) * len(self.sides))
+        counts: Dict[str, int] = {}
+        longest = max(map(len, words), default=0) + FAR
+        for place in {place for word in words for place in self.equations.places(word, self.sides, self.signature)}:
+            others = [other for other in self.equations.value(place) if other not in words]
+            if all(len(other) <= longest for other in others):
+                for other in others:
+                    counts[other] = counts.get(other, 0) + 1
+        chosen = sorted((len(word), -count, word) for word, count in counts.items() if count > 1)
+        return {word for size, _, word in chosen[:most] if size <= LETTERS}
+
+    def least(self, words: Set[str], target: Sum, known: Steps) -> Optional[Steps]:
+        """The steps within these words with the least sum of costs, where each is taken a whole number of times. One that is known
+        to be taken several times costs no more than one taken once."""
+        places = self.within(words)
+        costs = [self.cost(place) / min(abs(known.get(place, 1)), TIMES) for place in places]
+        found = least([self.equations.value(place) for place in places], costs, target, self.effort)
+        made = {places[number]: round(value) for number, value in (found or {}).items()}
+        return made if found is not None and self.equations.total(made) == target else None
+
+    def shorter(self, known: Steps, rounds: Sequence[Tuple[int, int]]) -> Steps:
+        """Fewer steps with the same sum as those that are known, or shorter ones, or these."""
+        target, best = self.equations.total(known), known
+        for most, depth in rounds:
+            while self.effort.left > 0:
+                words = words_of([target, *map(self.equations.value, best)])
+                for _ in range(depth):
+                    words |= self.around(words, most)
+                found = self.least(words, target, best)
+                if found is None or self.length(found) >= self.length(best):
+                    break
+                best = found
+        return best
+
+    def by_pieces(self, known: Steps) -> Steps:
+        """The same, by pieces of the steps in their order."""
+        steps, length = list(known.items()), len(known) + 1
+        while self.effort.left > 0 and len(steps) < length and len(steps) > WINDOW:
+            length = len(steps)
+            for start in range(0, length, WINDOW // 2):
+                steps[start : start + WINDOW] = self.shorter(together(steps[start : start + WINDOW]), WINDOW_ROUNDS).items()
+            steps = list(together(steps).items())
+        return dict(steps)
+
+    def shortest(self, known: Steps) -> Steps:
+        return self.shorter(self.by_pieces(known), ROUNDS)
+
+
+class Item(NamedTuple):
+    """A lemma or the goal: its steps add up to the scale times its polynomial. Steps are none where it isn't proved by steps."""
+
+    ends: Signature
+    scale: int
+    steps: Optional[Steps]
+
+
+def steps_in(items: Sequence[Item], numbers: Iterable[int]) -> int:
+    return sum(len(items[number].steps or ()) for number in numbers)
+
+
+class Shortener:
+    """Makes the items of a proof shorter. The equations are generators, of which there are so many, and then the items."""
+
+    def __init__(self, equations: Equations, generators: int, items: List[Item], kept: Iterable[int], effort: Effort) -> None:
+        self.equations, self.generators, self.items, self.effort = equations, generators, items, effort
+        self.kept = set(kept)  # items on which something else than steps stands
+
+    def shortened(self) -> List[Item]:
+        last = len(self.items) - 1
+        for number in range(last, -1, -1):
+            self.items[number] = self.shorter(number, self.items[number].steps)
+        for lemma in range(last - 1, -1, -1):
+            self.leave_out(lemma)
+        return self.items
+
+    def shorter(self, number: int, steps: Optional[Steps], without: int = -1) -> Item:
+        """An item with fewer steps than these, by generators and the lemmas before it that are used."""
+        lemmas = [lemma for lemma in range(number) if lemma != without and (lemma in self.kept or self.users(lemma))]
+        numbers = {*range(self.generators), *(self.generators + lemma for lemma in lemmas)}
+        item = self.items[number]
+        search = Search(self.equations, numbers, item.ends, self.effort)
+        return item._replace(steps=search.shortest(steps) if steps else steps)
+
+    def users(self, lemma: int) -> List[int]:
+        """The items that use a lemma."""
+        equation = self.generators + lemma
+        return [number for number, item in enumerate(self.items) if any(place.number == equation for place in item.steps or ())]
+
+    def leave_out(self, lemma: int) -> None:
+        """Leaves a lemma out where there are fewer steps without it."""
+        users, steps, before = self.users(lemma), self.items[lemma].steps, list(self.items)
+        if lemma in self.kept or not users or steps is None or self.effort.left <= 0:
+            return
+        for number in users:
+            inner = self.written_out(self.items[number].steps or {}, lemma)
+            self.items[number] = self.shorter(number, inner, lemma) if inner is not None else self.items[number]
+        if self.users(lemma) or steps_in(self.items, users) > steps_in(before, [lemma, *users]):
+            self.items = before
+
+    def written_out(self, steps: Steps, lemma: int) -> Optional[Steps]:
+        """Steps with those of the lemma in its place, where its scale allows that."""
+        item, made = self.items[lemma], []
+        for place, factor in steps.items():
+            if place.number != self.generators + lemma:
+                made.append((place, factor))
+            elif factor % item.scale:
+                return None
+            else:
+                inner = (item.steps or {}).items()
+                made += [(Place(one.number, place.left + one.left, one.right + place.right), factor // item.scale * times) for one, times in inner]
+        is_long = any(max(len(place.left), len(place.right)) > LETTERS for place, _ in made)
+        return None if is_long else together(made)

@@ -1,0 +1,105 @@
+"""Tries shorter chains: the least sums that are taken, detours that are planted, and the chains of the library.
+
+Least sums are compared with shortest paths. Rows that add up to nothing are put into random certificates, whose chains have to be as short
+as without them, and of no chain are there more steps than its rows give as they are read.
+"""
+from __future__ import annotations
+
+import sys
+from heapq import heappop, heappush
+from pathlib import Path
+from random import Random
+from typing import Callable, Dict, Iterator, List, Tuple
+
+from opprove.checkers.check import Certificate, Poly, Problem, Row, Word, judge
+from opprove.translations.chain import Reader, length
+from opprove.translations.least_sum import Effort, least
+from test_chains import Maker
+from trying import main, need
+
+Edge = Tuple[int, int, int]  # from, to and length
+
+
+def graph(random: Random) -> List[Edge]:
+    count = random.randrange(2, 20)
+    return [(random.randrange(count), random.randrange(count), random.randrange(1, 9)) for _ in range(random.randrange(40))]
+
+
+def distance(edges: List[Edge], start: int, end: int) -> float:
+    """The length of the shortest path, where edges may be taken both ways."""
+    heap, seen = [(0, start)], set()
+    while heap:
+        far, place = heappop(heap)
+        if place == end:
+            return far
+        if place not in seen:
+            seen.add(place)
+            for one, other, more in edges:
+                for here, there in ((one, other), (other, one)):
+                    if here == place:
+                        heappush(heap, (far + more, there))
+    return float("inf")
+
+
+def least_sums(folder: Path, count: int = 300) -> str:
+    """An edge is a column: its end less its start."""
+    random, paths = Random(1), 0
+    for _ in range(count):
+        edges = graph(random)
+        columns = [{str(one): -1, str(other): 1} if one != other else {} for one, other, _ in edges]
+        start, end = random.randrange(20), random.randrange(20)
+        target = {str(start): -1, str(end): 1} if start != end else {}
+        found = least(columns, [more for _, _, more in edges], target, Effort(10**6))
+        want = distance(edges, start, end)
+        got = float("inf") if found is None else sum(edges[number][2] * abs(value) for number, value in found.items())
+        need(abs(got - want) < 1e-6 if found is not None else got == want, (edges, start, end, found, want))
+        paths += found is not None
+    need(least([{"a": 1}, {"a": 2, "b": 10**400}], [1, 1], {"a": 1}, Effort(100)) is None, "numbers that are too large")
+    need(least([{"a": 1}], [1], {"a": 1}, Effort(0)) is None, "no effort")
+    return f"{paths} shortest paths among {count} are least sums"
+
+
+def swapped(problem: Problem, one: Row, other: Row, between: Word) -> List[Row]:
+    """Rows that add up to 0: both polynomials with a word between them, the first one taken out of the product and then the second."""
+    polys = problem.generators()
+    first, second = polys[one.number - 1], polys[other.number - 1]
+    rows = [Row(value, one.left, False, one.number, between + word + other.right) for word, value in second.items()]
+    return rows + [Row(-value, one.left + word + between, False, other.number, other.right) for word, value in first.items()]
+
+
+def detours(maker: Maker, random: Random, certificate: Certificate) -> Iterator[Row]:
+    """Around each row of the goal, with another row behind it in the place of its right word."""
+    for row in certificate.shares[-1].rows:
+        if not row.is_lemma and maker.generators[row.number - 1]:
+            word = next(iter(maker.generators[row.number - 1]))
+            source = maker.ends[(row.left + word + row.right)[-1]][0]
+            number = random.randrange(len(maker.generators))
+            other = next(iter(maker.generators[number]), ())
+            if other:
+                between = maker.path_between(maker.ends[other[0]][1], source)
+                yield from swapped(maker.problem, row, Row(1, (), False, number + 1, ()), row.right + between)
+
+
+def planted(folder: Path, count: int = 60) -> str:
+    statement, random = folder / "planted.op", Random(3)
+    shorter = steps = rows = 0
+    for _ in range(count):
+        maker = Maker(random, statement)
+        claim, made = maker.certificate()
+        statement.write_text(maker.text + f"claim {claim}\n")
+        problem = Problem(str(statement))
+        more = list(detours(maker, random, made))
+        share = made.shares[-1]
+        long = made._replace(shares=[*made.shares[:-1], share._replace(rows=share.rows + more)])
+        judge(problem, long, claim)
+        plain, before, after = (length(Reader(problem, effort).proof(one).chains) for effort, one in ((0, made), (0, long), (10**6, long)))
+        need(after <= min(plain, before), (statement.read_text(), long, plain, before, after))
+        shorter, steps, rows = shorter + (after < plain), steps + after, rows + len(more)
+    need(rows > 100 and shorter > 0, (rows, shorter))
+    return f"{count} proofs with {rows} rows too many have {steps} steps, {shorter} of them fewer than they were made with"
+
+
+CHECKS: List[Callable[[Path], str]] = [least_sums, planted]
+
+if __name__ == "__main__":
+    sys.exit(main(CHECKS))
