@@ -1,9 +1,10 @@
 #!/usr/bin/env -S PYTHONPATH=python/src:python/tests python3
-"""How long the chains of a folder of statements are: measure_chains.py FOLDER [WORDS of chain]
+"""How long the chains of a folder of statements are: measure_chains.py FOLDER [EFFORT]
 
-For each claim that is proved, by the evidence beside its statement or else by `prove` with the words that the verdict of its comments names,
-the steps of all chains of its proof, those of lemmas among them, and those of the longest one. A line a claim, and then how many claims there
-are, the median, how many have over 60 steps, the longest and all steps, both ways.
+For each claim that is proved, by the evidence beside its statement or else by `prove` with the words that the verdict of its comments
+names, the steps of all chains of its proof, those of lemmas among them, and those of the longest one, as `chain` writes them with
+this effort. A line a claim, and then how many claims there are, the median, how many have over 60 steps, the longest and all steps,
+both ways.
 """
 from __future__ import annotations
 
@@ -17,7 +18,7 @@ from typing import Dict, Iterator, List, NamedTuple, Sequence, Tuple
 from opprove.checkers.check import Problem
 from opprove.page.pages import Statement, entries_of
 from opprove.program import Refused, run
-from opprove.translations.chain import Reader, proofs_of
+from opprove.translations.chain import EFFORT, Reader, proofs_of
 
 LONG, SECONDS = 60, 120
 EVIDENCE = (".cert", ".star")
@@ -39,13 +40,13 @@ def reports(statement: Statement, options: List[str]) -> Iterator[bytes]:
         print(f"{statement.name}: {ended}", file=sys.stderr)
 
 
-def lengths(statement: Statement, options: List[str]) -> Dict[int, Length]:
+def lengths(statement: Statement, options: List[str], effort: int) -> Dict[int, Length]:
     """Of each claim that is proved, by the first evidence that proves it."""
-    text = statement.text.encode()
-    problem, found = Problem(text), {}
+    problem = Problem(statement.text.encode())
+    found: Dict[int, Length] = {}
     for report in reports(statement, options):
         if re.search(rb"^(certificate|cancellation|star proof) ", report, re.MULTILINE):
-            for proof in proofs_of(Reader(problem), report):
+            for proof in proofs_of(Reader(problem, effort), report):
                 steps = [len(chain.steps) for chain in proof.chains]
                 found.setdefault(proof.certificate.claim, Length(sum(steps), max(steps)))
     return found
@@ -66,12 +67,13 @@ def table(found: Sequence[Tuple[str, Length]]) -> Iterator[str]:
 def main(words: List[str]) -> int:
     """Writes the lengths, and the table."""
     if not words or not Path(words[0]).is_dir():
-        print("usage: measure_chains.py FOLDER")
+        print("usage: measure_chains.py FOLDER [EFFORT]")
         return 2
+    effort = int(words[1]) if words[1:] else EFFORT
     found: List[Tuple[str, Length]] = []
     for entry in entries_of(Path(words[0])):
         for statement in entry.statements:
-            of_claims = lengths(statement, words_of(entry.fields["VERDICT"]))
+            of_claims = lengths(statement, words_of(entry.fields["VERDICT"]), effort)
             found += [(f"{entry.chapter}/{statement.name} {claim}", one) for claim, one in sorted(of_claims.items())]
     print("\n".join(f"{name}\t{one.steps}\t{one.longest}" for name, one in found))
     print("\n".join(table(found)))

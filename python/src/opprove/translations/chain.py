@@ -11,9 +11,9 @@ right side in whatever order. Where a sum comes back, the steps between are left
 times the left side; a claim whose right side has more terms is read from there. A lemma that one row names is written out
 in its place; the others are chains of their own before the claim's, from their greatest word.
 
-Before that, fewer rows that add up to the same are looked for, around the words of those that are known: of all places of the equations there
-the least sum is taken, and a lemma is left out where that is shorter. No chain becomes longer by that. --effort N says how much is tried,
-where 1000000, about a second, is what is tried if nothing is said; with 0 the rows are taken as they were read.
+Before that, fewer rows that add up to the same are looked for around the words of those that are known: of all places of the
+equations there the least sum is taken, and a lemma is left out where that is shorter. No chain becomes longer by that. --effort N
+says how much is tried: 1000000, about a second, where it isn't given; with 0 the rows are taken as they were read.
 
 A report of `explain`, or other text whose first block is a `chain 1`, is read as such: its lines are made anew from its `use`
 lines, and the first that is another one is told with its number. What is written then has its sums in their order, each line

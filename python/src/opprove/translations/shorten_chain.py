@@ -7,6 +7,7 @@ left out where the rest is shorter without it. What is found is added up, and it
 """
 from __future__ import annotations
 
+from collections import Counter
 from typing import Dict, Iterable, Iterator, List, Mapping, NamedTuple, Optional, Sequence, Set, Tuple
 
 from opprove.checkers.check import Poly, Row, Signature, Word
@@ -94,8 +95,8 @@ class Equations:
         """Where one of these sides of equations stands in a word with these ends."""
         for number, side in sides:
             if not side:
-                cuts = range(len(word) + 1)
-                yield from (Place(number, word[:cut], word[cut:]) for cut in cuts if self.ends_at(word, cut, signature) == self.ends[number])
+                cuts = (cut for cut in range(len(word) + 1) if self.ends_at(word, cut, signature) == self.ends[number])
+                yield from (Place(number, word[:cut], word[cut:]) for cut in cuts)
                 continue
             start = word.find(side)
             while start >= 0:
@@ -112,7 +113,7 @@ class Equations:
 ROUNDS = [(0, 0), (100, 1), (300, 1), (200, 2)]
 WINDOW, WINDOW_ROUNDS = 24, [(0, 0), (60, 1)]  # steps of a piece of a long chain
 LETTERS, TIMES = 500, 100  # of a word of evidence; that count for one that is known to be taken several times
-FAR = 2  # by how many letters more a word may be longer than those that are known
+FAR, NEAR = 2, 2  # letters more than the longest known word has; by how many times more words are looked through
 GAIN = 1e-6
 
 
@@ -139,17 +140,30 @@ class Search:
         return sorted(place for place in places if words.issuperset(self.equations.value(place)))
 
     def around(self, words: Set[str], most: int) -> Set[str]:
-        """Words to which two steps or more lead from these: the shortest ones, and no more than so many."""
+        """Words that a step leads to from these and another one on, first those that several lead to, then the shortest ones: no more
+        than so many."""
         self.effort.spend(len(words) * len(self.sides))
+        longest = min(max(map(len, words), default=0) + FAR, LETTERS)
         counts: Dict[str, int] = {}
-        longest = max(map(len, words), default=0) + FAR
         for place in {place for word in words for place in self.equations.places(word, self.sides, self.signature)}:
-            others = [other for other in self.equations.value(place) if other not in words]
+            others = self.equations.value(place).keys() - words
             if all(len(other) <= longest for other in others):
                 for other in others:
                     counts[other] = counts.get(other, 0) + 1
-        chosen = sorted((len(word), -count, word) for word, count in counts.items() if count > 1)
-        return {word for size, _, word in chosen[:most] if size <= LETTERS}
+        near = sorted(counts, key=lambda word: (counts[word] == 1, len(word), word))[: NEAR * most]
+        passed = self.passed(words, set(near))
+        return set([word for word in near if word in passed][:most])
+
+    def passed(self, words: Set[str], others: Set[str]) -> Set[str]:
+        """Those of the others that lie between two steps within all these."""
+        values = [self.equations.value(place) for place in self.within(words | others)]
+        while True:
+            counts = Counter(word for value in values for word in value)
+            ends = {word for word in others if counts[word] < 2}
+            if not ends:
+                return others
+            others = others - ends
+            values = [value for value in values if ends.isdisjoint(value)]
 
     def least(self, words: Set[str], target: Sum, known: Steps) -> Optional[Steps]:
         """The steps within these words with the least sum of costs, where each is taken a whole number of times. One that is known
@@ -248,7 +262,8 @@ class Shortener:
             elif factor % item.scale:
                 return None
             else:
-                inner = (item.steps or {}).items()
-                made += [(Place(one.number, place.left + one.left, one.right + place.right), factor // item.scale * times) for one, times in inner]
+                for inner, times in (item.steps or {}).items():
+                    at = Place(inner.number, place.left + inner.left, inner.right + place.right)
+                    made.append((at, factor // item.scale * times))
         is_long = any(max(len(place.left), len(place.right)) > LETTERS for place, _ in made)
         return None if is_long else together(made)
