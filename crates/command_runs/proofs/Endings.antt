@@ -20,8 +20,11 @@ use Rattle.command_runs.specs.Put.{IsPut, whole, in_part}
 use Rattle.command_runs.specs.Run.{Run, SaysLoadFailed, SaysTooLong, SaysAnswer}
 use Rattle.command_runs.specs.Says.{Says}
 use Rattle.command_runs.specs.Headline.{HasMeaning}
+use Rattle.command_runs.specs.Promises.{IsMeant, PutsWhatIsMeant}
+use Rattle.statement_meaning.specs.Meanings.{SaysEquations}
 use Rattle.command_runs.proofs.AfterFiles.{Failed, Long, All, Kind, failed, long, all, kind, held, missing, first_too_long, after_weaker}
 use Rattle.command_runs.proofs.Commands.{answers_once, answer_status, answers_say}
+use Rattle.command_runs.proofs.PromisedCalls.{call_is_meant}
 
 status_is : {ending end : Ending} → ending ≡ end → ending.status ≡ end.status
 status_is same = ap (λ (e : Ending). e.status) same
@@ -203,3 +206,23 @@ module _ (words : List (String Global)) (run : Run) (ending : Ending) (status : 
       by (called call is after) =
           called call is
           (after_weaker run.told run.rose (files_of call) (Answers call) (λ contents end. Answers call contents end × Says s call contents end) ending (λ contents answer. (answer, answers_say laws sound with_lemmas cancelling call contents ending answer)) after)
+
+  -- each line of what was put means what it says
+  pub meant : {Object Arrow : Type 0} {s : Structure Object Arrow} → PreadditiveLaws s → IsSound s → IsEvidenceSound s → IsCancellationSound s → SaysEquations s → PutsWhatIsMeant s words run status
+  meant {s} laws sound with_lemmas cancelling equations not_two not_three not_four not_five not_six = by way
+    where
+      by : Way → IsMeant s words run
+      by (by_words _ is) = absurd (not_two (as_put (usage usage_text) is not_five).0)
+      by (by_load call _ f) = absurd (not_four (as_put _ f.is not_five).0)
+      by (by_limit call _ l) = absurd (not_four (as_put _ l.is not_five).0)
+      by (by_answer call is a) =
+          let done = as_put ending refl not_five in
+          record {
+            call = call;
+            is_called = is;
+            contents = a.contents;
+            loaded = a.loaded;
+            bytes = ending.report;
+            put = done.1;
+            lines = call_is_meant laws sound with_lemmas cancelling equations call a.contents ending a.leads (λ three. not_three (done.0 ∙ three));
+          }

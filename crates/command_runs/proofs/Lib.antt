@@ -3,3 +3,12 @@ mod OwnReports
 pub mod AfterFiles
 pub mod Endings
 pub mod Prefix
+mod QuietTexts
+mod QuietBlocks
+mod ReportLines
+mod PromisedVerdicts
+mod BlockCauses
+mod PromisedBlocks
+mod Promised
+mod PromisedEvidence
+mod PromisedCalls

@@ -9,3 +9,4 @@ pub mod Ends
 pub mod Put
 pub mod Run
 pub mod Headline
+pub mod Promises

@@ -12,6 +12,7 @@ ghost use Rattle.command_shape.specs.Stop.{StopsBy, EndsAs};
 ghost use Rattle.command_runs.specs.Run.{seen, IsReported, IsSinkFailure, IsCutShort, IsUsage, TellsOtherWords, IsNotLoaded, TellsMissing};
 ghost use Rattle.command_runs.specs.Run.{TellsTooLong, IsAnswered, IsComplete};
 ghost use Rattle.command_runs.specs.Headline.{MeansAsSaid};
+ghost use Rattle.command_runs.specs.Promises.{PutsWhatIsMeant};
 ghost use Rattle.statement_meaning.specs.Meanings.{SaysEquations};
 
 use crate::answers::answer;
@@ -139,6 +140,8 @@ pub fn run<R: Threads + Sync, C: Preadditive, L: Shelf, K: Sink, G: Gate + Sync>
     ensures meaning { MeansAsSaid (C.structure category.now) words.now
         (seen L.file L.faults K.written K.is_finished K.faults shelf.old shelf.new sink.old sink.new) result }
     ensures equations { SaysEquations (C.structure category.now) }
+    ensures promises { PutsWhatIsMeant (C.structure category.now) words.now
+        (seen L.file L.faults K.written K.is_finished K.faults shelf.old shelf.new sink.old sink.new) result }
 {
     sound(category);
     cancellation_sound(category);

@@ -62,7 +62,7 @@ other_text e cause more same =
     absurd (omega arith)
 
 -- evidence that is accepted names a claim
-names : (problem : Problem) (e : Evidence) → IsAccepted problem e → IsNumberUpTo (length (polynomials problem.parts.claims)) (claim_number e)
+pub names : (problem : Problem) (e : Evidence) → IsAccepted problem e → IsNumberUpTo (length (polynomials problem.parts.claims)) (claim_number e)
 names problem (Plain c) accepted = accepted.adds_up.begins.posed.claim
 names problem (Lemmas c) accepted = accepted.adds_up.lemmas.begins.shares.posed.claim
 

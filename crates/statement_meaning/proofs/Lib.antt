@@ -8,3 +8,4 @@ pub mod Expressions
 pub mod Equations
 pub mod Statements
 pub mod Meanings
+pub mod Claims

@@ -96,7 +96,7 @@ module _ (statements : List Statement) (fine : fault_of statements ≡ None) whe
       go None h = refl
       go (Some x) h = absurd cc
 
-  none_wrong : (first_among (wrong_signature (declarations_of statements)) statements ≡ None) × (first_among (wrong_polynomial (declarations_of statements)) statements ≡ None)
+  pub none_wrong : (first_among (wrong_signature (declarations_of statements)) statements ≡ None) × (first_among (wrong_polynomial (declarations_of statements)) statements ≡ None)
   none_wrong =
       let ds = declarations_of statements in
       let after_names = both_none (option_map told_name (name_fault_of statements)) (equation_fault ds statements) fine in

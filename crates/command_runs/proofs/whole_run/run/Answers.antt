@@ -1,5 +1,5 @@
 use Rattle.command_runs.specs.Run.{seen}
-use Rattle.command_runs.proofs.Endings.{reported, sink_failed, cut_short, never_six, only_usage, told_other_words, not_loaded, told_missing, told_too_long, answered, complete, meaning}
+use Rattle.command_runs.proofs.Endings.{reported, sink_failed, cut_short, never_six, only_usage, told_other_words, not_loaded, told_missing, told_too_long, answered, complete, meaning, meant}
 use Rattle.command_runs.proofs.whole_run.run.Goals as goal
 
 pub returns-in-Ok-clause-reported : goal.returns-in-Ok-clause-reported
@@ -37,3 +37,6 @@ returns-in-Ok-clause-complete g c call contents ending is are steady _ answer = 
 
 pub returns-in-Ok-clause-meaning : goal.returns-in-Ok-clause-meaning
 returns-in-Ok-clause-meaning g c _ = meaning c.args.words.now (seen g.L.Shelf.file g.L.Shelf.faults g.K.Sink.written g.K.Sink.is_finished g.K.Sink.faults c.args.shelf.now c.ending_of.new.shelf c.args.sink.now c.put_ending.new.sink) _ _ c.in-Ok.ensures c.put_ending.ensures (g.C.Preadditive.laws c.args.category.now) c.sound.ensures.rows c.sound.ensures.lemmas c.cancellation_sound.ensures
+
+pub returns-in-Ok-clause-promises : goal.returns-in-Ok-clause-promises
+returns-in-Ok-clause-promises g c not_two not_three not_four not_five not_six = meant c.args.words.now (seen g.L.Shelf.file g.L.Shelf.faults g.K.Sink.written g.K.Sink.is_finished g.K.Sink.faults c.args.shelf.now c.ending_of.new.shelf c.args.sink.now c.put_ending.new.sink) _ _ c.in-Ok.ensures c.put_ending.ensures (g.C.Preadditive.laws c.args.category.now) c.sound.ensures.rows c.sound.ensures.lemmas c.cancellation_sound.ensures c.says_equations.ensures not_two not_three not_four not_five not_six

@@ -1,0 +1,45 @@
+-- The main theorem in short: each line that was put means what it says. Each promise has a page of its own.
+pub mod Lines
+pub mod Proved
+pub mod Accepted
+pub mod Refuted
+pub mod NotDerivable
+pub mod Sharp
+pub mod Undecided
+use Rattle.std.specs.Prelude.{◌≢◌, ℕ, List, String}
+use Rattle.std.specs.declared.alloc.Global.{Global}
+use Rattle.definitions.specs.Category.{Structure}
+use Rattle.command_words.specs.declared.call.Call.{Call}
+use Rattle.command_runs.specs.Call.{IsCalled}
+use Rattle.command_runs.specs.CallFiles.{files_of, statement_of, evidence_of}
+use Rattle.command_runs.specs.Files.{WereLoaded}
+use Rattle.command_runs.specs.Run.{Run}
+use Rattle.command_runs.specs.Promises.Proved.{ProvedIsMeant}
+use Rattle.command_runs.specs.Promises.Accepted.{AcceptedIsMeant}
+use Rattle.command_runs.specs.Promises.Refuted.{RefutedIsMeant}
+use Rattle.command_runs.specs.Promises.NotDerivable.{NotDerivableIsMeant}
+use Rattle.command_runs.specs.Promises.Sharp.{SharpIsMeant}
+use Rattle.command_runs.specs.Promises.Undecided.{UndecidedIsMeant}
+
+-- Over the bytes of a statement and of a text of evidence each line that was put means what it says.
+pub record LinesAreMeant {Object Arrow : Type 0} (s : Structure Object Arrow) (statement evidence put : List ℕ) : Type 0 where
+  pub proved : ProvedIsMeant s statement put
+  pub accepted : AcceptedIsMeant s statement put
+  pub refuted : RefutedIsMeant statement evidence put
+  pub not_derivable : NotDerivableIsMeant statement put
+  pub sharp : SharpIsMeant statement put
+  pub undecided : UndecidedIsMeant statement put
+
+-- The files of the call were loaded, with these contents, and these bytes were put, each line of which means what it says.
+pub record IsMeant {Object Arrow : Type 0} (s : Structure Object Arrow) (words : List (String Global)) (run : Run) : Type 0 where
+  pub call : Call
+  pub is_called : IsCalled words call
+  pub contents : List (List ℕ)
+  pub loaded : WereLoaded run.told (files_of call) contents
+  pub bytes : List ℕ
+  pub put : run.put bytes
+  pub lines : LinesAreMeant s (statement_of call contents) (evidence_of contents) bytes
+
+-- So it is at each status but 2 (other words), 3 (a faulty statement), 4 (a file that couldn't be loaded), 5 (a sink that failed) and 6 (nothing is put).
+abbrev pub PutsWhatIsMeant : {Object Arrow : Type 0} → Structure Object Arrow → List (String Global) → Run → ℕ → Type 0
+PutsWhatIsMeant s words run status = status ≢ 2 → status ≢ 3 → status ≢ 4 → status ≢ 5 → status ≢ 6 → IsMeant s words run

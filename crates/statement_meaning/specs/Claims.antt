@@ -1,0 +1,59 @@
+-- What it means that a claim of a file is proved, and that it is refuted, by its equations as they stand in the file.
+use Rattle.std.specs.Prelude.{◌≡◌, ℕ, zero, suc, ℤ, false, List, slice_get, Some}
+use Rattle.std.specs.List.{AllByRecursion}
+use Rattle.definitions.specs.Category.{Structure, InvolutionLaws}
+use Rattle.definitions.specs.Quiver.{Quiver}
+use Rattle.definitions.specs.Representation.{Representation, Represents, StarRepresents, Cancels}
+use Rattle.quiver.specs.Declarations.{quiver_of}
+use Rattle.matrix_models.specs.Matrix.{Matrix}
+use Rattle.matrix_models.specs.Matrices.{matrices, transpose}
+use Rattle.matrix_models.specs.declared.model.Model.{Model}
+use Rattle.model_checker.specs.Models.{representation_of}
+use Rattle.statement_syntax.specs.declared.tree.Statement.{Statement}
+use Rattle.abbreviations.specs.declared.written.Equation.{Equation}
+use Rattle.abbreviations.specs.Written.{assumptions_of, claims_of}
+use Rattle.statement_names.specs.Numbered.{declarations_of}
+use Rattle.statement_names.specs.Marked.{is_starred}
+use Rattle.statement_meaning.specs.Values.{Reading, Holds}
+
+-- the quiver of the objects and maps that the file declares
+abbrev pub quiver_in : List Statement → Quiver
+quiver_in statements = quiver_of (declarations_of statements)
+
+-- the file is read with an involution, in a representation of this quiver
+abbrev pub read_in : {Object Arrow : Type 0} → Structure Object Arrow → (Arrow → Arrow) → List Statement → Representation Object Arrow → Reading Object Arrow
+read_in s involution statements f = record { category = s; involution = involution; names = declarations_of statements; maps = f }
+
+-- all assumptions of the file hold, abbreviations written out
+abbrev pub AssumptionsHold : {Object Arrow : Type 0} → Reading Object Arrow → List Statement → Type 0
+AssumptionsHold r statements = AllByRecursion (λ e. Holds r e.left e.right) (assumptions_of r.names statements)
+
+-- the equation is the claim of the file with this number, counted from 1
+abbrev pub IsClaim : List Statement → ℕ → Equation → Type 0
+IsClaim statements zero e = ⊥
+IsClaim statements (suc n) e = slice_get (claims_of statements) n ≡ Some e
+
+-- the claim with this number holds
+pub record ClaimHolds {Object Arrow : Type 0} (r : Reading Object Arrow) (statements : List Statement) (number : ℕ) : Type 0 where
+  pub at : (e : Equation) → IsClaim statements number e → Holds r e.left e.right
+
+-- The claim is proved with the denominator d: wherever d cancels and the assumptions hold, the claim holds; whatever the involution, in each star
+-- representation, and, where the file isn't starred, in each representation.
+pub record ProvesClaim {Object Arrow : Type 0} (s : Structure Object Arrow) (statements : List Statement) (number : ℕ) (d : ℤ) : Type 0 where
+  pub by_star : (involution : Arrow → Arrow) → InvolutionLaws s involution → (f : Representation Object Arrow)
+      → StarRepresents s involution (quiver_in statements) f → Cancels s d
+      → AssumptionsHold (read_in s involution statements f) statements → ClaimHolds (read_in s involution statements f) statements number
+  pub plain : is_starred statements ≡ false → (involution : Arrow → Arrow) (f : Representation Object Arrow)
+      → Represents s (quiver_in statements) f → Cancels s d
+      → AssumptionsHold (read_in s involution statements f) statements → ClaimHolds (read_in s involution statements f) statements number
+
+-- the file is read in the matrices of a model, with transposes as adjoints
+abbrev pub read_by_model : List Statement → Model → Reading ℕ Matrix
+read_by_model statements m = read_in (matrices m.modulus) (transpose m.modulus) statements (representation_of (quiver_in statements) m)
+
+-- The claim is refuted by the model: its matrices are a star representation of what the file declares, in which all assumptions hold, and no
+-- claim with this number does.
+pub record RefutesClaim (statements : List Statement) (number : ℕ) (m : Model) : Type 0 where
+  pub represents : StarRepresents (matrices m.modulus) (transpose m.modulus) (quiver_in statements) (representation_of (quiver_in statements) m)
+  pub assumptions : AssumptionsHold (read_by_model statements m) statements
+  pub claim : (e : Equation) → IsClaim statements number e → Holds (read_by_model statements m) e.left e.right → ⊥
