@@ -33,7 +33,7 @@ use Rattle.outcome_laws.proofs.Adding.{appended}
 use Rattle.outcome_laws.proofs.RunsKept.{no_value, same_value, went_on, KeptNow, IsLeft, left, over_all}
 
 -- an S-polynomial that is no fault
-halted_value : (r : Result (List Term) PolyFault) (p : List Term) → halted r ≡ Ok p → r ≡ Ok p
+pub halted_value : (r : Result (List Term) PolyFault) (p : List Term) → halted r ≡ Ok p → r ≡ Ok p
 halted_value (Ok q) p is = ap Ok (same_value q p is)
 halted_value (Err e) p is = absurd (no_value (halt_of e) p is)
 

@@ -9,9 +9,20 @@ pub mod RangedRuns
 pub mod ProblemPolynomials
 pub mod OpenRuns
 pub mod Derivations
+pub mod Listed
+pub mod StepMade
+pub mod ReductionFaults
+pub mod SPolynomialFaults
+pub mod CertificateFaults
+pub mod DistinctTreated
+pub mod ReductionCauses
+pub mod RoundFaults
+pub mod RoundCauses
+pub mod ClaimCauses
 pub mod Meanings
 pub mod DerivedClaims
 mod MeaningExamples
+mod CauseExamples
 pub mod Results
 pub mod RowsOfRuns
 pub mod OutcomeWays

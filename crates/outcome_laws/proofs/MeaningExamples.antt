@@ -4,6 +4,7 @@ use Rattle.std.proofs.lemmas.Int.{ints}
 use Rattle.nc_polynomial.specs.declared.poly.Poly.{Poly}
 use Rattle.traced_rows.specs.declared.evidence.Evidence.TheVariants as evidence
 use Rattle.adjoint_rules.specs.declared.problem.Problem.{Problem}
+use Rattle.traced_completion.specs.declared.budget.Budget.{Budget}
 use Rattle.claim_decider.specs.declared.outcome.Outcome.TheVariants as outcome
 use Rattle.cofactor_checker.specs.ProvedMeans.{EvidenceAddsUp}
 use Rattle.outcome_laws.specs.Meanings.{Follows, OutcomeMeans}
@@ -20,5 +21,5 @@ no_denominator problem adds_up = absurd (omega (arith, ints, adds_up.combination
 zero_follows : (problem : Problem) → Follows problem 0
 zero_follows problem = record { denominator = pos 1; rows = []; combination = record { positive = omega (arith, ints); sum = record { at = λ w. refl } } }
 
-never_closed : (problem : Problem) (rest : Poly) → OutcomeMeans problem 0 (outcome.Closed rest) → ⊥
-never_closed problem rest means = means (zero_follows problem)
+never_closed : (problem : Problem) (budget : Budget) (rest : Poly) → OutcomeMeans problem budget 0 (outcome.Closed rest) → ⊥
+never_closed problem budget rest means = means (zero_follows problem)

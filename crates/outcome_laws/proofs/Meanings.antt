@@ -33,7 +33,10 @@ use Rattle.claim_decider.specs.declared.outcome.Outcome.TheVariants as outcome
 use Rattle.claim_decider.specs.Outcomes.{record_of, Expands, Gathers, IsProved, evidence_of_zero, IsDoneBy, IsDoneWith, GetsOutcome, at_once, after_round, by_closing, by_stop}
 use Rattle.cofactor_checker.specs.ProvedMeans.{EvidenceAddsUp}
 use Rattle.outcome_laws.specs.Meanings.{OutcomeMeans, HaltMeans, DerivedClaimsAddUp, ClosedClaimsAreOutside, LeastWordsBoundDerivations, HaltedCertificatesAreInside, OutcomesMeanWhatTheySay}
+use Rattle.outcome_laws.specs.Causes.{CauseMeans}
 use Rattle.outcome_laws.proofs.OpenRuns.{open_run, closed_outside, stop_means}
+use Rattle.outcome_laws.proofs.RoundCauses.{stop_says}
+use Rattle.outcome_laws.proofs.ClaimCauses.{claim_stop_means, expansion_means, gathering_means}
 use Rattle.outcome_laws.proofs.Derivations.{follows, expansion_adds_up, gathering_adds_up, gathering_names}
 
 -- a halt that names no word and is not in the making of a certificate says nothing
@@ -52,7 +55,7 @@ zero_certificate number = record { claim = number; denominator = pos 1; lemmas =
 
 module _ (problem : Problem) (budget : Budget) (number : ℕ) where
   abbrev Means : Outcome → Type 0
-  Means = OutcomeMeans problem number
+  Means = OutcomeMeans problem budget number
 
   -- the claim zero
   zero_means : (form : Format) → claim_at problem number ≡ [] → EvidenceAddsUp problem number (evidence_of_zero form number)
@@ -75,15 +78,17 @@ module _ (problem : Problem) (budget : Budget) (number : ℕ) where
   module _ (round rounds : ℕ) (s : RunState) (run : IsRunState (setting_of problem budget) rounds s) where
     module _ (left : State) (ends : normal_form_of (asked_cmp problem.parts.order) s.rules (claim_at problem number) budget.steps ≡ Ok left) (none : left.rest ≡ []) where
       -- the work stopped in making the certificate
-      halted_means : (reason : Cause) → HaltMeans problem number (record { cause = reason; place = place.Certificate round; least = None })
-      halted_means reason = record {
+      halted_means : (reason : Cause) → CauseMeans problem budget number (place.Certificate round) None reason → HaltMeans problem budget number (record { cause = reason; place = place.Certificate round; least = None })
+      halted_means reason says = record {
+        cause_means = says;
         not_below = λ word least. absurd (no_word word least);
         inside = λ n is. follows problem budget number rounds s run left ends none;
       }
 
       expands : (r : Result Cofactors ExpandFault) → expansion_of s.made (record_of left) ≡ r → (o : Outcome) → Expands number (place.Certificate round) r o → Means o
       expands (Ok c) is o derived = subst Means (sym derived) (record { claim = refl; combination = expansion_adds_up problem budget number rounds s run left ends none c is })
-      expands (Err e) is o halted = subst Means (sym halted.halts) (halted_means halted.reason)
+      expands (Err e) is o halted =
+          subst Means (sym halted.halts) (halted_means halted.reason (expansion_means problem budget number rounds s run round left ends none e halted.reason halted.reason_of is))
 
       gathers : (r : Result LemmaCertificate GatherFault) → gathered_of number s.made (record_of left) ≡ r → (o : Outcome) → Gathers (place.Certificate round) r o → Means o
       gathers (Ok c) is o derived =
@@ -92,7 +97,8 @@ module _ (problem : Problem) (budget : Budget) (number : ℕ) where
             lemmas = lemma_polys (polynomials_of s.rules) s.made (record_of left);
             evidence = gathering_adds_up problem budget number rounds s run left ends none c is;
           })
-      gathers (Err e) is o halted = subst Means (sym halted.halts) (halted_means halted.reason)
+      gathers (Err e) is o halted =
+          subst Means (sym halted.halts) (halted_means halted.reason (gathering_means problem budget number rounds s run round left ends none e halted.reason halted.reason_of is))
 
       proved_means : (form : Format) (o : Outcome) → IsProved form number (place.Certificate round) s.made (record_of left) o → Means o
       proved_means format.Plain o proved = expands (expansion_of s.made (record_of left)) refl o proved
@@ -106,6 +112,7 @@ module _ (problem : Problem) (budget : Budget) (number : ℕ) where
     done_by : (form : Format) (r : Result State ReduceFault) → normal_form_of (asked_cmp problem.parts.order) s.rules (claim_at problem number) budget.steps ≡ r → (o : Outcome) → IsDoneBy form number round s.made r o → Means o
     done_by form (Ok left) ends o done = done_with form left ends left.rest refl o done
     done_by form (Err e) ends o halted = subst Means (sym halted.halts) (record {
+      cause_means = claim_stop_means problem budget number rounds s run round e halted.reason halted.reason_of ends;
       not_below = λ word least. absurd (no_word word least);
       inside = λ n is. absurd (not_certificate round n is);
     })
@@ -119,6 +126,7 @@ module _ (problem : Problem) (budget : Budget) (number : ℕ) where
   gets_means form rounds s o (by_stop halt opened round stops) =
       let means = stop_means problem budget number rounds s halt opened round in
       subst Means (sym stops) (record {
+        cause_means = stop_says problem budget number rounds s halt (open_run (setting_of problem budget) (claim_at problem number) rounds s opened) round;
         not_below = λ word least comes. means.not_below word least comes;
         inside = λ n is. absurd (means.in_run.no_certificate n is);
       })

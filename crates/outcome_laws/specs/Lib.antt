@@ -1,5 +1,8 @@
 pub mod KeptRuns
 pub mod ProblemStates
+pub mod ReductionSteps
+pub mod Certificates
+pub mod Causes
 pub mod Meanings
 pub mod OutcomeLetters
 pub mod EvidenceLimits

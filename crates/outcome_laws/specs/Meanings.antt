@@ -1,6 +1,5 @@
 -- What an outcome of a claim means.
 use Rattle.std.specs.Prelude.{◌≡◌, ℕ, List, Some}
-use Rattle.definitions.specs.Poly.{Term}
 use Rattle.definitions.specs.Combination.{InRationalIdeal}
 use Rattle.word_orders.specs.Specified.{asked_cmp}
 use Rattle.nc_polynomial.specs.declared.poly.Poly.{Poly}
@@ -19,6 +18,7 @@ use Rattle.traced_completion.specs.PlainRun.{setting_of}
 use Rattle.claim_decider.specs.declared.outcome.Outcome.{Outcome}
 use Rattle.claim_decider.specs.declared.outcome.Outcome.TheVariants as outcome
 use Rattle.claim_decider.specs.Outcomes.{IsOutcomeOf}
+use Rattle.outcome_laws.specs.Causes.{CauseMeans}
 
 -- some positive multiple of the claim with this number is a combination of the generators; a number of no claim has the claim zero
 abbrev pub Follows : Problem → ℕ → Type 0
@@ -29,16 +29,17 @@ abbrev pub FollowsBelow : Problem → List ℕ → ℕ → Type 0
 FollowsBelow problem word number =
     ComesBelow (letter_count problem.parts.quiver) (asked_cmp problem.parts.order) (polynomials problem.generators) word (claim_at problem number)
 
--- Below the least word that is pending the claim is no combination, and where the work stopped in making its certificate it follows.
-pub record HaltMeans (problem : Problem) (number : ℕ) (h : Halt) : Type 0 where
+-- The cause is as it says. Below the least word that is pending the claim is no combination, and where the work stopped in making its certificate it follows.
+pub record HaltMeans (problem : Problem) (budget : Budget) (number : ℕ) (h : Halt) : Type 0 where
+  pub cause_means : CauseMeans problem budget number h.place h.least h.cause
   pub not_below : (word : List ℕ) → h.least ≡ Some word → FollowsBelow problem word number → ⊥
   pub inside : (round : ℕ) → h.place ≡ place.Certificate round → Follows problem number
 
 -- A claim that is derived has evidence that adds up, one that is closed does not follow, and of one that is halted holds what its halt means.
-abbrev pub OutcomeMeans : Problem → ℕ → Outcome → Type 0
-OutcomeMeans problem number (outcome.Derived e) = EvidenceAddsUp problem number e
-OutcomeMeans problem number (outcome.Closed rest) = Follows problem number → ⊥
-OutcomeMeans problem number (outcome.Halted h) = HaltMeans problem number h
+abbrev pub OutcomeMeans : Problem → Budget → ℕ → Outcome → Type 0
+OutcomeMeans problem budget number (outcome.Derived e) = EvidenceAddsUp problem number e
+OutcomeMeans problem budget number (outcome.Closed rest) = Follows problem number → ⊥
+OutcomeMeans problem budget number (outcome.Halted h) = HaltMeans problem budget number h
 
 -- The laws have one premise, that this is the outcome of the problem's claim with this number. `decide_all` and `decide` ensure it of
 -- each outcome that they give, in `outcomes`. That generators and claims are typed comes from the fields of a problem.
@@ -68,4 +69,4 @@ HaltedCertificatesAreInside = (problem : Problem) (budget : Budget) (form : Form
 -- Each outcome means what it says, for each problem, each budget, each format and each number.
 abbrev pub OutcomesMeanWhatTheySay : Type 0
 OutcomesMeanWhatTheySay = (problem : Problem) (budget : Budget) (form : Format) (number : ℕ) (o : Outcome)
-    → IsOutcomeAt problem budget form number o → OutcomeMeans problem number o
+    → IsOutcomeAt problem budget form number o → OutcomeMeans problem budget number o

@@ -85,21 +85,21 @@ claims_end print asked problem =
 -- what verdicts mean
 module _ {Object Arrow : Type 0} {s : Structure Object Arrow} (laws : PreadditiveLaws s) (sound : IsSound s) (with_lemmas : IsEvidenceSound s) (problem : Problem) where
   module _ (asked : Asked) where
-    halted_means : (number : ℕ) (halt : Halt) (v : Verdict) → HaltMeans problem number halt → OnHalted problem asked number halt v → VerdictMeans s problem number v
-    halted_means number halt v bounded (broken m on least is) = subst (VerdictMeans s problem number) (sym is) (least_means problem number asked.seed m least)
-    halted_means number halt v bounded (left none is) = subst (VerdictMeans s problem number) (sym is) bounded
+    halted_means : (number : ℕ) (halt : Halt) (v : Verdict) → HaltMeans problem asked.budget number halt → OnHalted problem asked number halt v → VerdictMeans s problem asked.budget number v
+    halted_means number halt v bounded (broken m on least is) = subst (VerdictMeans s problem asked.budget number) (sym is) (least_means problem number asked.seed m least)
+    halted_means number halt v bounded (left none is) = subst (VerdictMeans s problem asked.budget number) (sym is) bounded
 
-    outcome_means : (number : ℕ) (o : Outcome) (v : Verdict) → IsClaimNumber problem number → OutcomeMeans problem number o → OnOutcome problem asked number o v → VerdictMeans s problem number v
+    outcome_means : (number : ℕ) (o : Outcome) (v : Verdict) → IsClaimNumber problem number → OutcomeMeans problem asked.budget number o → OnOutcome problem asked number o v → VerdictMeans s problem asked.budget number v
     outcome_means number (outcome.Derived e) v is adds says =
         let count : length problem.parts.claims ≡ length (polynomials problem.parts.claims) = sym (length-map problem.parts.claims (λ (x : Poly). x.terms)) in
-        subst (VerdictMeans s problem number) (sym says)
+        subst (VerdictMeans s problem asked.budget number) (sym says)
         (proved_means laws sound with_lemmas problem number e is.least (subst (λ (n : ℕ). number ≤ n) count is.most) adds)
-    outcome_means number (outcome.Closed rest) v is outside says = subst (VerdictMeans s problem number) (sym says) outside
+    outcome_means number (outcome.Closed rest) v is outside says = subst (VerdictMeans s problem asked.budget number) (sym says) outside
     outcome_means number (outcome.Halted halt) v is bounded on = halted_means number halt v bounded on
 
     -- the outcome of a claim of the problem, with its meaning
     abbrev Meant : ℕ → Outcome → Type 0
-    Meant number o = IsClaimNumber problem number × OutcomeMeans problem number o
+    Meant number o = IsClaimNumber problem number × OutcomeMeans problem asked.budget number o
 
     -- the claims from a number on
     outcomes_meant : (first count : ℕ) (os : List Outcome) → 1 ≤ first → first + count ≤ length problem.parts.claims + 1
@@ -111,9 +111,9 @@ module _ {Object Arrow : Type 0} {s : Structure Object Arrow} (laws : Preadditiv
         ((record { least = least; most = omega arith }, outcomes_mean_what_they_say problem asked.budget asked.form first o are.0), outcomes_meant (first + 1) count os (omega arith) (omega arith) are.1)
 
     verdicts_mean : (os : List Outcome) (vs : List Verdict) → AreOutcomesOf (setting_of problem asked.budget) asked.form problem (claim_numbers problem) os
-        → AreVerdictsOn problem asked (claim_numbers problem) os vs → AllZip (VerdictMeans s problem) (claim_numbers problem) vs
+        → AreVerdictsOn problem asked (claim_numbers problem) os vs → AllZip (VerdictMeans s problem asked.budget) (claim_numbers problem) vs
     verdicts_mean os vs outcomes verdicts =
-        verdicts_follow problem asked Meant (VerdictMeans s problem) (λ number o v meant is. outcome_means number o v meant.0 meant.1 (by_outcome problem asked number o v is)) (claim_numbers problem) os vs
+        verdicts_follow problem asked Meant (VerdictMeans s problem asked.budget) (λ number o v meant is. outcome_means number o v meant.0 meant.1 (by_outcome problem asked number o v is)) (claim_numbers problem) os vs
         (outcomes_meant 1 (length problem.parts.claims) os (omega arith) (omega arith) outcomes) verdicts
 
 prints_meant : {Object Arrow : Type 0} {s : Structure Object Arrow} → PreadditiveLaws s → IsSound s → IsEvidenceSound s → (print : Print) (asked : Asked) (ending : Ending) (problem : Problem)

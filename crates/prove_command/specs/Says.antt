@@ -6,6 +6,7 @@ use Rattle.nc_polynomial.specs.declared.poly.Poly.{Poly}
 use Rattle.adjoint_rules.specs.declared.problem.Problem.{Problem}
 use Rattle.adjoint_rules.specs.Claims.{claim_numbers}
 use Rattle.model_checker.specs.RefutedMeans.{RefutedMeans}
+use Rattle.traced_completion.specs.declared.budget.Budget.{Budget}
 use Rattle.report_text.specs.declared.verdict.Verdict.{Verdict}
 use Rattle.report_text.specs.declared.verdict.Verdict.TheVariants.{Proved, NotDerivable, Refuted, Undecided, NotRefuted}
 use Rattle.report_text.specs.Report.{report_of}
@@ -19,19 +20,19 @@ use Rattle.prove_command.specs.Answers.{Print, AnswersClaims}
 
 -- What is said of the claim with this number: proved, with its denominator, means so in each category; not derivable means that no
 -- positive multiple of the claim is a combination of the generators; refuted means that the claim isn't zero in the model; undecided
--- means what its place and its least word say; not refuted says nothing of the claim.
-abbrev pub VerdictMeans : {Object Arrow : Type 0} → Structure Object Arrow → Problem → ℕ → Verdict → Type 0
-VerdictMeans s problem number (Proved e) = ProvedMeans s problem number e
-VerdictMeans s problem number (NotDerivable rest) = Follows problem number → ⊥
-VerdictMeans s problem number (Refuted m) = RefutedMeans problem number m
-VerdictMeans s problem number (Undecided halt) = HaltMeans problem number halt
-VerdictMeans s problem number (NotRefuted candidates) = ⊤
+-- means what its cause, its place and its least word say; not refuted says nothing of the claim.
+abbrev pub VerdictMeans : {Object Arrow : Type 0} → Structure Object Arrow → Problem → Budget → ℕ → Verdict → Type 0
+VerdictMeans s problem budget number (Proved e) = ProvedMeans s problem number e
+VerdictMeans s problem budget number (NotDerivable rest) = Follows problem number → ⊥
+VerdictMeans s problem budget number (Refuted m) = RefutedMeans problem number m
+VerdictMeans s problem budget number (Undecided halt) = HaltMeans problem budget number halt
+VerdictMeans s problem budget number (NotRefuted candidates) = ⊤
 
 -- What is printed over a problem are verdicts, one on each claim in order: they and the last rules are decided by the run, the report and the
 -- status are theirs, and each means what it says.
 pub record PrintsMeant {Object Arrow : Type 0} (s : Structure Object Arrow) (print : Print) (asked : Asked) (problem : Problem) (ending : Ending) : Type 0 where
   pub answer : AnswersClaims print asked problem ending
-  pub each : AllZip (VerdictMeans s problem) (claim_numbers problem) answer.verdicts
+  pub each : AllZip (VerdictMeans s problem asked.budget) (claim_numbers problem) answer.verdicts
 
 -- The statement is refused, and the report says so; or it has a problem, over which this is printed.
 abbrev pub SaysDecided : {Object Arrow : Type 0} → Structure Object Arrow → Print → Asked → List ℕ → Ending → Type 0

@@ -1,0 +1,72 @@
+-- What the cause of a halt in the work on a claim or on its certificate says.
+use Rattle.std.proofs.Common.{◌≡◌, ℕ, [], None, Ok, Err, refl, sym, subst}
+use Rattle.word_orders.specs.Specified.{asked_cmp}
+use Rattle.word_orders.proofs.AskedOrders.{asked_rank}
+use Rattle.quiver.specs.Declarations.{letter_count}
+use Rattle.cofactor_trace.specs.declared.fault.ExpandFault.{ExpandFault}
+use Rattle.cofactor_trace.specs.declared.fault.GatherFault.{GatherFault}
+use Rattle.cofactor_trace.specs.declared.halt.Cause.{Cause}
+use Rattle.cofactor_trace.specs.declared.halt.Place.TheVariants as place
+use Rattle.cofactor_trace.specs.Needed.{expansion_of}
+use Rattle.cofactor_trace.specs.Lemmas.{gathered_of}
+use Rattle.rule_reduce.specs.declared.state.State.{State}
+use Rattle.rule_reduce.specs.declared.fault.ReduceFault.{ReduceFault}
+use Rattle.rule_reduce.specs.NormalForms.{normal_form_of}
+use Rattle.adjoint_rules.specs.declared.problem.Problem.{Problem}
+use Rattle.adjoint_rules.specs.Problem.{polynomials}
+use Rattle.adjoint_rules.specs.Claims.{claim_at}
+use Rattle.traced_completion.specs.declared.budget.Budget.{Budget}
+use Rattle.traced_completion.specs.PlainRun.{RunState, IsRunState, IsCauseOf, setting_of}
+use Rattle.claim_decider.specs.Outcomes.{IsCauseOfExpansion, IsCauseOfGathering, record_of}
+use Rattle.outcome_laws.specs.Causes.{of_claim, ClaimRecord, in_making, in_certificate, CauseMeans}
+use Rattle.outcome_laws.proofs.CertificateFaults.{ExpansionStops, expansion_overflows, row_too_long, too_many_rows, expansion_stops, GatheringStops, scale_overflows, too_many_lemma_rows, gathering_stops}
+use Rattle.outcome_laws.proofs.Derivations.{zero_traces}
+use Rattle.outcome_laws.proofs.OpenRuns.{order_laws, run_kept, claim_reduced}
+use Rattle.outcome_laws.proofs.ProblemPolynomials.{claim_is}
+use Rattle.outcome_laws.proofs.ReductionCauses.{reduction_means}
+use Rattle.outcome_laws.proofs.ReductionFaults.{normal_form_stops}
+use Rattle.outcome_laws.proofs.RoundCauses.{state_rules}
+
+module _ (problem : Problem) (budget : Budget) (number rounds : ℕ) (s : RunState) (run : IsRunState (setting_of problem budget) rounds s) (round : ℕ) where
+  -- the reduction of the claim stops
+  pub claim_stop_means : (e : ReduceFault) (c : Cause) → IsCauseOf e c → normal_form_of (asked_cmp problem.parts.order) s.rules (claim_at problem number) budget.steps ≡ Err e
+      → CauseMeans problem budget number (place.Claim round) None c
+  claim_stop_means e c why ends =
+      reduction_means problem budget number (place.Claim round) None
+      (record { rules = s.rules; are_rules = state_rules problem budget rounds s run; polynomial = claim_at problem number; is = of_claim round refl refl }) e c
+      (normal_form_stops (letter_count problem.parts.quiver) (asked_cmp problem.parts.order) (asked_rank (letter_count problem.parts.quiver) problem.parts.order) s.rules (claim_at problem number) budget.steps e
+      (order_laws problem budget) (claim_is problem number).shaped ends) why
+
+  -- nothing is left of the claim
+  module _ (left : State) (ends : normal_form_of (asked_cmp problem.parts.order) s.rules (claim_at problem number) budget.steps ≡ Ok left) (none : left.rest ≡ []) where
+    abbrev recorded_claim : ClaimRecord problem number
+    recorded_claim = record {
+      rules = s.rules;
+      are_rules = state_rules problem budget rounds s run;
+      made = s.made;
+      recorded = (run_kept problem budget rounds s run).kept.recorded;
+      claim = record_of left;
+      traces = zero_traces (letter_count problem.parts.quiver) (asked_cmp problem.parts.order) (polynomials problem.generators) s.rules (claim_at problem number) left (claim_reduced problem budget number rounds s run left ends) none;
+    }
+
+    abbrev Means : Cause → Type 0
+    Means = CauseMeans problem budget number (place.Certificate round) None
+
+    pub expansion_means : (e : ExpandFault) (c : Cause) → IsCauseOfExpansion e c → expansion_of s.made (record_of left) ≡ Err e → Means c
+    expansion_means e c why is = go (expansion_stops s.made (record_of left) e is)
+      where
+        go : ExpansionStops s.made (record_of left) e → Means c
+        go (expansion_overflows o same fails of) =
+            subst Means (sym (subst (λ f. IsCauseOfExpansion f c) same why)) (record { out_of_range = fails; arithmetic = in_making round refl recorded_claim of })
+        go (row_too_long same long) = subst Means (sym (subst (λ f. IsCauseOfExpansion f c) same why)) (in_certificate round refl refl recorded_claim long)
+        go (too_many_rows letters same many) =
+            subst Means (sym (subst (λ f. IsCauseOfExpansion f c) same why)) (record { round = round; place_is = refl; record_of = recorded_claim; many = many })
+
+    pub gathering_means : (e : GatherFault) (c : Cause) → IsCauseOfGathering e c → gathered_of number s.made (record_of left) ≡ Err e → Means c
+    gathering_means e c why is = go (gathering_stops number s.made (record_of left) e is)
+      where
+        go : GatheringStops s.made (record_of left) e → Means c
+        go (scale_overflows o same fails of) =
+            subst Means (sym (subst (λ f. IsCauseOfGathering f c) same why)) (record { out_of_range = fails; arithmetic = in_making round refl recorded_claim of })
+        go (too_many_lemma_rows letters same many) =
+            subst Means (sym (subst (λ f. IsCauseOfGathering f c) same why)) (record { round = round; place_is = refl; record_of = recorded_claim; many = many })

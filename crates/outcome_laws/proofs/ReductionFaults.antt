@@ -1,0 +1,226 @@
+-- Why a reduction stops, step by step, and what it leaves where it doesn't.
+use Rattle.std.proofs.Common.{◌≡◌, ℕ, zero, suc, Bool, true, false, cond, ◌||◌, List, [], ◌∷◌, length, nat_lt, Option, Some, None, Result, Ok, Err, refl, sym, ap, ◌∙◌, subst, arith}
+use Rattle.std.proofs.lemmas.Bool.Decides.{nat_tests}
+use Rattle.coef_int.specs.declared.Overflow.{Overflow}
+use Rattle.coef_int.specs.Range.{IsCoefficient}
+use Rattle.coef_int.specs.Operations.{exact_value, first_overflow}
+use Rattle.definitions.specs.Poly.{Term}
+use Rattle.word_orders.specs.Admissible.{Compare, IsAdmissible}
+use Rattle.nc_polynomial.specs.declared.fault.PolyFault.{PolyFault}
+use Rattle.nc_polynomial.specs.declared.fault.PolyFault.TheVariants as fault
+use Rattle.nc_polynomial.specs.Limits.{word_limit, term_limit}
+use Rattle.nc_polynomial.specs.Faults.{unless_overflow, has_long_word, size_fault, sized}
+use Rattle.nc_polynomial.specs.Shape.{IsShaped}
+use Rattle.rule_reduce.specs.declared.rule.Rule.{Rule}
+use Rattle.rule_reduce.specs.declared.state.State.{State}
+use Rattle.rule_reduce.specs.declared.state.Choice.{Choice}
+use Rattle.rule_reduce.specs.declared.fault.ReduceFault.{ReduceFault}
+use Rattle.rule_reduce.specs.declared.fault.ReduceFault.TheVariants as halt
+use Rattle.rule_reduce.specs.RuleLists.{rule_at, entries_of}
+use Rattle.rule_reduce.specs.Choices.{choice_of, IsChoice}
+use Rattle.rule_reduce.specs.Steps.{Move, moved, move_operations, if_sized, move_result, move_of, step_by, step_result}
+use Rattle.rule_reduce.specs.NormalForms.{halt_of, then_next, at_limit, one_step, reduction, start_of, normal_form_of}
+use Rattle.rule_reduce.proofs.Chosen.{choices_are_exact}
+use Rattle.rule_reduce.proofs.Irreducible.{irreducible_where_none}
+use Rattle.outcome_laws.specs.ReductionSteps.{Reduced, unreduced, IsStep, HasOneMore, IsOfReduction, IsTooLarge, GetsTooLarge, Leaves}
+use Rattle.outcome_laws.proofs.Listed.{failing}
+use Rattle.outcome_laws.proofs.StepMade.{reduced_of, next_step, step_made, of_step}
+
+-- a polynomial that is too large
+long_word : (p : List Term) → has_long_word p ≡ true → IsTooLarge true p
+long_word [] e = absurd (clash e)
+  where
+    clash : false ≡ true → ⊥
+    clash k = cc
+long_word (t ∷ p) e = go (nat_lt word_limit (length t.1)) refl e (long_word p)
+  where
+    go : (b : Bool) → nat_lt word_limit (length t.1) ≡ b → (b || has_long_word p) ≡ true → (has_long_word p ≡ true → IsTooLarge true p) → IsTooLarge true (t ∷ p)
+    go true is k later = (0, t, omega arith, refl, grind (arith, nat_tests))
+    go false is k later = let at = later k in (suc at.0, at.1, omega (arith, at.2), at.3, at.4)
+
+pub too_large : (p : List Term) (e : PolyFault) → sized p ≡ Err e → (letters : Bool) × (e ≡ size_fault letters) × IsTooLarge letters p
+too_large p e ends = go (has_long_word p) refl (nat_lt term_limit (length p)) refl ends
+  where
+    same : (d : PolyFault) → ◌≡◌ {A = Result (List Term) PolyFault} (Err d) (Err e) → e ≡ d
+    same d k = cc
+
+    none : ◌≡◌ {A = Result (List Term) PolyFault} (Ok p) (Err e) → ⊥
+    none k = cc
+
+    go : (long : Bool) → has_long_word p ≡ long → (many : Bool) → nat_lt term_limit (length p) ≡ many → cond long (Err (size_fault true)) (cond many (Err (size_fault false)) (Ok p)) ≡ Err e
+        → (letters : Bool) × (e ≡ size_fault letters) × IsTooLarge letters p
+    go true is many of k = (true, same (size_fault true) k, long_word p is)
+    go false is true of k = (false, same (size_fault false) k, grind (arith, nat_tests))
+    go false is false of k = absurd (none k)
+
+-- Why a move of a state stops: one of its operations is no coefficient, or what it leaves is too large, and none of them is.
+pub data MoveStops (m : Move) (s : State) (e : PolyFault) : Type 0 where
+  overflows : (o : Overflow) → e ≡ fault.Overflow o → first_overflow (move_operations m s) ≡ Some o → MoveStops m s e
+  too_long : (letters : Bool) → e ≡ size_fault letters → first_overflow (move_operations m s) ≡ None → IsTooLarge letters (moved m s).rest → MoveStops m s e
+
+move_stops : (m : Move) (s : State) (e : PolyFault) → move_result m s ≡ Err e → MoveStops m s e
+move_stops m s e ends = go (first_overflow (move_operations m s)) refl ends
+  where
+    same : (d : PolyFault) → ◌≡◌ {A = Result State PolyFault} (Err d) (Err e) → e ≡ d
+    same d k = cc
+
+    none : (t : State) → ◌≡◌ {A = Result State PolyFault} (Ok t) (Err e) → ⊥
+    none t k = cc
+
+    size : first_overflow (move_operations m s) ≡ None → (r : Result (List Term) PolyFault) → sized (moved m s).rest ≡ r → if_sized r (moved m s) ≡ Err e → MoveStops m s e
+    size fits (Ok p) is k = absurd (none (moved m s) k)
+    size fits (Err d) is k = let large = too_large (moved m s).rest d is in too_long large.0 (same d k ∙ large.1) fits large.2
+
+    go : (o : Option Overflow) → first_overflow (move_operations m s) ≡ o → unless_overflow o (if_sized (sized (moved m s).rest) (moved m s)) ≡ Err e → MoveStops m s e
+    go None is k = size is (sized (moved m s).rest) refl k
+    go (Some o) is k = overflows o (same (fault.Overflow o) k) is
+
+-- Why a reduction stops that may make so many steps.
+pub data Stops (compare : Compare) (rules : List Rule) (limit steps : ℕ) (start : Reduced) (e : ReduceFault) : Type 0 where
+  steps_spent : e ≡ halt.Steps limit → HasOneMore compare rules steps start → Stops compare rules limit steps start e
+  overflow : (o : Overflow) → e ≡ halt.Overflow o → (IsCoefficient (exact_value o) → ⊥) → IsOfReduction compare rules steps start o → Stops compare rules limit steps start e
+  size : (letters : Bool) → e ≡ halt_of (size_fault letters) → GetsTooLarge compare rules steps start letters → Stops compare rules limit steps start e
+
+module _ (letters : ℕ) (compare : Compare) (rank : List ℕ → List ℕ) (laws : IsAdmissible letters compare rank) (rules : List Rule) (limit : ℕ) where
+  is_choice : (s : State) → IsShaped s.rest → (c : Choice) → choice_of compare (entries_of rules) s.rest ≡ Some c → IsChoice compare rules s.rest c
+  is_choice s shaped c chosen = (choices_are_exact letters compare rank rules s.rest c laws shaped.descending).0 chosen
+
+  -- a step more in front
+  one_earlier : (n : ℕ) (s t : Reduced) (e : ReduceFault) → IsStep compare rules s t → Stops compare rules limit n t e → Stops compare rules limit (suc n) s e
+  one_earlier n s t e step (steps_spent is more) = steps_spent is (record { now = more.now; goes = record { after = t; step = step; later = more.goes }; next = more.next })
+  one_earlier n s t e step (overflow o is fails of) =
+      overflow o is fails
+      (record {
+        earlier = suc of.earlier;
+        few = omega (arith, of.few);
+        reaches = record { now = of.reaches.now; goes = record { after = t; step = step; later = of.reaches.goes }; next = of.reaches.next };
+        of_step = of.of_step;
+      })
+  one_earlier n s t e step (size which is gets) =
+      size which is
+      (record { earlier = suc gets.earlier; few = omega (arith, gets.few); now = gets.now; goes = record { after = t; step = step; later = gets.goes }; large = gets.large })
+
+  no_fault : (s : State) (e : ReduceFault) → ◌≡◌ {A = Result State ReduceFault} (Ok s) (Err e) → ⊥
+  no_fault s e k = cc
+
+  same_fault : (d e : ReduceFault) → ◌≡◌ {A = Result State ReduceFault} (Err d) (Err e) → e ≡ d
+  same_fault d e k = cc
+
+  -- the step that is chosen
+  module _ (s : State) (shaped : IsShaped s.rest) (c : Choice) (chosen : choice_of compare (entries_of rules) s.rest ≡ Some c) (g : Rule) (numbered : rule_at rules c.number ≡ Some g) where
+    is : IsChoice compare rules s.rest c
+    is = is_choice s shaped c chosen
+
+    stops_at : (n : ℕ) (e : PolyFault) (h : ReduceFault) → h ≡ halt_of e → MoveStops (move_of c g) s e → Stops compare rules limit (suc n) (reduced_of s) h
+    stops_at n e h same (overflows o which first) =
+        let fail = failing (move_operations (move_of c g) s) o first in
+        overflow o (same ∙ ap halt_of which) fail.fails
+        (record {
+          earlier = 0;
+          few = omega arith;
+          reaches = record { now = reduced_of s; goes = refl; next = next_step compare rules s shaped c is g numbered };
+          of_step = of_step compare rules s shaped c is g numbered o fail.listed;
+        })
+    stops_at n e h same (too_long which what none large) =
+        size which (same ∙ ap halt_of what)
+        (record {
+          earlier = 0;
+          few = omega arith;
+          now = reduced_of (moved (move_of c g) s);
+          goes = record { after = reduced_of (moved (move_of c g) s); step = step_made compare rules s shaped c is g numbered none; later = refl };
+          large = large;
+        })
+
+    went : (t : State) → move_result (move_of c g) s ≡ Ok t → IsStep compare rules (reduced_of s) (reduced_of t) × IsShaped t.rest
+    went t ends = go (first_overflow (move_operations (move_of c g) s)) refl ends
+      where
+        no_error : (d : PolyFault) → ◌≡◌ {A = Result State PolyFault} (Err d) (Ok t) → ⊥
+        no_error d k = cc
+
+        same_state : ◌≡◌ {A = Result State PolyFault} (Ok (moved (move_of c g) s)) (Ok t) → moved (move_of c g) s ≡ t
+        same_state k = cc
+
+        sizes : first_overflow (move_operations (move_of c g) s) ≡ None → (r : Result (List Term) PolyFault) → if_sized r (moved (move_of c g) s) ≡ Ok t → IsStep compare rules (reduced_of s) (reduced_of t) × IsShaped t.rest
+        sizes none (Ok p) k =
+            let step = step_made compare rules s shaped c is g numbered none in
+            subst (λ u. IsStep compare rules (reduced_of s) (reduced_of u) × IsShaped u.rest) (same_state k) (step, step.shaped)
+        sizes none (Err d) k = absurd (no_error d k)
+
+        go : (o : Option Overflow) → first_overflow (move_operations (move_of c g) s) ≡ o → unless_overflow o (if_sized (sized (moved (move_of c g) s).rest) (moved (move_of c g) s)) ≡ Ok t
+            → IsStep compare rules (reduced_of s) (reduced_of t) × IsShaped t.rest
+        go None none k = sizes none (sized (moved (move_of c g) s).rest) k
+        go (Some o) first k = absurd (no_error (fault.Overflow o) k)
+
+  none_some : (g : Rule) → ◌≡◌ {A = Option Rule} None (Some g) → ⊥
+  none_some g k = cc
+
+  -- a step by its result
+  by_result : (n : ℕ) (s : State) → IsShaped s.rest → (c : Choice) → choice_of compare (entries_of rules) s.rest ≡ Some c → (h : ReduceFault)
+      → ((t : State) → IsShaped t.rest → reduction limit compare rules n t ≡ Err h → Stops compare rules limit n (reduced_of t) h)
+      → (r : Result State PolyFault) → step_result rules c s ≡ r → then_next r (reduction limit compare rules n) ≡ Err h → Stops compare rules limit (suc n) (reduced_of s) h
+  by_result n s shaped c chosen h later (Ok t) ends k =
+      let is = is_choice s shaped c chosen in
+      let step = went s shaped c chosen is.rule is.numbered t (sym (ap (λ o. step_by o c s) is.numbered) ∙ ends) in
+      one_earlier n (reduced_of s) (reduced_of t) h step.0 (later t step.1 k)
+  by_result n s shaped c chosen h later (Err e) ends k =
+      let is = is_choice s shaped c chosen in
+      stops_at s shaped c chosen is.rule is.numbered n e h (same_fault (halt_of e) h k) (move_stops (move_of c is.rule) s e (sym (ap (λ o. step_by o c s) is.numbered) ∙ ends))
+
+  stopped : (n : ℕ) (s : State) (e : ReduceFault) → IsShaped s.rest → reduction limit compare rules n s ≡ Err e → Stops compare rules limit n (reduced_of s) e
+  stopped zero s e shaped ends = go (choice_of compare (entries_of rules) s.rest) refl ends
+    where
+      go : (o : Option Choice) → choice_of compare (entries_of rules) s.rest ≡ o → at_limit limit o s ≡ Err e → Stops compare rules limit 0 (reduced_of s) e
+      go None none k = absurd (no_fault s e k)
+      go (Some c) chosen k =
+          let is = is_choice s shaped c chosen in
+          steps_spent (same_fault (halt.Steps limit) e k) (record { now = reduced_of s; goes = refl; next = next_step compare rules s shaped c is is.rule is.numbered })
+  stopped (suc n) s e shaped ends = go (choice_of compare (entries_of rules) s.rest) refl ends (λ t. stopped n t e)
+    where
+      go : (o : Option Choice) → choice_of compare (entries_of rules) s.rest ≡ o → one_step rules o s (reduction limit compare rules n) ≡ Err e
+          → ((t : State) → IsShaped t.rest → reduction limit compare rules n t ≡ Err e → Stops compare rules limit n (reduced_of t) e)
+          → Stops compare rules limit (suc n) (reduced_of s) e
+      go None none k later = absurd (no_fault s e k)
+      go (Some c) chosen k later = by_result n s shaped c chosen e later (step_result rules c s) refl k
+
+  -- what is left where it doesn't stop
+  no_value : (e : ReduceFault) (t : State) → ◌≡◌ {A = Result State ReduceFault} (Err e) (Ok t) → ⊥
+  no_value e t k = cc
+
+  same_value : (s t : State) → ◌≡◌ {A = Result State ReduceFault} (Ok s) (Ok t) → s ≡ t
+  same_value s t k = cc
+
+  ended : (s t : State) → choice_of compare (entries_of rules) s.rest ≡ None → ◌≡◌ {A = Result State ReduceFault} (Ok s) (Ok t) → (n : ℕ) → Leaves compare rules n (reduced_of s) (reduced_of t)
+  ended s t none k n =
+      subst (λ u. Leaves compare rules n (reduced_of s) (reduced_of u)) (same_value s t k)
+      (record { made = 0; few = omega arith; goes = refl; irreducible = irreducible_where_none compare rules s.rest none })
+
+  finished : (n : ℕ) (s t : State) → IsShaped s.rest → reduction limit compare rules n s ≡ Ok t → Leaves compare rules n (reduced_of s) (reduced_of t)
+  finished zero s t shaped ends = go (choice_of compare (entries_of rules) s.rest) refl ends
+    where
+      go : (o : Option Choice) → choice_of compare (entries_of rules) s.rest ≡ o → at_limit limit o s ≡ Ok t → Leaves compare rules 0 (reduced_of s) (reduced_of t)
+      go None none k = ended s t none k 0
+      go (Some c) chosen k = absurd (no_value (halt.Steps limit) t k)
+  finished (suc n) s t shaped ends = go (choice_of compare (entries_of rules) s.rest) refl ends (λ u. finished n u t)
+    where
+      go : (o : Option Choice) → choice_of compare (entries_of rules) s.rest ≡ o → one_step rules o s (reduction limit compare rules n) ≡ Ok t
+          → ((u : State) → IsShaped u.rest → reduction limit compare rules n u ≡ Ok t → Leaves compare rules n (reduced_of u) (reduced_of t))
+          → Leaves compare rules (suc n) (reduced_of s) (reduced_of t)
+      go None none k later = ended s t none k (suc n)
+      go (Some c) chosen k later = by_step (step_result rules c s) refl k
+        where
+          by_step : (r : Result State PolyFault) → step_result rules c s ≡ r → then_next r (reduction limit compare rules n) ≡ Ok t → Leaves compare rules (suc n) (reduced_of s) (reduced_of t)
+          by_step (Err e) made j = absurd (no_value (halt_of e) t j)
+          by_step (Ok u) made j =
+              let is = is_choice s shaped c chosen in
+              let step = went s shaped c chosen is.rule is.numbered u (sym (ap (λ o. step_by o c s) is.numbered) ∙ made) in
+              let rest = later u step.1 j in
+              record { made = suc rest.made; few = omega (arith, rest.few); goes = record { after = reduced_of u; step = step.0; later = rest.goes }; irreducible = rest.irreducible }
+
+-- the normal form of a polynomial
+pub normal_form_stops : (letters : ℕ) (compare : Compare) (rank : List ℕ → List ℕ) (rules : List Rule) (p : List Term) (steps : ℕ) (e : ReduceFault) → IsAdmissible letters compare rank → IsShaped p
+    → normal_form_of compare rules p steps ≡ Err e → Stops compare rules steps steps (unreduced p) e
+normal_form_stops letters compare rank rules p steps e laws shaped ends = stopped letters compare rank laws rules steps steps (start_of p) e shaped ends
+
+pub normal_form_leaves : (letters : ℕ) (compare : Compare) (rank : List ℕ → List ℕ) (rules : List Rule) (p : List Term) (steps : ℕ) (s : State) → IsAdmissible letters compare rank → IsShaped p
+    → normal_form_of compare rules p steps ≡ Ok s → Leaves compare rules steps (unreduced p) (reduced_of s)
+normal_form_leaves letters compare rank rules p steps s laws shaped ends = finished letters compare rank laws rules steps steps (start_of p) s shaped ends

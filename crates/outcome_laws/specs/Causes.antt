@@ -1,0 +1,170 @@
+-- What the cause of a halt says of the run of a problem.
+use Rattle.std.specs.Prelude.{◌≡◌, ◌≢◌, ◌≤◌, ℕ, suc, ℤ, neg_ℤ, ◌*ℤ◌, Bool, true, List, ◌++◌, map, length, Option, Some, Contains}
+use Rattle.std.specs.List.{All, AllPairs}
+use Rattle.coef_int.specs.declared.Overflow.{Overflow}
+use Rattle.coef_int.specs.Operations.{product_of, exact_value}
+use Rattle.coef_int.specs.Range.{IsCoefficient}
+use Rattle.definitions.specs.Poly.{Term, SamePolynomial}
+use Rattle.definitions.specs.Combination.{InRationalIdeal, generator_at}
+use Rattle.word_orders.specs.Specified.{asked_cmp}
+use Rattle.nc_polynomial.specs.Shape.{IsShaped}
+use Rattle.quiver.specs.Declarations.{letter_count}
+use Rattle.traced_rows.specs.declared.Row.{Row}
+use Rattle.traced_rows.specs.declared.Made.{Made}
+use Rattle.cofactor_trace.specs.Laws.{Traces}
+use Rattle.cofactor_trace.specs.declared.halt.Cause.{Cause}
+use Rattle.cofactor_trace.specs.declared.halt.Cause.TheVariants as cause
+use Rattle.cofactor_trace.specs.declared.halt.Place.{Place}
+use Rattle.cofactor_trace.specs.declared.halt.Place.TheVariants as place
+use Rattle.rule_reduce.specs.declared.rule.Rule.{Rule}
+use Rattle.rule_reduce.specs.RuleLists.{IsRule, rule_at, polynomials_of}
+use Rattle.ambiguities.specs.declared.ambiguity.Ambiguity.{Ambiguity}
+use Rattle.ambiguities.specs.Ambiguities.{IsAmbiguity, overlap_word_of}
+use Rattle.ambiguities.specs.SPolynomials.{first_row, second_row, s_rows_of}
+use Rattle.ambiguities.specs.Resolved.{IsResolved, s_sum}
+use Rattle.adjoint_rules.specs.declared.problem.Problem.{Problem}
+use Rattle.adjoint_rules.specs.Problem.{polynomials}
+use Rattle.adjoint_rules.specs.Claims.{claim_at}
+use Rattle.completion_laws.specs.Kept.{AreApart, AreRecorded}
+use Rattle.completion_laws.specs.Conclusions.{NothingPendingBelow}
+use Rattle.traced_completion.specs.declared.budget.Budget.{Budget}
+use Rattle.outcome_laws.specs.Certificates.{IsOfCertificate, HasLongRow, HasManyRows}
+use Rattle.outcome_laws.specs.ReductionSteps.{Reduced, unreduced, HasOneMore, IsOfReduction, IsTooLarge, GetsTooLarge, Leaves, row_words, IsOfSum}
+
+-- Rules in the order of the problem. Of each some positive multiple is a combination of the generators, and its leading word occurs in that
+-- of no later one.
+pub record AreRulesOf (problem : Problem) (rules : List Rule) : Type 0 where
+  pub are_rules : All (IsRule (letter_count problem.parts.quiver) (asked_cmp problem.parts.order)) rules
+  pub apart : AreApart rules
+  pub inside : (n : ℕ) (g : Rule) → rule_at rules n ≡ Some g → InRationalIdeal (polynomials problem.generators) g.poly.terms
+
+-- Between two rounds as many ambiguities were treated as the budget has pairs, no two of them the same: each is one of the rules, and resolved.
+-- One of the rules is left, and the word is the least overlap word of those that are left.
+pub record PairsAreSpent (problem : Problem) (budget : Budget) (at : Place) (least : Option (List ℕ)) (spent : ℕ) : Type 0 where
+  pub place_is : at ≡ place.Run
+  pub budget_is : spent ≡ budget.pairs
+  pub rules : List Rule
+  pub are_rules : AreRulesOf problem rules
+  pub treated : List Ambiguity
+  pub many : length treated ≡ spent
+  pub distinct : AllPairs (λ a b. a ≢ b) treated
+  pub resolved : All (IsResolved (letter_count problem.parts.quiver) (asked_cmp problem.parts.order) rules) treated
+  pub left : Ambiguity
+  pub is_left : IsAmbiguity rules left
+  pub untreated : Contains treated left → ⊥
+  pub word_is : least ≡ Some (overlap_word_of rules left)
+  pub none_below : NothingPendingBelow (letter_count problem.parts.quiver) (asked_cmp problem.parts.order) rules treated (overlap_word_of rules left)
+
+-- The polynomial is, each word once, what the two multiples in the S-polynomial of an ambiguity of the rules add up to.
+pub record IsSPolynomial (rules : List Rule) (p : List Term) : Type 0 where
+  pub ambiguity : Ambiguity
+  pub is : IsAmbiguity rules ambiguity
+  pub shaped : IsShaped p
+  pub is_sum : SamePolynomial p (s_sum rules ambiguity)
+
+-- By the first ones of the rules, this is left of an S-polynomial of theirs.
+pub record IsFirstReduction (problem : Problem) (budget : Budget) (rules : List Rule) (now : Reduced) : Type 0 where
+  pub first : List Rule
+  pub more : List Rule
+  pub begins : rules ≡ first ++ more
+  pub polynomial : List Term
+  pub is : IsSPolynomial first polynomial
+  pub leaves : Leaves (asked_cmp problem.parts.order) first budget.steps (unreduced polynomial) now
+
+-- What is reduced by the rules at the place, in the work on the claim with this number.
+pub data IsReducedAt (problem : Problem) (budget : Budget) (number : ℕ) (at : Place) (rules : List Rule) (p : List Term) : Type 0 where
+  -- in round 0 a generator
+  of_generator : (n : ℕ) → 1 ≤ n → n ≤ length problem.generators → at ≡ place.Round 0 → p ≡ generator_at (polynomials problem.generators) n
+      → IsReducedAt problem budget number at rules p
+  -- in a later round an S-polynomial, and then what the rules from before the round leave of it
+  of_ambiguity : (round : ℕ) → at ≡ place.Round (suc round) → IsSPolynomial rules p → IsReducedAt problem budget number at rules p
+  of_first_rest : (round : ℕ) (now : Reduced) → at ≡ place.Round (suc round) → IsFirstReduction problem budget rules now → p ≡ now.rest
+      → IsReducedAt problem budget number at rules p
+  -- after a round the claim
+  of_claim : (round : ℕ) → at ≡ place.Claim round → p ≡ claim_at problem number → IsReducedAt problem budget number at rules p
+
+-- A reduction at the place.
+pub record Reduction (problem : Problem) (budget : Budget) (number : ℕ) (at : Place) : Type 0 where
+  pub rules : List Rule
+  pub are_rules : AreRulesOf problem rules
+  pub polynomial : List Term
+  pub is : IsReducedAt problem budget number at rules polynomial
+
+-- The budget has so many steps. So many are made in a reduction at the place, and there is one more.
+pub record StepsAreSpent (problem : Problem) (budget : Budget) (number : ℕ) (at : Place) (limit : ℕ) : Type 0 where
+  pub budget_is : limit ≡ budget.steps
+  pub reduction : Reduction problem budget number at
+  pub one_more : HasOneMore (asked_cmp problem.parts.order) reduction.rules limit (unreduced reduction.polynomial)
+
+-- It is one of the products and sums of an S-polynomial.
+pub record IsOfSPolynomial (rules : List Rule) (o : Overflow) : Type 0 where
+  pub ambiguity : Ambiguity
+  pub is : IsAmbiguity rules ambiguity
+  pub of_sum : IsOfSum (first_row rules ambiguity).coef (row_words rules (first_row rules ambiguity))
+      (second_row rules ambiguity).coef (row_words rules (second_row rules ambiguity)) o
+
+-- It is one of the products of the rows of a rule that a second reduction makes: of those of the S-polynomial, and of those of the first
+-- reduction.
+pub data IsOfRows (rows : List ℤ) (first second : Reduced) (o : Overflow) : Type 0 where
+  of_row : (c : ℤ) → Contains rows c → o ≡ product_of c first.multiplier → IsOfRows rows first second o
+  of_multiple : (c : ℤ) → Contains rows c → o ≡ product_of (c *ℤ first.multiplier) second.multiplier → IsOfRows rows first second o
+  of_taken : (c : ℤ) → Contains first.taken c → o ≡ product_of (neg_ℤ c) second.multiplier → IsOfRows rows first second o
+
+-- Nothing is left of the claim by rules. Each of them has a record, whose rows add up to its scale times the rule, and so has the claim.
+pub record ClaimRecord (problem : Problem) (number : ℕ) : Type 0 where
+  pub rules : List Rule
+  pub are_rules : AreRulesOf problem rules
+  pub made : List Made
+  pub recorded : AreRecorded (polynomials problem.generators) rules made
+  pub claim : Made
+  pub traces : Traces (polynomials problem.generators) (polynomials_of rules) claim (claim_at problem number)
+
+-- One of the products and sums that are made at the place, in the work on the claim with this number.
+pub data IsArithmeticAt (problem : Problem) (budget : Budget) (number : ℕ) (at : Place) (o : Overflow) : Type 0 where
+  -- of a reduction
+  in_reduction : (r : Reduction problem budget number at) → IsOfReduction (asked_cmp problem.parts.order) r.rules budget.steps (unreduced r.polynomial) o
+      → IsArithmeticAt problem budget number at o
+  -- in a later round of an S-polynomial
+  in_sum : (round : ℕ) (rules : List Rule) → at ≡ place.Round (suc round) → AreRulesOf problem rules → IsOfSPolynomial rules o
+      → IsArithmeticAt problem budget number at o
+  -- and of the rows of a rule that is made of one, by two reductions
+  in_rows : (round : ℕ) (rules : List Rule) (first second : Reduced) → at ≡ place.Round (suc round) → AreRulesOf problem rules
+      → (is : IsFirstReduction problem budget rules first) → Leaves (asked_cmp problem.parts.order) rules budget.steps (unreduced first.rest) second
+      → IsOfRows (map (λ row. row.coef) (s_rows_of is.first is.is.ambiguity)) first second o → IsArithmeticAt problem budget number at o
+  -- of a certificate
+  in_making : (round : ℕ) → at ≡ place.Certificate round → (r : ClaimRecord problem number) → IsOfCertificate r.made r.claim o
+      → IsArithmeticAt problem budget number at o
+
+-- The product or sum is out of the range of coefficients, and it is one of those that are made at the place.
+pub record IsOverflowAt (problem : Problem) (budget : Budget) (number : ℕ) (at : Place) (o : Overflow) : Type 0 where
+  pub out_of_range : IsCoefficient (exact_value o) → ⊥
+  pub arithmetic : IsArithmeticAt problem budget number at o
+
+-- What passes a limit of polynomials at the place, in the work on the claim with this number.
+pub data IsSizeAt (problem : Problem) (budget : Budget) (number : ℕ) (at : Place) (letters : Bool) : Type 0 where
+  -- what is left after a step of a reduction
+  after_step : (r : Reduction problem budget number at) → GetsTooLarge (asked_cmp problem.parts.order) r.rules budget.steps (unreduced r.polynomial) letters
+      → IsSizeAt problem budget number at letters
+  -- in a later round one of the two multiples of rules in an S-polynomial, or their sum
+  in_multiple : (round : ℕ) (rules : List Rule) (a : Ambiguity) (row : Row) → at ≡ place.Round (suc round) → AreRulesOf problem rules → IsAmbiguity rules a
+      → Contains (s_rows_of rules a) row → IsTooLarge letters (row_words rules row) → IsSizeAt problem budget number at letters
+  in_s_polynomial : (round : ℕ) (rules : List Rule) (p : List Term) → at ≡ place.Round (suc round) → AreRulesOf problem rules → IsSPolynomial rules p
+      → IsTooLarge letters p → IsSizeAt problem budget number at letters
+  -- a word of a row of a certificate
+  in_certificate : (round : ℕ) → at ≡ place.Certificate round → letters ≡ true → (r : ClaimRecord problem number) → HasLongRow r.made r.claim
+      → IsSizeAt problem budget number at letters
+
+-- The rows of a certificate of the claim with this number pass a limit.
+pub record AreRowsAt (problem : Problem) (number : ℕ) (at : Place) (letters : Bool) : Type 0 where
+  pub round : ℕ
+  pub place_is : at ≡ place.Certificate round
+  pub record_of : ClaimRecord problem number
+  pub many : HasManyRows record_of.made record_of.claim letters
+
+-- What a cause says of the place, in the work on the claim with this number, and of the least overlap word that is named with it.
+abbrev pub CauseMeans : Problem → Budget → ℕ → Place → Option (List ℕ) → Cause → Type 0
+CauseMeans problem budget number at least (cause.Pairs spent) = PairsAreSpent problem budget at least spent
+CauseMeans problem budget number at least (cause.Steps limit) = StepsAreSpent problem budget number at limit
+CauseMeans problem budget number at least (cause.Size letters) = IsSizeAt problem budget number at letters
+CauseMeans problem budget number at least (cause.Rows letters) = AreRowsAt problem number at letters
+CauseMeans problem budget number at least (cause.Overflow o) = IsOverflowAt problem budget number at o
