@@ -1,22 +1,28 @@
--- Each proof is accepted, or one of its tests is the first that fails.
-use Rattle.std.proofs.Common.{◌≡◌, ◌⊎◌, inl, inr, ℕ, ◌+◌, ◌<◌, ◌≤◌, ℤ, pos, ◌≤ℤ◌, List, [], ◌∷◌, ◌++◌, length, All, Option, Some, None, refl, ap, arith}
+-- Each proof has exactly one outcome: it is accepted, or one of its tests is the first that fails.
+use Rattle.std.proofs.Common.{◌≡◌, ◌⊎◌, inl, inr, ℕ, ◌+◌, ◌≤◌, ℤ, List, [], ◌∷◌, ◌++◌, length, All, None, refl, sym, subst, ap, arith}
 use Rattle.std.specs.List.{Contains}
-use Rattle.std.proofs.lemmas.Bool.{cases_lt, cases_eq}
+use Rattle.std.proofs.lemmas.Bool.{cases_eq}
 use Rattle.std.proofs.lemmas.List.Elements.{Contains-append_right, Contains-append_cases, Contains-push_cases}
-use Rattle.coef_int.specs.declared.Overflow.{Overflow}
 use Rattle.coef_int.specs.Operations.{first_overflow}
 use Rattle.word_core.specs.declared.letter.Letter.{Letter}
+use Rattle.definitions.specs.Poly.{Poly}
 use Rattle.definitions.specs.Quiver.{Quiver}
 use Rattle.definitions.specs.Combination.{generator_at}
 use Rattle.definitions.specs.Soundness.{HasSignature}
 use Rattle.nc_polynomial.specs.Terms.{products}
 use Rattle.traced_rows.specs.declared.evidence.Lemma.{Lemma}
+use Rattle.common_lemmas.proofs.Decided.{IsDecided, decided_by, both_decided, le_decided}
+use Rattle.common_lemmas.proofs.FirstFailure.{HasOneOutcome, each_decided, no_test, one_test, then_test, reworded}
 use Rattle.cofactor_checker.specs.Rows.{IsNumberUpTo}
-use Rattle.cofactor_checker.specs.Lemmas.{LemmaPasses, term_total}
+use Rattle.cofactor_checker.specs.Lemmas.{term_total, kept_limit}
 use Rattle.cofactor_checker.specs.LemmaAcceptance.{HasScale, IsTight}
+use Rattle.cofactor_checker.specs.Goals.{RefusesGoal}
+use Rattle.cofactor_checker.specs.Acceptance as certificates
+use Rattle.cofactor_checker.specs.declared.refusal.Refusal.{Refusal}
 use Rattle.cofactor_checker.specs.declared.refusal.Refusal.TheVariants as common
-use Rattle.cofactor_checker.proofs.Judged.{numbered_or}
-use Rattle.cofactor_checker.proofs.EvidenceJudged.{FirstNot, first_not, not_each, divides_or, positive_or, LemmaOutcome, lemma_outcome, GoalOutcome, goal_outcome}
+use Rattle.cofactor_checker.proofs.RowTests.{numbered_or, memory_decided, goal_outcome}
+use Rattle.cofactor_checker.proofs.LemmaTests.{divides_or, positive_or, lemma_outcome}
+use Rattle.cofactor_checker.proofs.Judged.{Starts, TellsStart, start_outcome}
 use Rattle.cancel_rules.specs.declared.cancellation.Side.{Side}
 use Rattle.cancel_rules.specs.declared.cancellation.Item.{Item}
 use Rattle.cancel_rules.specs.declared.cancellation.Item.TheVariants as item
@@ -24,19 +30,19 @@ use Rattle.cancel_rules.specs.declared.cancellation.Cancellation.{Cancellation}
 use Rattle.cancel_rules.specs.declared.refusal.CancelRefusal.{CancelRefusal}
 use Rattle.cancel_rules.specs.declared.refusal.CancelRefusal.TheVariants as refusal
 use Rattle.cancel_rules.specs.Cancellations.{declared_for}
-use Rattle.cancel_rules.specs.Items.{stripped, item_polynomial, row_total, rows_in, HasAtEnd, IsDeclaredLetter, IsTypedItem, ComesOff, CancelPasses, RefusesCancel, ItemPasses, ItemsPass, RefusesItem, RefusesItems}
-use Rattle.cancel_rules.specs.Acceptance.{claim_named, all_items, OfLemma, HasPositiveScales, CancelIsPosed, CancelHasShares, CancelBegins, HasItems, AcceptsCancellation, RefusesCancellation, IsMemory}
-use Rattle.cancel_rules.specs.Laws.{CancellationIsJudged}
+use Rattle.cancel_rules.specs.Items.{stripped, item_polynomial, row_total, rows_in, HasAtEnd, IsDeclaredLetter, IsTypedItem, ComesOff, InCommon, CancelPasses, RefusesCancel, ItemPasses, ItemsPass, RefusesItem, RefusesItems}
+use Rattle.cancel_rules.specs.Acceptance.{claim_named, all_items, OfLemma, HasPositiveScales, CancelIsPosed, CancelHasShares, CancelBegins, HasItems, AcceptsCancellation, IsFirstLooseItem, CancelHasLooseGoal, RefusesBeginning, RefusesParts, RefusesCommon, RefusesCancellation, IsMemory}
+use Rattle.cancel_rules.specs.Laws.{CancellationIsJudged, CancellationRefusalIsUnique, AcceptedCancellationIsNotRefused}
 use Rattle.cancel_rules.proofs.Outcomes.{refuses_from_beginning, refuses_from_items, refuses_from_goal}
 use Rattle.cancel_rules.proofs.Typing.{has_signature_or}
 use Rattle.cancel_rules.proofs.Without.{at_end_or}
 
 -- a letter is among letters or not
-letter_or : (letters : List Letter) (a : Letter) → Contains letters a ⊎ (Contains letters a → ⊥)
+letter_or : (letters : List Letter) (a : Letter) → IsDecided (Contains letters a)
 letter_or [] a = inr (λ h. let inside = h.1 in absurd (omega arith))
 letter_or (x ∷ letters) a = by (cases_eq x.0 a.0) (letter_or letters a)
   where
-    by : (x.0 ≡ a.0) ⊎ (x.0 ≡ a.0 → ⊥) → Contains letters a ⊎ (Contains letters a → ⊥) → Contains (x ∷ letters) a ⊎ (Contains (x ∷ letters) a → ⊥)
+    by : (x.0 ≡ a.0) ⊎ (x.0 ≡ a.0 → ⊥) → IsDecided (Contains letters a) → IsDecided (Contains (x ∷ letters) a)
     by (inl same) rest = inl (0, omega arith, ap (λ (n : ℕ). record { 0 = n }) same)
     by (inr apart) (inl later) = inl (Contains-append_right (x ∷ []) letters a later)
     by (inr apart) (inr none) = inr (λ h. split (Contains-append_cases (x ∷ []) letters a h))
@@ -49,122 +55,195 @@ letter_or (x ∷ letters) a = by (cases_eq x.0 a.0) (letter_or letters a)
         split (inl here) = first (Contains-push_cases [] x a here)
         split (inr later) = none later
 
+is_memory_decided : (e : CancelRefusal) → IsDecided (IsMemory e)
+is_memory_decided (refusal.Common e) = memory_decided e
+is_memory_decided other = inr (λ none. none)
+
+-- what is tested of certificates too
+in_common : {P : Type 0} {R : Refusal → Type 0} → HasOneOutcome certificates.IsMemory P R → HasOneOutcome IsMemory P (InCommon R)
+in_common {P = P} {R = R} outcome = record { judged = by outcome.judged; not_refused = passed; unique = once }
+  where
+    by : P ⊎ ((e : Refusal) × R e × (certificates.IsMemory e → ⊥)) → P ⊎ ((e : CancelRefusal) × InCommon R e × (IsMemory e → ⊥))
+    by (inl p) = inl p
+    by (inr refused) = inr (refusal.Common refused.0, refused.1, refused.2)
+
+    passed : P → (e : CancelRefusal) → InCommon R e → IsMemory e
+    passed p (refusal.Common e) h = outcome.not_refused p e h
+    passed p other h = absurd h
+
+    once : (e f : CancelRefusal) → InCommon R e → InCommon R f → (IsMemory e → ⊥) → (IsMemory f → ⊥) → e ≡ f
+    once (refusal.Common e) (refusal.Common f) h k not not' = ap refusal.Common (outcome.unique e f h k not not')
+    once (refusal.Common e) other h k not not' = absurd k
+    once other f h k not not' = absurd h
+
 -- an item
 module _ (q : Quiver) (proof : Cancellation) where
-  module _ (before : List (List (ℤ × List ℕ))) (rows : ℕ) (letter : Letter) (end : Side) (number : ℕ) where
-    abbrev whole : List (ℤ × List ℕ)
+  module _ (before : List Poly) (rows : ℕ) (letter : Letter) (end : Side) (number : ℕ) where
+    abbrev whole : Poly
     whole = generator_at before number
 
-    abbrev CancelOutcome : Type 0
-    CancelOutcome = CancelPasses q proof before letter end number ⊎ ((e : CancelRefusal) × RefusesCancel q proof before rows letter end number e × (IsMemory e → ⊥))
+    abbrev IsEarlier : Type 0
+    IsEarlier = IsNumberUpTo (length before) number
 
-    by_kept : ComesOff q proof before letter end number → (1000000 < term_total before + length (stripped end whole)) ⊎ (term_total before + length (stripped end whole) ≤ 1000000) → CancelOutcome
-    by_kept off (inl more) = inr (refusal.Common (common.Kept rows), record { last_row = refl; comes_off = off; kept = more }, λ none. none)
-    by_kept off (inr within) = inl (record { comes_off = off; kept = within })
+    abbrev IsDeclared : Type 0
+    IsDeclared = Contains (declared_for proof end) letter
 
-    by_words : IsTypedItem q proof before letter end number → All (λ t. HasAtEnd end letter.0 t.1) whole ⊎ FirstNot (λ t. HasAtEnd end letter.0 t.1) whole → CancelOutcome
-    by_words typed (inl each) = by_kept (record { item = typed; words = each }) (cases_lt 1000000 (term_total before + length (stripped end whole)))
-    by_words typed (inr first) =
-        inr (refusal.NotStripped (length before + 1), record { numbered = refl; item = typed; words = not_each (λ t. HasAtEnd end letter.0 t.1) whole first }, λ none. none)
+    abbrev HasLetter : ℤ × List ℕ → Type 0
+    HasLetter t = HasAtEnd end letter.0 t.1
 
-    by_type : IsDeclaredLetter proof before letter end number → HasSignature q whole ⊎ (HasSignature q whole → ⊥) → CancelOutcome
-    by_type declared (inl typed) = by_words (record { of_letter = declared; typed = typed }) (first_not (λ (t : ℤ × List ℕ). HasAtEnd end letter.0 t.1) (λ t. at_end_or end letter.0 t.1) whole)
-    by_type declared (inr untyped) = inr (refusal.NotTyped (length before + 1), record { numbered = refl; of_letter = declared; typed = untyped }, λ none. none)
+    abbrev IsKept : Type 0
+    IsKept = term_total before + length (stripped end whole) ≤ kept_limit
 
-    by_letter : IsNumberUpTo (length before) number → Contains (declared_for proof end) letter ⊎ (Contains (declared_for proof end) letter → ⊥) → CancelOutcome
-    by_letter earlier (inl declared) = by_type (record { earlier = earlier; declared = declared }) (has_signature_or q whole)
-    by_letter earlier (inr lacks) = inr (refusal.NotDeclared (length before + 1), record { numbered = refl; earlier = earlier; declared = lacks }, λ none. none)
+    abbrev Tells : CancelRefusal → Type 0
+    Tells e =
+        ((e ≡ refusal.NoSuchItem (length before + 1)) × (IsEarlier → ⊥))
+        ⊎ (IsEarlier × (((e ≡ refusal.NotDeclared (length before + 1)) × (IsDeclared → ⊥))
+        ⊎ (IsDeclared × (((e ≡ refusal.NotTyped (length before + 1)) × (HasSignature q whole → ⊥))
+        ⊎ (HasSignature q whole × (((e ≡ refusal.NotStripped (length before + 1)) × (All HasLetter whole → ⊥))
+        ⊎ (All HasLetter whole × ((e ≡ refusal.Common (common.Kept rows)) × (IsKept → ⊥)))))))))
 
-    by_number : IsNumberUpTo (length before) number ⊎ (IsNumberUpTo (length before) number → ⊥) → CancelOutcome
-    by_number (inl earlier) = by_letter earlier (letter_or (declared_for proof end) letter)
-    by_number (inr lacks) = inr (refusal.NoSuchItem (length before + 1), record { numbered = refl; earlier = lacks }, λ none. none)
+    of_letter : IsEarlier → IsDeclared → IsDeclaredLetter proof before letter end number
+    of_letter earlier declared = record { earlier = earlier; declared = declared }
 
-    cancel_outcome : CancelOutcome
-    cancel_outcome = by_number (numbered_or (length before) number)
+    of_type : IsEarlier → IsDeclared → HasSignature q whole → IsTypedItem q proof before letter end number
+    of_type earlier declared typed = record { of_letter = of_letter earlier declared; typed = typed }
 
-  module _ (generators : List (List (ℤ × List ℕ))) where
-    abbrev ItemOutcome : List (List (ℤ × List ℕ)) → ℕ → Item → Type 0
-    ItemOutcome before rows i = ItemPasses q proof generators before i ⊎ ((e : CancelRefusal) × RefusesItem q proof generators before rows i e × (IsMemory e → ⊥))
+    comes_off : IsEarlier → IsDeclared → HasSignature q whole → All HasLetter whole → ComesOff q proof before letter end number
+    comes_off earlier declared typed words = record { item = of_type earlier declared typed; words = words }
 
-    item_outcome : (before : List (List (ℤ × List ℕ))) (rows : ℕ) (i : Item)
-        → ItemPasses q proof generators before i ⊎ ((e : CancelRefusal) × RefusesItem q proof generators before rows i e × (IsMemory e → ⊥))
-    item_outcome before rows (item.Lemma l) = by (lemma_outcome generators before rows l)
-      where
-        by : LemmaOutcome generators before rows l → LemmaPasses generators before l ⊎ ((e : CancelRefusal) × RefusesItem q proof generators before rows (item.Lemma l) e × (IsMemory e → ⊥))
-        by (inl passes) = inl passes
-        by (inr failed) = inr (refusal.Common failed.0, failed.1, failed.2)
+    told : (e : CancelRefusal) → Tells e → RefusesCancel q proof before rows letter end number e
+    told e (inl (is, none)) = subst (RefusesCancel q proof before rows letter end number) (sym is) (record { numbered = refl; earlier = none })
+    told e (inr (earlier, inl (is, none))) = subst (RefusesCancel q proof before rows letter end number) (sym is) (record { numbered = refl; earlier = earlier; declared = none })
+    told e (inr (earlier, inr (declared, inl (is, none)))) = subst (RefusesCancel q proof before rows letter end number) (sym is) (record { numbered = refl; of_letter = of_letter earlier declared; typed = none })
+    told e (inr (earlier, inr (declared, inr (typed, inl (is, none))))) =
+        subst (RefusesCancel q proof before rows letter end number) (sym is) (record { numbered = refl; item = of_type earlier declared typed; words = none })
+    told e (inr (earlier, inr (declared, inr (typed, inr (words, (is, more)))))) =
+        subst (RefusesCancel q proof before rows letter end number) (sym is) (record { last_row = refl; comes_off = comes_off earlier declared typed words; kept = omega (arith, more) })
+
+    tells : (e : CancelRefusal) → RefusesCancel q proof before rows letter end number e → (IsMemory e → ⊥) → Tells e
+    tells (refusal.NoSuchItem n) h not = inl (ap refusal.NoSuchItem h.numbered, h.earlier)
+    tells (refusal.NotDeclared n) h not = inr (h.earlier, inl (ap refusal.NotDeclared h.numbered, h.declared))
+    tells (refusal.NotTyped n) h not = inr (h.of_letter.earlier, inr (h.of_letter.declared, inl (ap refusal.NotTyped h.numbered, h.typed)))
+    tells (refusal.NotStripped n) h not = let i = h.item in inr (i.of_letter.earlier, inr (i.of_letter.declared, inr (i.typed, inl (ap refusal.NotStripped h.numbered, h.words))))
+    tells (refusal.Common (common.Kept row)) h not =
+        let i = h.comes_off.item in
+        inr (i.of_letter.earlier, inr (i.of_letter.declared, inr (i.typed, inr (h.comes_off.words, (ap (λ n. refusal.Common (common.Kept n)) h.last_row, λ small. let large = h.kept in omega (arith, small, large))))))
+    tells (refusal.Common (common.Memory failed)) h not = absurd (not tt)
+    tells (refusal.Common other) h not = absurd h
+
+    cancel_outcome : HasOneOutcome IsMemory (CancelPasses q proof before letter end number) (RefusesCancel q proof before rows letter end number)
+    cancel_outcome =
+        reworded is_memory_decided (λ h. record { comes_off = comes_off h.0 h.1.0 h.1.1.0 h.1.1.1.0; kept = h.1.1.1.1 })
+        (λ h. let i = h.comes_off.item in (i.of_letter.earlier, (i.of_letter.declared, (i.typed, (h.comes_off.words, h.kept))))) (λ e h not. told e h) tells
+        (then_test (one_test (refusal.NoSuchItem (length before + 1)) (λ none. none) (numbered_or (length before) number))
+        (λ h. then_test (one_test (refusal.NotDeclared (length before + 1)) (λ none. none) (letter_or (declared_for proof end) letter))
+        (λ h. then_test (one_test (refusal.NotTyped (length before + 1)) (λ none. none) (has_signature_or q whole))
+        (λ h. then_test (one_test (refusal.NotStripped (length before + 1)) (λ none. none) (each_decided HasLetter (λ t. at_end_or end letter.0 t.1) whole))
+        (λ h. one_test (refusal.Common (common.Kept rows)) (λ none. none) (le_decided (term_total before + length (stripped end whole)) kept_limit))))))
+
+  module _ (generators : List Poly) where
+    item_outcome : (before : List Poly) (rows : ℕ) (i : Item) → HasOneOutcome IsMemory (ItemPasses q proof generators before i) (RefusesItem q proof generators before rows i)
+    item_outcome before rows (item.Lemma l) = in_common (lemma_outcome generators before rows l)
     item_outcome before rows (item.Cancel letter end number) = cancel_outcome before rows letter end number
 
-    abbrev ItemsOutcome : List (List (ℤ × List ℕ)) → ℕ → List Item → Type 0
-    ItemsOutcome before rows items = ItemsPass q proof generators before items ⊎ ((e : CancelRefusal) × RefusesItems q proof generators before rows items e × (IsMemory e → ⊥))
-
-    items_outcome : (before : List (List (ℤ × List ℕ))) (rows : ℕ) (items : List Item)
-        → ItemsPass q proof generators before items ⊎ ((e : CancelRefusal) × RefusesItems q proof generators before rows items e × (IsMemory e → ⊥))
-    items_outcome before rows [] = inl tt
-    items_outcome before rows (i ∷ items) = by (item_outcome before rows i) (items_outcome (before ++ item_polynomial generators before i ∷ []) (rows + rows_in i) items)
-      where
-        by : ItemOutcome before rows i → ItemsOutcome (before ++ item_polynomial generators before i ∷ []) (rows + rows_in i) items → ItemsOutcome before rows (i ∷ items)
-        by (inr here) rest = inr (here.0, inl here.1, here.2)
-        by (inl passes) (inl rest) = inl (passes, rest)
-        by (inl passes) (inr later) = inr (later.0, inr (passes, later.1), later.2)
+    items_outcome : (before : List Poly) (rows : ℕ) (items : List Item) → HasOneOutcome IsMemory (ItemsPass q proof generators before items) (RefusesItems q proof generators before rows items)
+    items_outcome before rows [] = no_test
+    items_outcome before rows (i ∷ items) = then_test (item_outcome before rows i) (λ passes. items_outcome (before ++ item_polynomial generators before i ∷ []) (rows + rows_in i) items)
 
 -- scales
-of_lemma_or : (P : Lemma → Type 0) → ((l : Lemma) → P l ⊎ (P l → ⊥)) → (i : Item) → OfLemma P i ⊎ (OfLemma P i → ⊥)
+of_lemma_or : (P : Lemma → Type 0) → ((l : Lemma) → IsDecided (P l)) → (i : Item) → IsDecided (OfLemma P i)
 of_lemma_or P test (item.Lemma l) = test l
 of_lemma_or P test (item.Cancel letter end number) = inl tt
 
 -- the tests of a proof
-module _ (q : Quiver) (claims generators : List (List (ℤ × List ℕ))) (proof : Cancellation) where
-  abbrev IsJudged : Type 0
-  IsJudged = AcceptsCancellation q claims generators proof ⊎ ((e : CancelRefusal) × RefusesCancellation q claims generators proof e × (IsMemory e → ⊥))
+module _ (q : Quiver) (claims generators : List Poly) (proof : Cancellation) where
+  abbrev IsTightItem : Item → Type 0
+  IsTightItem = OfLemma (IsTight proof.denominator)
 
-  by_goal : HasItems q claims generators proof → GoalOutcome generators (all_items generators proof) (row_total proof.items) proof.goal (claim_named claims proof) → IsJudged
-  by_goal has (inl reached) = inl (record { items = has; goal = reached })
-  by_goal has (inr failed) = inr (refusal.Common failed.0, refuses_from_goal q claims generators proof has failed.0 failed.1, failed.2)
+  abbrev StartsSo : Type 0
+  StartsSo =
+      Starts IsTightItem proof.items (IsNumberUpTo (length claims) proof.claim) (HasPositiveScales proof) (IsTight proof.denominator proof.goal)
+      (first_overflow (products proof.goal.scale (claim_named claims proof)))
 
-  by_items : CancelBegins claims proof → ItemsOutcome q proof generators [] 0 proof.items → IsJudged
-  by_items begins (inl passed) =
-      by_goal (record { begins = begins; items = passed })
-      (goal_outcome generators (all_items generators proof) (row_total proof.items) proof.goal (claim_named claims proof) begins.shares.posed.positive.goal begins.products)
-  by_items begins (inr failed) = inr (failed.0, refuses_from_items q claims generators proof begins failed.0 failed.1, failed.2)
+  abbrev TellsBeginning : Refusal → Type 0
+  TellsBeginning =
+      TellsStart IsTightItem proof.items (IsNumberUpTo (length claims) proof.claim) (HasPositiveScales proof) (IsTight proof.denominator proof.goal)
+      (first_overflow (products proof.goal.scale (claim_named claims proof)))
 
-  by_multiple : CancelHasShares claims proof → (first : Option Overflow) → first_overflow (products proof.goal.scale (claim_named claims proof)) ≡ first → IsJudged
-  by_multiple shares None fits = by_items (record { shares = shares; products = fits }) (items_outcome q proof generators [] 0 proof.items)
-  by_multiple shares (Some o) overflows =
-      inr (refusal.Common (common.Overflow 0 o), refuses_from_beginning q claims generators proof (common.Overflow 0 o) (record { before_rows = refl; shares = shares; products = overflows }), λ none. none)
+  abbrev RefusesItsGoal : Refusal → Type 0
+  RefusesItsGoal = RefusesGoal generators (all_items generators proof) (row_total proof.items) proof.goal (claim_named claims proof)
 
-  by_scales : CancelIsPosed claims proof → All (OfLemma (IsTight proof.denominator)) proof.items ⊎ FirstNot (OfLemma (IsTight proof.denominator)) proof.items
-      → IsTight proof.denominator proof.goal ⊎ (IsTight proof.denominator proof.goal → ⊥) → IsJudged
-  by_scales posed (inl tight) (inl goal_tight) = by_multiple (record { posed = posed; tight = record { items = tight; goal = goal_tight } }) (first_overflow (products proof.goal.scale (claim_named claims proof))) refl
-  by_scales posed (inl tight) (inr loose) =
-      inr (refusal.Common (common.LooseScale 0), refuses_from_beginning q claims generators proof (common.LooseScale 0) (posed, inr (record { numbered = refl; items = tight; loose = loose })), λ none. none)
-  by_scales posed (inr first) other =
-      inr (
-        refusal.Common (common.LooseScale (first.before + 1)),
-        refuses_from_beginning q claims generators proof (common.LooseScale (first.before + 1))
-            (posed, inl (record { before = first.before; item = first.item; numbered = refl; there = first.there; earlier = first.earlier; loose = first.fails })),
-        λ none. none,
-      )
+  abbrev TellsAll : CancelRefusal → Type 0
+  TellsAll e = InCommon TellsBeginning e ⊎ (StartsSo × (RefusesItems q proof generators [] 0 proof.items e ⊎ (ItemsPass q proof generators [] proof.items × InCommon RefusesItsGoal e)))
 
-  by_positive : IsNumberUpTo (length claims) proof.claim → HasPositiveScales proof ⊎ (HasPositiveScales proof → ⊥) → IsJudged
-  by_positive claim (inl positive) =
-      by_scales (record { claim = claim; positive = positive }) (first_not (OfLemma (IsTight proof.denominator)) (of_lemma_or (IsTight proof.denominator) (λ l. divides_or l.scale proof.denominator)) proof.items)
-      (divides_or proof.goal.scale proof.denominator)
-  by_positive claim (inr lacks) =
-      inr (refusal.Common common.ZeroDenominator, refuses_from_beginning q claims generators proof common.ZeroDenominator (record { claim = claim; positive = lacks }), λ none. none)
+  positive_decided : IsDecided (HasPositiveScales proof)
+  positive_decided =
+      decided_by (λ h. record { denominator = h.0; items = h.1.0; goal = h.1.1 }) (λ is. (is.denominator, (is.items, is.goal)))
+      (both_decided (positive_or proof.denominator) (both_decided (each_decided (OfLemma HasScale) (of_lemma_or HasScale (λ l. positive_or l.scale)) proof.items) (positive_or proof.goal.scale)))
 
-  is_positive_or : (pos 1 ≤ℤ proof.denominator) ⊎ (pos 1 ≤ℤ proof.denominator → ⊥) → All (OfLemma HasScale) proof.items ⊎ FirstNot (OfLemma HasScale) proof.items → HasScale proof.goal ⊎ (HasScale proof.goal → ⊥)
-      → HasPositiveScales proof ⊎ (HasPositiveScales proof → ⊥)
-  is_positive_or (inl d) (inl each) (inl g) = inl (record { denominator = d; items = each; goal = g })
-  is_positive_or (inl d) (inl each) (inr lacks) = inr (λ is. lacks is.goal)
-  is_positive_or (inl d) (inr first) other = inr (λ is. not_each (OfLemma HasScale) proof.items first is.items)
-  is_positive_or (inr lacks) scales other = inr (λ is. lacks is.denominator)
+  shares : IsNumberUpTo (length claims) proof.claim → HasPositiveScales proof → All IsTightItem proof.items × IsTight proof.denominator proof.goal → CancelHasShares claims proof
+  shares claim positive tight = record { posed = record { claim = claim; positive = positive }; tight = record { items = tight.0; goal = tight.1 } }
 
-  by_claim : IsNumberUpTo (length claims) proof.claim ⊎ (IsNumberUpTo (length claims) proof.claim → ⊥) → IsJudged
-  by_claim (inl claim) =
-      by_positive claim
-      (is_positive_or (positive_or proof.denominator) (first_not (OfLemma HasScale) (of_lemma_or HasScale (λ l. positive_or l.scale)) proof.items) (positive_or proof.goal.scale))
-  by_claim (inr lacks) = inr (refusal.Common common.NoSuchClaim, refuses_from_beginning q claims generators proof common.NoSuchClaim lacks, λ none. none)
+  begun : StartsSo → CancelBegins claims proof
+  begun (claim, (positive, (tight, fits))) = record { shares = shares claim positive tight; products = fits }
+
+  begins : CancelBegins claims proof → StartsSo
+  begins h = let s = h.shares in (s.posed.claim, (s.posed.positive, ((s.tight.items, s.tight.goal), h.products)))
+
+  told_start : (e : Refusal) → TellsBeginning e → RefusesBeginning claims proof e
+  told_start e (inl (is, none)) = subst (RefusesBeginning claims proof) (sym is) none
+  told_start e (inr (claim, inl (is, none))) = subst (RefusesBeginning claims proof) (sym is) (record { claim = claim; positive = none })
+  told_start e (inr (claim, inr (positive, inl (inl (first, is))))) =
+      subst (RefusesBeginning claims proof) (sym is)
+      (record { claim = claim; positive = positive }, inl (record { before = first.before; item = first.item; numbered = refl; there = first.there; earlier = first.earlier; loose = first.fails }))
+  told_start e (inr (claim, inr (positive, inl (inr (tight, (is, loose)))))) =
+      subst (RefusesBeginning claims proof) (sym is) (record { claim = claim; positive = positive }, inr (record { numbered = refl; items = tight; loose = loose }))
+  told_start e (inr (claim, inr (positive, inr (tight, (o, is, some))))) = subst (RefusesBeginning claims proof) (sym is) (record { before_rows = refl; shares = shares claim positive tight; products = some })
+
+  told_all : (e : CancelRefusal) → TellsAll e → RefusesCancellation q claims generators proof e
+  told_all (refusal.Common e) (inl h) = refuses_from_beginning q claims generators proof e (told_start e h)
+  told_all other (inl h) = absurd h
+  told_all e (inr (h, inl refused)) = refuses_from_items q claims generators proof (begun h) e refused
+  told_all (refusal.Common e) (inr (h, inr (pass, refused))) = refuses_from_goal q claims generators proof (record { begins = begun h; items = pass }) e refused
+  told_all other (inr (h, inr (pass, refused))) = absurd refused
+
+  loose_tells : (n : ℕ) → CancelIsPosed claims proof → IsFirstLooseItem proof.denominator proof.items n ⊎ CancelHasLooseGoal proof n → TellsBeginning (common.LooseScale n)
+  loose_tells n posed (inl h) =
+      inr (posed.claim, inr (posed.positive, inl (inl (record { before = h.before; item = h.item; there = h.there; earlier = h.earlier; fails = h.loose }, ap common.LooseScale h.numbered))))
+  loose_tells n posed (inr h) = inr (posed.claim, inr (posed.positive, inl (inr (h.items, (ap common.LooseScale h.numbered, h.loose)))))
+
+  start_tells : (e : Refusal) → RefusesBeginning claims proof e → TellsBeginning e
+  start_tells common.NoSuchClaim h = inl (refl, h)
+  start_tells common.ZeroDenominator h = inr (h.claim, inl (refl, h.positive))
+  start_tells (common.LooseScale n) h = loose_tells n h.0 h.1
+  start_tells (common.Overflow row o) h = let s = h.shares in inr (s.posed.claim, inr (s.posed.positive, inr ((s.tight.items, s.tight.goal), (o, ap (λ n. common.Overflow n o) h.before_rows, h.products))))
+  start_tells other h = absurd h
+
+  parts_tell : (e : CancelRefusal) → RefusesParts q claims generators proof e → TellsAll e
+  parts_tell e (inl h) = inr (begins h.0, inl h.1)
+  parts_tell e (inr h) = inr (begins h.0.begins, inr (h.0.items, h.1))
+
+  common_tells : (e : Refusal) → RefusesCommon q claims generators proof e → (certificates.IsMemory e → ⊥) → TellsAll (refusal.Common e)
+  common_tells (common.Memory failed) h not = absurd (not tt)
+  common_tells other (inl h) not = inl (start_tells other h)
+  common_tells other (inr h) not = parts_tell (refusal.Common other) h
+
+  tells_all : (e : CancelRefusal) → RefusesCancellation q claims generators proof e → (IsMemory e → ⊥) → TellsAll e
+  tells_all (refusal.Common e) h not = common_tells e h not
+  tells_all other h not = parts_tell other h
+
+  pub cancellation_outcome : HasOneOutcome IsMemory (AcceptsCancellation q claims generators proof) (RefusesCancellation q claims generators proof)
+  cancellation_outcome =
+      reworded is_memory_decided (λ h. record { items = record { begins = begun h.0; items = h.1.0 }; goal = h.1.1 }) (λ h. (begins h.items.begins, (h.items.items, h.goal))) (λ e h not. told_all e h) tells_all
+      (then_test (in_common (start_outcome IsTightItem proof.items _ _ _ _ (numbered_or (length claims) proof.claim) positive_decided (of_lemma_or (IsTight proof.denominator) (λ l. divides_or l.scale proof.denominator)) (divides_or proof.goal.scale proof.denominator)))
+      (λ start. then_test (items_outcome q proof generators [] 0 proof.items)
+      (λ pass. in_common (goal_outcome generators (all_items generators proof) (row_total proof.items) proof.goal (claim_named claims proof)))))
 
 pub cancellation_is_judged : CancellationIsJudged
-cancellation_is_judged q claims generators proof = by_claim q claims generators proof (numbered_or (length claims) proof.claim)
+cancellation_is_judged q claims generators proof = (cancellation_outcome q claims generators proof).judged
+
+pub cancellation_refusal_is_unique : CancellationRefusalIsUnique
+cancellation_refusal_is_unique q claims generators proof = (cancellation_outcome q claims generators proof).unique
+
+pub accepted_cancellation_is_not_refused : AcceptedCancellationIsNotRefused
+accepted_cancellation_is_not_refused q claims generators proof e accepted = (cancellation_outcome q claims generators proof).not_refused accepted e

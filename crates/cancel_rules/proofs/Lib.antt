@@ -5,9 +5,7 @@ pub mod Without
 pub mod Typing
 pub mod Shown
 pub mod Outcomes
-pub mod Short
 pub mod Judged
-pub mod Unique
 pub mod Letters
 pub mod Steps
 pub mod Marking

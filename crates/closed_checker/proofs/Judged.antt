@@ -1,16 +1,16 @@
--- Each basis is closed, or one of its tests is the first that fails.
-use Rattle.std.proofs.Common.{◌≡◌, ◌≢◌, ◌⊎◌, inl, inr, ◌<◌, ◌≤◌, ℕ, zero, suc, ◌+◌, Bool, true, false, List, [], ◌∷◌, length, take, Result, Ok, Err, Contains}
-use Rattle.std.proofs.Common.{refl}
-use Rattle.std.proofs.Common.{sym, ap, ◌∙◌, subst, arith}
-use Rattle.std.specs.List.{AllByRecursion, AllPairs}
+-- Each basis has exactly one outcome: it is closed, or one of its tests is the first that fails.
+use Rattle.std.proofs.Common.{◌≡◌, ◌≢◌, ◌⊎◌, inl, inr, ◌<◌, ◌≤◌, ℕ, zero, suc, ◌+◌, ◌-◌, Bool, true, false, List, [], ◌∷◌, length, take, get_or, slice_get, Some, Result, Ok, Err, IfErr, All, Contains, refl, sym, ap}
+use Rattle.std.proofs.Common.{◌∙◌, subst, arith}
+use Rattle.std.proofs.Props as std
 use Rattle.std.specs.Ordering.{int_eq}
-use Rattle.std.proofs.lemmas.Bool.{cases_lt}
 use Rattle.std.proofs.lemmas.Bool.Decides.{Decides-int_eq}
-use Rattle.std.proofs.lemmas.List.Elements.{All-from_recursion}
+use Rattle.std.proofs.lemmas.List.{get_or-take, length-take-le}
+use Rattle.std.proofs.lemmas.Option.{slice_get_within, slice_get-get_or, get_or_from_slice_get}
 use Rattle.definitions.specs.Poly.{Term, word_eq}
 use Rattle.definitions.proofs.Linear.{word_eq-same, word_eq-true}
+use Rattle.common_lemmas.proofs.Decided.{IsDecided, decided_by, both_decided, le_decided}
+use Rattle.common_lemmas.proofs.FirstFailure.{HasOneOutcome, PassUpTo, FailsFirst, FirstNot, not_each, one_test, then_test, item_test, each_test, tests_up_to, reworded}
 use Rattle.word_orders.proofs.AskedOrders.{asked_rank}
-use Rattle.word_orders.specs.Admissible.{IsAdmissible}
 use Rattle.nc_polynomial.specs.Shape.{IsCanonical}
 use Rattle.nc_polynomial.specs.declared.poly.Poly.{Poly}
 use Rattle.cofactor_trace.specs.declared.halt.Cause.{Cause}
@@ -21,8 +21,7 @@ use Rattle.rule_reduce.specs.NormalForms as reduce
 use Rattle.ambiguities.specs.declared.ambiguity.Ambiguity.{Ambiguity}
 use Rattle.ambiguities.specs.Ambiguities.{IsAmbiguity}
 use Rattle.ambiguity_order.specs.Order.{IsBeforeByWord}
-use Rattle.ambiguity_order.proofs.Ascending.{contains-cases, contains-first, contains-rest, first-before, rest-pairs}
-use Rattle.ambiguity_order.proofs.Comparing.{not_before_itself, not_before_each_other}
+use Rattle.ambiguity_order.specs.Laws.{CanBeListed}
 use Rattle.ambiguity_order.proofs.Lists.{ambiguities_can_be_listed}
 use Rattle.adjoint_rules.specs.declared.problem.Problem.{Problem}
 use Rattle.basis_text.specs.declared.basis.Basis.{Basis}
@@ -31,31 +30,37 @@ use Rattle.closed_checker.specs.declared.part.Part.TheVariants as part
 use Rattle.closed_checker.specs.declared.refusal.ClosedRefusal.{ClosedRefusal}
 use Rattle.closed_checker.specs.declared.refusal.ClosedRefusal.TheVariants as refusal
 use Rattle.closed_checker.specs.Rests.{order_of, rules_of, rest_of, MayBeRule}
-use Rattle.closed_checker.specs.Closed.{IsNumberUpTo, NamesClaim, HasRules, LeavesZero, IsClosedBasis, IsPart, ComesBefore, Reaches, IsCauseOf, Refuses}
-use Rattle.closed_checker.specs.Closed.{IsMemory}
-use Rattle.closed_checker.specs.Laws.{EachBasisIsJudged}
+use Rattle.closed_checker.specs.Closed.{IsNumberUpTo, NamesClaim, HasRules, LeavesZero, IsClosedBasis, ComesBefore, Reaches, LacksRule, IsCauseOf, Refuses, IsMemory}
+use Rattle.closed_checker.specs.Working.{GeneratorsPass, AmbiguitiesPass}
+use Rattle.closed_checker.specs.Laws.{EachBasisIsJudged, BasisRefusalIsUnique, ClosedBasisIsNotRefused}
 use Rattle.completion_laws.proofs.Ends.{Gives}
 use Rattle.closed_checker.proofs.PartOrder.{order_laws}
 use Rattle.closed_checker.proofs.PartRests.{rest_gives}
-use Rattle.closed_checker.proofs.RulesDecided.{Decided, FirstNoRule, rules_decided}
+use Rattle.closed_checker.proofs.Passing.{generator_reached, ambiguity_reached, claim_reached}
+use Rattle.closed_checker.proofs.RulesDecided.{rule_decided}
+
+memory_decided : (e : ClosedRefusal) → IsDecided (IsMemory e)
+memory_decided (refusal.Memory failed) = inl tt
+memory_decided other = inr (λ none. none)
 
 -- polynomials are the same or not
 unlike : true ≡ false → ⊥
 unlike is = cc
 
-term_decided : (t u : Term) → Decided (t ≡ u)
+term_decided : (t u : Term) → IsDecided (t ≡ u)
 term_decided t u = go (int_eq t.0 u.0) refl (word_eq t.1 u.1) refl
   where
-    go : (a : Bool) → int_eq t.0 u.0 ≡ a → (c : Bool) → word_eq t.1 u.1 ≡ c → Decided (t ≡ u)
+    go : (a : Bool) → int_eq t.0 u.0 ≡ a → (c : Bool) → word_eq t.1 u.1 ≡ c → IsDecided (t ≡ u)
     go true number true word = inl (λ i. ((Decides-int_eq t.0 u.0).0 number i, word_eq-true t.1 u.1 word i))
     go true number false word = inr (λ same. unlike (sym (word_eq-same t.1) ∙ ap (λ (x : Term). word_eq t.1 x.1) same ∙ word))
     go false number c word = inr (λ same. unlike (sym ((Decides-int_eq t.0 u.0).1 (ap (λ (x : Term). x.0) same)) ∙ number))
 
-terms_decided : (p q : List Term) → Decided (p ≡ q)
+terms_decided : (p q : List Term) → IsDecided (p ≡ q)
 terms_decided [] [] = inl refl
 terms_decided [] (u ∷ q) = inr (λ same. absurd (cc))
 terms_decided (t ∷ p) [] = inr (λ same. absurd (cc))
-terms_decided (t ∷ p) (u ∷ q) = go (term_decided t u) (terms_decided p q)
+terms_decided (t ∷ p) (u ∷ q) =
+    decided_by (λ h. λ i. h.0 i ∷ h.1 i) (λ same. (first same, others same)) (both_decided (term_decided t u) (terms_decided p q))
   where
     first : t ∷ p ≡ u ∷ q → t ≡ u
     first same = cc
@@ -63,18 +68,26 @@ terms_decided (t ∷ p) (u ∷ q) = go (term_decided t u) (terms_decided p q)
     others : t ∷ p ≡ u ∷ q → p ≡ q
     others same = cc
 
-    go : Decided (t ≡ u) → Decided (p ≡ q) → Decided (t ∷ p ≡ u ∷ q)
-    go (inr apart) rest = inr (λ same. apart (first same))
-    go (inl same) (inr apart) = inr (λ is. apart (others is))
-    go (inl same) (inl rest) = inl (λ i. same i ∷ rest i)
+canonical-prop : (p : List Term) → IsProp (IsCanonical p)
+canonical-prop p = Prim.hlevel std.props
 
-number_decided : (count number : ℕ) → Decided (IsNumberUpTo count number)
-number_decided count number = go (cases_lt number 1) (cases_lt count number)
-  where
-    go : (number < 1) ⊎ (1 ≤ number) → (count < number) ⊎ (number ≤ count) → Decided (IsNumberUpTo count number)
-    go (inl less) most = inr (λ is. omega (arith, less, is.least))
-    go (inr least) (inl more) = inr (λ is. omega (arith, more, is.most))
-    go (inr least) (inr most) = inl (record { least = least; most = most })
+same_poly : (a b : Poly) → a.terms ≡ b.terms → a ≡ b
+same_poly a b same =
+    subst (λ (p : List Term). (c : IsCanonical p) → ◌≡◌ {A = Poly} a (record { terms = p; canonical = c })) same
+    (λ c. λ i. record { terms = a.terms; canonical = canonical-prop a.terms a.canonical c i }) b.canonical
+
+-- results
+abbrev Rest : Type 0
+Rest = Result (List Term) ReduceFault
+
+one_rest : (r : Rest) (p q : List Term) → r ≡ Ok p → r ≡ Ok q → p ≡ q
+one_rest r p q left right = let both : ◌≡◌ {A = Rest} (Ok p) (Ok q) = sym left ∙ right in cc
+
+one_fault : (r : Rest) (e f : ReduceFault) → r ≡ Err e → r ≡ Err f → e ≡ f
+one_fault r e f left right = let both : ◌≡◌ {A = Rest} (Err e) (Err f) = sym left ∙ right in cc
+
+no_fault : (r : Rest) (p : List Term) (e : ReduceFault) → r ≡ Ok p → r ≡ Err e → ⊥
+no_fault r p e left right = let both : ◌≡◌ {A = Rest} (Ok p) (Err e) = sym left ∙ right in cc
 
 cause_of : (e : ReduceFault) → (reduce.IsMemory e → ⊥) → (c : Cause) × IsCauseOf e c
 cause_of (halt.Steps limit) exact = (cause.Steps limit, refl)
@@ -82,206 +95,260 @@ cause_of (halt.Overflow o) exact = (cause.Overflow o, refl)
 cause_of (halt.Size s) exact = (cause.Size s.letters, refl)
 cause_of (halt.Memory e) exact = absurd (exact tt)
 
+cause_once : (e : ReduceFault) (c d : Cause) → IsCauseOf e c → IsCauseOf e d → c ≡ d
+cause_once (halt.Steps limit) c d first second = first ∙ sym second
+cause_once (halt.Overflow o) c d first second = first ∙ sym second
+cause_once (halt.Size s) c d first second = first ∙ sym second
+cause_once (halt.Memory e) c d first second = absurd first
+
 module _ (problem : Problem) (b : Basis) where
-  -- a refusal that isn't want of memory
-  abbrev IsRefused : Type 0
-  IsRefused = (r : ClosedRefusal) × Refuses problem b r × (IsMemory r → ⊥)
+  -- one part: it leaves what is asked, or another rest, or has a fault
+  data Tells (p : Part) (asked : List Term) (tell : Poly → ClosedRefusal) (e : ClosedRefusal) : Type 0 where
+    leaves : (rest : Poly) → rest_of problem b p ≡ Ok rest.terms → rest.terms ≢ asked → e ≡ tell rest → Tells p asked tell e
+    stops : (f : ReduceFault) (c : Cause) → rest_of problem b p ≡ Err f → IsCauseOf f c → e ≡ refusal.Stopped p c → Tells p asked tell e
 
-  -- what is left, or a fault with its cause
-  data Ends (p : Part) : Type 0 where
-    leaves : (rest : Poly) → rest_of problem b p ≡ Ok rest.terms → Ends p
-    stops : (e : ReduceFault) (c : Cause) → rest_of problem b p ≡ Err e → IsCauseOf e c → Ends p
-
-  ends : (p : Part) → Ends p
-  ends p = go (rest_of problem b p) refl (rest_gives problem b p)
+  part_outcome : (p : Part) (asked : List Term) (tell : Poly → ClosedRefusal) → ((rest : Poly) → IsMemory (tell rest) → ⊥)
+      → HasOneOutcome IsMemory (rest_of problem b p ≡ Ok asked) (Tells p asked tell)
+  part_outcome p asked tell exact = record { judged = judge (rest_of problem b p) refl (rest_gives problem b p); not_refused = λ left e h. absurd (fails left e h); unique = λ e f h k not not'. once e f h k }
     where
-      go : (r : Result (List Term) ReduceFault) → rest_of problem b p ≡ r → Gives IsCanonical r → Ends p
-      go (Ok rest) is canonical = leaves (record { terms = rest; canonical = canonical }) is
-      go (Err e) is exact = let found = cause_of e exact in stops e found.0 is found.1
+      by : (rest : Poly) → rest_of problem b p ≡ Ok rest.terms → IsDecided (rest.terms ≡ asked)
+          → (rest_of problem b p ≡ Ok asked) ⊎ ((e : ClosedRefusal) × Tells p asked tell e × (IsMemory e → ⊥))
+      by rest is (inl same) = inl (is ∙ ap Ok same)
+      by rest is (inr other) = inr (tell rest, leaves rest is other refl, exact rest)
 
-  stopped : (p : Part) → Reaches problem b p → (e : ReduceFault) (c : Cause) → rest_of problem b p ≡ Err e → IsCauseOf e c → IsRefused
-  stopped p reached e c is because = (refusal.Stopped p c, record { reached = reached; fault = e; stopped = is; cause = because }, λ memory. memory)
+      judge : (r : Rest) → rest_of problem b p ≡ r → Gives IsCanonical r → (rest_of problem b p ≡ Ok asked) ⊎ ((e : ClosedRefusal) × Tells p asked tell e × (IsMemory e → ⊥))
+      judge (Ok rest) is canonical = by (record { terms = rest; canonical = canonical }) is (terms_decided rest asked)
+      judge (Err f) is found = let c = cause_of f found in inr (refusal.Stopped p c.0, stops f c.0 is c.1 refl, λ none. none)
 
-  generator_judged : (n : ℕ) → Reaches problem b (part.Generator n) → LeavesZero problem b (part.Generator n) ⊎ IsRefused
-  generator_judged n reached = go (ends (part.Generator n))
+      fails : rest_of problem b p ≡ Ok asked → (e : ClosedRefusal) → Tells p asked tell e → ⊥
+      fails left e (leaves rest is other told) = other (one_rest (rest_of problem b p) rest.terms asked is left)
+      fails left e (stops f c is from told) = no_fault (rest_of problem b p) asked f left is
+
+      once : (e f : ClosedRefusal) → Tells p asked tell e → Tells p asked tell f → e ≡ f
+      once e f (leaves rest is other told) (leaves rest' is' other' told') = told ∙ ap tell (same_poly rest rest' (one_rest (rest_of problem b p) rest.terms rest'.terms is is')) ∙ sym told'
+      once e f (leaves rest is other told) (stops g c is' from told') = absurd (no_fault (rest_of problem b p) rest.terms g is is')
+      once e f (stops g c is from told) (leaves rest is' other told') = absurd (no_fault (rest_of problem b p) rest.terms g is' is)
+      once e f (stops g c is from told) (stops h d is' from' told') =
+          told ∙ ap (refusal.Stopped p) (cause_once g c d from (subst (λ (x : ReduceFault). IsCauseOf x d) (sym (one_fault (rest_of problem b p) g h is is')) from')) ∙ sym told'
+
+  -- of a part that leaves zero or is refused
+  told_part : (p : Part) (tell : Poly → ClosedRefusal) → Reaches problem b p → ((rest : Poly) → rest_of problem b p ≡ Ok rest.terms → rest.terms ≢ [] → Refuses problem b (tell rest))
+      → (e : ClosedRefusal) → Tells p [] tell e → Refuses problem b e
+  told_part p tell reached left e (leaves rest is other told) = subst (Refuses problem b) (sym told) (left rest is other)
+  told_part p tell reached left e (stops f c is from told) = subst (Refuses problem b) (sym told) (record { reached = reached; fault = f; stopped = is; cause = from })
+
+  -- generators, by their numbers
+  abbrev count : ℕ
+  count = length problem.generators
+
+  abbrev Vanishes : ℕ → Type 0
+  Vanishes k = LeavesZero problem b (part.Generator (k + 1))
+
+  abbrev TellsGenerator : ℕ → ClosedRefusal → Type 0
+  TellsGenerator k = Tells (part.Generator (k + 1)) [] (refusal.GeneratorLeft (k + 1))
+
+  generators_pass : (n : ℕ) → PassUpTo Vanishes n → GeneratorsPass problem b n
+  generators_pass n pass = record { at = at }
     where
-      go : Ends (part.Generator n) → LeavesZero problem b (part.Generator n) ⊎ IsRefused
-      go (stops e c is because) = inr (stopped (part.Generator n) reached e c is because)
-      go (leaves rest is) = by (terms_decided rest.terms [])
-        where
-          by : Decided (rest.terms ≡ []) → LeavesZero problem b (part.Generator n) ⊎ IsRefused
-          by (inl none) = inl (is ∙ ap Ok none)
-          by (inr some) = inr (refusal.GeneratorLeft n rest, record { reached = reached; left = is; nonzero = some }, λ memory. memory)
+      at : (number : ℕ) → 1 ≤ number → number ≤ n → LeavesZero problem b (part.Generator number)
+      at number least most =
+          let same : number - 1 + 1 ≡ number = omega (arith, least) in
+          subst (λ k. LeavesZero problem b (part.Generator k)) same (pass.at (number - 1) (omega (arith, least, most)))
 
-  ambiguity_judged : (a : Ambiguity) → Reaches problem b (part.Ambiguity a) → LeavesZero problem b (part.Ambiguity a) ⊎ IsRefused
-  ambiguity_judged a reached = go (ends (part.Ambiguity a))
+  generators_outcome : HasOneOutcome IsMemory (PassUpTo Vanishes count) (FailsFirst Vanishes TellsGenerator count)
+  generators_outcome = tests_up_to Vanishes TellsGenerator count (λ k inside earlier. part_outcome (part.Generator (k + 1)) [] (refusal.GeneratorLeft (k + 1)) (λ rest none. none))
+
+  told_generator : HasRules problem b → (e : ClosedRefusal) → FailsFirst Vanishes TellsGenerator count e → Refuses problem b e
+  told_generator has e h =
+      let reached = generator_reached problem b has h.number h.inside (generators_pass h.number h.earlier) in
+      told_part (part.Generator (h.number + 1)) (refusal.GeneratorLeft (h.number + 1)) reached (λ rest is some. record { reached = reached; left = is; nonzero = some }) e h.fails
+
+  generator_tells : (number : ℕ) → Reaches problem b (part.Generator number) → (e : ClosedRefusal) → Tells (part.Generator number) [] (refusal.GeneratorLeft number) e → FailsFirst Vanishes TellsGenerator count e
+  generator_tells number reached e tells =
+      let least = reached.part.least in
+      let most = reached.part.most in
+      let same : number ≡ number - 1 + 1 = omega (arith, least) in
+      record {
+        number = number - 1;
+        inside = omega (arith, least, most);
+        earlier = record { at = λ k below. reached.earlier (part.Generator (k + 1)) (record { least = omega arith; most = omega (arith, least, most, below) }) (omega (arith, least, below)) };
+        fails = subst (λ k. Tells (part.Generator k) [] (refusal.GeneratorLeft k) e) same tells;
+      }
+
+  -- ambiguities, in their order
+  listed : CanBeListed (order_of problem) (rules_of problem b)
+  listed = ambiguities_can_be_listed 0 (order_of problem) (asked_rank 0 problem.parts.order) (rules_of problem b) (order_laws problem 0)
+
+  abbrev found : List Ambiguity
+  found = listed.found
+
+  abbrev Resolves : ℕ → Type 0
+  Resolves i = (a : Ambiguity) → slice_get found i ≡ Some a → LeavesZero problem b (part.Ambiguity a)
+
+  abbrev TellsAmbiguity : ℕ → ClosedRefusal → Type 0
+  TellsAmbiguity i e = (a : Ambiguity) × (slice_get found i ≡ Some a) × Tells (part.Ambiguity a) [] (refusal.AmbiguityLeft a) e
+
+  there : (i : ℕ) (a : Ambiguity) → i < length found → get_or found i a ≡ a → slice_get found i ≡ Some a
+  there i a inside is = slice_get-get_or found i a inside ∙ ap Some is
+
+  ambiguities_pass : PassUpTo Resolves (length found) → AmbiguitiesPass problem b
+  ambiguities_pass pass = record { at = λ a is. by a ((listed.all.members a).1 is) }
     where
-      go : Ends (part.Ambiguity a) → LeavesZero problem b (part.Ambiguity a) ⊎ IsRefused
-      go (stops e c is because) = inr (stopped (part.Ambiguity a) reached e c is because)
-      go (leaves rest is) = by (terms_decided rest.terms [])
-        where
-          by : Decided (rest.terms ≡ []) → LeavesZero problem b (part.Ambiguity a) ⊎ IsRefused
-          by (inl none) = inl (is ∙ ap Ok none)
-          by (inr some) = inr (refusal.AmbiguityLeft a rest, record { reached = reached; left = is; nonzero = some }, λ memory. memory)
+      by : (a : Ambiguity) → Contains found a → LeavesZero problem b (part.Ambiguity a)
+      by a (i, inside, at) = pass.at i inside a (there i a inside at)
 
-  -- the claim leaves what the basis says, which is not zero
-  record IsAsSaid : Type 0 where
-    left : rest_of problem b part.Claim ≡ Ok b.rest.terms
-    nonzero : b.rest.terms ≢ []
+  resolve : AmbiguitiesPass problem b → PassUpTo Resolves (length found)
+  resolve pass = record { at = λ i inside a at. pass.at a ((listed.all.members a).0 (i, inside, get_or_from_slice_get found i a a at)) }
 
-  claim_judged : Reaches problem b part.Claim → IsAsSaid ⊎ IsRefused
-  claim_judged reached = go (ends part.Claim)
+  ambiguities_outcome : HasOneOutcome IsMemory (PassUpTo Resolves (length found)) (FailsFirst Resolves TellsAmbiguity (length found))
+  ambiguities_outcome =
+      tests_up_to Resolves TellsAmbiguity (length found)
+      (λ i inside earlier. item_test found i inside (λ a at. part_outcome (part.Ambiguity a) [] (refusal.AmbiguityLeft a) (λ rest none. none)))
+
+  told_ambiguity : HasRules problem b → GeneratorsPass problem b count → (e : ClosedRefusal) → FailsFirst Resolves TellsAmbiguity (length found) e → Refuses problem b e
+  told_ambiguity has pass e h =
+      told_part (part.Ambiguity a) (refusal.AmbiguityLeft a) reached (λ rest is some. record { reached = reached; left = is; nonzero = some }) e h.fails.2
     where
-      go : Ends part.Claim → IsAsSaid ⊎ IsRefused
-      go (stops e c is because) = inr (stopped part.Claim reached e c is because)
-      go (leaves rest is) = by (terms_decided rest.terms b.rest.terms) (terms_decided b.rest.terms [])
-        where
-          by : Decided (rest.terms ≡ b.rest.terms) → Decided (b.rest.terms ≡ []) → IsAsSaid ⊎ IsRefused
-          by (inr other) zero_or_not = inr (refusal.OtherRest rest, record { reached = reached; left = is; other = other }, λ memory. memory)
-          by (inl same) (inl none) = inr (refusal.ZeroRest, record { reached = reached; left = is ∙ ap Ok (same ∙ none); said = none }, λ memory. memory)
-          by (inl same) (inr some) = inl (record { left = is ∙ ap Ok same; nonzero = some })
+      a : Ambiguity
+      a = h.fails.0
 
-  -- one part after another
-  module _ (has_rules : HasRules problem b) where
-    -- nothing is left of the generators up to a number
-    abbrev AreZeroUpTo : ℕ → Type 0
-    AreZeroUpTo n = (number : ℕ) → IsNumberUpTo n number → LeavesZero problem b (part.Generator number)
+      at : get_or found h.number a ≡ a
+      at = get_or_from_slice_get found h.number a a h.fails.1
 
-    generators_judged : (n : ℕ) → n ≤ length problem.generators → AreZeroUpTo n ⊎ IsRefused
-    generators_judged zero most = inl (λ number is. absurd (omega (arith, is.least, is.most)))
-    generators_judged (suc n) most = go (generators_judged n (omega (arith, most)))
-      where
-        one_more : AreZeroUpTo n → LeavesZero problem b (part.Generator (suc n)) → AreZeroUpTo (suc n)
-        one_more before here number is = by (cases_lt n number)
-          where
-            by : (n < number) ⊎ (number ≤ n) → LeavesZero problem b (part.Generator number)
-            by (inl last) = let same : suc n ≡ number = omega (arith, last, is.most) in subst (λ k. LeavesZero problem b (part.Generator k)) same here
-            by (inr below) = before number (record { least = is.least; most = below })
+      passed : All (λ x. LeavesZero problem b (part.Ambiguity x)) (take h.number found)
+      passed k d below =
+          let short = length-take-le h.number found (let inside = h.inside in omega (arith, inside)) in
+          let before : k < h.number = omega (arith, below, short) in
+          let inside : k < length found = let last = h.inside in omega (arith, before, last) in
+          subst (λ x. LeavesZero problem b (part.Ambiguity x)) (sym (get_or-take h.number found k d before)) (h.earlier.at k before (get_or found k d) (slice_get-get_or found k d inside))
 
-        earlier : AreZeroUpTo n → (other : Part) → IsPart problem b other → ComesBefore problem b other (part.Generator (suc n)) → LeavesZero problem b other
-        earlier before (part.Generator m) is less = before m (record { least = is.least; most = omega (arith, less) })
-        earlier before (part.Ambiguity a) is less = absurd less
-        earlier before part.Claim is less = absurd less
+      reached : Reaches problem b (part.Ambiguity a)
+      reached = subst (λ x. Reaches problem b (part.Ambiguity x)) at (ambiguity_reached problem b has pass found listed.all h.number a h.inside passed)
 
-        after_it : AreZeroUpTo n → LeavesZero problem b (part.Generator (suc n)) ⊎ IsRefused → AreZeroUpTo (suc n) ⊎ IsRefused
-        after_it before (inl here) = inl (one_more before here)
-        after_it before (inr refused) = inr refused
-
-        go : AreZeroUpTo n ⊎ IsRefused → AreZeroUpTo (suc n) ⊎ IsRefused
-        go (inr refused) = inr refused
-        go (inl before) =
-            after_it before
-            (generator_judged (suc n) (record { has_rules = has_rules; part = record { least = omega arith; most = most }; earlier = earlier before }))
-
-    module _ (generators : AreZeroUpTo (length problem.generators)) where
-      abbrev IsBefore : Ambiguity → Ambiguity → Type 0
-      IsBefore = IsBeforeByWord (order_of problem) (rules_of problem b)
-
-      laws : IsAdmissible 0 (order_of problem) (asked_rank 0 problem.parts.order)
-      laws = order_laws problem 0
-
-      abbrev IsZeroAt : Ambiguity → Type 0
-      IsZeroAt a = LeavesZero problem b (part.Ambiguity a)
-
-      -- Nothing is left of the ambiguities that aren't listed; those that are listed ascend.
-      ambiguities_judged : (found : List Ambiguity) → AllPairs IsBefore found → ((a : Ambiguity) → Contains found a → IsAmbiguity (rules_of problem b) a)
-          → ((a : Ambiguity) → IsAmbiguity (rules_of problem b) a → Contains found a ⊎ IsZeroAt a)
-          → ((a : Ambiguity) → IsAmbiguity (rules_of problem b) a → IsZeroAt a) ⊎ IsRefused
-      ambiguities_judged [] pairs are others = inl (λ a is. go a (others a is))
-        where
-          go : (a : Ambiguity) → Contains [] a ⊎ IsZeroAt a → IsZeroAt a
-          go a (inl (k, inside, at)) = absurd (omega (arith, inside))
-          go a (inr none) = none
-      ambiguities_judged (c ∷ found) pairs are others =
-          after_it (ambiguity_judged c (record { has_rules = has_rules; part = are c (contains-first c found); earlier = earlier }))
-          (ambiguities_judged found (rest-pairs IsBefore c found pairs) (λ a at. are a (contains-rest c found a at)))
-        where
-          before_none : (a : Ambiguity) → IsBefore a c → (c ≡ a) ⊎ Contains found a → ⊥
-          before_none a less (inl same) = not_before_itself (order_of problem) laws.total (rules_of problem b) c (subst (λ x. IsBefore x c) (sym same) less)
-          before_none a less (inr later) =
-              not_before_each_other (order_of problem) laws.total (rules_of problem b) a c less (first-before IsBefore c found pairs a later)
-
-          of_ambiguity : (a : Ambiguity) → IsBefore a c → Contains (c ∷ found) a ⊎ IsZeroAt a → IsZeroAt a
-          of_ambiguity a less (inl at) = absurd (before_none a less (contains-cases c found a at))
-          of_ambiguity a less (inr none) = none
-
-          earlier : (other : Part) → IsPart problem b other → ComesBefore problem b other (part.Ambiguity c) → LeavesZero problem b other
-          earlier (part.Generator m) is less = generators m is
-          earlier (part.Ambiguity a) is less = of_ambiguity a less (others a is)
-          earlier part.Claim is less = absurd less
-
-          sorted_out : IsZeroAt c → (a : Ambiguity) → Contains (c ∷ found) a ⊎ IsZeroAt a → Contains found a ⊎ IsZeroAt a
-          sorted_out none a (inr zero_too) = inr zero_too
-          sorted_out none a (inl at) = go (contains-cases c found a at)
-            where
-              go : (c ≡ a) ⊎ Contains found a → Contains found a ⊎ IsZeroAt a
-              go (inl same) = inr (subst IsZeroAt same none)
-              go (inr later) = inl later
-
-          after_it : IsZeroAt c ⊎ IsRefused
-              → (((a : Ambiguity) → IsAmbiguity (rules_of problem b) a → Contains found a ⊎ IsZeroAt a)
-              → ((a : Ambiguity) → IsAmbiguity (rules_of problem b) a → IsZeroAt a) ⊎ IsRefused)
-              → ((a : Ambiguity) → IsAmbiguity (rules_of problem b) a → IsZeroAt a) ⊎ IsRefused
-          after_it (inr refused) further = inr refused
-          after_it (inl none) further = further (λ a is. sorted_out none a (others a is))
-
-      all_judged : ((a : Ambiguity) → IsAmbiguity (rules_of problem b) a → IsZeroAt a) ⊎ IsRefused
-      all_judged =
-          let listed = ambiguities_can_be_listed 0 (order_of problem) (asked_rank 0 problem.parts.order) (rules_of problem b) laws in
-          ambiguities_judged listed.found listed.all.ascending (λ a at. (listed.all.members a).0 at) (λ a is. inl ((listed.all.members a).1 is))
-
-      before_claim : ((a : Ambiguity) → IsAmbiguity (rules_of problem b) a → IsZeroAt a) → (other : Part) → IsPart problem b other
-          → ComesBefore problem b other part.Claim → LeavesZero problem b other
-      before_claim none (part.Generator m) is less = generators m is
-      before_claim none (part.Ambiguity a) is less = none a is
-      before_claim none part.Claim is less = absurd less
-
-      with_ambiguities : ((a : Ambiguity) → IsAmbiguity (rules_of problem b) a → IsZeroAt a) → IsClosedBasis problem b ⊎ IsRefused
-      with_ambiguities none = go (claim_judged (record { has_rules = has_rules; part = tt; earlier = before_claim none }))
-        where
-          go : IsAsSaid ⊎ IsRefused → IsClosedBasis problem b ⊎ IsRefused
-          go (inl claim) = inl (record { has_rules = has_rules; generators = generators; ambiguities = none; claim = claim.left; nonzero = claim.nonzero })
-          go (inr refused) = inr refused
-
-      with_generators : IsClosedBasis problem b ⊎ IsRefused
-      with_generators = go all_judged
-        where
-          go : ((a : Ambiguity) → IsAmbiguity (rules_of problem b) a → IsZeroAt a) ⊎ IsRefused → IsClosedBasis problem b ⊎ IsRefused
-          go (inl none) = with_ambiguities none
-          go (inr refused) = inr refused
-
-    with_rules : IsClosedBasis problem b ⊎ IsRefused
-    with_rules = go (generators_judged (length problem.generators) (omega arith))
-      where
-        go : AreZeroUpTo (length problem.generators) ⊎ IsRefused → IsClosedBasis problem b ⊎ IsRefused
-        go (inl none) = with_generators none
-        go (inr refused) = inr refused
-
-  with_claim : NamesClaim problem b → IsClosedBasis problem b ⊎ IsRefused
-  with_claim claim = go (rules_decided (order_of problem) b.rules)
+  ambiguity_tells : (a : Ambiguity) → Reaches problem b (part.Ambiguity a) → (e : ClosedRefusal) → Tells (part.Ambiguity a) [] (refusal.AmbiguityLeft a) e → FailsFirst Resolves TellsAmbiguity (length found) e
+  ambiguity_tells a reached e tells = by ((listed.all.members a).1 reached.part)
     where
-      go : AllByRecursion (MayBeRule (order_of problem)) b.rules ⊎ FirstNoRule (order_of problem) b.rules → IsClosedBasis problem b ⊎ IsRefused
-      go (inl each) = with_rules (record { claim = claim; rules = All-from_recursion (MayBeRule (order_of problem)) b.rules each })
-      go (inr first) = inr (
-        refusal.NotRule (first.before + 1),
-        record {
-          claim = claim;
-          before = first.before;
-          poly = first.poly;
-          numbered = refl;
-          there = first.there;
-          earlier = All-from_recursion (MayBeRule (order_of problem)) (take first.before b.rules) first.earlier;
-          refused = first.refused;
-        },
-        λ memory. memory,
-      )
+      by : Contains found a → FailsFirst Resolves TellsAmbiguity (length found) e
+      by (i, inside, at) = record { number = i; inside = inside; earlier = record { at = earlier }; fails = (a, there i a inside at, tells) }
+        where
+          earlier : (k : ℕ) → k < i → Resolves k
+          earlier k below x is =
+              let within : k < length found = omega (arith, below, inside) in
+              let here : get_or found k a ≡ x = get_or_from_slice_get found k x a is in
+              reached.earlier (part.Ambiguity x) ((listed.all.members x).0 (k, within, get_or_from_slice_get found k x x is))
+              (subst (λ (p : Ambiguity × Ambiguity). IsBeforeByWord (order_of problem) (rules_of problem b) p.0 p.1) (λ n. (here n, at n)) (listed.all.ascending k i a below inside))
 
-  judged : IsClosedBasis problem b ⊎ IsRefused
-  judged = go (number_decided (length problem.parts.claims) b.claim)
+  -- the tests in order
+  abbrev IsSaid : Type 0
+  IsSaid = rest_of problem b part.Claim ≡ Ok b.rest.terms
+
+  abbrev TellsLater : ClosedRefusal → Type 0
+  TellsLater e =
+      FailsFirst Vanishes TellsGenerator count e
+      ⊎ (PassUpTo Vanishes count × (FailsFirst Resolves TellsAmbiguity (length found) e
+      ⊎ (PassUpTo Resolves (length found) × (Tells part.Claim b.rest.terms refusal.OtherRest e
+      ⊎ (IsSaid × ((e ≡ refusal.ZeroRest) × ((b.rest.terms ≢ []) → ⊥)))))))
+
+  abbrev MayAll : Type 0
+  MayAll = All (MayBeRule (order_of problem)) b.rules
+
+  abbrev TellsAll : ClosedRefusal → Type 0
+  TellsAll e =
+      ((e ≡ refusal.NoSuchClaim) × (NamesClaim problem b → ⊥))
+      ⊎ (NamesClaim problem b × (((first : FirstNot (MayBeRule (order_of problem)) b.rules) × (e ≡ refusal.NotRule (first.before + 1))) ⊎ (MayAll × TellsLater e)))
+
+  told_later : HasRules problem b → (e : ClosedRefusal) → TellsLater e → Refuses problem b e
+  told_later has e (inl h) = told_generator has e h
+  told_later has e (inr (generators, inl h)) = told_ambiguity has (generators_pass count generators) e h
+  told_later has e (inr (generators, inr (resolved, h))) = by h
     where
-      go : Decided (NamesClaim problem b) → IsClosedBasis problem b ⊎ IsRefused
-      go (inl claim) = with_claim claim
-      go (inr none) = inr (refusal.NoSuchClaim, none, λ memory. memory)
+      reached : Reaches problem b part.Claim
+      reached = claim_reached problem b has (generators_pass count generators) (ambiguities_pass resolved)
+
+      none_said : ((b.rest.terms ≢ []) → ⊥) → IsDecided (b.rest.terms ≡ []) → b.rest.terms ≡ []
+      none_said fails (inl none) = none
+      none_said fails (inr some) = absurd (fails some)
+
+      by : Tells part.Claim b.rest.terms refusal.OtherRest e ⊎ (IsSaid × ((e ≡ refusal.ZeroRest) × ((b.rest.terms ≢ []) → ⊥))) → Refuses problem b e
+      by (inl (leaves rest is other told)) = subst (Refuses problem b) (sym told) (record { reached = reached; left = is; other = other })
+      by (inl (stops f c is from told)) = subst (Refuses problem b) (sym told) (record { reached = reached; fault = f; stopped = is; cause = from })
+      by (inr (said, (is, fails))) =
+          let none = none_said fails (terms_decided b.rest.terms []) in
+          subst (Refuses problem b) (sym is) (record { reached = reached; left = said ∙ ap Ok none; said = none })
+
+  told_all : (e : ClosedRefusal) → TellsAll e → Refuses problem b e
+  told_all e (inl (is, none)) = subst (Refuses problem b) (sym is) none
+  told_all e (inr (claim, inl (first, is))) =
+      subst (Refuses problem b) (sym is) (record { claim = claim; before = first.before; poly = first.item; numbered = refl; there = first.there; earlier = first.earlier; refused = first.fails })
+  told_all e (inr (claim, inr (each, later))) = told_later (record { claim = claim; rules = each }) e later
+
+  later : (e : ClosedRefusal) → HasRules problem b → TellsLater e → TellsAll e
+  later e has tells = inr (has.claim, inr (has.rules, tells))
+
+  generators_before : (p : Part) (reached : Reaches problem b p) → ((k : ℕ) → k < count → ComesBefore problem b (part.Generator (k + 1)) p) → PassUpTo Vanishes count
+  generators_before p reached before = record { at = λ k below. reached.earlier (part.Generator (k + 1)) (record { least = omega arith; most = omega (arith, below) }) (before k below) }
+
+  of_ambiguity : (a : Ambiguity) → Reaches problem b (part.Ambiguity a) → (e : ClosedRefusal) → Tells (part.Ambiguity a) [] (refusal.AmbiguityLeft a) e → TellsAll e
+  of_ambiguity a reached e tells = later e reached.has_rules (inr (generators_before (part.Ambiguity a) reached (λ k below. tt), inl (ambiguity_tells a reached e tells)))
+
+  of_claim : Reaches problem b part.Claim → (e : ClosedRefusal) → Tells part.Claim b.rest.terms refusal.OtherRest e ⊎ (IsSaid × ((e ≡ refusal.ZeroRest) × ((b.rest.terms ≢ []) → ⊥))) → TellsAll e
+  of_claim reached e tells =
+      later e reached.has_rules
+      (inr (generators_before part.Claim reached (λ k below. tt), inr (resolve (record { at = λ a is. reached.earlier (part.Ambiguity a) is tt }), tells)))
+
+  tells_all : (e : ClosedRefusal) → Refuses problem b e → (IsMemory e → ⊥) → TellsAll e
+  tells_all refusal.NoSuchClaim h not = inl (refl, h)
+  tells_all (refusal.NotRule n) h not =
+      inr (h.claim, inl (record { before = h.before; item = h.poly; there = h.there; earlier = h.earlier; fails = h.refused }, ap refusal.NotRule h.numbered))
+  tells_all (refusal.GeneratorLeft n rest) h not = later (refusal.GeneratorLeft n rest) h.reached.has_rules (inl (generator_tells n h.reached (refusal.GeneratorLeft n rest) (leaves rest h.left h.nonzero refl)))
+  tells_all (refusal.AmbiguityLeft a rest) h not = of_ambiguity a h.reached (refusal.AmbiguityLeft a rest) (leaves rest h.left h.nonzero refl)
+  tells_all (refusal.OtherRest rest) h not = of_claim h.reached (refusal.OtherRest rest) (inl (leaves rest h.left h.other refl))
+  tells_all refusal.ZeroRest h not = of_claim h.reached refusal.ZeroRest (inr (h.left ∙ ap Ok (sym h.said), (refl, λ some. some h.said)))
+  tells_all (refusal.Stopped (part.Generator n) c) h not =
+      later (refusal.Stopped (part.Generator n) c) h.reached.has_rules (inl (generator_tells n h.reached (refusal.Stopped (part.Generator n) c) (stops h.fault c h.stopped h.cause refl)))
+  tells_all (refusal.Stopped (part.Ambiguity a) c) h not = of_ambiguity a h.reached (refusal.Stopped (part.Ambiguity a) c) (stops h.fault c h.stopped h.cause refl)
+  tells_all (refusal.Stopped part.Claim c) h not = of_claim h.reached (refusal.Stopped part.Claim c) (inl (stops h.fault c h.stopped h.cause refl))
+  tells_all (refusal.Memory failed) h not = absurd (not tt)
+
+  pub basis_outcome : HasOneOutcome IsMemory (IsClosedBasis problem b) (Refuses problem b)
+  basis_outcome =
+      reworded memory_decided
+      (λ h. let gens = generators_pass count h.1.1.0 in record {
+        has_rules = record { claim = h.0; rules = h.1.0 };
+        generators = λ number is. gens.at number is.least is.most;
+        ambiguities = (ambiguities_pass h.1.1.1.0).at;
+        claim = h.1.1.1.1.0;
+        nonzero = h.1.1.1.1.1;
+      })
+      (λ h. (h.has_rules.claim, (h.has_rules.rules, (record { at = λ k below. h.generators (k + 1) (record { least = omega arith; most = omega (arith, below) }) }, (resolve (record { at = h.ambiguities }), (h.claim, h.nonzero))))))
+      (λ e h not. told_all e h) tells_all
+      (then_test (one_test refusal.NoSuchClaim (λ none. none) named)
+      (λ claim. then_test (each_test (MayBeRule (order_of problem)) refusal.NotRule (λ n none. none) b.rules (λ i p at. rule_decided (order_of problem) p))
+      (λ rules. then_test generators_outcome
+      (λ generators. then_test ambiguities_outcome
+      (λ resolved. then_test (part_outcome part.Claim b.rest.terms refusal.OtherRest (λ rest none. none))
+      (λ said. one_test refusal.ZeroRest (λ none. none) (some_said (terms_decided b.rest.terms []))))))))
+    where
+      named : IsDecided (NamesClaim problem b)
+      named = decided_by (λ h. record { least = h.0; most = h.1 }) (λ is. (is.least, is.most)) (both_decided (le_decided 1 b.claim) (le_decided b.claim (length problem.parts.claims)))
+
+      some_said : IsDecided (b.rest.terms ≡ []) → IsDecided (b.rest.terms ≢ [])
+      some_said (inl none) = inr (λ some. some none)
+      some_said (inr some) = inl some
+
+  pub has_all : (n : ℕ) → LacksRule problem b n → All (MayBeRule (order_of problem)) b.rules → ⊥
+  has_all n h each = not_each (MayBeRule (order_of problem)) b.rules (record { before = h.before; item = h.poly; there = h.there; earlier = h.earlier; fails = h.refused }) each
 
 pub each_basis_is_judged : EachBasisIsJudged
-each_basis_is_judged problem b = judged problem b
+each_basis_is_judged problem b = (basis_outcome problem b).judged
+
+pub basis_refusal_is_unique : BasisRefusalIsUnique
+basis_refusal_is_unique problem b = (basis_outcome problem b).unique
+
+pub closed_basis_is_not_refused : ClosedBasisIsNotRefused
+closed_basis_is_not_refused problem b e closed = (basis_outcome problem b).not_refused closed e
+
+-- so what is refused of a closed one is want of memory
+pub complete : {T : Type 0} (problem : Problem) (b : Basis) (result : Result T ClosedRefusal) → IfErr result (Refuses problem b) → IsClosedBasis problem b → IfErr result IsMemory
+complete problem b (Ok x) refused closed = tt
+complete problem b (Err e) refused closed = closed_basis_is_not_refused problem b e closed refused

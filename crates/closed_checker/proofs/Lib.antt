@@ -3,13 +3,11 @@ pub mod ProblemLetters
 pub mod Passing
 pub mod MadeRules
 pub mod PartAnswers
-pub mod NotRefused
 pub mod ByNumber
 pub mod BasisRules
 pub mod RulesDecided
 pub mod PartRests
 pub mod PartOrder
-pub mod Refusals
 pub mod Judged
 pub mod ClosedMeaning
 mod Examples

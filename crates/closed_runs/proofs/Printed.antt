@@ -57,10 +57,9 @@ use Rattle.closed_checker.specs.Limits.{step_limit}
 use Rattle.closed_checker.specs.Rests.{order_of, rules_from, rules_of, rest_in, rest_by, rest_of, MayBeRule}
 use Rattle.closed_checker.specs.Closed.{IsNumberUpTo, NamesClaim, IsClosedBasis, Refuses, IsMemory}
 use Rattle.closed_checker.proofs.ClosedMeaning.{no_rest, zero_is_empty, reduction_of}
-use Rattle.closed_checker.proofs.Judged.{each_basis_is_judged}
+use Rattle.closed_checker.proofs.Judged.{each_basis_is_judged, has_all}
 use Rattle.closed_checker.proofs.ByNumber.{canonical_at, generator_over}
 use Rattle.closed_checker.proofs.PartOrder.{order_laws}
-use Rattle.closed_checker.proofs.Refusals.{has_all}
 use Rattle.closed_runs.specs.Printed.{IsPrinted, IsStop, PrintedBasesAreConfirmed}
 use Rattle.closed_runs.proofs.EndedReductions.{ended_once}
 use Rattle.closed_runs.proofs.MadeRules.{runs_are_primitive}

@@ -1,209 +1,204 @@
--- Each certificate is accepted, or one of its tests is the first that fails.
-use Rattle.std.proofs.Common.{◌≡◌, ◌≢◌, ◌⊎◌, inl, inr, ℕ, zero, suc, ◌+◌, ◌<◌, ◌≤◌, ℤ, pos, negsuc, ◌≤ℤ◌, ◌<ℤ◌, List, [], ◌∷◌, ◌++◌, length, take, Bool, true, false, Option, Some, None, slice_get, refl, sym, subst, ap, ◌∙◌, arith, true≢false}
-use Rattle.std.specs.List.{AllByRecursion}
-use Rattle.std.specs.Ordering.{int_eq}
-use Rattle.std.specs.declared.cmp.Ordering.{Ordering}
-use Rattle.std.specs.declared.cmp.Ordering.TheVariants.{Less, Equal, Greater}
-use Rattle.std.proofs.lemmas.Bool.{cases_lt}
-use Rattle.std.proofs.lemmas.Bool.Decides.{Decides-int_eq}
+-- Evidence of either format has exactly one outcome: it is accepted, or one of its tests is the first that fails.
+use Rattle.std.proofs.Common.{◌≡◌, ◌⊎◌, inl, inr, ℕ, ◌+◌, ℤ, pos, ◌≤ℤ◌, List, [], length, All, Option, Some, None, Result, Ok, Err, IfErr, refl, sym, subst, ap, arith}
 use Rattle.std.proofs.lemmas.Int.{ints}
 use Rattle.coef_int.specs.declared.Overflow.{Overflow}
 use Rattle.coef_int.specs.Operations.{first_overflow}
-use Rattle.word_core.specs.Canonical.{word_cmp}
-use Rattle.word_core.proofs.Order.{word_cmp-itself, word_cmp-turned, word_cmp-turned_back, word_cmp-trans}
+use Rattle.definitions.specs.Poly.{Poly, poly_multiple, SamePolynomial}
+use Rattle.definitions.specs.Combination.{row_sum}
 use Rattle.nc_polynomial.specs.Terms.{products}
 use Rattle.traced_rows.specs.declared.certificate.Certificate.{Certificate}
+use Rattle.traced_rows.specs.declared.evidence.Lemma.{Lemma}
+use Rattle.traced_rows.specs.declared.evidence.LemmaCertificate.{LemmaCertificate}
+use Rattle.traced_rows.specs.declared.evidence.Evidence.TheVariants.{Plain, Lemmas}
 use Rattle.traced_rows.specs.Rows.{rows_of}
-use Rattle.definitions.specs.Poly.{word_eq, coefficient_of, poly_multiple, SamePolynomial}
-use Rattle.definitions.specs.Combination.{Row, row_sum}
-use Rattle.definitions.proofs.Linear.{word_eq-true, coefficient_other}
-use Rattle.cofactor_checker.specs.Operations.{row_operations}
-use Rattle.cofactor_checker.specs.Rows.{term_count, IsNumberUpTo, RowPasses, RowsPass, Reaches}
-use Rattle.cofactor_checker.specs.Difference.{IsLeastDifference}
-use Rattle.cofactor_checker.specs.Acceptance.{claim_of, IsPosed, Begins, AddsUp, Accepts, Refuses, IsMemory}
+use Rattle.common_lemmas.proofs.Decided.{IsDecided, decided_by, both_decided}
+use Rattle.common_lemmas.proofs.FirstFailure.{HasOneOutcome, FirstNot, each_decided, one_test, value_test, each_test, then_test, reworded}
+use Rattle.cofactor_checker.specs.declared.accepted.Accepted.{Accepted}
+use Rattle.cofactor_checker.specs.Rows.{IsNumberUpTo, RowsPass}
+use Rattle.cofactor_checker.specs.RowRefusals.{RefusesRow}
+use Rattle.cofactor_checker.specs.Lemmas.{LemmasPass, RefusesLemmaRows, RefusesLemmas, row_count}
+use Rattle.cofactor_checker.specs.Acceptance.{claim_of, Begins, Accepts, Refuses, IsMemory}
+use Rattle.cofactor_checker.specs.LemmaAcceptance.{goal_claim, all_polynomials, HasScale, IsTight, IsPositive, GoalIsPosed, HasShares, GoalBegins, IsFirstLoose, HasLooseGoal, AcceptsLemmas, RefusesBlock, RefusesLemmaCertificate}
+use Rattle.cofactor_checker.specs.Goals.{ReachesClaim, RefusesGoal}
+use Rattle.cofactor_checker.specs.Evidence.{AcceptsEvidence, RefusesEvidence}
+use Rattle.cofactor_checker.specs.Laws.{EachCertificateIsJudged, RefusalIsUnique, EvidenceIsJudged, EvidenceRefusalIsUnique, AcceptedEvidenceIsNotRefused}
 use Rattle.cofactor_checker.specs.declared.refusal.Refusal.{Refusal}
 use Rattle.cofactor_checker.specs.declared.refusal.Refusal.TheVariants as refusal
-use Rattle.cofactor_checker.specs.Laws.{EachCertificateIsJudged}
+use Rattle.traced_rows.specs.declared.evidence.Evidence.{Evidence}
+use Rattle.cofactor_checker.proofs.Differences.{TellsDifference, difference_outcome}
+use Rattle.cofactor_checker.proofs.RowTests.{memory_decided, numbered_or, certificate_rows, goal_outcome}
+use Rattle.cofactor_checker.proofs.LemmaTests.{divides_or, positive_or, below_one, lemmas_outcome}
+use Rattle.cofactor_checker.proofs.Outcomes.{refuses_from_row}
+use Rattle.cofactor_checker.proofs.LemmaOutcomes.{refuses_from_lemmas, refuses_from_goal}
 
--- the coefficient at a word is zero, or the word is one of the terms'
-at_term : (Q : List ℕ → Type 0) (p : List (ℤ × List ℕ)) (w : List ℕ) → AllByRecursion (λ t. Q t.1) p → (coefficient_of p w ≡ pos 0) ⊎ Q w
-at_term Q [] w all = inl refl
-at_term Q (t ∷ p) w all = by (word_eq t.1 w) refl (at_term Q p w all.1)
-  where
-    by : (b : Bool) → word_eq t.1 w ≡ b → (coefficient_of p w ≡ pos 0) ⊎ Q w → (coefficient_of (t ∷ p) w ≡ pos 0) ⊎ Q w
-    by true is rest = inr (subst Q (word_eq-true t.1 w is) all.0)
-    by false is (inl none) = inl (coefficient_other w t p is ∙ none)
-    by false is (inr holds) = inr holds
+-- a certificate of rows over generators alone
+module _ (claims gs : List Poly) (c : Certificate) where
+  abbrev IsClaim : Type 0
+  IsClaim = IsNumberUpTo (length claims) c.claim
 
-module _ (f g : List ℕ → ℤ) where
-  -- no word of the list below this one differs
-  abbrev AgreesBelow : List ℕ → List ℕ → Type 0
-  AgreesBelow least w = word_cmp w least ≡ Less → f w ≡ g w
+  abbrev first : Option Overflow
+  first = first_overflow (products c.denominator (claim_of claims c))
 
-  -- the words of terms agree, or one is the least that doesn't
-  data Search (ts : List (ℤ × List ℕ)) : Type 0 where
-    none_differs : AllByRecursion (λ t. f t.1 ≡ g t.1) ts → Search ts
-    differs_at : (least : List ℕ) → f least ≢ g least → AllByRecursion (λ t. AgreesBelow least t.1) ts → Search ts
+  abbrev PassRows : Type 0
+  PassRows = RowsPass gs (rows_of c.rows) (length (rows_of c.rows))
 
-  all-map : (P Q : List ℕ → Type 0) → ((w : List ℕ) → P w → Q w) → (ts : List (ℤ × List ℕ)) → AllByRecursion (λ t. P t.1) ts → AllByRecursion (λ t. Q t.1) ts
-  all-map P Q weaker [] all = tt
-  all-map P Q weaker (t ∷ ts) all = (weaker t.1 all.0, all-map P Q weaker ts all.1)
+  abbrev Tells : Refusal → Type 0
+  Tells e =
+      ((e ≡ refusal.NoSuchClaim) × (IsClaim → ⊥))
+      ⊎ (IsClaim × (((e ≡ refusal.ZeroDenominator) × (pos 1 ≤ℤ c.denominator → ⊥))
+      ⊎ ((pos 1 ≤ℤ c.denominator) × (((o : Overflow) × (e ≡ refusal.Overflow 0 o) × (first ≡ Some o))
+      ⊎ ((first ≡ None) × (RefusesRow gs (rows_of c.rows) e
+      ⊎ (PassRows × TellsDifference (poly_multiple c.denominator (claim_of claims c)) (row_sum gs (rows_of c.rows)) e)))))))
 
-  not_below_itself : (w : List ℕ) → word_cmp w w ≡ Less → ⊥
-  not_below_itself w below = let both : (let o : Ordering = Equal in o) ≡ Less = sym (word_cmp-itself w) ∙ below in absurd cc
+  told : (e : Refusal) → Tells e → Refuses claims gs c e
+  told e (inl (is, none)) = subst (Refuses claims gs c) (sym is) none
+  told e (inr (claim, inl (is, none))) = subst (Refuses claims gs c) (sym is) (record { claim = claim; denominator = below_one c.denominator none })
+  told e (inr (claim, inr (least, inl (o, is, some)))) = subst (Refuses claims gs c) (sym is) (inl (record { before_rows = refl; posed = record { claim = claim; denominator = least }; products = some }))
+  told e (inr (claim, inr (least, inr (fits, inl h)))) = refuses_from_row gs (record { posed = record { claim = claim; denominator = least }; products = fits }) e h
+  told e (inr (claim, inr (least, inr (fits, inr (rows, d))))) =
+      subst (Refuses claims gs c) (sym d.is) (record { adds_up = record { begins = record { posed = record { claim = claim; denominator = least }; products = fits }; rows = rows }; difference = d.least })
 
-  search_on : (t : ℤ × List ℕ) (ts : List (ℤ × List ℕ)) → Search ts → Search (t ∷ ts)
-  search_on t ts found = by_equal (int_eq (f t.1) (g t.1)) refl found
-    where
-      by_order : (o : Ordering) (least : List ℕ) → word_cmp t.1 least ≡ o → f t.1 ≢ g t.1 → f least ≢ g least → AllByRecursion (λ u. AgreesBelow least u.1) ts → Search (t ∷ ts)
-      by_order Less least is here there below =
-          differs_at t.1 here ((λ under. absurd (not_below_itself t.1 under)), all-map (AgreesBelow least) (AgreesBelow t.1) (λ w agrees under. agrees (word_cmp-turned_back least w (word_cmp-trans least t.1 w (word_cmp-turned t.1 least is) (word_cmp-turned w t.1 under)))) ts below)
-      by_order Equal least is here there below = differs_at least there ((λ under. let both : (let o : Ordering = Less in o) ≡ Equal = sym under ∙ is in absurd cc), below)
-      by_order Greater least is here there below = differs_at least there ((λ under. let both : (let o : Ordering = Less in o) ≡ Greater = sym under ∙ is in absurd cc), below)
+  of_row : Begins claims c → (e : Refusal) → RefusesRow gs (rows_of c.rows) e → Tells e
+  of_row begins e h = inr (begins.posed.claim, inr (begins.posed.denominator, inr (begins.products, inl h)))
 
-      by_equal : (b : Bool) → int_eq (f t.1) (g t.1) ≡ b → Search ts → Search (t ∷ ts)
-      by_equal true is (none_differs all) = none_differs ((Decides-int_eq (f t.1) (g t.1)).0 is, all)
-      by_equal true is (differs_at least there below) = differs_at least there ((λ under. (Decides-int_eq (f t.1) (g t.1)).0 is), below)
-      by_equal false is (none_differs all) =
-          differs_at t.1 (λ same. true≢false (sym ((Decides-int_eq (f t.1) (g t.1)).1 same) ∙ is)) ((λ under. absurd (not_below_itself t.1 under)), all-map (λ w. f w ≡ g w) (AgreesBelow t.1) (λ w agrees under. agrees) ts all)
-      by_equal false is (differs_at least there below) = by_order (word_cmp t.1 least) least refl (λ same. true≢false (sym ((Decides-int_eq (f t.1) (g t.1)).1 same) ∙ is)) there below
+  tells : (e : Refusal) → Refuses claims gs c e → (IsMemory e → ⊥) → Tells e
+  tells refusal.NoSuchClaim h not = inl (refl, h)
+  tells refusal.ZeroDenominator h not = inr (h.claim, inl (refl, λ least. let less = h.denominator in omega (arith, ints, least, less)))
+  tells (refusal.Overflow row o) (inl h) not = inr (h.posed.claim, inr (h.posed.denominator, inl (o, ap (λ n. refusal.Overflow n o) h.before_rows, h.products)))
+  tells (refusal.Overflow row o) (inr h) not = of_row h.0 (refusal.Overflow row o) h.1
+  tells (refusal.NoSuchGenerator row) h not = of_row h.0 (refusal.NoSuchGenerator row) h.1
+  tells (refusal.Size row) h not = of_row h.0 (refusal.Size row) h.1
+  tells (refusal.Differs word want got) h not =
+      let begins = h.adds_up.begins in
+      inr (begins.posed.claim, inr (begins.posed.denominator, inr (begins.products, inr (h.adds_up.rows, record { word = word; want = want; got = got; is = refl; least = h.difference }))))
+  tells (refusal.Memory failed) h not = absurd (not tt)
+  tells other h not = absurd h
 
-  search_terms : (ts : List (ℤ × List ℕ)) → Search ts
-  search_terms [] = none_differs tt
-  search_terms (t ∷ ts) = search_on t ts (search_terms ts)
+  pub certificate_outcome : HasOneOutcome IsMemory (Accepts claims gs c) (Refuses claims gs c)
+  certificate_outcome =
+      reworded memory_decided (λ h. record { adds_up = record { begins = record { posed = record { claim = h.0; denominator = h.1.0 }; products = h.1.1.0 }; rows = h.1.1.1.0 }; sum = h.1.1.1.1 })
+      (λ h. (h.adds_up.begins.posed.claim, (h.adds_up.begins.posed.denominator, (h.adds_up.begins.products, (h.adds_up.rows, h.sum))))) (λ e h not. told e h) tells
+      (then_test (one_test refusal.NoSuchClaim (λ none. none) (numbered_or (length claims) c.claim))
+      (λ claim. then_test (one_test refusal.ZeroDenominator (λ none. none) (positive_or c.denominator))
+      (λ least. then_test (value_test (refusal.Overflow 0) (λ o none. none) first)
+      (λ fits. then_test (certificate_rows gs c.rows) (λ rows. difference_outcome (poly_multiple c.denominator (claim_of claims c)) (row_sum gs (rows_of c.rows)))))))
 
-all-front : {X : Type 0} (P : X → Type 0) (xs ys : List X) → AllByRecursion P (xs ++ ys) → AllByRecursion P xs
-all-front P [] ys all = tt
-all-front P (x ∷ xs) ys all = (all.0, all-front P xs ys all.1)
+-- What is tested before items, whatever these are: the claim, the positive scales, those that divide, and the multiple of the claim.
+module _ {X : Type 0} (IsTightItem : X → Type 0) (items : List X) (NamesOne ArePositive HasTightGoal : Type 0) (multiple : Option Overflow) where
+  abbrev pub Starts : Type 0
+  Starts = NamesOne × (ArePositive × ((All IsTightItem items × HasTightGoal) × (multiple ≡ None)))
 
-all-back : {X : Type 0} (P : X → Type 0) (xs ys : List X) → AllByRecursion P (xs ++ ys) → AllByRecursion P ys
-all-back P [] ys all = all
-all-back P (x ∷ xs) ys all = all-back P xs ys all.1
+  abbrev pub TellsStart : Refusal → Type 0
+  TellsStart e =
+      ((e ≡ refusal.NoSuchClaim) × (NamesOne → ⊥))
+      ⊎ (NamesOne × (((e ≡ refusal.ZeroDenominator) × (ArePositive → ⊥))
+      ⊎ (ArePositive × ((((first : FirstNot IsTightItem items) × (e ≡ refusal.LooseScale (first.before + 1)))
+      ⊎ (All IsTightItem items × ((e ≡ refusal.LooseScale 0) × (HasTightGoal → ⊥))))
+      ⊎ ((All IsTightItem items × HasTightGoal) × ((o : Overflow) × (e ≡ refusal.Overflow 0 o) × (multiple ≡ Some o)))))))
 
--- what holds of the words of both holds of each word at which they could differ
-both_zero : (Q : List ℕ → Type 0) (p q : List (ℤ × List ℕ)) → ((w : List ℕ) → coefficient_of p w ≡ coefficient_of q w → Q w) → AllByRecursion (λ t. Q t.1) (p ++ q) → (w : List ℕ) → Q w
-both_zero Q p q same all w = by (at_term Q p w (all-front (λ t. Q t.1) p q all)) (at_term Q q w (all-back (λ t. Q t.1) p q all))
-  where
-    by : (coefficient_of p w ≡ pos 0) ⊎ Q w → (coefficient_of q w ≡ pos 0) ⊎ Q w → Q w
-    by (inr holds) other = holds
-    by (inl none) (inr holds) = holds
-    by (inl none) (inl none') = same w (none ∙ sym none')
+  pub start_outcome : IsDecided NamesOne → IsDecided ArePositive → ((x : X) → IsDecided (IsTightItem x)) → IsDecided HasTightGoal → HasOneOutcome IsMemory Starts TellsStart
+  start_outcome named positive tight tight_goal =
+      then_test (one_test refusal.NoSuchClaim (λ none. none) named)
+      (λ h. then_test (one_test refusal.ZeroDenominator (λ none. none) positive)
+      (λ h. then_test (then_test (each_test IsTightItem refusal.LooseScale (λ n none. none) items (λ i x there. tight x)) (λ h. one_test (refusal.LooseScale 0) (λ none. none) tight_goal))
+      (λ h. value_test (refusal.Overflow 0) (λ o none. none) multiple)))
 
--- two polynomials are the same, or there is a least word at which they differ
-data Compared (wanted found : List (ℤ × List ℕ)) : Type 0 where
-  same : SamePolynomial found wanted → Compared wanted found
-  differ : (word : List ℕ) → IsLeastDifference (coefficient_of wanted) (coefficient_of found) word (coefficient_of wanted word) (coefficient_of found word) → Compared wanted found
+-- a certificate with lemmas
+module _ (claims gs : List Poly) (c : LemmaCertificate) where
+  abbrev Tight : Lemma → Type 0
+  Tight = IsTight c.denominator
 
-compared : (wanted found : List (ℤ × List ℕ)) → Compared wanted found
-compared wanted found = by (search_terms (coefficient_of wanted) (coefficient_of found) (wanted ++ found))
-  where
-    by : Search (coefficient_of wanted) (coefficient_of found) (wanted ++ found) → Compared wanted found
-    by (none_differs all) = same (record { at = λ w. sym (both_zero (λ v. coefficient_of wanted v ≡ coefficient_of found v) wanted found (λ v agrees. agrees) all w) })
-    by (differs_at least there below) = differ least (record {
-      wanted_there = refl;
-      found_there = refl;
-      differ = there;
-      least = both_zero (AgreesBelow (coefficient_of wanted) (coefficient_of found) least) wanted found (λ v agrees under. agrees) below;
-    })
+  abbrev StartsSo : Type 0
+  StartsSo = Starts Tight c.lemmas (IsNumberUpTo (length claims) c.claim) (IsPositive c) (Tight c.goal) (first_overflow (products c.goal.scale (goal_claim claims c)))
 
--- a number is one of so many, or none
-pub numbered_or : (count number : ℕ) → IsNumberUpTo count number ⊎ (IsNumberUpTo count number → ⊥)
-numbered_or count number = by (cases_lt 0 number) (cases_lt count number)
-  where
-    by : (0 < number) ⊎ (number ≤ 0) → (count < number) ⊎ (number ≤ count) → IsNumberUpTo count number ⊎ (IsNumberUpTo count number → ⊥)
-    by (inr none) other = inr (λ is. let least = is.least in omega arith)
-    by (inl some) (inl past) = inr (λ is. let most = is.most in omega arith)
-    by (inl some) (inr within) = inl (record { least = omega arith; most = within })
+  abbrev TellsBeginning : Refusal → Type 0
+  TellsBeginning = TellsStart Tight c.lemmas (IsNumberUpTo (length claims) c.claim) (IsPositive c) (Tight c.goal) (first_overflow (products c.goal.scale (goal_claim claims c)))
 
--- the tests one after another
-module _ (claims generators : List (List (ℤ × List ℕ))) (c : Certificate) where
-  abbrev IsJudged : Type 0
-  IsJudged = Accepts claims generators c ⊎ ((r : Refusal) × Refuses claims generators c r × (IsMemory r → ⊥))
+  abbrev RefusesItsGoal : Refusal → Type 0
+  RefusesItsGoal = RefusesGoal gs (all_polynomials gs c) (row_count c.lemmas) c.goal (goal_claim claims c)
 
-  abbrev rows : List Row
-  rows = rows_of c.rows
+  abbrev TellsLater : Refusal → Type 0
+  TellsLater e = RefusesLemmas gs [] 0 c.lemmas e ⊎ (LemmasPass gs [] c.lemmas × RefusesItsGoal e)
 
-  -- the first rows pass, or one is the first that doesn't
-  data Tested (n : ℕ) : Type 0 where
-    all_pass : RowsPass generators rows n → Tested n
-    stops : (r : Refusal) → (Begins claims c → Refuses claims generators c r) → (IsMemory r → ⊥) → Tested n
+  positive_decided : IsDecided (IsPositive c)
+  positive_decided =
+      decided_by (λ h. record { denominator = h.0; lemmas = h.1.0; goal = h.1.1 }) (λ is. (is.denominator, (is.lemmas, is.goal)))
+      (both_decided (positive_or c.denominator) (both_decided (each_decided HasScale (λ l. positive_or l.scale) c.lemmas) (positive_or c.goal.scale)))
 
-  one_more : (n : ℕ) (row : Row) → RowsPass generators rows n → slice_get rows n ≡ Some row → RowPasses generators rows n row → RowsPass generators rows (suc n)
-  one_more n row passed is passes = record { at = λ i r below got. by i r (cases_lt i n) below got }
-    where
-      by : (i : ℕ) (r : Row) → (i < n) ⊎ (n ≤ i) → i < suc n → slice_get rows i ≡ Some r → RowPasses generators rows i r
-      by i r (inl earlier) below got = passed.at i r earlier got
-      by i r (inr later) below got =
-          let at : n ≡ i = omega arith in
-          let both : Some row ≡ Some r = sym is ∙ ap (slice_get rows) at ∙ got in
-          let one : row ≡ r = cc in
-          subst (λ (x : Row). RowPasses generators rows i x) one (subst (λ (k : ℕ). RowPasses generators rows k row) at passes)
+  shares : IsNumberUpTo (length claims) c.claim → IsPositive c → All Tight c.lemmas × Tight c.goal → HasShares claims c
+  shares claim positive tight = record { posed = record { claim = claim; positive = positive }; tight = record { lemmas = record { each = tight.0 }; goal = tight.1 } }
 
-  none_more : (n : ℕ) → RowsPass generators rows n → slice_get rows n ≡ None → RowsPass generators rows (suc n)
-  none_more n passed is = record { at = λ i r below got. by i r (cases_lt i n) below got }
-    where
-      by : (i : ℕ) (r : Row) → (i < n) ⊎ (n ≤ i) → i < suc n → slice_get rows i ≡ Some r → RowPasses generators rows i r
-      by i r (inl earlier) below got = passed.at i r earlier got
-      by i r (inr later) below got =
-          let at : n ≡ i = omega arith in
-          let both : (let o : Option Row = None in o) ≡ Some r = sym is ∙ ap (slice_get rows) at ∙ got in
-          absurd cc
+  begun : StartsSo → GoalBegins claims c
+  begun (claim, (positive, (tight, fits))) = record { shares = shares claim positive tight; products = fits }
 
-  module _ (n : ℕ) (row : Row) (passed : RowsPass generators rows n) (is : slice_get rows n ≡ Some row) where
-    abbrev reached : Reaches generators rows (n + 1) n row
-    reached = record { numbered = refl; row = is; earlier = passed }
+  begins : GoalBegins claims c → StartsSo
+  begins h = let s = h.shares in (s.posed.claim, (s.posed.positive, ((s.tight.lemmas.each, s.tight.goal), h.products)))
 
-    by_size : IsNumberUpTo (length generators) row.generator → first_overflow (row_operations generators rows n row) ≡ None
-        → (200000 < term_count (row_sum generators (take (n + 1) rows))) ⊎ (term_count (row_sum generators (take (n + 1) rows)) ≤ 200000) → Tested (suc n)
-    by_size generator fits (inl outgrows) = stops (refusal.Size (n + 1)) (λ begins. (begins, record { before = n; row = row; reached = reached; generator = generator; operations = fits; size = outgrows })) (λ none. none)
-    by_size generator fits (inr within) = all_pass (one_more n row passed is (record { generator = generator; operations = fits; size = within }))
+  told_start : (e : Refusal) → TellsBeginning e → RefusesLemmaCertificate claims gs c e
+  told_start e (inl (is, none)) = subst (RefusesLemmaCertificate claims gs c) (sym is) none
+  told_start e (inr (claim, inl (is, none))) = subst (RefusesLemmaCertificate claims gs c) (sym is) (record { claim = claim; positive = none })
+  told_start e (inr (claim, inr (positive, inl (inl (first, is))))) =
+      subst (RefusesLemmaCertificate claims gs c) (sym is)
+      (record { claim = claim; positive = positive }, inl (record { before = first.before; lemma = first.item; numbered = refl; there = first.there; earlier = record { each = first.earlier }; loose = first.fails }))
+  told_start e (inr (claim, inr (positive, inl (inr (tight, (is, loose)))))) =
+      subst (RefusesLemmaCertificate claims gs c) (sym is) (record { claim = claim; positive = positive }, inr (record { numbered = refl; lemmas = record { each = tight }; loose = loose }))
+  told_start e (inr (claim, inr (positive, inr (tight, (o, is, some))))) = subst (RefusesLemmaCertificate claims gs c) (sym is) (inl (record { before_rows = refl; shares = shares claim positive tight; products = some }))
 
-    by_operations : IsNumberUpTo (length generators) row.generator → (first : Option Overflow) → first_overflow (row_operations generators rows n row) ≡ first → Tested (suc n)
-    by_operations generator None fits = by_size generator fits (cases_lt 200000 (term_count (row_sum generators (take (n + 1) rows))))
-    by_operations generator (Some o) overflows =
-        stops (refusal.Overflow (n + 1) o) (λ begins. inr (begins, record { before = n; row = row; reached = reached; generator = generator; operations = overflows })) (λ none. none)
+  told_later : (e : Refusal) → TellsBeginning e ⊎ (StartsSo × TellsLater e) → RefusesLemmaCertificate claims gs c e
+  told_later e (inl h) = told_start e h
+  told_later e (inr (h, inl refused)) = refuses_from_lemmas claims gs c (begun h) e refused
+  told_later e (inr (h, inr (pass, refused))) = refuses_from_goal claims gs c (record { begins = begun h; lemmas = pass }) e refused
 
-    by_generator : IsNumberUpTo (length generators) row.generator ⊎ (IsNumberUpTo (length generators) row.generator → ⊥) → Tested (suc n)
-    by_generator (inl generator) = by_operations generator (first_overflow (row_operations generators rows n row)) refl
-    by_generator (inr lacks) = stops (refusal.NoSuchGenerator (n + 1)) (λ begins. (begins, record { before = n; row = row; reached = reached; generator = lacks })) (λ none. none)
+  loose_tells : (lemma : ℕ) → GoalIsPosed claims c → IsFirstLoose c.denominator c.lemmas lemma ⊎ HasLooseGoal c lemma → TellsBeginning (refusal.LooseScale lemma)
+  loose_tells lemma posed (inl h) =
+      inr (posed.claim, inr (posed.positive, inl (inl (record { before = h.before; item = h.lemma; there = h.there; earlier = h.earlier.each; fails = h.loose }, ap refusal.LooseScale h.numbered))))
+  loose_tells lemma posed (inr h) = inr (posed.claim, inr (posed.positive, inl (inr (h.lemmas.each, (ap refusal.LooseScale h.numbered, h.loose)))))
 
-  next_row : (n : ℕ) → Tested n → Tested (suc n)
-  next_row n (stops r refuses no_memory) = stops r refuses no_memory
-  next_row n (all_pass passed) = by (slice_get rows n) refl
-    where
-      by : (o : Option Row) → slice_get rows n ≡ o → Tested (suc n)
-      by None is = all_pass (none_more n passed is)
-      by (Some row) is = by_generator n row passed is (numbered_or (length generators) row.generator)
+  block_tells : (e : Refusal) → (RefusesLemmaRows gs (all_polynomials gs c) (row_count c.lemmas) c.goal.rows e → RefusesItsGoal e) → RefusesBlock claims gs c e → TellsBeginning e ⊎ (StartsSo × TellsLater e)
+  block_tells e goal (inl h) = inr (begins h.0, inl h.1)
+  block_tells e goal (inr h) = inr (begins h.0.begins, inr (h.0.lemmas, goal h.1))
 
-  tested : (n : ℕ) → Tested n
-  tested zero = all_pass (record { at = λ i r below got. absurd (omega arith) })
-  tested (suc n) = next_row n (tested n)
+  tells_later : (e : Refusal) → RefusesLemmaCertificate claims gs c e → (IsMemory e → ⊥) → TellsBeginning e ⊎ (StartsSo × TellsLater e)
+  tells_later refusal.NoSuchClaim h not = inl (inl (refl, h))
+  tells_later refusal.ZeroDenominator h not = inl (inr (h.claim, inl (refl, h.positive)))
+  tells_later (refusal.LooseScale lemma) h not = inl (loose_tells lemma h.0 h.1)
+  tells_later (refusal.Overflow row o) (inl h) not =
+      let s = h.shares in inl (inr (s.posed.claim, inr (s.posed.positive, inr ((s.tight.lemmas.each, s.tight.goal), (o, ap (λ n. refusal.Overflow n o) h.before_rows, h.products)))))
+  tells_later (refusal.Overflow row o) (inr h) not = block_tells (refusal.Overflow row o) (λ k. k) h
+  tells_later (refusal.Differs word want got) h not = inr (begins h.adds_up.lemmas.begins, inr (h.adds_up.lemmas.lemmas, record { rows = h.adds_up.rows; difference = h.difference }))
+  tells_later (refusal.Memory failed) h not = absurd (not tt)
+  tells_later other h not = block_tells other (λ k. k) h
 
-  by_difference : AddsUp claims generators c → Compared (poly_multiple c.denominator (claim_of claims c)) (row_sum generators rows) → IsJudged
-  by_difference adds_up (same is) = inl (record { adds_up = adds_up; sum = is })
-  by_difference adds_up (differ word least) =
-      inr (refusal.Differs word (coefficient_of (poly_multiple c.denominator (claim_of claims c)) word) (coefficient_of (row_sum generators rows) word), record { adds_up = adds_up; difference = least }, λ none. none)
+  pub lemma_certificate_outcome : HasOneOutcome IsMemory (AcceptsLemmas claims gs c) (RefusesLemmaCertificate claims gs c)
+  lemma_certificate_outcome =
+      reworded memory_decided (λ h. record { adds_up = record { lemmas = record { begins = begun h.0; lemmas = h.1.0 }; rows = h.1.1.rows }; sum = h.1.1.sum })
+      (λ h. (begins h.adds_up.lemmas.begins, (h.adds_up.lemmas.lemmas, record { rows = h.adds_up.rows; sum = h.sum }))) (λ e h not. told_later e h) tells_later
+      (then_test (start_outcome Tight c.lemmas _ _ _ _ (numbered_or (length claims) c.claim) positive_decided (λ l. divides_or l.scale c.denominator) (divides_or c.goal.scale c.denominator))
+      (λ start. then_test (lemmas_outcome gs [] 0 c.lemmas) (λ pass. goal_outcome gs (all_polynomials gs c) (row_count c.lemmas) c.goal (goal_claim claims c))))
 
-  by_rows : Begins claims c → Tested (length rows) → IsJudged
-  by_rows begins (all_pass passed) = by_difference (record { begins = begins; rows = passed }) (compared (poly_multiple c.denominator (claim_of claims c)) (row_sum generators rows))
-  by_rows begins (stops r refuses no_memory) = inr (r, refuses begins, no_memory)
-
-  by_multiple : IsPosed claims c → (first : Option Overflow) → first_overflow (products c.denominator (claim_of claims c)) ≡ first → IsJudged
-  by_multiple posed None fits = by_rows (record { posed = posed; products = fits }) (tested (length rows))
-  by_multiple posed (Some o) overflows = inr (refusal.Overflow 0 o, inl (record { before_rows = refl; posed = posed; products = overflows }), λ none. none)
-
-  by_denominator : IsNumberUpTo (length claims) c.claim → (c.denominator <ℤ pos 1) ⊎ (pos 1 ≤ℤ c.denominator) → IsJudged
-  by_denominator claim (inl below) = inr (refusal.ZeroDenominator, record { claim = claim; denominator = below }, λ none. none)
-  by_denominator claim (inr above) = by_multiple (record { claim = claim; denominator = above }) (first_overflow (products c.denominator (claim_of claims c))) refl
-
-  sign : (d : ℤ) → (d <ℤ pos 1) ⊎ (pos 1 ≤ℤ d)
-  sign (pos zero) = inl (omega (arith, ints))
-  sign (pos (suc n)) = inr (omega (arith, ints))
-  sign (negsuc n) = inl (omega (arith, ints))
-
-  by_claim : IsNumberUpTo (length claims) c.claim ⊎ (IsNumberUpTo (length claims) c.claim → ⊥) → IsJudged
-  by_claim (inl claim) = by_denominator claim (sign c.denominator)
-  by_claim (inr lacks) = inr (refusal.NoSuchClaim, lacks, λ none. none)
+-- either
+pub evidence_outcome : (claims gs : List Poly) (e : Evidence) → HasOneOutcome IsMemory (AcceptsEvidence claims gs e) (RefusesEvidence claims gs e)
+evidence_outcome claims gs (Plain c) = certificate_outcome claims gs c
+evidence_outcome claims gs (Lemmas c) = lemma_certificate_outcome claims gs c
 
 pub each_certificate_is_judged : EachCertificateIsJudged
-each_certificate_is_judged claims generators c = by_claim claims generators c (numbered_or (length claims) c.claim)
+each_certificate_is_judged claims gs c = (certificate_outcome claims gs c).judged
+
+pub refusal_is_unique : RefusalIsUnique
+refusal_is_unique claims gs c = (certificate_outcome claims gs c).unique
+
+pub accepted_is_not_refused : {claims gs : List Poly} {c : Certificate} → Accepts claims gs c → (e : Refusal) → Refuses claims gs c e → IsMemory e
+accepted_is_not_refused {claims = claims} {gs = gs} {c = c} = (certificate_outcome claims gs c).not_refused
+
+pub evidence_is_judged : EvidenceIsJudged
+evidence_is_judged claims gs e = (evidence_outcome claims gs e).judged
+
+pub evidence_refusal_is_unique : EvidenceRefusalIsUnique
+evidence_refusal_is_unique claims gs e = (evidence_outcome claims gs e).unique
+
+pub accepted_evidence_is_not_refused : AcceptedEvidenceIsNotRefused
+accepted_evidence_is_not_refused claims gs evidence e accepted = (evidence_outcome claims gs evidence).not_refused accepted e
+
+pub not_refused_result : (claims gs : List Poly) (e : Evidence) → AcceptsEvidence claims gs e → (r : Result Accepted Refusal) → IfErr r (RefusesEvidence claims gs e) → IfErr r IsMemory
+not_refused_result claims gs e accepted (Ok a) h = tt
+not_refused_result claims gs e accepted (Err r) h = (evidence_outcome claims gs e).not_refused accepted r h

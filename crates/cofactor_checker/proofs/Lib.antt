@@ -6,9 +6,6 @@ pub mod Comparing
 pub mod Counts
 pub mod RowSums
 pub mod Outcomes
-pub mod Tests
-pub mod Unique
-pub mod Judged
 pub mod Places
 pub mod Each
 pub mod RowSteps
@@ -16,11 +13,11 @@ pub mod Terms
 pub mod LemmaSteps
 pub mod LemmaSums
 pub mod LemmaOutcomes
-pub mod Short
 pub mod Shown
-pub mod Blocks
-pub mod EvidenceUnique
-pub mod EvidenceJudged
+pub mod Differences
+pub mod RowTests
+pub mod LemmaTests
+pub mod Judged
 pub mod LetterSums
 pub mod ProvedMeans
 mod Examples

@@ -62,19 +62,3 @@ module _ {m : BTreeMap (List ℕ) ℤ} {p terms claim : List (ℤ × List ℕ)} 
 -- an accepted certificate shows that the denominator times the claim is a sum of its rows
 pub combination_from_accepts : {claims generators : List (List (ℤ × List ℕ))} {c : Certificate} → Accepts claims generators c → IsCombination generators (rows_of c.rows) c.denominator (claim_of claims c)
 combination_from_accepts accepted = record { positive = omega (arith, ints, accepted.adds_up.begins.posed.denominator); sum = accepted.sum }
-
--- what is accepted is refused for want of memory alone
-pub accepted_is_not_refused : {claims generators : List (List (ℤ × List ℕ))} {c : Certificate} → Accepts claims generators c → (e : Refusal) → Refuses claims generators c e → IsMemory e
-accepted_is_not_refused accepted refusal.NoSuchClaim none = none accepted.adds_up.begins.posed.claim
-accepted_is_not_refused accepted refusal.ZeroDenominator lacks = absurd (omega (arith, ints, accepted.adds_up.begins.posed.denominator, lacks.denominator))
-accepted_is_not_refused accepted (refusal.Overflow row o) (inl first) = let none = accepted.adds_up.begins.products in let some = first.products in (cc)
-accepted_is_not_refused {c = c} accepted (refusal.Overflow row o) (inr later) =
-    let none = (passes_there (rows_of c.rows) accepted.adds_up.rows later.1.before later.1.row later.1.reached.row).operations in let some = later.1.operations in (cc)
-accepted_is_not_refused {c = c} accepted (refusal.NoSuchGenerator row) lacks =
-    lacks.1.generator (passes_there (rows_of c.rows) accepted.adds_up.rows lacks.1.before lacks.1.row lacks.1.reached.row).generator
-accepted_is_not_refused {c = c} accepted (refusal.Size row) outgrows =
-    let small = (passes_there (rows_of c.rows) accepted.adds_up.rows outgrows.1.before outgrows.1.row outgrows.1.reached.row).size in let large = outgrows.1.size in absurd (omega arith)
-accepted_is_not_refused accepted (refusal.Differs word want got) differs =
-    differs.difference.differ (sym differs.difference.wanted_there ∙ sym (accepted.sum.at word) ∙ differs.difference.found_there)
-accepted_is_not_refused accepted (refusal.Memory failed) free = tt
-accepted_is_not_refused accepted other never = absurd never

@@ -4,7 +4,7 @@ ghost use Rattle.cofactor_checker.specs.Laws.{AcceptedEvidenceAddsUp, EvidenceRe
 
 /// Of one certificate there is one refusal at most, apart from want of memory: so `check` answers with no
 /// other. It does nothing when it runs.
-#[tactic(auto, using(crate::proofs::Unique::refusal_is_unique))]
+#[tactic(auto, using(crate::proofs::Judged::refusal_is_unique))]
 pub fn refusal_is_unique()
     ensures { RefusalIsUnique }
 {}

@@ -19,9 +19,7 @@ use Rattle.adjoint_rules.specs.declared.problem.Problem.{Problem}
 use Rattle.adjoint_rules.specs.Problem.{polynomials}
 use Rattle.cofactor_checker.specs.declared.refusal.Refusal.{Refusal}
 use Rattle.cofactor_checker.specs.Acceptance.{Refuses, IsMemory as IsMemoryRefusal}
-use Rattle.cofactor_checker.proofs.Judged.{each_certificate_is_judged}
-use Rattle.cofactor_checker.proofs.Unique.{refusal_is_unique}
-use Rattle.cofactor_checker.proofs.Outcomes.{accepted_is_not_refused}
+use Rattle.cofactor_checker.proofs.Judged.{each_certificate_is_judged, refusal_is_unique, accepted_is_not_refused}
 use Rattle.equation_chain.specs.declared.fault.ChainFault.{ChainFault}
 use Rattle.equation_chain.specs.declared.fault.ChainFault.TheVariants as fault
 use Rattle.equation_chain.specs.Limits.{letter_limit}

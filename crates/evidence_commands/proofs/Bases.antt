@@ -20,9 +20,7 @@ use Rattle.closed_checker.specs.Closed.{IsReadableBasis, IsClosedBasis, IsMemory
 use Rattle.closed_checker.specs.Laws.{ClosedMeans}
 use Rattle.closed_checker.proofs.ClosedMeaning.{closed_bases_mean_outside}
 use Rattle.closed_checker.proofs.Readable.{read_bases_are_readable}
-use Rattle.closed_checker.proofs.Judged.{each_basis_is_judged}
-use Rattle.closed_checker.proofs.NotRefused.{closed_basis_is_not_refused}
-use Rattle.closed_checker.proofs.Refusals.{basis_refusal_is_unique}
+use Rattle.closed_checker.proofs.Judged.{each_basis_is_judged, basis_refusal_is_unique, closed_basis_is_not_refused}
 use Rattle.normal_forms.specs.SharpMeans.{SharpMeans}
 use Rattle.normal_forms.proofs.StarSharp.{star_sharp_means}
 use Rattle.normal_category.specs.Faults.{AreSharp}

@@ -21,11 +21,9 @@ use Rattle.cancel_rules.specs.declared.refusal.CancelRefusal.{CancelRefusal}
 use Rattle.cancel_rules.specs.declared.refusal.CancelRefusal.TheVariants as refusal
 use Rattle.cancel_rules.specs.Acceptance.{all_items, IsLetterOf, IsReadableCancellation, IsAccepted, IsRefused, IsMemory}
 use Rattle.cancel_rules.specs.Meaning.{MakesZeroByCancelling, IsCancellationSound}
-use Rattle.cancel_rules.proofs.Judged.{cancellation_is_judged}
+use Rattle.cancel_rules.proofs.Judged.{cancellation_is_judged, cancellation_refusal_is_unique, accepted_cancellation_is_not_refused}
 use Rattle.cancel_rules.proofs.Letters.{difference_over, indivisible_over}
-use Rattle.cancel_rules.proofs.Short.{accepted_cancellation_is_not_refused}
 use Rattle.cancel_rules.proofs.Shown.{accepted_cancellation_leads}
-use Rattle.cancel_rules.proofs.Unique.{cancellation_refusal_is_unique}
 use Rattle.cancellation_text.proofs.EachText as texts
 use Rattle.cancellation_text.proofs.Readable.{proofs_are_readable}
 use Rattle.evidence_commands.specs.Cancel.{accepted_text, refusal_text, HasRefusalLetters, MakesZeroByStar, CancelledMeans, cancellations}

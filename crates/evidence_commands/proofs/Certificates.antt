@@ -18,8 +18,7 @@ use Rattle.cofactor_checker.specs.LemmaAcceptance.{IsRanged, all_polynomials}
 use Rattle.cofactor_checker.specs.Evidence.{IsReadableEvidence, ShowsClaim}
 use Rattle.cofactor_checker.specs.ProvedMeans.{EvidenceAddsUp}
 use Rattle.cofactor_checker.proofs.Shown.{accepted_evidence_adds_up}
-use Rattle.cofactor_checker.proofs.EvidenceUnique.{evidence_refusal_is_unique, accepted_evidence_is_not_refused}
-use Rattle.cofactor_checker.proofs.EvidenceJudged.{evidence_is_judged}
+use Rattle.cofactor_checker.proofs.Judged.{evidence_is_judged, evidence_refusal_is_unique, accepted_evidence_is_not_refused}
 use Rattle.cofactor_checker.proofs.ProvedMeans.{proved_means}
 use Rattle.adjoint_rules.specs.declared.problem.Problem.{Problem}
 use Rattle.adjoint_rules.specs.Problem.{polynomials}

@@ -9,9 +9,8 @@ use Rattle.model_checker.specs.declared.refusal.ModelRefusal.TheVariants as refu
 use Rattle.model_checker.specs.Models.{Refutes}
 use Rattle.model_checker.specs.Models as search
 use Rattle.model_checker.specs.Refusals.{RefusesModel, IsMemory}
-use Rattle.model_checker.proofs.Judged.{each_model_is_judged, refuting_model_is_not_refused}
+use Rattle.model_checker.proofs.Judged.{each_model_is_judged, refuting_model_is_not_refused, model_refusal_is_unique}
 use Rattle.model_checker.proofs.RefutedMeans.{refuted_means}
-use Rattle.model_checker.proofs.UniqueRefusals.{model_refusal_is_unique}
 use Rattle.model_text.specs.Models.{IsModel}
 use Rattle.model_text.proofs.EachText.{each_text_is_read, models_are_unique, first_fault_is_unique, models_have_no_fault}
 use Rattle.model_text.proofs.ModelValues.{models_are_models}

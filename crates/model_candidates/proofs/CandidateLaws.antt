@@ -20,7 +20,8 @@ use Rattle.model_checker.specs.Models.{representation_of, IsZeroIn}
 use Rattle.model_candidates.specs.Candidates.{entries_of, model_by, is_exhaustive, digits, draws, is_linear, IsShapeOf, IsSolution, CanBegin, CanTake, IsGreedy, IsCandidate}
 use Rattle.model_candidates.specs.Unknowns.{solved_flags}
 use Rattle.model_checker.proofs.Values.{zero_from_value}
-use Rattle.model_checker.proofs.Decided.{IsDecided, decided_by, both_decided, lt_decided, matrix_decided, all_decided}
+use Rattle.common_lemmas.proofs.Decided.{IsDecided, decided_by, both_decided, lt_decided, all_decided}
+use Rattle.model_checker.proofs.Decided.{matrix_decided}
 use Rattle.model_candidates.proofs.SolvedEntries.{IsAsDrawn}
 use Rattle.model_candidates.proofs.DrawnEntries.{drawn_by_flags, drawn_by_entries}
 use Rattle.model_candidates.proofs.FiniteSearch.{Begins, IsGreedyList, greedy_or_none}

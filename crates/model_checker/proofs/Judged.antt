@@ -1,14 +1,17 @@
--- Each model refutes its claim, or one of the tests is the first that fails.
-use Rattle.std.proofs.Common.{◌≡◌, ℕ, zero, suc, ◌+◌, ◌-◌, ◌<◌, ◌≤◌, [], length, take, Option, Some, None, ◌⊎◌, inl, inr, refl, sym, subst, ◌∙◌, arith}
+-- Each model has exactly one outcome: it refutes its claim, or one of the tests is the first that fails.
+use Rattle.std.proofs.Common.{◌≡◌, ℕ, suc, ◌+◌, ◌-◌, ◌<◌, ◌≤◌, List, [], length, take, get_or, All, Some, None, slice_get, ◌⊎◌, inl, inr, refl, sym, subst, ap, ◌∙◌, arith}
 use Rattle.std.specs.List.{AllByRecursion}
-use Rattle.std.proofs.Math.Seq.{take-length}
-use Rattle.std.proofs.lemmas.List.{length-map}
 use Rattle.std.proofs.lemmas.Bool.{cases_eq}
-use Rattle.std.proofs.lemmas.List.Elements.{All-get_or, All-from_recursion}
+use Rattle.std.proofs.lemmas.List.{length-map}
+use Rattle.std.proofs.lemmas.List.Elements.{All-from_recursion, recursion_from_All}
+use Rattle.std.proofs.lemmas.Option.{slice_get_within, slice_get-get_or, get_or_from_slice_get}
 use Rattle.std.proofs.lemmas.Slice.Zip.{AllZip-long}
+use Rattle.definitions.specs.Poly as terms
 use Rattle.definitions.specs.Quiver.{Quiver, letters, source, target, star}
 use Rattle.definitions.specs.Combination.{generator_at}
 use Rattle.definitions.specs.Representation.{value_at}
+use Rattle.common_lemmas.proofs.Decided.{IsDecided, decided_by, both_decided, le_decided, lt_decided}
+use Rattle.common_lemmas.proofs.FirstFailure.{HasOneOutcome, PassUpTo, FailsFirst, FirstNot, not_each, one_test, found_test, where_test, then_test, each_test, tests_up_to, reworded}
 use Rattle.nc_polynomial.specs.declared.poly.Poly.{Poly}
 use Rattle.quiver.specs.declared.named.Sig.{Sig}
 use Rattle.quiver.specs.Declarations.{quiver_of}
@@ -21,11 +24,15 @@ use Rattle.model_checker.specs.declared.refusal.ModelRefusal.{ModelRefusal}
 use Rattle.model_checker.specs.declared.refusal.ModelRefusal.TheVariants as refusal
 use Rattle.model_checker.specs.Models.{side_of, map_at, representation_of, IsMap, HasEnds, IsSelfTransposed, HasMatrix, HaveMatrices, IsClaimNumber, IsZeroIn, assumptions_of, claim_polynomial, IsFitting, Refutes}
 use Rattle.model_checker.specs.Memory.{IsMemory}
-use Rattle.model_checker.specs.Refusals.{RefusesMap, IsFirstNotZero, RefusesModel}
-use Rattle.model_checker.specs.Laws.{EachModelIsJudged, RefutingModelIsNotRefused}
+use Rattle.model_checker.specs.Refusals.{IsAtMap, RefusesMap, IsFirstNotZero, RefusesModel}
+use Rattle.model_checker.specs.Laws.{EachModelIsJudged, RefutingModelIsNotRefused, ModelRefusalIsUnique}
 use Rattle.model_checker.proofs.Counterexamples.{Both, both_at, IsPosedOf, claims_are_posed, claim_at, claim_is, zero_from_posed}
-use Rattle.model_checker.proofs.Decided.{IsDecided, decided_by, both_decided, le_decided, lt_decided, matrix_decided, is_matrix_decided}
-use Rattle.model_checker.proofs.Places.{all_at, zip_at, generator_at-suc, inside, one_more}
+use Rattle.model_checker.proofs.Decided.{matrix_decided, is_matrix_decided}
+use Rattle.model_checker.proofs.Places.{all_at, zip_at, generator_at-suc}
+
+memory_decided : (e : ModelRefusal) → IsDecided (IsMemory e)
+memory_decided (refusal.Memory failed) = inl tt
+memory_decided other = inr (λ none. none)
 
 -- declared maps
 module _ (q : Quiver) (m : Model) where
@@ -46,55 +53,63 @@ module _ (q : Quiver) (m : Model) where
       go (inl itself) = decided_by (λ same. record { same = λ e. same }) (λ is. is.same itself) (matrix_decided (transpose m.modulus x) x)
       go (inr other) = inl (record { same = λ itself. absurd (other itself) })
 
-  -- a refusal that isn't want of memory
-  record IsRefused : Type 0 where
-    told : ModelRefusal
-    refuses : RefusesMap q m told
-    no_memory : IsMemory told → ⊥
+  -- the tests of a map
+  abbrev HasIt : ℕ → Type 0
+  HasIt a = (x : Matrix) × (map_at m a ≡ Some x) × (HasEnds q m a x × IsSelfTransposed q m a x)
 
-  -- the maps before this number have their matrices, or the first that hasn't is told
-  maps_judged : (count : ℕ) → HaveMatrices q m count ⊎ IsRefused
-  maps_judged zero = inl (record { each = λ a below map. absurd (omega (arith, below)) })
-  maps_judged (suc n) = go (maps_judged n) (map_decided n)
+  abbrev Tells : ℕ → ModelRefusal → Type 0
+  Tells a e =
+      ((e ≡ refusal.MissingMap (record { 0 = a })) × (map_at m a ≡ None))
+      ⊎ ((x : Matrix) × (map_at m a ≡ Some x) × (((e ≡ refusal.BadShape (record { 0 = a })) × (HasEnds q m a x → ⊥))
+      ⊎ (HasEnds q m a x × ((e ≡ refusal.NotSymmetric (record { 0 = a })) × (IsSelfTransposed q m a x → ⊥)))))
+
+  map_outcome : (a : ℕ) → HasOneOutcome IsMemory (HasIt a) (Tells a)
+  map_outcome a =
+      found_test (refusal.MissingMap (record { 0 = a })) (λ none. none) (map_at m a)
+      (λ x there. then_test (one_test (refusal.BadShape (record { 0 = a })) (λ none. none) (ends_decided a x))
+      (λ ends. one_test (refusal.NotSymmetric (record { 0 = a })) (λ none. none) (self_transposed_decided a x)))
+
+  abbrev Passes : ℕ → Type 0
+  Passes a = IsMap q a → HasIt a
+
+  abbrev Fails : ℕ → ModelRefusal → Type 0
+  Fails a e = IsMap q a × Tells a e
+
+  have : (n : ℕ) → PassUpTo Passes n → HaveMatrices q m n
+  have n pass = record { each = λ a below map. let h = pass.at a below map in record { matrix = h.0; there = h.1; ends = h.2.0; self_transposed = h.2.1 } }
+
+  pass_here : (n : ℕ) → HaveMatrices q m n → PassUpTo Passes n
+  pass_here n have = record { at = λ a below map. let h = have.each a below map in (h.matrix, h.there, (h.ends, h.self_transposed)) }
+
+  told : (e : ModelRefusal) → FailsFirst Passes Fails (letters q) e → RefusesMap q m e
+  told e h = by h.fails.1
     where
-      longer : HaveMatrices q m n → (IsMap q n → HasMatrix q m n) → HaveMatrices q m (suc n)
-      longer before here = record { each = λ a below map. last a below map (cases_eq a n) }
-        where
-          last : (a : ℕ) → a < suc n → IsMap q a → (a ≡ n) ⊎ (a ≡ n → ⊥) → HasMatrix q m a
-          last a below map (inl same) = subst (HasMatrix q m) (sym same) (here (subst (IsMap q) same map))
-          last a below map (inr other) = before.each a (omega (arith, below, other)) map
+      at : IsAtMap q m h.number
+      at = record { map = h.fails.0; earlier = have h.number h.earlier }
 
-      symmetric : HaveMatrices q m n → IsMap q n → (x : Matrix) → map_at m n ≡ Some x → HasEnds q m n x → IsDecided (IsSelfTransposed q m n x) → HaveMatrices q m (suc n) ⊎ IsRefused
-      symmetric before map x there ends (inl self) = inl (longer before (λ again. record { matrix = x; there = there; ends = ends; self_transposed = self }))
-      symmetric before map x there ends (inr other) = inr (record {
-        told = refusal.NotSymmetric (record { 0 = n });
-        refuses = record { at = record { map = map; earlier = before }; matrix = x; there = there; ends = ends; other = other };
-        no_memory = λ h. h;
-      })
+      by : Tells h.number e → RefusesMap q m e
+      by (inl (is, none)) = subst (RefusesMap q m) (sym is) (record { at = at; none = none })
+      by (inr (x, there, inl (is, other))) = subst (RefusesMap q m) (sym is) (record { at = at; matrix = x; there = there; other = other })
+      by (inr (x, there, inr (ends, (is, other)))) = subst (RefusesMap q m) (sym is) (record { at = at; matrix = x; there = there; ends = ends; other = other })
 
-      fits : HaveMatrices q m n → IsMap q n → (x : Matrix) → map_at m n ≡ Some x → IsDecided (HasEnds q m n x) → HaveMatrices q m (suc n) ⊎ IsRefused
-      fits before map x there (inl ends) = symmetric before map x there ends (self_transposed_decided n x)
-      fits before map x there (inr other) = inr (record {
-        told = refusal.BadShape (record { 0 = n });
-        refuses = record { at = record { map = map; earlier = before }; matrix = x; there = there; other = other };
-        no_memory = λ h. h;
-      })
+  fails : (e : ModelRefusal) (a : ℕ) → IsAtMap q m a → Tells a e → FailsFirst Passes Fails (letters q) e
+  fails e a at tells = record { number = a; inside = at.map.letter; earlier = pass_here a at.earlier; fails = (at.map, tells) }
 
-      found : HaveMatrices q m n → IsMap q n → (o : Option Matrix) → map_at m n ≡ o → HaveMatrices q m (suc n) ⊎ IsRefused
-      found before map (Some x) there = fits before map x there (ends_decided n x)
-      found before map None none = inr (record {
-        told = refusal.MissingMap (record { 0 = n });
-        refuses = record { at = record { map = map; earlier = before }; none = none };
-        no_memory = λ h. h;
-      })
+  tells : (e : ModelRefusal) → RefusesMap q m e → (IsMemory e → ⊥) → FailsFirst Passes Fails (letters q) e
+  tells (refusal.MissingMap a) h not = fails (refusal.MissingMap a) a.0 h.at (inl (refl, h.none))
+  tells (refusal.BadShape a) h not = fails (refusal.BadShape a) a.0 h.at (inr (h.matrix, h.there, inl (refl, h.other)))
+  tells (refusal.NotSymmetric a) h not = fails (refusal.NotSymmetric a) a.0 h.at (inr (h.matrix, h.there, inr (h.ends, (refl, h.other))))
+  tells (refusal.Memory failed) h not = absurd (not tt)
+  tells other h not = absurd h
 
-      go : HaveMatrices q m n ⊎ IsRefused → IsDecided (IsMap q n) → HaveMatrices q m (suc n) ⊎ IsRefused
-      go (inr refused) d = inr refused
-      go (inl before) (inl map) = found before map (map_at m n) refl
-      go (inl before) (inr none) = inl (longer before (λ map. absurd (none map)))
+  maps_outcome : HasOneOutcome IsMemory (HaveMatrices q m (letters q)) (RefusesMap q m)
+  maps_outcome = reworded memory_decided (have (letters q)) (pass_here (letters q)) (λ e h not. told e h) tells (tests_up_to Passes Fails (letters q) (λ a inside earlier. where_test (map_decided a) (λ map. map_outcome a)))
 
 -- values
 module _ (problem : Problem) (m : Model) where
+  abbrev assumptions : List terms.Poly
+  assumptions = assumptions_of problem
+
   -- at its signature the value can be compared with the zero matrix
   zero_decided : (p : Poly) (s : Sig) → IsPosedOf problem p s → IsDecided (IsZeroIn problem m p.terms)
   zero_decided p s posed =
@@ -103,46 +118,48 @@ module _ (problem : Problem) (m : Model) where
       decided_by (zero_from_posed problem m p s posed) (λ zero. zero.at s.source.0 s.target.0 posed.ends.source posed.ends.target posed.typed)
       (matrix_decided (value_at (matrices m.modulus) q f s.source.0 s.target.0 p.terms) ((matrices m.modulus).zero (f.object s.source.0) (f.object s.target.0)))
 
-  assumption_at : (k : ℕ) → k < length problem.parts.assumptions → Both problem.parts.assumptions problem.parts.sigs k
-  assumption_at k below =
-      both_at problem.parts.assumptions problem.parts.sigs k (AllZip-long (IsTypedOf problem.parts.quiver) problem.parts.assumptions problem.parts.sigs problem.posed.assumptions_typed) below
+  assumption_decided : (k : ℕ) (p : terms.Poly) → slice_get assumptions k ≡ Some p → IsDecided (IsZeroIn problem m p)
+  assumption_decided k p there =
+      let parts = problem.parts in
+      let inside : k < length parts.assumptions = subst (λ n. k < n) (length-map parts.assumptions (λ r. r.terms)) (slice_get_within assumptions k p there) in
+      let at = both_at parts.assumptions parts.sigs k (AllZip-long (IsTypedOf parts.quiver) parts.assumptions parts.sigs problem.posed.assumptions_typed) inside in
+      let next : k + 1 ≡ suc k = omega arith in
+      let same : at.x.terms ≡ p = sym (generator_at-suc parts.assumptions k at.x at.x_there) ∙ ap (generator_at assumptions) next ∙ get_or_from_slice_get assumptions k p [] there in
+      subst (λ r. IsDecided (IsZeroIn problem m r)) same (zero_decided at.x at.y (record {
+        typed = zip_at (IsTypedOf parts.quiver) parts.assumptions parts.sigs k at.x at.y problem.posed.assumptions_typed at.x_there at.y_there;
+        ends = all_at (HasObjects parts.quiver) parts.sigs k at.y problem.posed.assumption_ends at.y_there;
+      }))
 
-  assumption_decided : (k : ℕ) (at : Both problem.parts.assumptions problem.parts.sigs k) → IsDecided (IsZeroIn problem m at.x.terms)
-  assumption_decided k at = zero_decided at.x at.y (record {
-    typed = zip_at (IsTypedOf problem.parts.quiver) problem.parts.assumptions problem.parts.sigs k at.x at.y problem.posed.assumptions_typed at.x_there at.y_there;
-    ends = all_at (HasObjects problem.parts.quiver) problem.parts.sigs k at.y problem.posed.assumption_ends at.y_there;
-  })
+  abbrev IsZero : terms.Poly → Type 0
+  IsZero = IsZeroIn problem m
 
-  -- the first assumptions are zero, or one of them is the first that isn't
-  assumptions_judged : (k : ℕ) → k ≤ length problem.parts.assumptions → AllByRecursion (IsZeroIn problem m) (take k (assumptions_of problem)) ⊎ ((number : ℕ) × IsFirstNotZero problem m number)
-  assumptions_judged zero within = inl tt
-  assumptions_judged (suc k) within = go (assumptions_judged k (omega (arith, within)))
-    where
-      at : Both problem.parts.assumptions problem.parts.sigs k
-      at = assumption_at k (omega (arith, within))
+  item_is : (number k : ℕ) (p : terms.Poly) → number ≡ k + 1 → slice_get assumptions k ≡ Some p → generator_at assumptions number ≡ p
+  item_is number k p numbered there = let next : k + 1 ≡ suc k = omega arith in ap (generator_at assumptions) (numbered ∙ next) ∙ get_or_from_slice_get assumptions k p [] there
 
-      next : k + 1 ≡ suc k
-      next = omega arith
+  to_first : (first : FirstNot IsZero assumptions) → IsFirstNotZero problem m (first.before + 1)
+  to_first first = record {
+    before = first.before;
+    numbered = refl;
+    inside = slice_get_within assumptions first.before first.item first.there;
+    earlier = recursion_from_All IsZero (take first.before assumptions) first.earlier;
+    other = λ zero. first.fails (subst IsZero (item_is (first.before + 1) first.before first.item refl first.there) zero);
+  }
 
-      here : AllByRecursion (IsZeroIn problem m) (take k (assumptions_of problem)) → IsDecided (IsZeroIn problem m at.x.terms)
-          → AllByRecursion (IsZeroIn problem m) (take (suc k) (assumptions_of problem)) ⊎ ((number : ℕ) × IsFirstNotZero problem m number)
-      here before (inl nothing) =
-          inl (subst (λ n. AllByRecursion (IsZeroIn problem m) (take n (assumptions_of problem))) next (one_more (IsZeroIn problem m) problem.parts.assumptions k at.x at.x_there before nothing))
-      here before (inr other) = inr (
-        k + 1,
+  from_first : (number : ℕ) → IsFirstNotZero problem m number → (first : FirstNot IsZero assumptions) × (refusal.NotZero number ≡ refusal.NotZero (first.before + 1))
+  from_first number h =
+      let there = slice_get-get_or assumptions h.before [] h.inside in (
         record {
-          before = k;
-          numbered = refl;
-          inside = inside problem.parts.assumptions k at.x at.x_there;
-          earlier = before;
-          other = λ zero. other (subst (IsZeroIn problem m) (generator_at-suc problem.parts.assumptions k at.x at.x_there) zero);
+          before = h.before;
+          item = get_or assumptions h.before [];
+          there = there;
+          earlier = All-from_recursion IsZero (take h.before assumptions) h.earlier;
+          fails = λ zero. h.other (subst IsZero (sym (item_is number h.before (get_or assumptions h.before []) h.numbered there)) zero);
         },
+        ap refusal.NotZero h.numbered,
       )
 
-      go : AllByRecursion (IsZeroIn problem m) (take k (assumptions_of problem)) ⊎ ((number : ℕ) × IsFirstNotZero problem m number)
-          → AllByRecursion (IsZeroIn problem m) (take (suc k) (assumptions_of problem)) ⊎ ((number : ℕ) × IsFirstNotZero problem m number)
-      go (inr first) = inr first
-      go (inl before) = here before (assumption_decided k at)
+  pub not_all_zero : (number : ℕ) → IsFirstNotZero problem m number → AllByRecursion IsZero assumptions → ⊥
+  not_all_zero number h all = not_each IsZero assumptions (from_first number h).0 (All-from_recursion IsZero assumptions all)
 
   claim_decided : IsClaimNumber problem m.claim → IsDecided (IsZeroIn problem m (claim_polynomial problem m.claim))
   claim_decided number =
@@ -150,71 +167,75 @@ module _ (problem : Problem) (m : Model) where
       let is = claim_is problem m m.claim number in
       decided_by (subst (IsZeroIn problem m) (sym is)) (subst (IsZeroIn problem m) is) (zero_decided at.x at.y (claims_are_posed problem m (m.claim - 1) at))
 
-  -- the tests in a row
-  abbrev Judged : Type 0
-  Judged = Refutes problem m ⊎ ((e : ModelRefusal) × RefusesModel problem m e × (IsMemory e → ⊥))
+  -- the tests in order
+  abbrev IsNamed : Type 0
+  IsNamed = IsClaimNumber problem m.claim
 
-  judged_claim : IsFitting problem m → AllByRecursion (IsZeroIn problem m) (assumptions_of problem) → IsDecided (IsZeroIn problem m (claim_polynomial problem m.claim)) → Judged
-  judged_claim fitting all (inl same) = inr (refusal.ClaimZero, record { assumptions = record { fitting = fitting; zero = all }; claim = same }, λ h. h)
-  judged_claim fitting all (inr other) = inl (record { assumptions = record { fitting = fitting; zero = all }; claim = other })
+  abbrev Maps : Type 0
+  Maps = HaveMatrices (quiver_of problem.parts.quiver) m (letters (quiver_of problem.parts.quiver))
 
-  judged_assumptions : IsFitting problem m → AllByRecursion (IsZeroIn problem m) (take (length problem.parts.assumptions) (assumptions_of problem)) ⊎ ((number : ℕ) × IsFirstNotZero problem m number) → Judged
-  judged_assumptions fitting (inr first) = inr (refusal.NotZero first.0, (fitting, first.1), λ h. h)
-  judged_assumptions fitting (inl all) =
-      let whole = subst (λ n. take n (assumptions_of problem) ≡ assumptions_of problem) (length-map problem.parts.assumptions (λ p. p.terms)) (take-length (assumptions_of problem)) in
-      judged_claim fitting (subst (AllByRecursion (IsZeroIn problem m)) whole all) (claim_decided fitting.claim)
+  abbrev IsOther : Type 0
+  IsOther = IsZero (claim_polynomial problem m.claim) → ⊥
 
-  judged_maps : IsClaimNumber problem m.claim → HaveMatrices (quiver_of problem.parts.quiver) m (letters (quiver_of problem.parts.quiver)) ⊎ IsRefused (quiver_of problem.parts.quiver) m → Judged
-  judged_maps number (inl maps) = judged_assumptions (record { claim = number; maps = maps }) (assumptions_judged (length problem.parts.assumptions) (omega arith))
-  judged_maps number (inr refused) = inr (refused.told, of_map refused.told refused.refuses refused.no_memory, refused.no_memory)
+  abbrev TellsAll : ModelRefusal → Type 0
+  TellsAll e =
+      ((e ≡ refusal.NoSuchClaim) × (IsNamed → ⊥))
+      ⊎ (IsNamed × (RefusesMap (quiver_of problem.parts.quiver) m e
+      ⊎ (Maps × (((first : FirstNot IsZero assumptions) × (e ≡ refusal.NotZero (first.before + 1)))
+      ⊎ (All IsZero assumptions × ((e ≡ refusal.ClaimZero) × (IsOther → ⊥)))))))
+
+  of_map : IsNamed → (e : ModelRefusal) → RefusesMap (quiver_of problem.parts.quiver) m e → RefusesModel problem m e
+  of_map named (refusal.MissingMap letter) h = (named, h)
+  of_map named (refusal.BadShape letter) h = (named, h)
+  of_map named (refusal.NotSymmetric letter) h = (named, h)
+  of_map named (refusal.Memory failed) h = tt
+  of_map named other h = absurd h
+
+  told_all : (e : ModelRefusal) → TellsAll e → RefusesModel problem m e
+  told_all e (inl (is, none)) = subst (RefusesModel problem m) (sym is) none
+  told_all e (inr (named, inl h)) = of_map named e h
+  told_all e (inr (named, inr (maps, inl (first, is)))) = subst (RefusesModel problem m) (sym is) (record { claim = named; maps = maps }, to_first first)
+  told_all e (inr (named, inr (maps, inr (all, (is, fails))))) = subst (RefusesModel problem m) (sym is) (by (claim_decided named))
     where
-      of_map : (e : ModelRefusal) → RefusesMap (quiver_of problem.parts.quiver) m e → (IsMemory e → ⊥) → RefusesModel problem m e
-      of_map (refusal.MissingMap letter) h no_memory = (number, h)
-      of_map (refusal.BadShape letter) h no_memory = (number, h)
-      of_map (refusal.NotSymmetric letter) h no_memory = (number, h)
-      of_map (refusal.Memory failed) h no_memory = absurd (no_memory tt)
-      of_map refusal.NoSuchClaim h no_memory = absurd h
-      of_map (refusal.NotZero number') h no_memory = absurd h
-      of_map refusal.ClaimZero h no_memory = absurd h
+      by : IsDecided (IsZero (claim_polynomial problem m.claim)) → RefusesModel problem m refusal.ClaimZero
+      by (inl zero) = record { assumptions = record { fitting = record { claim = named; maps = maps }; zero = recursion_from_All IsZero assumptions all }; claim = zero }
+      by (inr other) = absurd (fails other)
 
-  judged : IsDecided (IsClaimNumber problem m.claim) → Judged
-  judged (inl number) = judged_maps number (maps_judged (quiver_of problem.parts.quiver) m (letters (quiver_of problem.parts.quiver)))
-  judged (inr none) = inr (refusal.NoSuchClaim, none, λ h. h)
+  tells_all : (e : ModelRefusal) → RefusesModel problem m e → (IsMemory e → ⊥) → TellsAll e
+  tells_all refusal.NoSuchClaim h not = inl (refl, h)
+  tells_all (refusal.MissingMap letter) h not = inr (h.0, inl h.1)
+  tells_all (refusal.BadShape letter) h not = inr (h.0, inl h.1)
+  tells_all (refusal.NotSymmetric letter) h not = inr (h.0, inl h.1)
+  tells_all (refusal.NotZero number) h not = inr (h.0.claim, inr (h.0.maps, inl (from_first number h.1)))
+  tells_all refusal.ClaimZero h not =
+      let fitting = h.assumptions.fitting in
+      inr (fitting.claim, inr (fitting.maps, inr (All-from_recursion IsZero assumptions h.assumptions.zero, (refl, λ other. other h.claim))))
+  tells_all (refusal.Memory failed) h not = absurd (not tt)
+
+  not_decided : {P : Type 0} → IsDecided P → IsDecided (P → ⊥)
+  not_decided (inl p) = inr (λ none. none p)
+  not_decided (inr none) = inl none
+
+  model_outcome : HasOneOutcome IsMemory (Refutes problem m) (RefusesModel problem m)
+  model_outcome =
+      reworded memory_decided
+      (λ h. record { assumptions = record { fitting = record { claim = h.0; maps = h.1.0 }; zero = recursion_from_All IsZero assumptions h.1.1.0 }; claim = h.1.1.1 })
+      (λ h. let a = h.assumptions in (a.fitting.claim, (a.fitting.maps, (All-from_recursion IsZero assumptions a.zero, h.claim)))) (λ e h not. told_all e h) tells_all
+      (then_test
+      (one_test refusal.NoSuchClaim (λ none. none)
+      (decided_by (λ h. record { least = h.0; most = h.1 }) (λ is. (is.least, is.most)) (both_decided (le_decided 1 m.claim) (le_decided m.claim (length problem.parts.claims)))))
+      (λ named. then_test (maps_outcome (quiver_of problem.parts.quiver) m)
+      (λ maps. then_test (each_test IsZero refusal.NotZero (λ n none. none) assumptions assumption_decided)
+      (λ all. one_test refusal.ClaimZero (λ none. none) (not_decided (claim_decided named))))))
 
 pub each_model_is_judged : EachModelIsJudged
-each_model_is_judged problem m =
-    judged problem m
-    (decided_by (λ h. record { least = h.0; most = h.1 }) (λ is. (is.least, is.most)) (both_decided (le_decided 1 m.claim) (le_decided m.claim (length problem.parts.claims))))
+each_model_is_judged problem m = (model_outcome problem m).judged
 
--- whether it refutes its claim
 pub refuting_model_is_not_refused : RefutingModelIsNotRefused
-refuting_model_is_not_refused problem m e refutes refuses = go e refuses
-  where
-    fitting : IsFitting problem m
-    fitting = refutes.assumptions.fitting
+refuting_model_is_not_refused problem m e refutes = (model_outcome problem m).not_refused refutes e
 
-    has : (a : ℕ) → IsMap (quiver_of problem.parts.quiver) a → HasMatrix (quiver_of problem.parts.quiver) m a
-    has a map = fitting.maps.each a map.letter map
-
-    one_there : (a : ℕ) (x y : Matrix) → map_at m a ≡ Some x → map_at m a ≡ Some y → x ≡ y
-    one_there a x y one other = cc
-
-    go : (e : ModelRefusal) → RefusesModel problem m e → IsMemory e
-    go refusal.NoSuchClaim none = none fitting.claim
-    go (refusal.MissingMap letter) h = let there = (has letter.0 h.1.at.map).there in let none = h.1.none in absurd (cc)
-    go (refusal.BadShape letter) h =
-        let one = has letter.0 h.1.at.map in
-        h.1.other (subst (HasEnds (quiver_of problem.parts.quiver) m letter.0) (one_there letter.0 one.matrix h.1.matrix one.there h.1.there) one.ends)
-    go (refusal.NotSymmetric letter) h =
-        let one = has letter.0 h.1.at.map in
-        h.1.other (subst (IsSelfTransposed (quiver_of problem.parts.quiver) m letter.0) (one_there letter.0 one.matrix h.1.matrix one.there h.1.there) one.self_transposed)
-    go (refusal.NotZero number) h =
-        let first = h.1 in
-        let next : first.before + 1 ≡ suc first.before = omega arith in
-        let zero = All-get_or (IsZeroIn problem m) (assumptions_of problem) first.before [] first.inside (All-from_recursion (IsZeroIn problem m) (assumptions_of problem) refutes.assumptions.zero) in
-        first.other (subst (λ n. IsZeroIn problem m (generator_at (assumptions_of problem) n)) (sym (first.numbered ∙ next)) zero)
-    go refusal.ClaimZero h = refutes.claim h.claim
-    go (refusal.Memory failed) h = tt
+pub model_refusal_is_unique : ModelRefusalIsUnique
+model_refusal_is_unique problem m = (model_outcome problem m).unique
 
 pub refutes_decided : (problem : Problem) (m : Model) → IsDecided (Refutes problem m)
 refutes_decided problem m = go (each_model_is_judged problem m)

@@ -4,5 +4,4 @@ pub mod Places
 pub mod Counterexamples
 pub mod Decided
 pub mod Judged
-pub mod UniqueRefusals
 pub mod RefutedMeans

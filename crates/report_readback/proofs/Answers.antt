@@ -10,7 +10,7 @@ use Rattle.cofactor_checker.specs.Rows.{IsNumberUpTo}
 use Rattle.cofactor_checker.proofs.RowSums.{length-polynomials}
 use Rattle.cofactor_checker.specs.declared.refusal.Refusal.{Refusal}
 use Rattle.cofactor_checker.specs.Acceptance.{IsMemory}
-use Rattle.cofactor_checker.proofs.EvidenceJudged.{evidence_is_judged}
+use Rattle.cofactor_checker.proofs.Judged.{evidence_is_judged}
 use Rattle.adjoint_rules.specs.declared.problem.Problem.{Problem}
 use Rattle.adjoint_rules.specs.Problem.{polynomials}
 use Rattle.adjoint_rules.specs.Claims.{claim_at, claim_numbers}

@@ -32,7 +32,7 @@ use Rattle.cofactor_checker.specs.PlainRows.{place_of, plain_row, plain_rows, pl
 use Rattle.cofactor_checker.specs.Lemmas.{lemma_polynomial, IsLeastIndivisible, RefusesLemmaRows, RefusesLemma}
 use Rattle.cofactor_checker.specs.Acceptance.{IsMemory}
 use Rattle.cofactor_checker.proofs.LemmaSums.{sums_agree}
-use Rattle.cofactor_checker.proofs.Short.{no_rest}
+use Rattle.cofactor_checker.proofs.LemmaTests.{no_rest}
 use Rattle.cofactor_checker.proofs.Places.{place-generator, place-lemma}
 use Rattle.cofactor_checker.proofs.Terms.{quotient_back}
 use Rattle.nc_polynomial.specs.Limits.{word_limit, term_limit}

@@ -16,7 +16,7 @@ use Rattle.cancel_rules.specs.Items.{row_total}
 use Rattle.cancel_rules.specs.Acceptance.{claim_named, all_items, HasItems, AcceptsCancellation, RefusesCancellation, IsReadableCancellation, IsMemory}
 use Rattle.cancel_rules.proofs.Outcomes.{refuses_from_beginning, refuses_from_items, refuses_from_goal, err_told, memory_only, memory_told}
 use Rattle.cancel_rules.proofs.Shown.{accepted_cancellation_leads}
-use Rattle.cancel_rules.proofs.Short.{short}
+use Rattle.cancel_rules.proofs.Judged.{cancellation_outcome}
 use Rattle.cancel_rules.proofs.check.check_cancellation.Goals as goal
 use Rattle.cancel_rules.proofs.check.check_cancellation.Goals.{In_err-claim, In_err-made, In_ok-made, In_err-check_goal, In_ok-check_goal}
 
@@ -39,7 +39,7 @@ pub returns-in_err-claim-clause-complete : goal.returns-in_err-claim-clause-comp
 returns-in_err-claim-clause-complete c = λ accepted.
     let passed = goal.at.returns-in_err-claim-clause-complete c in
     err_told IsMemory c.from_residual.result c.in_err-claim.field-0.0 c.from_residual.ensures.1
-    (short (quiver_of c.args.problem.now.parts.quiver) (polynomials c.args.problem.now.parts.claims) (polynomials c.args.problem.now.generators) c.args.proof.now accepted (Common c.in_err-claim.field-0.0) (begun_wrong passed.In_err-claim))
+    ((cancellation_outcome (quiver_of c.args.problem.now.parts.quiver) (polynomials c.args.problem.now.parts.claims) (polynomials c.args.problem.now.generators) c.args.proof.now).not_refused accepted (Common c.in_err-claim.field-0.0) (begun_wrong passed.In_err-claim))
 
 -- the tables of letters
 pub returns-in_err-marks-clause-refuses : goal.returns-in_err-marks-clause-refuses
@@ -71,7 +71,7 @@ pub returns-in_err-made-clause-complete : goal.returns-in_err-made-clause-comple
 returns-in_err-made-clause-complete c = λ accepted.
     let passed = goal.at.returns-in_err-made-clause-complete c in
     let back : c.from_residual-in_err-made.result ≡ Err c.in_err-made.field-0.0 = search rules in
-    rw back (short (quiver_of c.args.problem.now.parts.quiver) (polynomials c.args.problem.now.parts.claims) (polynomials c.args.problem.now.generators) c.args.proof.now accepted c.in_err-made.field-0.0 (item_wrong passed.In_err-made))
+    rw back ((cancellation_outcome (quiver_of c.args.problem.now.parts.quiver) (polynomials c.args.problem.now.parts.claims) (polynomials c.args.problem.now.generators) c.args.proof.now).not_refused accepted c.in_err-made.field-0.0 (item_wrong passed.In_err-made))
 
 -- the goal
 items : (c : In_ok-made) → HasItems (quiver_of c.args.problem.now.parts.quiver) (polynomials c.args.problem.now.parts.claims) (polynomials c.args.problem.now.generators) c.args.proof.now
@@ -98,7 +98,7 @@ pub returns-in_err-check_goal-clause-complete : goal.returns-in_err-check_goal-c
 returns-in_err-check_goal-clause-complete c = λ accepted.
     let passed = goal.at.returns-in_err-check_goal-clause-complete c in
     err_told IsMemory c.from_residual-in_err-check_goal.result c.in_err-check_goal.field-0.0 c.from_residual-in_err-check_goal.ensures.1
-    (short (quiver_of c.args.problem.now.parts.quiver) (polynomials c.args.problem.now.parts.claims) (polynomials c.args.problem.now.generators) c.args.proof.now accepted (Common c.in_err-check_goal.field-0.0)
+    ((cancellation_outcome (quiver_of c.args.problem.now.parts.quiver) (polynomials c.args.problem.now.parts.claims) (polynomials c.args.problem.now.generators) c.args.proof.now).not_refused accepted (Common c.in_err-check_goal.field-0.0)
     (goal_wrong passed.In_err-check_goal (items passed.In_ok-made)))
 
 accepts : (c : In_ok-check_goal) → HasItems (quiver_of c.args.problem.now.parts.quiver) (polynomials c.args.problem.now.parts.claims) (polynomials c.args.problem.now.generators) c.args.proof.now

@@ -1,4 +1,4 @@
-use Rattle.cancel_rules.proofs.Unique as law
+use Rattle.cancel_rules.proofs.Judged as law
 use Rattle.cancel_rules.proofs.laws.cancellation_refusal_is_unique.Goals as goal
 
 pub returns : goal.returns

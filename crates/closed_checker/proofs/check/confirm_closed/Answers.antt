@@ -1,7 +1,7 @@
 use Rattle.std.proofs.Common.{rules}
 use Rattle.closed_checker.specs.Closed.{IsClosedBasis}
 use Rattle.closed_checker.proofs.ClosedMeaning.{closed_bases_mean_outside}
-use Rattle.closed_checker.proofs.NotRefused.{complete}
+use Rattle.closed_checker.proofs.Judged.{complete}
 use Rattle.closed_checker.proofs.check.confirm_closed.Goals as goal
 
 pub returns-clause-means : goal.returns-clause-means

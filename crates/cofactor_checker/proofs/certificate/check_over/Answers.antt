@@ -11,7 +11,8 @@ use Rattle.cofactor_checker.specs.Acceptance.{AddsUp, Accepts, SumDiffers, Refus
 use Rattle.cofactor_checker.specs.RowRefusals.{RefusesRow}
 use Rattle.cofactor_checker.specs.declared.refusal.Refusal.TheVariants as refusal
 use Rattle.cofactor_checker.specs.Running.{IsSumOf}
-use Rattle.cofactor_checker.proofs.Outcomes.{posed, begins, refuses_from_row, sums_agree, sums_differ, combination_from_accepts, accepted_is_not_refused}
+use Rattle.cofactor_checker.proofs.Judged.{accepted_is_not_refused}
+use Rattle.cofactor_checker.proofs.Outcomes.{posed, begins, refuses_from_row, sums_agree, sums_differ, combination_from_accepts}
 use Rattle.cofactor_checker.proofs.RowSums.{Names, named}
 use Rattle.cofactor_checker.proofs.certificate.check_over.Goals as goal
 use Rattle.cofactor_checker.proofs.certificate.check_over.Goals.{In-Some, In_ok-sum}

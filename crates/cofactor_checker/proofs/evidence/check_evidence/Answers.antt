@@ -1,7 +1,8 @@
 use Rattle.std.proofs.Common.{rules, ◌≡◌}
 use Rattle.adjoint_rules.specs.Problem.{polynomials}
 use Rattle.cofactor_checker.proofs.LemmaOutcomes.{shows_result}
-use Rattle.cofactor_checker.proofs.Short.{short_result}
+use Rattle.cofactor_checker.proofs.Judged.{not_refused_result}
+use Rattle.traced_rows.specs.declared.evidence.Evidence.TheVariants.{Lemmas}
 use Rattle.cofactor_checker.proofs.evidence.check_evidence.Goals as goal
 
 pub returns-in-Lemmas-clause-adds_up : goal.returns-in-Lemmas-clause-adds_up
@@ -18,4 +19,4 @@ returns-in-Lemmas-clause-complete c =
     let generators_are : c.as_slice.result.now ≡ c.args.problem.now.generators = search rules in
     let claims = polynomials c.as_slice-claims.result.now in
     let generators = polynomials c.as_slice.result.now in
-    rw (c.in-Lemmas.is, ← claims_are, ← generators_are) (λ accepted. short_result claims generators c.in-Lemmas.certificate accepted c.check_lemmas.result c.check_lemmas.ensures.refuses)
+    rw (c.in-Lemmas.is, ← claims_are, ← generators_are) (λ accepted. not_refused_result claims generators (Lemmas c.in-Lemmas.certificate) accepted c.check_lemmas.result c.check_lemmas.ensures.refuses)

@@ -1,4 +1,4 @@
-use Rattle.cofactor_checker.proofs.EvidenceJudged.{evidence_is_judged}
+use Rattle.cofactor_checker.proofs.Judged.{evidence_is_judged}
 use Rattle.cofactor_checker.proofs.laws.evidence_is_judged.Goals as goal
 
 pub returns : goal.returns

@@ -2,7 +2,7 @@ use Rattle.std.proofs.Common.{IfSome, IfNone, sym, subst, ◌∙◌, true≢fals
 use Rattle.std.specs.List.{AllByRecursion}
 use Rattle.model_checker.specs.Models.{IsZeroIn, assumptions_of}
 use Rattle.model_checker.specs.Refusals.{IsFirstNotZero}
-use Rattle.model_checker.proofs.UniqueRefusals.{not_all_zero}
+use Rattle.model_checker.proofs.Judged.{not_all_zero}
 use Rattle.model_checker.proofs.confirm.check_values.Goals as goal
 
 pub returns-in-Some-clause-refused : goal.returns-in-Some-clause-refused

@@ -1,4 +1,4 @@
-use Rattle.model_checker.proofs.UniqueRefusals as lemma
+use Rattle.model_checker.proofs.Judged as lemma
 use Rattle.model_checker.proofs.laws.model_refusal_is_unique.Goals as goal
 
 pub returns : goal.returns
