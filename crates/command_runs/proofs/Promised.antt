@@ -6,6 +6,7 @@ use Rattle.std.proofs.lemmas.Slice.Zip.{AllZip-long}
 use Rattle.definitions.specs.Category.{Structure}
 use Rattle.nc_polynomial.specs.declared.poly.Poly.{Poly}
 use Rattle.adjoint_rules.specs.declared.problem.Problem.{Problem}
+use Rattle.traced_completion.specs.declared.budget.Budget.{Budget}
 use Rattle.adjoint_rules.specs.Claims.{claim_numbers}
 use Rattle.matrix_models.specs.declared.model.Model.{Model}
 use Rattle.block_text.specs.Back.{is_named}
@@ -46,27 +47,27 @@ known bytes problem is = declared_names_are_names bytes is.statements problem is
 as_many : (P : ℕ → Verdict → Type 0) (problem : Problem) (vs : List Verdict) → AllZip P (claim_numbers problem) vs → length vs ≡ length problem.parts.claims
 as_many P problem vs each = AllZip-long P (claim_numbers problem) vs each ∙ length-range_with_len 1 (length problem.parts.claims)
 
-module _ {Object Arrow : Type 0} {s : Structure Object Arrow} (equations : SaysEquations s) (bytes : List ℕ) (problem : Problem) (is : IsStated bytes problem) (evidence : List ℕ) where
+module _ {Object Arrow : Type 0} {s : Structure Object Arrow} (equations : SaysEquations s) (bytes : List ℕ) (problem : Problem) (is : IsStated bytes problem) (evidence : List ℕ) (budget : Budget) where
   -- a report of verdicts
-  report_is_meant : (rules : List Poly) (vs : List Verdict) → AllZip (VerdictMeans s problem) (claim_numbers problem) vs → LinesAreMeant s bytes evidence (report_of problem.parts.quiver rules vs)
+  report_is_meant : (rules : List Poly) (vs : List Verdict) → AllZip (VerdictMeans s problem budget) (claim_numbers problem) vs → LinesAreMeant s budget bytes evidence (report_of problem.parts.quiver rules vs)
   report_is_meant rules vs each =
       let ds = problem.parts.quiver in
       let names = known bytes problem is in
-      let count = as_many (VerdictMeans s problem) problem vs each in
-      verdicts_are_meant equations bytes problem is (VerdictMeans s problem) (λ claim v means. means) (block_text ds rules) (λ claim m means. refl) names (length rules) (report_of ds rules vs)
-      (λ l after inner at. subst (λ (n : ℕ). IsOfVerdict ds names (VerdictMeans s problem) (length rules) 1 (1 + n) (block_text ds rules) (35 ∷ l) after) count
-      (line_of_report ds names (VerdictMeans s problem) rules vs (subst (λ (n : ℕ). AllZip (VerdictMeans s problem) (range_with_len 1 n) vs) (sym count) each) l after inner at)) evidence
+      let count = as_many (VerdictMeans s problem budget) problem vs each in
+      verdicts_are_meant equations budget bytes problem is (VerdictMeans s problem budget) (λ claim v means. means) (block_text ds rules) (λ claim m means. refl) names (length rules) (report_of ds rules vs)
+      (λ l after inner at. subst (λ (n : ℕ). IsOfVerdict ds names (VerdictMeans s problem budget) (length rules) 1 (1 + n) (block_text ds rules) (35 ∷ l) after) count
+      (line_of_report ds names (VerdictMeans s problem budget) rules vs (subst (λ (n : ℕ). AllZip (VerdictMeans s problem budget) (range_with_len 1 n) vs) (sym count) each) l after inner at)) evidence
 
   -- head lines alone, of which none is that of a claim that is refuted
   abbrev Unrefuted : ℕ → Verdict → Type 0
-  Unrefuted claim v = VerdictMeans s problem claim v × ((m : Model) → v ≡ verdict.Refuted m → ⊥)
+  Unrefuted claim v = VerdictMeans s problem budget claim v × ((m : Model) → v ≡ verdict.Refuted m → ⊥)
 
-  heads_are_meant : (rules : List Poly) (vs : List Verdict) → AllZip Unrefuted (claim_numbers problem) vs → LinesAreMeant s bytes evidence (heads_of problem.parts.quiver rules vs)
+  heads_are_meant : (rules : List Poly) (vs : List Verdict) → AllZip Unrefuted (claim_numbers problem) vs → LinesAreMeant s budget bytes evidence (heads_of problem.parts.quiver rules vs)
   heads_are_meant rules vs each =
       let ds = problem.parts.quiver in
       let names = known bytes problem is in
       let count = as_many Unrefuted problem vs each in
-      verdicts_are_meant equations bytes problem is Unrefuted (λ claim v both. both.0) (λ claim v. []) (λ claim m both. absurd (both.1 m refl)) names (length rules) (heads_of ds rules vs)
+      verdicts_are_meant equations budget bytes problem is Unrefuted (λ claim v both. both.0) (λ claim v. []) (λ claim m both. absurd (both.1 m refl)) names (length rules) (heads_of ds rules vs)
       (λ l after inner at. subst (λ (n : ℕ). IsOfVerdict ds names Unrefuted (length rules) 1 (1 + n) (λ claim v. []) (35 ∷ l) after) count
       (line_of_heads ds names Unrefuted rules vs (subst (λ (n : ℕ). AllZip Unrefuted (range_with_len 1 n) vs) (sym count) each) l after inner at)) evidence
 
@@ -77,7 +78,7 @@ module _ {Object Arrow : Type 0} {s : Structure Object Arrow} (equations : SaysE
   none_refuted asked none number o v (refuted halt model on some least says) m same = absurd (let wrong : true ≡ false = sym some ∙ none in cc)
   none_refuted asked none number o v (undecided halt on nothing says) m same = absurd (subst IsHalt (sym says ∙ same) tt)
 
-  unrefuted : (asked : Asked) → asked.models ≡ false → (numbers : List ℕ) (os : List Outcome) (vs : List Verdict) → AreVerdictsOn problem asked numbers os vs → AllZip (VerdictMeans s problem) numbers vs
+  unrefuted : (asked : Asked) → asked.models ≡ false → (numbers : List ℕ) (os : List Outcome) (vs : List Verdict) → AreVerdictsOn problem asked numbers os vs → AllZip (VerdictMeans s problem budget) numbers vs
       → AllZip Unrefuted numbers vs
   unrefuted asked none [] os [] on means = tt
   unrefuted asked none [] os (v ∷ vs) on means = absurd means
@@ -86,29 +87,33 @@ module _ {Object Arrow : Type 0} {s : Structure Object Arrow} (equations : SaysE
   unrefuted asked none (n ∷ numbers) (o ∷ os) (v ∷ vs) on means = ((means.0, none_refuted asked none n o v on.0), unrefuted asked none numbers os vs on.1 means.1)
 
   -- what a search says
-  searched : (numbers : List ℕ) (vs : List Verdict) → AllZip (SearchMeans problem) numbers vs → AllZip (VerdictMeans s problem) numbers vs
+  searched : (numbers : List ℕ) (vs : List Verdict) → AllZip (SearchMeans problem) numbers vs → AllZip (VerdictMeans s problem budget) numbers vs
   searched [] [] each = tt
   searched [] (v ∷ vs) each = absurd each
   searched (n ∷ numbers) [] each = absurd each
   searched (n ∷ numbers) (v ∷ vs) each = (by v each.0, searched numbers vs each.1)
     where
-      by : (v : Verdict) → SearchMeans problem n v → VerdictMeans s problem n v
+      by : (v : Verdict) → SearchMeans problem n v → VerdictMeans s problem budget n v
       by (verdict.Proved e) means = absurd means
       by (verdict.NotDerivable rest) means = absurd means
       by (verdict.Refuted m) means = means
       by (verdict.Undecided h) means = absurd means
       by (verdict.NotRefuted candidates) means = tt
 
-  pub prove_is_meant : (asked : Asked) (ending : Ending) → PrintsMeant s report_of asked problem ending → LinesAreMeant s bytes evidence ending.report
+module _ {Object Arrow : Type 0} {s : Structure Object Arrow} (equations : SaysEquations s) (bytes : List ℕ) (problem : Problem) (is : IsStated bytes problem) (evidence : List ℕ) where
+  pub prove_is_meant : (asked : Asked) (ending : Ending) → PrintsMeant s report_of asked problem ending → LinesAreMeant s asked.budget bytes evidence ending.report
   prove_is_meant asked ending prints =
-      subst (LinesAreMeant s bytes evidence) (sym (ap (λ (e : Ending). e.report) prints.answer.says)) (report_is_meant prints.answer.rules prints.answer.verdicts prints.each)
+      subst (LinesAreMeant s asked.budget bytes evidence) (sym (ap (λ (e : Ending). e.report) prints.answer.says))
+      (report_is_meant equations bytes problem is evidence asked.budget prints.answer.rules prints.answer.verdicts prints.each)
 
-  pub bench_is_meant : (ending : Ending) → PrintsMeant s heads_of asked_by_bench problem ending → LinesAreMeant s bytes evidence ending.report
+  pub bench_is_meant : (ending : Ending) → PrintsMeant s heads_of asked_by_bench problem ending → LinesAreMeant s asked_by_bench.budget bytes evidence ending.report
   bench_is_meant ending prints =
-      subst (LinesAreMeant s bytes evidence) (sym (ap (λ (e : Ending). e.report) prints.answer.says))
-      (heads_are_meant prints.answer.rules prints.answer.verdicts
-      (unrefuted asked_by_bench refl (claim_numbers problem) prints.answer.decides.outcomes prints.answer.verdicts prints.answer.decides.are_verdicts prints.each))
+      subst (LinesAreMeant s asked_by_bench.budget bytes evidence) (sym (ap (λ (e : Ending). e.report) prints.answer.says))
+      (heads_are_meant equations bytes problem is evidence asked_by_bench.budget prints.answer.rules prints.answer.verdicts
+      (unrefuted equations bytes problem is evidence asked_by_bench.budget asked_by_bench refl (claim_numbers problem) prints.answer.decides.outcomes prints.answer.verdicts prints.answer.decides.are_verdicts
+      prints.each))
 
-  pub refute_is_meant : (seed : ℕ) (ending : Ending) → PrintsSearched seed problem ending → LinesAreMeant s bytes evidence ending.report
-  refute_is_meant seed ending prints =
-      subst (LinesAreMeant s bytes evidence) (sym (ap (λ (e : Ending). e.report) prints.answer.says)) (report_is_meant [] prints.answer.verdicts (searched (claim_numbers problem) prints.answer.verdicts prints.each))
+  pub refute_is_meant : (budget : Budget) (seed : ℕ) (ending : Ending) → PrintsSearched seed problem ending → LinesAreMeant s budget bytes evidence ending.report
+  refute_is_meant budget seed ending prints =
+      subst (LinesAreMeant s budget bytes evidence) (sym (ap (λ (e : Ending). e.report) prints.answer.says))
+      (report_is_meant equations bytes problem is evidence budget [] prints.answer.verdicts (searched equations bytes problem is evidence budget (claim_numbers problem) prints.answer.verdicts prints.each))

@@ -5,6 +5,7 @@ use Rattle.definitions.specs.Soundness.{IsSound}
 use Rattle.representations.specs.Evidence.{IsEvidenceSound}
 use Rattle.cancel_rules.specs.Meaning.{IsCancellationSound}
 use Rattle.adjoint_rules.specs.declared.problem.Problem.{Problem}
+use Rattle.traced_completion.specs.declared.budget.Budget.{Budget}
 use Rattle.statement_meaning.specs.Meanings.{SaysEquations}
 use Rattle.command_words.specs.declared.call.Call.{Call}
 use Rattle.command_words.specs.declared.call.Call.TheVariants.{Prove, Refute, Bench, Evidence}
@@ -17,6 +18,7 @@ use Rattle.evidence_commands.specs.Commands.{AnswersEvidence}
 use Rattle.command_runs.specs.CallFiles.{statement_of, evidence_of}
 use Rattle.command_runs.specs.Answers.{AnswersOver, Answers}
 use Rattle.command_runs.specs.Says.{SaysOver}
+use Rattle.command_runs.specs.Promises.Undecided.{budget_of}
 use Rattle.command_runs.specs.Promises.{LinesAreMeant}
 use Rattle.command_runs.proofs.Commands.{answers_say}
 use Rattle.command_runs.proofs.Promised.{prove_is_meant, bench_is_meant, refute_is_meant}
@@ -24,30 +26,32 @@ use Rattle.command_runs.proofs.PromisedEvidence.{check_is_meant, model_is_meant,
 
 module _ {Object Arrow : Type 0} {s : Structure Object Arrow} (laws : PreadditiveLaws s) (sound : IsSound s) (with_lemmas : IsEvidenceSound s) (cancelling : IsCancellationSound s) (equations : SaysEquations s) where
   -- over the problem of a statement
-  evidence_is_meant : (command : EvidenceCommand) (statement evidence : List ℕ) (problem : Problem) → IsStated statement problem → (ending : Ending) → AnswersEvidence command evidence problem ending
-      → LinesAreMeant s statement evidence ending.report
-  evidence_is_meant Check statement evidence problem is = check_is_meant laws sound with_lemmas cancelling equations statement problem is evidence
-  evidence_is_meant Model statement evidence problem is = model_is_meant laws sound with_lemmas cancelling equations statement problem is evidence
-  evidence_is_meant Confirm statement evidence problem is = confirm_is_meant laws sound with_lemmas cancelling equations statement problem is evidence
-  evidence_is_meant Explain statement evidence problem is = explain_is_meant laws sound with_lemmas cancelling equations statement problem is evidence
-  evidence_is_meant Cancel statement evidence problem is = cancel_is_meant laws sound with_lemmas cancelling equations statement problem is evidence
+  evidence_is_meant : (budget : Budget) (command : EvidenceCommand) (statement evidence : List ℕ) (problem : Problem) → IsStated statement problem → (ending : Ending) → AnswersEvidence command evidence problem ending
+      → LinesAreMeant s budget statement evidence ending.report
+  evidence_is_meant budget Check statement evidence problem is = check_is_meant laws sound with_lemmas cancelling equations budget statement problem is evidence
+  evidence_is_meant budget Model statement evidence problem is = model_is_meant laws sound with_lemmas cancelling equations budget statement problem is evidence
+  evidence_is_meant budget Confirm statement evidence problem is = confirm_is_meant laws sound with_lemmas cancelling equations budget statement problem is evidence
+  evidence_is_meant budget Explain statement evidence problem is = explain_is_meant laws sound with_lemmas cancelling equations budget statement problem is evidence
+  evidence_is_meant budget Cancel statement evidence problem is = cancel_is_meant laws sound with_lemmas cancelling equations budget statement problem is evidence
 
   -- a statement without a fault
-  over : (statement evidence : List ℕ) (next : Problem → Ending → Type 0) (ending : Ending) → ending.status ≢ 3 → OverStatement statement next ending
-      → ((problem : Problem) → IsStated statement problem → next problem ending → LinesAreMeant s statement evidence ending.report) → LinesAreMeant s statement evidence ending.report
-  over statement evidence next ending sound_statement (faulty text refused ends) meant = absurd (sound_statement (ap (λ (e : Ending). e.status) ends))
-  over statement evidence next ending sound_statement (stated problem is leads) meant = meant problem is leads
+  over : (budget : Budget) (statement evidence : List ℕ) (next : Problem → Ending → Type 0) (ending : Ending) → ending.status ≢ 3 → OverStatement statement next ending
+      → ((problem : Problem) → IsStated statement problem → next problem ending → LinesAreMeant s budget statement evidence ending.report) → LinesAreMeant s budget statement evidence ending.report
+  over budget statement evidence next ending sound_statement (faulty text refused ends) meant = absurd (sound_statement (ap (λ (e : Ending). e.status) ends))
+  over budget statement evidence next ending sound_statement (stated problem is leads) meant = meant problem is leads
 
   call_by : (call : Call) (statement evidence : List ℕ) (ending : Ending) → ending.status ≢ 3 → OverStatement statement (AnswersOver call evidence) ending → SaysOver s call statement evidence ending
-      → LinesAreMeant s statement evidence ending.report
+      → LinesAreMeant s (budget_of call) statement evidence ending.report
   call_by (Prove p) statement evidence ending fine answer says =
-      over statement evidence _ ending fine says (λ problem is reports. prove_is_meant equations statement problem is evidence (asked_by p) ending reports.prints)
-  call_by (Refute p) statement evidence ending fine answer says = over statement evidence _ ending fine says (λ problem is prints. refute_is_meant equations statement problem is evidence p.seed ending prints)
-  call_by (Bench b) statement evidence ending fine answer says = over statement evidence _ ending fine says (λ problem is prints. bench_is_meant equations statement problem is evidence ending prints)
+      over (budget_of (Prove p)) statement evidence _ ending fine says (λ problem is reports. prove_is_meant equations statement problem is evidence (asked_by p) ending reports.prints)
+  call_by (Refute p) statement evidence ending fine answer says =
+      over (budget_of (Refute p)) statement evidence _ ending fine says (λ problem is prints. refute_is_meant equations statement problem is evidence (budget_of (Refute p)) p.seed ending prints)
+  call_by (Bench b) statement evidence ending fine answer says =
+      over (budget_of (Bench b)) statement evidence _ ending fine says (λ problem is prints. bench_is_meant equations statement problem is evidence ending prints)
   call_by (Evidence command p) statement evidence ending fine answer says =
-      over statement evidence _ ending fine answer (λ problem is ends. evidence_is_meant command statement evidence problem is ending ends)
+      over (budget_of (Evidence command p)) statement evidence _ ending fine answer (λ problem is ends. evidence_is_meant (budget_of (Evidence command p)) command statement evidence problem is ending ends)
 
   pub call_is_meant : (call : Call) (contents : List (List ℕ)) (ending : Ending) → Answers call contents ending → ending.status ≢ 3
-      → LinesAreMeant s (statement_of call contents) (evidence_of contents) ending.report
+      → LinesAreMeant s (budget_of call) (statement_of call contents) (evidence_of contents) ending.report
   call_is_meant call contents ending answer fine =
       call_by call (statement_of call contents) (evidence_of contents) ending fine answer.1 (answers_say laws sound with_lemmas cancelling call contents ending answer).1

@@ -17,6 +17,7 @@ use Rattle.traced_rows.specs.declared.evidence.Evidence.{Evidence}
 use Rattle.traced_rows.specs.declared.evidence.Evidence.TheVariants.{Plain, Lemmas}
 use Rattle.traced_rows.specs.LemmaRows.{denominator_of}
 use Rattle.adjoint_rules.specs.declared.problem.Problem.{Problem}
+use Rattle.traced_completion.specs.declared.budget.Budget.{Budget}
 use Rattle.adjoint_rules.specs.Problem.{polynomials}
 use Rattle.adjoint_rules.specs.Claims.{claim_at}
 use Rattle.matrix_models.specs.declared.model.Model.{Model}
@@ -105,10 +106,10 @@ module _ {Object Arrow : Type 0} (s : Structure Object Arrow) (bytes evidence pu
   nothing_sharp apart =
       record { sharp = λ block number below has. absurd (other block (codes "closed claim " ++ decimal number ++ codes " sharp") has.0 has.1 (λ e. omega (arith, e)) (λ e. apart (sym e))) }
 
-  nothing_undecided : UndecidedIsMeant bytes put
-  nothing_undecided = record { undecided = λ number text below has. absurd (none number (codes "undecided " ++ text) has.0 has.1) }
+  nothing_undecided : (budget : Budget) → UndecidedIsMeant budget bytes put
+  nothing_undecided budget = record { undecided = λ number text below has. absurd (none number (codes "undecided " ++ text) has.0 has.1) }
 
-module _ {Object Arrow : Type 0} {s : Structure Object Arrow} (laws : PreadditiveLaws s) (sound : IsSound s) (with_lemmas : IsEvidenceSound s) (cancelling : IsCancellationSound s) (equations : SaysEquations s)
+module _ {Object Arrow : Type 0} {s : Structure Object Arrow} (laws : PreadditiveLaws s) (sound : IsSound s) (with_lemmas : IsEvidenceSound s) (cancelling : IsCancellationSound s) (equations : SaysEquations s) (budget : Budget)
     (bytes : List ℕ) (problem : Problem) (is : IsStated bytes problem) (evidence : List ℕ) where
   abbrev ds : List Declaration
   ds = problem.parts.quiver
@@ -154,7 +155,7 @@ module _ {Object Arrow : Type 0} {s : Structure Object Arrow} (laws : Preadditiv
         };
       }
 
-  pub check_is_meant : (ending : Ending) → AnswersText certificates evidence problem ending → LinesAreMeant s bytes evidence ending.report
+  pub check_is_meant : (ending : Ending) → AnswersText certificates evidence problem ending → LinesAreMeant s budget bytes evidence ending.report
   check_is_meant ending ends =
       let causes : (r : _) (cause : List ℕ) → certificates.cause ds r ≡ Some cause → lacks 10 cause ≡ true = λ r cause same. told_is_part (certificates.cause ds r) cause (cause_of_check ds names_known r) same in
       let none = nothing_proved certificates certificates_are_judged laws sound with_lemmas cancelling bytes problem is evidence certificate_told causes 99 (λ e holds. refl) ending ends in
@@ -170,7 +171,7 @@ module _ {Object Arrow : Type 0} {s : Structure Object Arrow} (laws : Preadditiv
         refuted = nothing_confirmed s bytes evidence ending.report 99 none other (λ e. omega (arith, e));
         not_derivable = nothing_closed s bytes evidence ending.report 99 none other (λ e. omega (arith, e));
         sharp = nothing_sharp s bytes evidence ending.report 99 none other (λ e. omega (arith, e));
-        undecided = nothing_undecided s bytes evidence ending.report 99 none other;
+        undecided = nothing_undecided s bytes evidence ending.report 99 none other budget;
       }
 
   -- model
@@ -182,7 +183,7 @@ module _ {Object Arrow : Type 0} {s : Structure Object Arrow} (laws : Preadditiv
   confirmed_by block text ms place m are at numbered holds means says = record {
     number = m.claim;
     says = ap (drop 10) says;
-    refuted = is_refuted equations bytes problem is m.claim m (IsBlock evidence block) holds.assumptions.fitting.claim.least holds.assumptions.fitting.claim.most means
+    refuted = is_refuted equations budget bytes problem is m.claim m (IsBlock evidence block) holds.assumptions.fitting.claim.least holds.assumptions.fitting.claim.most means
         (record { models = ms; read = are; place = place; counted = numbered; at = at });
   }
 
@@ -313,7 +314,7 @@ module _ {Object Arrow : Type 0} {s : Structure Object Arrow} (laws : Preadditiv
   inside (y ∷ xs) zero x at = omega arith
   inside (y ∷ xs) (suc place) x at = let rest = inside xs place x at in omega (arith, rest)
 
-  pub model_is_meant : (ending : Ending) → AnswersText models evidence problem ending → LinesAreMeant s bytes evidence ending.report
+  pub model_is_meant : (ending : Ending) → AnswersText models evidence problem ending → LinesAreMeant s budget bytes evidence ending.report
   model_is_meant ending ends =
       let causes : (r : _) (cause : List ℕ) → models.cause ds r ≡ Some cause → lacks 10 cause ≡ true = λ r cause same. told_is_part (models.cause ds r) cause (cause_of_model ds names_known r) same in
       let none = nothing_proved models models_are_judged laws sound with_lemmas cancelling bytes problem is evidence model_told causes 111 (λ m holds. refl) ending ends in
@@ -331,10 +332,10 @@ module _ {Object Arrow : Type 0} {s : Structure Object Arrow} (laws : Preadditiv
             confirmed_by block text at.blocks at.place at.found at.read at.at numbered at.holds at.means at.says);
         not_derivable = nothing_closed s bytes evidence ending.report 111 none other (λ e. omega (arith, e));
         sharp = nothing_sharp s bytes evidence ending.report 111 none other (λ e. omega (arith, e));
-        undecided = nothing_undecided s bytes evidence ending.report 111 none other;
+        undecided = nothing_undecided s bytes evidence ending.report 111 none other budget;
       }
 
-  pub confirm_is_meant : (ending : Ending) → AnswersText bases evidence problem ending → LinesAreMeant s bytes evidence ending.report
+  pub confirm_is_meant : (ending : Ending) → AnswersText bases evidence problem ending → LinesAreMeant s budget bytes evidence ending.report
   confirm_is_meant ending ends =
       let causes : (r : _) (cause : List ℕ) → bases.cause ds r ≡ Some cause → lacks 10 cause ≡ true = λ r cause same. told_is_part (bases.cause ds r) cause (cause_of_confirm ds names_known r) same in
       let none = nothing_proved bases bases_are_judged laws sound with_lemmas cancelling bytes problem is evidence basis_told causes 108 (λ b holds. refl) ending ends in
@@ -353,10 +354,10 @@ module _ {Object Arrow : Type 0} {s : Structure Object Arrow} (laws : Preadditiv
               (codes "closed claim " ++ decimal number ++ codes " sharp") has.0 has.1 (λ e. omega (arith, e)) in
               sharp_by number at.found below at.holds at.means at.says;
         };
-        undecided = nothing_undecided s bytes evidence ending.report 108 none other;
+        undecided = nothing_undecided s bytes evidence ending.report 108 none other budget;
       }
 
-  pub explain_is_meant : (ending : Ending) → AnswersText chains evidence problem ending → LinesAreMeant s bytes evidence ending.report
+  pub explain_is_meant : (ending : Ending) → AnswersText chains evidence problem ending → LinesAreMeant s budget bytes evidence ending.report
   explain_is_meant ending ends =
       let causes : (r : _) (cause : List ℕ) → chains.cause ds r ≡ Some cause → lacks 10 cause ≡ true = λ r cause same. told_is_part (chains.cause ds r) cause (cause_of_explain ds names_known r) same in
       let told = explained_is_told problem names_known in
@@ -371,10 +372,10 @@ module _ {Object Arrow : Type 0} {s : Structure Object Arrow} (laws : Preadditiv
         refuted = nothing_confirmed s bytes evidence ending.report 120 none other (λ e. omega (arith, e));
         not_derivable = nothing_closed s bytes evidence ending.report 120 none other (λ e. omega (arith, e));
         sharp = nothing_sharp s bytes evidence ending.report 120 none other (λ e. omega (arith, e));
-        undecided = nothing_undecided s bytes evidence ending.report 120 none other;
+        undecided = nothing_undecided s bytes evidence ending.report 120 none other budget;
       }
 
-  pub cancel_is_meant : (ending : Ending) → AnswersText cancellations evidence problem ending → LinesAreMeant s bytes evidence ending.report
+  pub cancel_is_meant : (ending : Ending) → AnswersText cancellations evidence problem ending → LinesAreMeant s budget bytes evidence ending.report
   cancel_is_meant ending ends =
       let causes : (r : _) (cause : List ℕ) → cancellations.cause ds r ≡ Some cause → lacks 10 cause ≡ true = λ r cause same. told_is_part (cancellations.cause ds r) cause (cause_of_cancel ds names_known r) same in
       let none = nothing_proved cancellations cancellations_are_judged laws sound with_lemmas cancelling bytes problem is evidence cancellation_told causes 99 (λ p holds. refl) ending ends in
@@ -390,5 +391,5 @@ module _ {Object Arrow : Type 0} {s : Structure Object Arrow} (laws : Preadditiv
         refuted = nothing_confirmed s bytes evidence ending.report 99 none other (λ e. omega (arith, e));
         not_derivable = nothing_closed s bytes evidence ending.report 99 none other (λ e. omega (arith, e));
         sharp = nothing_sharp s bytes evidence ending.report 99 none other (λ e. omega (arith, e));
-        undecided = nothing_undecided s bytes evidence ending.report 99 none other;
+        undecided = nothing_undecided s bytes evidence ending.report 99 none other budget;
       }

@@ -10,6 +10,7 @@ use Rattle.traced_rows.specs.LemmaRows.{denominator_of}
 use Rattle.traced_rows.specs.declared.evidence.Evidence.{Evidence}
 use Rattle.quiver.specs.Declarations.{Declaration}
 use Rattle.adjoint_rules.specs.declared.problem.Problem.{Problem}
+use Rattle.traced_completion.specs.declared.budget.Budget.{Budget}
 use Rattle.matrix_models.specs.declared.model.Model.{Model}
 use Rattle.model_text.specs.Written.{model_text}
 use Rattle.block_text.specs.Back.{is_named}
@@ -46,7 +47,7 @@ said_is ds rules (verdict.NotRefuted candidates) = refl
 differ : (place m n : ℕ) (one other : List ℕ) → one ≡ other → get_or one place 0 ≡ m → get_or other place 0 ≡ n → m ≢ n → ⊥
 differ place m n one other same first second apart = apart (sym first ∙ ap (λ (t : List ℕ). get_or t place 0) same ∙ second)
 
-module _ {Object Arrow : Type 0} {s : Structure Object Arrow} (equations : SaysEquations s) (bytes : List ℕ) (problem : Problem) (stated : IsStated bytes problem) where
+module _ {Object Arrow : Type 0} {s : Structure Object Arrow} (equations : SaysEquations s) (budget : Budget) (bytes : List ℕ) (problem : Problem) (stated : IsStated bytes problem) where
   -- a claim that is proved by this denominator, and one that a model refutes
   pub is_proved : (number : ℕ) (e : Evidence) → 1 ≤ number → number ≤ length problem.parts.claims → ProvedMeans s problem number e → IsProved s bytes number (denominator_of e)
   is_proved number e least most means =
@@ -73,7 +74,7 @@ module _ {Object Arrow : Type 0} {s : Structure Object Arrow} (equations : SaysE
         refutes = equations.refuted stated.statements problem number m stated.elaborated means;
       }
 
-  module _ (P : ℕ → Verdict → Type 0) (means : (claim : ℕ) (v : Verdict) → P claim v → VerdictMeans s problem claim v) (shown : ℕ → Verdict → List ℕ)
+  module _ (P : ℕ → Verdict → Type 0) (means : (claim : ℕ) (v : Verdict) → P claim v → VerdictMeans s problem budget claim v) (shown : ℕ → Verdict → List ℕ)
       (models : (claim : ℕ) (m : Model) → P claim (verdict.Refuted m) → shown claim (verdict.Refuted m) ≡ model_text problem.parts.quiver m)
       (known : IsTrue (list_all is_named problem.parts.quiver)) (rules : ℕ) (put : List ℕ)
       (find : (l after : List ℕ) → lacks 10 (35 ∷ l) ≡ true → LineAt true put (35 ∷ l) after
@@ -139,7 +140,7 @@ module _ {Object Arrow : Type 0} {s : Structure Object Arrow} (equations : SaysE
     not_derivable_by number text (verdict.NotRefuted candidates) holds least most says = absurd (differ 4 100 114 _ _ says refl refl (λ e. omega (arith, e)))
 
     -- undecided
-    undecided_by : (number : ℕ) (text : List ℕ) (v : Verdict) → P number v → codes "undecided " ++ text ≡ told_of problem.parts.quiver rules v → IsUndecided bytes number text
+    undecided_by : (number : ℕ) (text : List ℕ) (v : Verdict) → P number v → codes "undecided " ++ text ≡ told_of problem.parts.quiver rules v → IsUndecided budget bytes number text
     undecided_by number text (verdict.Proved e) holds says = absurd (differ 0 117 112 _ _ says refl refl (λ e. omega (arith, e)))
     undecided_by number text (verdict.NotDerivable rest) holds says = absurd (differ 0 117 110 _ _ says refl refl (λ e. omega (arith, e)))
     undecided_by number text (verdict.Refuted m) holds says = absurd (differ 0 117 114 _ _ says refl refl (λ e. omega (arith, e)))
@@ -153,7 +154,7 @@ module _ {Object Arrow : Type 0} {s : Structure Object Arrow} (equations : SaysE
         let of = find _ after has.one (at_start put (block_line block said) after has) in
         differ 2 98 99 _ _ of.says refl refl (λ e. omega (arith, e))
 
-    pub verdicts_are_meant : (evidence : List ℕ) → LinesAreMeant s bytes evidence put
+    pub verdicts_are_meant : (evidence : List ℕ) → LinesAreMeant s budget bytes evidence put
     verdicts_are_meant evidence = record {
       proved = record {
         proved = λ number text below has. let is = found number (codes "proved " ++ text) has.0 below has.1 in proved_by number text is.verdict is.holds is.least is.most is.says;

@@ -10,6 +10,7 @@ use Rattle.std.specs.Prelude.{◌≢◌, ℕ, List, String}
 use Rattle.std.specs.declared.alloc.Global.{Global}
 use Rattle.definitions.specs.Category.{Structure}
 use Rattle.command_words.specs.declared.call.Call.{Call}
+use Rattle.traced_completion.specs.declared.budget.Budget.{Budget}
 use Rattle.command_runs.specs.Call.{IsCalled}
 use Rattle.command_runs.specs.CallFiles.{files_of, statement_of, evidence_of}
 use Rattle.command_runs.specs.Files.{WereLoaded}
@@ -19,16 +20,16 @@ use Rattle.command_runs.specs.Promises.Accepted.{AcceptedIsMeant}
 use Rattle.command_runs.specs.Promises.Refuted.{RefutedIsMeant}
 use Rattle.command_runs.specs.Promises.NotDerivable.{NotDerivableIsMeant}
 use Rattle.command_runs.specs.Promises.Sharp.{SharpIsMeant}
-use Rattle.command_runs.specs.Promises.Undecided.{UndecidedIsMeant}
+use Rattle.command_runs.specs.Promises.Undecided.{budget_of, UndecidedIsMeant}
 
--- Over the bytes of a statement and of a text of evidence each line that was put means what it says.
-pub record LinesAreMeant {Object Arrow : Type 0} (s : Structure Object Arrow) (statement evidence put : List ℕ) : Type 0 where
+-- Over the bytes of a statement and of a text of evidence, with such a budget, each line that was put means what it says.
+pub record LinesAreMeant {Object Arrow : Type 0} (s : Structure Object Arrow) (budget : Budget) (statement evidence put : List ℕ) : Type 0 where
   pub proved : ProvedIsMeant s statement put
   pub accepted : AcceptedIsMeant s statement put
   pub refuted : RefutedIsMeant statement evidence put
   pub not_derivable : NotDerivableIsMeant statement put
   pub sharp : SharpIsMeant statement put
-  pub undecided : UndecidedIsMeant statement put
+  pub undecided : UndecidedIsMeant budget statement put
 
 -- The files of the call were loaded, with these contents, and these bytes were put, each line of which means what it says.
 pub record IsMeant {Object Arrow : Type 0} (s : Structure Object Arrow) (words : List (String Global)) (run : Run) : Type 0 where
@@ -38,7 +39,7 @@ pub record IsMeant {Object Arrow : Type 0} (s : Structure Object Arrow) (words :
   pub loaded : WereLoaded run.told (files_of call) contents
   pub bytes : List ℕ
   pub put : run.put bytes
-  pub lines : LinesAreMeant s (statement_of call contents) (evidence_of contents) bytes
+  pub lines : LinesAreMeant s (budget_of call) (statement_of call contents) (evidence_of contents) bytes
 
 -- So it is at each status but 2 (other words), 3 (a faulty statement), 4 (a file that couldn't be loaded), 5 (a sink that failed) and 6 (nothing is put).
 abbrev pub PutsWhatIsMeant : {Object Arrow : Type 0} → Structure Object Arrow → List (String Global) → Run → ℕ → Type 0
