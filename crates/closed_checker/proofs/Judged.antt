@@ -20,10 +20,11 @@ use Rattle.rule_reduce.specs.declared.fault.ReduceFault.TheVariants as halt
 use Rattle.rule_reduce.specs.NormalForms as reduce
 use Rattle.ambiguities.specs.declared.ambiguity.Ambiguity.{Ambiguity}
 use Rattle.ambiguities.specs.Ambiguities.{IsAmbiguity}
-use Rattle.ambiguity_order.specs.Order.{IsBeforeByWord}
-use Rattle.ambiguity_order.proofs.Ascending.{contains-cases, contains-first, contains-rest, first-before, rest-pairs}
-use Rattle.ambiguity_order.proofs.Comparing.{not_before_itself, not_before_each_other}
-use Rattle.ambiguity_order.proofs.Lists.{ambiguities_can_be_listed}
+use Rattle.ambiguities.specs.Order.{IsBeforeByWord, waiting_of}
+use Rattle.ambiguities.proofs.Sorted.{Decided}
+use Rattle.ambiguities.proofs.Ascending.{contains-cases, contains-first, contains-rest, first-before, rest-pairs}
+use Rattle.ambiguities.proofs.Comparing.{not_before_itself, not_before_each_other}
+use Rattle.closed_checker.proofs.Lists.{ambiguities_can_be_listed}
 use Rattle.adjoint_rules.specs.declared.problem.Problem.{Problem}
 use Rattle.basis_text.specs.declared.basis.Basis.{Basis}
 use Rattle.closed_checker.specs.declared.part.Part.{Part}
@@ -37,7 +38,7 @@ use Rattle.closed_checker.specs.Laws.{EachBasisIsJudged}
 use Rattle.completion_laws.proofs.Ends.{Gives}
 use Rattle.closed_checker.proofs.PartOrder.{order_laws}
 use Rattle.closed_checker.proofs.PartRests.{rest_gives}
-use Rattle.closed_checker.proofs.RulesDecided.{Decided, FirstNoRule, rules_decided}
+use Rattle.closed_checker.proofs.RulesDecided.{FirstNoRule, rules_decided}
 
 -- polynomials are the same or not
 unlike : true ≡ false → ⊥
@@ -197,9 +198,9 @@ module _ (problem : Problem) (b : Basis) where
           (ambiguities_judged found (rest-pairs IsBefore c found pairs) (λ a at. are a (contains-rest c found a at)))
         where
           before_none : (a : Ambiguity) → IsBefore a c → (c ≡ a) ⊎ Contains found a → ⊥
-          before_none a less (inl same) = not_before_itself (order_of problem) laws.total (rules_of problem b) c (subst (λ x. IsBefore x c) (sym same) less)
+          before_none a less (inl same) = not_before_itself (order_of problem) laws.total (waiting_of (rules_of problem b) c) (subst (λ x. IsBefore x c) (sym same) less)
           before_none a less (inr later) =
-              not_before_each_other (order_of problem) laws.total (rules_of problem b) a c less (first-before IsBefore c found pairs a later)
+              not_before_each_other (order_of problem) laws.total (waiting_of (rules_of problem b) a) (waiting_of (rules_of problem b) c) less (first-before IsBefore c found pairs a later)
 
           of_ambiguity : (a : Ambiguity) → IsBefore a c → Contains (c ∷ found) a ⊎ IsZeroAt a → IsZeroAt a
           of_ambiguity a less (inl at) = absurd (before_none a less (contains-cases c found a at))

@@ -4,8 +4,9 @@ use Rattle.std.proofs.lemmas.Bool.{cases_lt}
 use Rattle.word_orders.proofs.AskedOrders.{asked_rank, asked_cmp-admissible}
 use Rattle.word_orders.specs.Admissible.{IsAdmissible}
 use Rattle.ambiguities.specs.declared.ambiguity.Ambiguity.{Ambiguity}
-use Rattle.ambiguity_order.specs.Order.{IsBeforeByWord}
-use Rattle.ambiguity_order.proofs.Comparing.{before_compared}
+use Rattle.ambiguities.specs.declared.waiting.Waiting.{Waiting}
+use Rattle.ambiguities.specs.Order.{IsBeforeByWord, waiting_of}
+use Rattle.ambiguities.proofs.Comparing.{before_compared}
 use Rattle.adjoint_rules.specs.declared.problem.Problem.{Problem}
 use Rattle.basis_text.specs.declared.basis.Basis.{Basis}
 use Rattle.closed_checker.specs.declared.part.Part.{Part}
@@ -29,14 +30,14 @@ module _ (problem : Problem) (b : Basis) where
       go (inr most) (inr least) = let same : m ≡ n = omega (arith, most, least) in inl (ap part.Generator same)
 
   ambiguities_compared : (a c : Ambiguity) → AreCompared (part.Ambiguity a) (part.Ambiguity c)
-  ambiguities_compared a c = go (before_compared (order_of problem) laws.total (rules_of problem b) laws.same a c)
+  ambiguities_compared a c = go (before_compared (order_of problem) laws.total laws.same (waiting_of (rules_of problem b) a) (waiting_of (rules_of problem b) c))
     where
       laws : IsAdmissible 0 (order_of problem) (asked_rank 0 problem.parts.order)
       laws = order_laws problem 0
 
-      go : (a ≡ c) ⊎ (IsBeforeByWord (order_of problem) (rules_of problem b) a c ⊎ IsBeforeByWord (order_of problem) (rules_of problem b) c a)
+      go : (waiting_of (rules_of problem b) a ≡ waiting_of (rules_of problem b) c) ⊎ (IsBeforeByWord (order_of problem) (rules_of problem b) a c ⊎ IsBeforeByWord (order_of problem) (rules_of problem b) c a)
           → AreCompared (part.Ambiguity a) (part.Ambiguity c)
-      go (inl same) = inl (ap part.Ambiguity same)
+      go (inl same) = inl (ap (λ (w : Waiting). part.Ambiguity w.which) same)
       go (inr (inl before)) = inr (inl before)
       go (inr (inr after)) = inr (inr after)
 
