@@ -2,6 +2,7 @@ use Rattle.std.proofs.Common.{rules, ◌≡◌, ◌<◌, ◌^◌, List, length, 
 use Rattle.std.specs.List.{All, AllPairs}
 use Rattle.std.proofs.lemmas.Result.{IfOk-weaker}
 use Rattle.rule_reduce.specs.declared.rule.Rule.{Rule}
+use Rattle.ambiguities.specs.declared.ambiguity.Ambiguity.{Ambiguity}
 use Rattle.closed_checker.specs.declared.table.Lead.{Lead}
 use Rattle.closed_checker.specs.Finding.{ListsEachOnce, IsOfFirsts}
 use Rattle.closed_checker.specs.Table.{IsTableOf, StandsBefore}
@@ -32,5 +33,5 @@ returns g c =
     let of : IsTableOf all table = subst (λ (rs : List Rule). IsTableOf rs table) same c.in_ok-table.ensures in
     let read : c.as_slice-2.result.now ≡ table = search rules in
     IfOk-weaker c.find_all.result _ _
-    (λ found exact. ambiguities-of all table of _ (subst (λ (ts : List Lead). ListsEachOnce (IsOfFirsts ts ts) _) read exact))
+    (λ (found : List Ambiguity) exact. ambiguities-of all table of found (subst (λ (ts : List Lead). ListsEachOnce (IsOfFirsts ts ts) found) read exact))
     c.find_all.ensures
