@@ -17,3 +17,9 @@ pub mod Agreeing
 pub mod Marked
 pub mod Words
 pub mod OverLetters
+pub mod Ascending
+pub mod Comparing
+pub mod Fronts
+pub mod Keyed
+pub mod Sorted
+pub mod Candidates

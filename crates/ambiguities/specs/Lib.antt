@@ -20,3 +20,5 @@ pub mod Listed
 pub mod SPolynomials
 pub mod Laws
 pub mod Resolved
+pub mod Order
+pub mod Keys

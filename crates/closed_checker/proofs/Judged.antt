@@ -20,9 +20,9 @@ use Rattle.rule_reduce.specs.declared.fault.ReduceFault.TheVariants as halt
 use Rattle.rule_reduce.specs.NormalForms as reduce
 use Rattle.ambiguities.specs.declared.ambiguity.Ambiguity.{Ambiguity}
 use Rattle.ambiguities.specs.Ambiguities.{IsAmbiguity}
-use Rattle.ambiguity_order.specs.Order.{IsBeforeByWord}
-use Rattle.ambiguity_order.specs.Laws.{CanBeListed}
-use Rattle.ambiguity_order.proofs.Lists.{ambiguities_can_be_listed}
+use Rattle.ambiguities.specs.Order.{IsBeforeByWord}
+use Rattle.closed_checker.specs.ListLaws.{CanBeListed}
+use Rattle.closed_checker.proofs.Lists.{ambiguities_can_be_listed}
 use Rattle.adjoint_rules.specs.declared.problem.Problem.{Problem}
 use Rattle.basis_text.specs.declared.basis.Basis.{Basis}
 use Rattle.closed_checker.specs.declared.part.Part.{Part}

@@ -1,3 +1,11 @@
+pub mod Lists
+pub mod Cutting
+pub mod Fronts
+pub mod Picked
+pub mod Tables
+pub mod Walking
+pub mod Steps
+pub mod LeadRules
 pub mod Readable
 pub mod ProblemLetters
 pub mod Passing

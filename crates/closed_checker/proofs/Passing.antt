@@ -16,8 +16,8 @@ use Rattle.rule_reduce.specs.declared.fault.ReduceFault.{ReduceFault}
 use Rattle.rule_reduce.specs.declared.fault.ReduceFault.TheVariants as halt
 use Rattle.ambiguities.specs.declared.ambiguity.Ambiguity.{Ambiguity}
 use Rattle.ambiguities.specs.Ambiguities.{IsAmbiguity}
-use Rattle.ambiguity_order.specs.Order.{IsBeforeByWord, AreAllInOrder}
-use Rattle.ambiguity_order.proofs.Comparing.{not_before_itself, not_before_each_other}
+use Rattle.ambiguities.specs.Order.{IsBeforeByWord, AreAllInOrder, waiting_of}
+use Rattle.ambiguities.proofs.Comparing.{not_before_itself, not_before_each_other}
 use Rattle.adjoint_rules.specs.declared.problem.Problem.{Problem}
 use Rattle.basis_text.specs.declared.basis.Basis.{Basis}
 use Rattle.closed_checker.specs.declared.part.Part.{Part}
@@ -89,11 +89,11 @@ module _ (problem : Problem) (b : Basis) where
 
             later : i ≤ k → (i < k) ⊎ (k ≤ i) → ⊥
             later past (inl above) =
-                not_before_each_other (order_of problem) total (rules_of problem b) x a before
+                not_before_each_other (order_of problem) total (waiting_of (rules_of problem b) x) (waiting_of (rules_of problem b) a) before
                 (subst (λ (p : Ambiguity × Ambiguity). Before p.0 p.1) (λ n. (first n, at n)) (all.ascending i k x above within))
             later past (inr level) =
                 let same : i ≡ k = omega (arith, past, level) in
-                not_before_itself (order_of problem) total (rules_of problem b) a (subst (λ y. Before y a) (sym at ∙ ap (λ n. get_or found n x) (sym same) ∙ first) before)
+                not_before_itself (order_of problem) total (waiting_of (rules_of problem b) a) (subst (λ y. Before y a) (sym at ∙ ap (λ n. get_or found n x) (sym same) ∙ first) before)
 
             go : (k < i) ⊎ (i ≤ k) → k < i
             go (inl below) = below

@@ -10,7 +10,7 @@ use Rattle.rule_reduce.specs.declared.fault.ReduceFault.{ReduceFault}
 use Rattle.rule_reduce.specs.declared.fault.ReduceFault.TheVariants as halt
 use Rattle.ambiguities.specs.declared.ambiguity.Ambiguity.{Ambiguity}
 use Rattle.ambiguities.specs.Ambiguities.{IsAmbiguity}
-use Rattle.ambiguity_order.specs.Order.{IsBeforeByWord}
+use Rattle.ambiguities.specs.Order.{IsBeforeByWord}
 use Rattle.adjoint_rules.specs.declared.problem.Problem.{Problem}
 use Rattle.basis_text.specs.declared.basis.Basis.{Basis}
 use Rattle.basis_text.specs.Bases.{IsBasisOver}

@@ -6,11 +6,11 @@ ghost use Rattle.closed_checker.specs.Closed.{IsReadableBasis, NamesClaim, HasRu
 ghost use Rattle.closed_checker.specs.Laws.{ClosedMeans};
 ghost use Rattle.closed_checker.specs.Working.{AreRulesOf, GeneratorsPass, AmbiguitiesPass};
 
+use crate::list::all_ambiguities;
 use crate::rest::rest_of;
 use crate::rules::make_rules;
 use crate::{ClosedRefusal, Part};
 use adjoint_rules::Problem;
-use ambiguity_order::all_ambiguities;
 use basis_text::Basis;
 use rule_reduce::Rules;
 use std::alloc::Global;

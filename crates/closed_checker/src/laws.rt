@@ -1,6 +1,7 @@
-//! That each basis has one outcome, and what a closed basis means, as laws over the definitions.
+//! That each basis has one outcome, what a closed basis means, and that the ambiguities of rules can be listed, as laws over the definitions.
 ghost use Rattle.closed_checker.specs.Laws.{ReadBasesAreReadable, EachBasisIsJudged, BasisRefusalIsUnique};
 ghost use Rattle.closed_checker.specs.Laws.{ClosedBasisIsNotRefused, ClosedBasesMeanOutside};
+ghost use Rattle.closed_checker.specs.ListLaws.{AmbiguitiesCanBeListed, ListsAreUnique};
 
 /// The bases of a text can be checked.
 pub fn read_bases_are_readable()
@@ -26,4 +27,14 @@ pub fn closed_basis_is_not_refused()
 /// combination of the generators.
 pub fn closed_bases_mean_outside()
     ensures { ClosedBasesMeanOutside }
+{}
+
+/// In an admissible order any rules have a list of all their ambiguities.
+pub fn ambiguities_can_be_listed()
+    ensures { AmbiguitiesCanBeListed }
+{}
+
+/// Two such lists of the same rules are the same.
+pub fn lists_are_unique()
+    ensures { ListsAreUnique }
 {}

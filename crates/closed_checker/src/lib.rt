@@ -2,18 +2,22 @@
 #![tactic(auto)]
 
 mod check;
+mod finding;
 mod laws;
 mod limit;
+mod list;
 mod part;
 mod refusal;
 mod rest;
 mod rules;
+mod table;
 
 pub use check::confirm_closed;
 pub use laws::{
-    basis_refusal_is_unique, closed_bases_mean_outside, closed_basis_is_not_refused,
-    each_basis_is_judged, read_bases_are_readable,
+    ambiguities_can_be_listed, basis_refusal_is_unique, closed_bases_mean_outside,
+    closed_basis_is_not_refused, each_basis_is_judged, lists_are_unique, read_bases_are_readable,
 };
 pub use limit::STEP_LIMIT;
+pub use list::all_ambiguities;
 pub use part::Part;
 pub use refusal::ClosedRefusal;

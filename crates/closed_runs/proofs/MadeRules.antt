@@ -12,7 +12,7 @@ use Rattle.rule_reduce.specs.declared.fault.ReduceFault.{ReduceFault}
 use Rattle.rule_making.specs.Making.{Recorded, Rest, leads_negative, IsMadeFrom, Adds}
 use Rattle.rule_making.proofs.Quotients.{quotient_primitive}
 use Rattle.ambiguities.specs.declared.ambiguity.Ambiguity.{Ambiguity}
-use Rattle.traced_completion.specs.declared.pending.waiting.Waiting.{Waiting}
+use Rattle.ambiguities.specs.declared.waiting.Waiting.{Waiting}
 use Rattle.traced_completion.specs.Results.{each_in_turn}
 use Rattle.traced_completion.specs.Works.{Work, generator_work, First, first_of, second_work, Goes, InTurn, InTwoPasses}
 use Rattle.traced_completion.specs.Pending.{ambiguities_of}

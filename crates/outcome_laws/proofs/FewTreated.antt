@@ -26,10 +26,10 @@ use Rattle.completion_laws.proofs.MoreAmbiguities.{ambiguity_more, overlap_word-
 use Rattle.completion_laws.proofs.TypedLaws.{overlap_in_play}
 use Rattle.traced_completion.specs.Limits.{round_limit}
 use Rattle.traced_completion.specs.declared.budget.Budget.{Budget}
-use Rattle.traced_completion.specs.declared.pending.waiting.Waiting.{Waiting}
+use Rattle.ambiguities.specs.declared.waiting.Waiting.{Waiting}
 use Rattle.traced_completion.specs.Pending.{AreAllPending, ambiguities_of}
 use Rattle.traced_completion.specs.PlainRun.{Setting, RunState, IsRunState, taken_count, setting_of}
-use Rattle.traced_completion.proofs.Ascending.{contains-first}
+use Rattle.ambiguities.proofs.Ascending.{contains-first}
 use Rattle.traced_completion.proofs.StoreLemmas.{pending-over}
 use Rattle.claim_decider.specs.Outcomes.{IsOpen}
 use Rattle.outcome_laws.specs.KeptRuns.{done_after, IsKeptState}

@@ -34,8 +34,6 @@ pub mod ReducedWithin
 pub mod AmbiguitiesWithin
 pub mod LimitedRuns
 pub mod EvidenceFits
-pub mod Sorted
-pub mod Meetings
 pub mod Evidence
 pub mod Makings
 pub mod Works

@@ -27,7 +27,7 @@ use Rattle.completion_laws.specs.Conclusions.{NothingPendingBelow}
 use Rattle.completion_laws.proofs.Outside.{nonzero_is_outside, nonzero_is_not_below}
 use Rattle.completion_laws.proofs.ShapeLaws.{normal_forms_are_shaped}
 use Rattle.traced_completion.specs.declared.budget.Budget.{Budget}
-use Rattle.traced_completion.specs.declared.pending.waiting.Waiting.{Waiting}
+use Rattle.ambiguities.specs.declared.waiting.Waiting.{Waiting}
 use Rattle.rule_making.specs.Making.{Recorded}
 use Rattle.traced_completion.specs.Pending.{AreAllPending, ambiguities_of}
 use Rattle.traced_completion.specs.PlainRun.{Setting, RunState, went, closed, stopped, Ends, taken_count, TreatsFirst, TreatsPending, IsRound, IsRunState, setting_of}

@@ -27,7 +27,7 @@ use Rattle.ambiguities.specs.SPolynomials.{s_rows_of}
 use Rattle.ambiguities.proofs.Bounds.{over_overlap_word}
 use Rattle.ambiguities.proofs.Words.{AreWords, words_over, normal_words, s_words}
 use Rattle.ambiguities.proofs.OverLetters.{AreOver, IsOverRow, reduced_over, s_rows_over}
-use Rattle.traced_completion.specs.declared.pending.waiting.Waiting.{Waiting}
+use Rattle.ambiguities.specs.declared.waiting.Waiting.{Waiting}
 use Rattle.rule_making.specs.Making.{Recorded}
 use Rattle.traced_completion.specs.Pending.{IsPending, ambiguities_of}
 use Rattle.traced_completion.specs.RunLaws.{HasWords}

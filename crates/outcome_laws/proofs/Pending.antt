@@ -1,115 +1,22 @@
 -- All pending ambiguities of any rules can be listed in the order of the store.
-use Rattle.std.proofs.Common.{◌≡◌, ◌⊎◌, inl, inr, ℕ, zero, suc, ◌+◌, ◌<◌, List, [], ◌∷◌, length, map, Option, Some, None, refl, sym, ap, ◌∙◌, subst, arith}
+use Rattle.std.proofs.Common.{◌≡◌, inl, inr, ℕ, List, map, refl, sym, ap, ◌∙◌, subst}
 use Rattle.std.specs.Cmp.{IsTotalOrder}
-use Rattle.std.specs.List.{Contains, flat_map, range_with_len}
-use Rattle.std.specs.Ordering.{ordering_reverse}
+use Rattle.std.specs.List.{Contains}
 use Rattle.std.specs.declared.cmp.Ordering.{Ordering}
 use Rattle.std.specs.declared.cmp.Ordering.TheVariants.{Less, Equal, Greater}
 use Rattle.std.proofs.lemmas.Cmp.{tied_itself}
-use Rattle.std.proofs.lemmas.List.{length-map, get_or-map}
-use Rattle.std.proofs.lemmas.List.Elements.{Contains-append_left, Contains-append_right}
-use Rattle.std.proofs.lemmas.List.FromFn.{length-range_with_len, get_or-range_with_len}
-use Rattle.std.proofs.lemmas.Option.{same_Some}
 use Rattle.word_orders.specs.Admissible.{Compare}
 use Rattle.rule_reduce.specs.declared.rule.Rule.{Rule}
-use Rattle.rule_reduce.specs.RuleLists.{rule_at}
-use Rattle.ambiguities.specs.declared.ambiguity.Kind.{Kind}
-use Rattle.ambiguities.specs.declared.ambiguity.Kind.TheVariants.{Overlap, Inclusion}
 use Rattle.ambiguities.specs.declared.ambiguity.Ambiguity.{Ambiguity}
-use Rattle.ambiguities.specs.Ambiguities.{MeetsAs, IsAmbiguity, lead_at, overlap_word_of}
-use Rattle.ambiguities.specs.Listed.{ambiguity_at}
-use Rattle.ambiguities.proofs.Joined.{lead_at-is}
-use Rattle.ambiguities.proofs.Numbers.{rule_at-last}
-use Rattle.ambiguities.proofs.Occurrences.{occurs_within, overlaps_within}
+use Rattle.ambiguities.specs.declared.waiting.Waiting.{Waiting}
+use Rattle.ambiguities.specs.Ambiguities.{IsAmbiguity, overlap_word_of}
+use Rattle.ambiguities.specs.Order.{IsWaitingBefore, waiting_of}
+use Rattle.ambiguities.proofs.Ascending.{contains-map}
+use Rattle.ambiguities.proofs.Candidates.{ambiguity_decided, candidates, in_candidates}
+use Rattle.ambiguities.proofs.Comparing.{before_trans, before_compared}
+use Rattle.ambiguities.proofs.Sorted.{Decided, listing}
 use Rattle.completion_laws.proofs.Outside.{listed_or_not}
-use Rattle.traced_completion.specs.declared.pending.waiting.Waiting.{Waiting}
-use Rattle.traced_completion.specs.Pending.{IsBeforeInStore, IsPending, AreAllPending}
-use Rattle.traced_completion.specs.StoreOrder.{waiting_cmp, waiting_of}
-use Rattle.traced_completion.proofs.Ascending.{contains-cases}
-use Rattle.traced_completion.proofs.Comparing.{waiting_cmp-total, less-waiting, waiting-less, waiting-equal}
-use Rattle.outcome_laws.proofs.Sorted.{Decided, listing}
-use Rattle.outcome_laws.proofs.Meetings.{meeting_decided}
-
--- an ambiguity is decided
-none_some : (g : Rule) → ◌≡◌ {A = Option Rule} None (Some g) → ⊥
-none_some g is = cc
-
-module _ (rules : List Rule) where
-  ambiguity_decided : (a : Ambiguity) → Decided (IsAmbiguity rules a)
-  ambiguity_decided a = go (rule_at rules a.i) refl (rule_at rules a.j) refl
-    where
-      go : (o : Option Rule) → rule_at rules a.i ≡ o → (q : Option Rule) → rule_at rules a.j ≡ q → Decided (IsAmbiguity rules a)
-      go None none q at = inr (λ is. none_some is.first (sym none ∙ is.first_numbered))
-      go (Some g) first_at None none = inr (λ is. none_some is.second (sym none ∙ is.second_numbered))
-      go (Some g) first_at (Some h) second_at = by (meeting_decided a.kind a.i a.j g.lead h.lead a.place)
-        where
-          by : Decided (MeetsAs a.kind a.i a.j g.lead h.lead a.place) → Decided (IsAmbiguity rules a)
-          by (inl meets) = inl (record { first = g; second = h; first_numbered = first_at; second_numbered = second_at; meets = meets })
-          by (inr apart) = inr (λ is.
-              let first : is.first ≡ g = same_Some is.first g (sym is.first_numbered ∙ first_at) in
-              let second : is.second ≡ h = same_Some is.second h (sym is.second_numbered ∙ second_at) in
-              apart (subst (λ (p : Rule × Rule). MeetsAs a.kind a.i a.j p.0.lead p.1.lead a.place) (λ n. (first n, second n)) is.meets))
-
--- lists with all of them
-numbers_below : (n k : ℕ) → k < n → Contains (range_with_len 0 n) k
-numbers_below n k below = let first : 0 + k ≡ k = omega arith in (k, omega (arith, length-range_with_len 0 n, below), get_or-range_with_len 0 n k k below ∙ first)
-
-contains_flat : {X Y : Type 0} (f : X → List Y) (xs : List X) (x : X) (y : Y) → Contains xs x → Contains (f x) y → Contains (flat_map f xs) y
-contains_flat f [] x y (k, inside, is) at = absurd (omega (arith, inside))
-contains_flat {X} {Y} f (z ∷ xs) x y in_list at = go (contains-cases z xs x in_list) (λ later. contains_flat f xs x y later at)
-  where
-    go : (z ≡ x) ⊎ Contains xs x → (Contains xs x → Contains (flat_map f xs) y) → Contains (flat_map f (z ∷ xs)) y
-    go (inl is) further = Contains-append_left (f z) (flat_map f xs) y (subst (λ u. Contains (f u) y) (sym is) at)
-    go (inr later) further = Contains-append_right (f z) (flat_map f xs) y (further later)
-
-contains_image : {X Y : Type 0} (f : X → Y) (xs : List X) (x : X) → Contains xs x → Contains (map f xs) (f x)
-contains_image f xs x (k, inside, is) = (k, omega (arith, inside, length-map xs f), get_or-map f xs k x (f x) inside ∙ ap f is)
-
-module _ (rules : List Rule) where
-  at_place : ℕ → ℕ → ℕ → List Ambiguity
-  at_place i j place = ambiguity_at i j Overlap place ∷ (ambiguity_at i j Inclusion place ∷ [])
-
-  of_pair : ℕ → ℕ → List Ambiguity
-  of_pair i j = flat_map (at_place i j) (range_with_len 0 (suc (length (lead_at rules i))))
-
-  of_first : ℕ → List Ambiguity
-  of_first i = flat_map (of_pair i) (range_with_len 0 (suc (length rules)))
-
-  -- all places of all pairs of rules, in both ways
-  candidates : List Ambiguity
-  candidates = flat_map of_first (range_with_len 0 (suc (length rules)))
-
-  module _ (a : Ambiguity) (is : IsAmbiguity rules a) where
-    place_inside : a.place < suc (length (lead_at rules a.i))
-    place_inside = go a.kind is.meets
-      where
-        lead : lead_at rules a.i ≡ is.first.lead
-        lead = lead_at-is rules a.i is.first is.first_numbered
-
-        go : (kind : Kind) → MeetsAs kind a.i a.j is.first.lead is.second.lead a.place → a.place < suc (length (lead_at rules a.i))
-        go Overlap meets = omega (arith, ap length lead, overlaps_within is.first.lead is.second.lead a.place meets)
-        go Inclusion meets = omega (arith, ap length lead, occurs_within is.first.lead is.second.lead a.place meets.1)
-
-    in_one_way : Contains (at_place a.i a.j a.place) a
-    unfolding at_place
-    in_one_way = go a.kind refl
-      where
-        overlap : Ambiguity
-        overlap = ambiguity_at a.i a.j Overlap a.place
-
-        inclusion : Ambiguity
-        inclusion = ambiguity_at a.i a.j Inclusion a.place
-
-        go : (kind : Kind) → a.kind ≡ kind → Contains (ambiguity_at a.i a.j Overlap a.place ∷ (ambiguity_at a.i a.j Inclusion a.place ∷ [])) a
-        go Overlap same = (zero, omega arith, λ n. record { i = a.i; j = a.j; kind = sym same n; place = a.place })
-        go Inclusion same = (suc zero, omega arith, λ n. record { i = a.i; j = a.j; kind = sym same n; place = a.place })
-
-    in_candidates : Contains candidates a
-    unfolding candidates of_first of_pair
-    in_candidates =
-        contains_flat of_first (range_with_len 0 (suc (length rules))) a.i a (numbers_below (suc (length rules)) a.i (omega (arith, rule_at-last rules a.i is.first is.first_numbered)))
-        (contains_flat (of_pair a.i) (range_with_len 0 (suc (length rules))) a.j a (numbers_below (suc (length rules)) a.j (omega (arith, rule_at-last rules a.j is.second is.second_numbered)))
-        (contains_flat (at_place a.i a.j) (range_with_len 0 (suc (length (lead_at rules a.i)))) a.place a (numbers_below (suc (length (lead_at rules a.i))) a.place place_inside) in_one_way))
+use Rattle.traced_completion.specs.Pending.{IsPending, AreAllPending}
 
 -- in the order of the store
 pub record HasStore (compare : Compare) (rules : List Rule) (treated : List Ambiguity) : Type 0 where
@@ -117,17 +24,6 @@ pub record HasStore (compare : Compare) (rules : List Rule) (treated : List Ambi
   pub all : AreAllPending compare rules treated store
 
 module _ (compare : Compare) (total : IsTotalOrder compare) (same : (u v : List ℕ) → compare u v ≡ Equal → u ≡ v) where
-  before_trans : (a b c : Waiting) → IsBeforeInStore compare a b → IsBeforeInStore compare b c → IsBeforeInStore compare a c
-  before_trans a b c one other = waiting-less compare total same a c ((waiting_cmp-total compare total).trans a b c (less-waiting compare total a b one) (less-waiting compare total b c other))
-
-  before_compared : (a b : Waiting) → (a ≡ b) ⊎ (IsBeforeInStore compare a b ⊎ IsBeforeInStore compare b a)
-  before_compared a b = go (waiting_cmp compare a b) refl
-    where
-      go : (o : Ordering) → waiting_cmp compare a b ≡ o → (a ≡ b) ⊎ (IsBeforeInStore compare a b ⊎ IsBeforeInStore compare b a)
-      go Less e = inr (inl (waiting-less compare total same a b e))
-      go Equal e = inl (waiting-equal compare total same a b e)
-      go Greater e = inr (inr (waiting-less compare total same b a ((waiting_cmp-total compare total).antisymm b a ∙ ap ordering_reverse e)))
-
   word_decided : (u v : List ℕ) → Decided (u ≡ v)
   word_decided u v = go (compare u v) refl
     where
@@ -152,9 +48,9 @@ module _ (compare : Compare) (total : IsTotalOrder compare) (same : (u v : List 
     pending_listed : (w : Waiting) → IsPending rules treated w → Contains (map (waiting_of rules) (candidates rules)) w
     pending_listed w pending =
         let whole : waiting_of rules w.which ≡ w = λ n. record { which = w.which; word = sym pending.overlap n } in
-        subst (Contains (map (waiting_of rules) (candidates rules))) whole (contains_image (waiting_of rules) (candidates rules) w.which (in_candidates rules w.which pending.is))
+        subst (Contains (map (waiting_of rules) (candidates rules))) whole (contains-map (waiting_of rules) (candidates rules) w.which (in_candidates rules w.which pending.is))
 
     pub has_store : HasStore compare rules treated
     has_store =
-        let all = listing (IsBeforeInStore compare) before_trans before_compared (IsPending rules treated) pending_decided (map (waiting_of rules) (candidates rules)) pending_listed in
+        let all = listing (IsWaitingBefore compare) (before_trans compare total same) (before_compared compare total same) (IsPending rules treated) pending_decided (map (waiting_of rules) (candidates rules)) pending_listed in
         record { store = all.list; all = all.exact }

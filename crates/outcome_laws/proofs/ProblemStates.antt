@@ -16,7 +16,7 @@ use Rattle.completion_laws.specs.Kept.{IsReached}
 use Rattle.completion_laws.proofs.Inside.{rules_are_inside}
 use Rattle.completion_laws.proofs.Outside.{listed_or_not, resolved_where_closed, resolved_below_pending}
 use Rattle.traced_completion.specs.declared.budget.Budget.{Budget}
-use Rattle.traced_completion.specs.declared.pending.waiting.Waiting.{Waiting}
+use Rattle.ambiguities.specs.declared.waiting.Waiting.{Waiting}
 use Rattle.traced_completion.specs.Pending.{IsPending, AreAllPending}
 use Rattle.traced_completion.specs.PlainRun.{RunState, setting_of, IsRunState}
 use Rattle.outcome_laws.specs.KeptRuns.{IsKeptState, done_after}

@@ -16,7 +16,7 @@ use Rattle.adjoint_rules.specs.Problem.{polynomials}
 use Rattle.adjoint_rules.specs.Claims.{claim_at, claim_numbers}
 use Rattle.traced_completion.specs.declared.budget.Budget.{Budget}
 use Rattle.traced_completion.specs.PlainRun.{Setting, RunState, start, setting_of, IsRunState}
-use Rattle.traced_completion.proofs.Ascending.{contains-first, contains-rest}
+use Rattle.ambiguities.proofs.Ascending.{contains-first, contains-rest}
 use Rattle.traced_completion.proofs.RunStates.{states_bounded}
 use Rattle.claim_decider.specs.declared.outcome.Outcome.{Outcome}
 use Rattle.claim_decider.specs.Decided.{AreOutcomesOf, GetsOutcomeBy, OneGetsOutcomeAt, polynomials_in}

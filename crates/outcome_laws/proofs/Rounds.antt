@@ -11,7 +11,7 @@ use Rattle.rule_reduce.specs.declared.fault.ReduceFault.{ReduceFault}
 use Rattle.rule_reduce.specs.declared.fault.ReduceFault.TheVariants as fault
 use Rattle.rule_reduce.specs.NormalForms.{IsMemory}
 use Rattle.ambiguities.specs.declared.ambiguity.Ambiguity.{Ambiguity}
-use Rattle.traced_completion.specs.declared.pending.waiting.Waiting.{Waiting}
+use Rattle.ambiguities.specs.declared.waiting.Waiting.{Waiting}
 use Rattle.traced_completion.specs.Results.{each_in_turn}
 use Rattle.rule_making.specs.Making.{Recorded}
 use Rattle.traced_completion.specs.Works.{generator_work, first_of}

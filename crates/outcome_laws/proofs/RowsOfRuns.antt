@@ -25,7 +25,7 @@ use Rattle.ambiguities.specs.declared.ambiguity.Ambiguity.{Ambiguity}
 use Rattle.ambiguities.specs.Ambiguities.{IsAmbiguity}
 use Rattle.ambiguities.specs.SPolynomials.{s_rows_of, s_polynomial_of}
 use Rattle.ambiguities.proofs.Words.{AreWords, words_from}
-use Rattle.traced_completion.specs.declared.pending.waiting.Waiting.{Waiting}
+use Rattle.ambiguities.specs.declared.waiting.Waiting.{Waiting}
 use Rattle.traced_completion.specs.Results.{and_then, halted, each_in_turn, unless_overflow}
 use Rattle.rule_making.specs.Making.{Recorded, Rest, rest_with, negated_row, negated_rows, leads_negative, IsMadeFrom, Adds}
 use Rattle.traced_completion.specs.Works.{Work, generator_rows, generator_work, First, first_of, less_rows, first_rows, second_rows, rows_operations, second_rest, second_reduction, second_work, Goes, InTurn, InTwoPasses}

@@ -6,7 +6,7 @@ use Rattle.word_orders.specs.Admissible.{Compare}
 use Rattle.rule_reduce.specs.declared.rule.Rule.{Rule}
 use Rattle.rule_reduce.specs.declared.fault.ReduceFault.{ReduceFault}
 use Rattle.ambiguities.specs.declared.ambiguity.Ambiguity.{Ambiguity}
-use Rattle.traced_completion.specs.declared.pending.waiting.Waiting.{Waiting}
+use Rattle.ambiguities.specs.declared.waiting.Waiting.{Waiting}
 use Rattle.rule_making.specs.Making.{Recorded, Rest}
 use Rattle.traced_completion.specs.Results.{each_in_turn}
 use Rattle.traced_completion.specs.Works.{Work, First, first_of, second_work, Goes, InTurn, InTwoPasses}

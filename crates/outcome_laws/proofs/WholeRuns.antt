@@ -14,11 +14,12 @@ use Rattle.ambiguities.specs.Ambiguities.{IsAmbiguity, overlap_word_of}
 use Rattle.completion_laws.specs.Conclusions.{NothingPending}
 use Rattle.completion_laws.specs.Typed.{IsTypedInPlay}
 use Rattle.completion_laws.proofs.Steps.{start_is_kept}
-use Rattle.traced_completion.specs.declared.pending.waiting.Waiting.{Waiting}
+use Rattle.ambiguities.specs.declared.waiting.Waiting.{Waiting}
 use Rattle.rule_making.specs.Making.{Recorded}
 use Rattle.traced_completion.specs.Results.{each_in_turn}
 use Rattle.traced_completion.specs.Works.{generator_work, First, first_of, InTurn, InTwoPasses}
-use Rattle.traced_completion.specs.Pending.{IsBeforeInStore, IsPending, ambiguities_of}
+use Rattle.ambiguities.specs.Order.{IsWaitingBefore}
+use Rattle.traced_completion.specs.Pending.{IsPending, ambiguities_of}
 use Rattle.traced_completion.specs.PlainRun.{Setting, RunState, went, closed, stopped, start, recorded, Ends, taken_count, IsTreated, TreatsFirst, TreatsPending, IsRound, IsRunState}
 use Rattle.outcome_laws.specs.KeptRuns.{IsGenerator, done_after, IsKeptState, RunsAreKept, ClosedIsNothingPending, FirstIsLeastPending}
 use Rattle.outcome_laws.proofs.RunsKept.{no_value, KeptNow, generators_in_turn}
@@ -145,10 +146,10 @@ first_is_least_pending letters compare rank rules treated w ws laws all a is unt
         clash : Equal ≡ Less → ⊥
         clash e = cc
 
-    not_above : IsBeforeInStore compare w waiting → ⊥
+    not_above : IsWaitingBefore compare w waiting → ⊥
     not_above (inl less) = not_itself w.word (laws.total.trans w.word (overlap_word_of rules a) w.word less below.less)
     not_above (inr (same, later)) = not_itself w.word (subst (λ u. compare u w.word ≡ Less) (sym same) below.less)
 
     go : Contains (w ∷ ws) waiting → ⊥
     go (zero, inside, here) = not_itself w.word (subst (λ u. compare u w.word ≡ Less) (sym (ap (λ (v : Waiting). v.word) here)) below.less)
-    go (suc k, inside, here) = not_above (subst (IsBeforeInStore compare w) here (all.ascending 0 (suc k) waiting (omega arith) inside))
+    go (suc k, inside, here) = not_above (subst (IsWaitingBefore compare w) here (all.ascending 0 (suc k) waiting (omega arith) inside))

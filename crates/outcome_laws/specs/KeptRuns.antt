@@ -11,7 +11,7 @@ use Rattle.ambiguities.specs.declared.ambiguity.Ambiguity.{Ambiguity}
 use Rattle.completion_laws.specs.Kept.{Kept}
 use Rattle.completion_laws.specs.Typed.{IsTypedInPlay, AreTypedInPlay}
 use Rattle.completion_laws.specs.Conclusions.{NothingPending, NothingPendingBelow}
-use Rattle.traced_completion.specs.declared.pending.waiting.Waiting.{Waiting}
+use Rattle.ambiguities.specs.declared.waiting.Waiting.{Waiting}
 use Rattle.traced_completion.specs.Pending.{AreAllPending}
 use Rattle.traced_completion.specs.UnitsFirst.{units_first}
 use Rattle.traced_completion.specs.PlainRun.{Setting, RunState, closed, IsRound, IsRunState}

@@ -15,7 +15,7 @@ use Rattle.adjoint_rules.specs.Problem.{numbers, is_in_play, polynomials}
 use Rattle.completion_laws.specs.Kept.{AreApart, AreRecorded, IsReached}
 use Rattle.completion_laws.specs.Typed.{AreTypedInPlay}
 use Rattle.traced_completion.specs.declared.budget.Budget.{Budget}
-use Rattle.traced_completion.specs.declared.pending.waiting.Waiting.{Waiting}
+use Rattle.ambiguities.specs.declared.waiting.Waiting.{Waiting}
 use Rattle.traced_completion.specs.Pending.{IsPending, AreAllPending}
 use Rattle.traced_completion.specs.PlainRun.{RunState, setting_of, IsRunState}
 

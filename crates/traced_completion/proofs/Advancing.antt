@@ -1,46 +1,29 @@
 -- The store after a round.
-use Rattle.std.proofs.Common.{◌≡◌, ◌≢◌, ◌⊎◌, inl, inr, ℕ, ◌+◌, ◌<◌, ◌≤◌, true, false, List, ◌++◌, length, map, take, drop, get_or, min, refl, sym, ap, ◌∙◌, subst, arith}
-use Rattle.std.specs.Bool.{Decides}
+use Rattle.std.proofs.Common.{◌≡◌, ◌≢◌, ◌⊎◌, inl, inr, ℕ, ◌+◌, ◌<◌, ◌≤◌, List, ◌++◌, length, take, drop, get_or, min, sym, ap, ◌∙◌, subst, arith}
 use Rattle.std.specs.Cmp.{IsTotalOrder}
 use Rattle.std.specs.List.{All, AllPairs, Contains}
 use Rattle.std.specs.List.Sorted.{IsPermutation, IsSorted}
-use Rattle.std.specs.Ordering.{is_lt, is_eq}
-use Rattle.std.specs.declared.cmp.Ordering.{Ordering}
-use Rattle.std.specs.declared.cmp.Ordering.TheVariants.{Less, Equal, Greater}
+use Rattle.std.specs.Ordering.{is_eq}
+use Rattle.std.specs.declared.cmp.Ordering.TheVariants.{Equal}
 use Rattle.std.proofs.lemmas.Bool.{cases_lt}
-use Rattle.std.proofs.lemmas.Cmp.{tied_itself}
-use Rattle.std.proofs.lemmas.List.{take-append-drop, get_or-take, get_or-drop, length-drop, length-map, get_or-map, get_or_default, length-take}
-use Rattle.std.proofs.lemmas.List.Elements.{All-append, All-contains, All-map, All-take, Contains-append_left, Contains-append_right, Contains-append_cases, Contains-get_or}
-use Rattle.std.proofs.lemmas.List.Sorted.{IsPermutation-sym, IsPermutation-trans, IsPermutation-append_right, Contains-permutation, sorted_far, ranks_by}
+use Rattle.std.proofs.lemmas.List.{take-append-drop, get_or-take, get_or-drop, length-drop, get_or_default, length-take}
+use Rattle.std.proofs.lemmas.List.Elements.{All-append, All-contains, All-map, All-take, Contains-append_left, Contains-append_right, Contains-append_cases}
+use Rattle.std.proofs.lemmas.List.Sorted.{IsPermutation-sym, Contains-permutation}
 use Rattle.word_orders.specs.Admissible.{Compare}
 use Rattle.rule_reduce.specs.declared.rule.Rule.{Rule}
 use Rattle.ambiguities.specs.declared.ambiguity.Ambiguity.{Ambiguity}
 use Rattle.ambiguities.specs.Ambiguities.{IsAmbiguity, overlap_word_of}
-use Rattle.ambiguities.specs.Listed.{IsBefore, ListsExactly, IsAmbiguityFrom}
+use Rattle.ambiguities.specs.Listed.{IsAmbiguityFrom}
 use Rattle.ambiguities.proofs.Exactly.{exactly-append}
-use Rattle.traced_completion.specs.declared.pending.waiting.Waiting.{Waiting}
-use Rattle.traced_completion.specs.Pending.{IsBeforeInStore, IsPending, AreAllPending, IsNextStore, ambiguities_of}
-use Rattle.traced_completion.specs.StoreOrder.{waiting_cmp, waiting_of, AreNew}
-use Rattle.traced_completion.proofs.Comparing.{waiting_cmp-total, not_before_itself, waiting-equal, before-unless_above, ambiguity_not_before_itself}
-use Rattle.traced_completion.proofs.Ascending.{drop-pairs}
-use Rattle.traced_completion.proofs.Sorting.{distinct-permutation}
+use Rattle.ambiguities.specs.declared.waiting.Waiting.{Waiting}
+use Rattle.ambiguities.specs.Order.{IsWaitingBefore, AreInOrder, waiting_cmp}
+use Rattle.traced_completion.specs.Pending.{IsPending, AreAllPending, IsNextStore, ambiguities_of}
+use Rattle.ambiguities.proofs.Comparing.{not_before_itself, tells, sorted-ascending}
+use Rattle.ambiguities.proofs.Ascending.{Image, contains-image, contains-map, distinct-permutation, distinct-pairs, drop-pairs}
 use Rattle.traced_completion.proofs.Staying.{overlap_word-append, first-within, second-within, ambiguity-append, ambiguity-before}
 use Rattle.traced_completion.proofs.StoreLemmas.{pending-all}
 
--- items of parts and of images
-pub record Image {X Y : Type 0} (f : X → Y) (xs : List X) (y : Y) : Type 0 where
-  pub item : X
-  pub inside : Contains xs item
-  pub same : f item ≡ y
-
-contains-image : {X Y : Type 0} (f : X → Y) (xs : List X) (d : X) (y : Y) → Contains (map f xs) y → Image f xs y
-contains-image f xs d y (k, inside, is) =
-    let count : k < length xs = omega (arith, inside, length-map xs f) in
-    record { item = get_or xs k d; inside = Contains-get_or xs k d count; same = sym (get_or-map f xs k d y count) ∙ is }
-
-contains-map : {X Y : Type 0} (f : X → Y) (xs : List X) (x : X) → Contains xs x → Contains (map f xs) (f x)
-contains-map f xs x (k, inside, is) = (k, omega (arith, inside, length-map xs f), get_or-map f xs k x (f x) inside ∙ ap f is)
-
+-- items of parts
 contains-drop : {X : Type 0} (n : ℕ) (xs : List X) (x : X) → Contains (drop n xs) x → Contains xs x
 contains-drop n xs x at = subst (λ ys. Contains ys x) (take-append-drop n xs) (Contains-append_right (take n xs) (drop n xs) x at)
 
@@ -61,33 +44,9 @@ across-parts {X} Before n xs x y pairs (i, i_in, i_is) (j, j_in, j_is) =
     let default : get_or xs i y ≡ get_or xs i x = get_or_default xs i y x (omega (arith, first, second)) in
     subst (λ (p : X × X). Before p.0 p.1) (λ k. ((default ∙ one) k, other k)) (pairs i (n + j) y (omega (arith, first)) second)
 
--- the same relation of all pairs
-pairs-weaker : {X : Type 0} (R Q : X → X → Type 0) (xs : List X) → ((x y : X) → R x y → Q x y) → AllPairs R xs → AllPairs Q xs
-pairs-weaker R Q xs follows pairs i j d before inside = follows (get_or xs i d) (get_or xs j d) (pairs i j d before inside)
-
 module _ (compare : Compare) (total : IsTotalOrder compare) (same : (u v : List ℕ) → compare u v ≡ Equal → u ≡ v) where
-  tells : (x y : Waiting) → Decides (is_eq (waiting_cmp compare x y)) (x ≡ y)
-  tells x y = (λ held. waiting-equal compare total same x y (level (waiting_cmp compare x y) held), λ alike. ap is_eq (ap (waiting_cmp compare x) (sym alike) ∙ tied_itself (waiting_cmp-total compare total) x))
-    where
-      level : (o : Ordering) → is_eq o ≡ true → o ≡ Equal
-      level Less e = cc
-      level Equal e = refl
-      level Greater e = cc
-
-  -- what is sorted and has no repetitions is in the order of the store
-  pub sorted-ascending : (xs : List Waiting) → AllPairs (λ x y. x ≢ y) xs → IsSorted (waiting_cmp compare) xs → AllPairs (IsBeforeInStore compare) xs
-  sorted-ascending xs distinct sorted i j d before inside =
-      before-unless_above compare total same (get_or xs i d) (get_or xs j d) (distinct i j d before inside)
-      (λ less. not_less (waiting_cmp compare (get_or xs j d) (get_or xs i d)) less
-      (sorted_far (λ x y. is_lt (waiting_cmp compare x y)) (ranks_by (waiting_cmp-total compare total) (λ x. x)) xs sorted i j d (omega (arith, before)) inside))
-    where
-      not_less : (o : Ordering) → o ≡ Less → is_lt o ≡ false → ⊥
-      not_less Less e f = cc
-      not_less Equal e f = cc
-      not_less Greater e f = cc
-
   module _ (rules more : List Rule) (known taken : ℕ) (short : length rules ≤ known) (whole : (n : ℕ) → n ≤ known → n ≤ length (rules ++ more) → n ≤ length rules)
-      (old : List Waiting) (found treated : List Ambiguity) (exact : ListsExactly IsBefore (IsAmbiguityFrom (known + 1) (rules ++ more)) found)
+      (old added : List Waiting) (treated : List Ambiguity) (exact : AreInOrder compare (rules ++ more) (IsAmbiguityFrom (known + 1) (rules ++ more)) added)
       (each : All (IsAmbiguity rules) treated) (all : AreAllPending compare rules treated old) where
     abbrev everything : List Rule
     everything = rules ++ more
@@ -97,9 +56,6 @@ module _ (compare : Compare) (total : IsTotalOrder compare) (same : (u v : List 
 
     abbrev rest : List Waiting
     rest = drop taken old
-
-    abbrev added : List Waiting
-    added = map (waiting_of everything) found
 
     treated-each : All (IsAmbiguity rules) now_treated
     treated-each =
@@ -136,20 +92,15 @@ module _ (compare : Compare) (total : IsTotalOrder compare) (same : (u v : List 
             let v = image.item in
             let other : IsPending rules treated v = (all.members v).0 (contains-take taken old v image.inside) in
             let alike : v ≡ w = same_waiting v w image.same other.overlap pending.overlap in
-            not_before_itself compare total w (subst (λ (x : Waiting). IsBeforeInStore compare x w) alike (across-parts (IsBeforeInStore compare) taken old v w all.ascending image.inside at))
+            not_before_itself compare total w (subst (λ (x : Waiting). IsWaitingBefore compare x w) alike (across-parts (IsWaitingBefore compare) taken old v w all.ascending image.inside at))
 
         untreated : Contains treated w.which ⊎ Contains (ambiguities_of (take taken old)) w.which → ⊥
         untreated (inl before) = pending.untreated before
         untreated (inr now) = taken_one (contains-image (λ (v : Waiting). v.which) (take taken old) w w.which now)
 
-    added-new : (w : Waiting) → Contains added w → IsAmbiguityFrom (known + 1) everything w.which × (w.word ≡ overlap_word_of everything w.which)
-    added-new w at =
-        let image = contains-image (waiting_of everything) found w.which w at in
-        subst (λ (x : Waiting). IsAmbiguityFrom (known + 1) everything x.which × (x.word ≡ overlap_word_of everything x.which)) image.same ((exact.members image.item).0 image.inside, refl)
-
     added-pending : (w : Waiting) → Contains added w → IsPending everything now_treated w
     added-pending w at =
-        let new = added-new w at in
+        let new = (exact.members w).0 at in
         record {
           is = new.0.0;
           untreated = λ in_treated. not_new w.which (All-contains (IsAmbiguity rules) now_treated w.which treated-each in_treated) new.0;
@@ -160,9 +111,7 @@ module _ (compare : Compare) (total : IsTotalOrder compare) (same : (u v : List 
     pending-listed w pending = go (cases_lt known w.which.i) (cases_lt known w.which.j)
       where
         new : IsAmbiguityFrom (known + 1) everything w.which → Contains (rest ++ added) w
-        new from =
-            let whole_word : waiting_of everything w.which ≡ w = λ n. record { which = w.which; word = sym pending.overlap n } in
-            Contains-append_right rest added w (subst (Contains added) whole_word (contains-map (waiting_of everything) found w.which ((exact.members w.which).1 from)))
+        new from = Contains-append_right rest added w ((exact.members w).1 (from, pending.overlap))
 
         before : w.which.i ≤ known → w.which.j ≤ known → IsPending rules treated w
         before first second =
@@ -183,25 +132,15 @@ module _ (compare : Compare) (total : IsTotalOrder compare) (same : (u v : List 
         go (inr first) (inl second) = new (pending.is, inr (omega (arith, second)))
         go (inr first) (inr second) = part (contains-parts taken old w ((all.members w).1 (before first second)))
 
-    rest-distinct : AllPairs (λ x y. x ≢ y) rest
-    rest-distinct =
-        pairs-weaker (IsBeforeInStore compare) (λ x y. x ≢ y) rest
-        (λ x y before alike. not_before_itself compare total x (subst (IsBeforeInStore compare x) (sym alike) before)) (drop-pairs (IsBeforeInStore compare) taken old all.ascending)
-
-    added-distinct : AllPairs (λ x y. x ≢ y) added
-    added-distinct i j d before inside alike =
-        let j_in : j < length found = omega (arith, inside, length-map found (waiting_of everything)) in
-        let i_in : i < length found = omega (arith, before, j_in) in
-        let one = get_or-map (waiting_of everything) found i d.which d i_in in
-        let other = get_or-map (waiting_of everything) found j d.which d j_in in
-        let which : get_or found i d.which ≡ get_or found j d.which = ap (λ (w : Waiting). w.which) (sym one ∙ alike ∙ other) in
-        ambiguity_not_before_itself (get_or found j d.which) (subst (λ a. IsBefore a (get_or found j d.which)) which (exact.ascending i j d.which before j_in))
+    -- what is in the order has no repetitions
+    distinct : (xs : List Waiting) → AllPairs (IsWaitingBefore compare) xs → AllPairs (λ x y. x ≢ y) xs
+    distinct = distinct-pairs (IsWaitingBefore compare) (not_before_itself compare total)
 
     both-distinct : AllPairs (λ x y. x ≢ y) (rest ++ added)
     both-distinct = (exactly-append (λ x y. x ≢ y) (Contains rest) (Contains added) (λ w. Contains rest w ⊎ Contains added w) rest added
-        (record { members = λ w. (λ at. at, λ at. at); ascending = rest-distinct }) (record { members = λ w. (λ at. at, λ at. at); ascending = added-distinct })
+        (record { members = λ w. (λ at. at, λ at. at); ascending = distinct rest (drop-pairs (IsWaitingBefore compare) taken old all.ascending) }) (record { members = λ w. (λ at. at, λ at. at); ascending = distinct added exact.ascending })
         (λ x y in_rest in_added alike. not_new x.which ((all.members x).0 (contains-drop taken old x in_rest)).is
-        (subst (λ (w : Waiting). IsAmbiguityFrom (known + 1) everything w.which) (sym alike) (added-new y in_added).0))
+        (subst (λ (w : Waiting). IsAmbiguityFrom (known + 1) everything w.which) (sym alike) ((exact.members y).0 in_added).0))
         (λ w. (λ either. either, λ either. either))).ascending
 
     pub next-all : (new : List Waiting) → IsPermutation (rest ++ added) new → IsSorted (waiting_cmp compare) new → AreAllPending compare everything now_treated new
@@ -210,7 +149,7 @@ module _ (compare : Compare) (total : IsTotalOrder compare) (same : (u v : List 
         λ at. listed w (Contains-append_cases rest added w (Contains-permutation new (rest ++ added) w (IsPermutation-sym (rest ++ added) new moved) at)),
         λ pending. Contains-permutation (rest ++ added) new w moved (pending-listed w pending),
       );
-      ascending = sorted-ascending new (distinct-permutation (λ x y. is_eq (waiting_cmp compare x y)) tells (rest ++ added) new moved both-distinct) sorted;
+      ascending = sorted-ascending compare total same new (distinct-permutation (λ x y. is_eq (waiting_cmp compare x y)) (tells compare total same) (rest ++ added) new moved both-distinct) sorted;
     }
       where
         listed : (w : Waiting) → Contains rest w ⊎ Contains added w → IsPending everything now_treated w
@@ -218,15 +157,12 @@ module _ (compare : Compare) (total : IsTotalOrder compare) (same : (u v : List 
         listed w (inr at) = added-pending w at
 
   -- the store after a round
-  pub next-store : (rules : List Rule) (known taken : ℕ) (old items new : List Waiting) → AreNew rules known items → IsPermutation (drop taken old ++ items) new
+  pub next-store : (rules : List Rule) (known taken : ℕ) (old items new : List Waiting) → AreInOrder compare rules (IsAmbiguityFrom (known + 1) rules) items → IsPermutation (drop taken old ++ items) new
       → IsSorted (waiting_cmp compare) new → IsNextStore compare rules known taken old new
   next-store rules known taken old items new added moved sorted treated each all =
       subst (λ (rs : List Rule). AreAllPending compare rs (treated ++ ambiguities_of (take taken old)) new) parts
-      (next-all (take known rules) (drop known rules) known taken short whole old added.found treated
-      (subst (λ (rs : List Rule). ListsExactly IsBefore (IsAmbiguityFrom (known + 1) rs) added.found) (sym parts) added.exact) each all new
-      (subst (λ (rs : List Rule). IsPermutation (drop taken old ++ map (waiting_of rs) added.found) new) (sym parts)
-      (IsPermutation-trans (drop taken old ++ map (waiting_of rules) added.found) (drop taken old ++ items) new
-      (IsPermutation-append_right (drop taken old) (map (waiting_of rules) added.found) items added.moved) moved)) sorted)
+      (next-all (take known rules) (drop known rules) known taken short whole old items treated
+      (subst (λ (rs : List Rule). AreInOrder compare rs (IsAmbiguityFrom (known + 1) rs) items) (sym parts) added) each all new moved sorted)
     where
       parts : take known rules ++ drop known rules ≡ rules
       parts = take-append-drop known rules

@@ -16,11 +16,12 @@ use Rattle.std.proofs.lemmas.List.Sorted.{IsPermutation-append_left, IsPermutati
 use Rattle.ambiguities.proofs.Exactly.{exactly-append}
 use Rattle.word_core.specs.Letters.{IsOver}
 use Rattle.word_orders.specs.Admissible.{Compare}
-use Rattle.traced_completion.specs.declared.pending.waiting.Waiting.{Waiting}
-use Rattle.traced_completion.specs.StoreOrder.{waiting_cmp, IsUpTo, last_of}
+use Rattle.ambiguities.specs.declared.waiting.Waiting.{Waiting}
+use Rattle.ambiguities.specs.Order.{waiting_cmp}
+use Rattle.traced_completion.specs.Blocks.{IsUpTo, last_of}
 use Rattle.traced_completion.specs.Blocks.{joined, put_at, taken_out, restored, IsPut, IsFilled}
-use Rattle.traced_completion.proofs.Ascending.{drop-pairs}
-use Rattle.traced_completion.proofs.Comparing.{waiting_cmp-total}
+use Rattle.ambiguities.proofs.Ascending.{drop-pairs}
+use Rattle.ambiguities.proofs.Comparing.{waiting_cmp-total}
 
 -- what was put is taken out
 pub restored-more : (places : List (ℕ × ℕ)) (at : ℕ × ℕ) (blocks : List (List Waiting)) → restored (places ++ at ∷ []) blocks ≡ restored places (taken_out at blocks)

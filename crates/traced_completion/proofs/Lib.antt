@@ -1,9 +1,5 @@
-pub mod Comparing
-pub mod Ascending
 pub mod Staying
 pub mod StoreLemmas
-pub mod Fronts
-pub mod Sorting
 pub mod Advancing
 pub mod BlockLemmas
 pub mod Renewing

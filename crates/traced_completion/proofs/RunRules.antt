@@ -1,38 +1,17 @@
 -- Each state of a run has rules.
-use Rattle.std.proofs.Common.{◌≡◌, ◌≢◌, ◌<◌, ◌+◌, ℕ, ℤ, pos, ◌*ℤ◌, List, [], ◌∷◌, ◌++◌, length, take, drop, Option, Some, None, Ok, refl, sym, ap, ◌∙◌, subst, arith}
-use Rattle.std.specs.List.{All, AllByRecursion}
+use Rattle.std.proofs.Common.{◌≡◌, ◌≢◌, ◌<◌, ℕ, pos, ◌*ℤ◌, length, Option, Some, None, refl, sym, ap, ◌∙◌}
 use Rattle.std.specs.Option.{option_map}
-use Rattle.std.proofs.lemmas.List.{length-append}
-use Rattle.std.proofs.lemmas.List.Elements.{All-from_recursion, recursion_from_All, All-contains, All-append, All-take, All-drop}
+use Rattle.std.proofs.lemmas.List.Elements.{All-from_recursion, recursion_from_All}
 use Rattle.std.proofs.Math.IntN.{*ℤ-zero}
-use Rattle.definitions.specs.Poly.{Term, poly_between}
+use Rattle.definitions.specs.Poly.{Term}
 use Rattle.coef_int.specs.Range.{IsCoefficient}
 use Rattle.word_core.specs.Letters.{IsOver}
 use Rattle.word_orders.specs.Admissible.{Compare}
-use Rattle.nc_polynomial.specs.Terms.{scaled, products, aligned, added, sums}
-use Rattle.nc_polynomial.specs.Arithmetic.{combined}
-use Rattle.nc_polynomial.specs.Product.{and_then}
-use Rattle.nc_polynomial.proofs.Chains.{sized-value, finished-value}
-use Rattle.nc_polynomial.proofs.Shapes.{all-scaled, all-totals, all-aligned}
 use Rattle.traced_rows.specs.declared.Made.{Made}
 use Rattle.rule_reduce.specs.declared.rule.Rule.{Rule}
-use Rattle.rule_reduce.specs.declared.state.State.{State}
-use Rattle.rule_reduce.specs.declared.state.Choice.{Choice}
 use Rattle.rule_reduce.specs.Leading.{leading_term}
-use Rattle.rule_reduce.specs.RuleLists.{IsRule, rule_at, entries_of}
-use Rattle.rule_reduce.specs.Choices.{choice_of}
-use Rattle.rule_reduce.specs.Steps.{moved, move_of}
-use Rattle.rule_reduce.specs.NormalForms.{start_of, normal_form_of}
+use Rattle.rule_reduce.specs.RuleLists.{IsRule}
 use Rattle.rule_reduce.proofs.AtMost.{leading-all}
-use Rattle.rule_reduce.proofs.Chosen.{found}
-use Rattle.rule_reduce.proofs.LettersKept.{each-moved}
-use Rattle.rule_reduce.proofs.Numbers.{rule_at-all, rule_at-polynomial}
-use Rattle.rule_reduce.proofs.Runs.{reduction_keeps}
-use Rattle.ambiguities.specs.declared.ambiguity.Ambiguity.{Ambiguity}
-use Rattle.ambiguities.specs.Ambiguities.{IsAmbiguity, lead_at, overlap_word_of}
-use Rattle.ambiguities.proofs.Bounds.{over_overlap_word}
-use Rattle.ambiguities.specs.SPolynomials.{first_row, second_row, row_multiple, s_polynomial_of}
-use Rattle.ambiguities.proofs.Multiples.{passed}
 use Rattle.ambiguities.proofs.Words.{AreWords, words_nonempty, words_over}
 use Rattle.rule_making.specs.Making.{is_negative, is_term_negative, leads_negative, Rest, IsMadeFrom}
 use Rattle.rule_making.proofs.Quotients.{signed, signed_nonzero, multiple_term, leading-multiple, quotient_words, positive_quotient}

@@ -1,45 +1,46 @@
 -- The laws of the store.
-use Rattle.std.proofs.Common.{◌≡◌, ◌⊎◌, inl, inr, List, [], ◌∷◌, ◌++◌, take, sym, ap, subst, arith}
+use Rattle.std.proofs.Common.{◌≡◌, ◌↔◌, ◌⊎◌, inl, inr, ◌+◌, ◌≤◌, ℕ, List, [], ◌∷◌, ◌++◌, length, take, sym, ap, subst, arith}
 use Rattle.std.specs.List.{All, Contains}
 use Rattle.std.proofs.lemmas.List.Elements.{All-weaker, All-append, All-take, All-map, All-contains_itself}
 use Rattle.std.specs.declared.cmp.Ordering.TheVariants.{Less}
 use Rattle.word_core.specs.Letters.{IsOver}
 use Rattle.word_orders.specs.Admissible.{Compare}
 use Rattle.rule_reduce.specs.declared.rule.Rule.{Rule}
+use Rattle.rule_reduce.specs.RuleLists.{IsRule}
 use Rattle.ambiguities.specs.declared.ambiguity.Ambiguity.{Ambiguity}
-use Rattle.ambiguities.specs.Ambiguities.{IsAmbiguity}
+use Rattle.ambiguities.specs.Ambiguities.{IsAmbiguity, overlap_word_of}
+use Rattle.ambiguities.specs.Listed.{IsAmbiguityFrom}
 use Rattle.ambiguities.proofs.Bounds.{over_overlap_word}
+use Rattle.ambiguities.proofs.Exactly.{exactly-all, exactly-same}
 use Rattle.ambiguities.proofs.Numbers.{rule_at-first, rule_at-last}
-use Rattle.traced_completion.specs.declared.pending.waiting.Waiting.{Waiting}
-use Rattle.traced_completion.specs.Pending.{IsBeforeInStore, IsPending, AreAllPending, ambiguities_of}
+use Rattle.ambiguities.specs.declared.waiting.Waiting.{Waiting}
+use Rattle.ambiguities.specs.Order.{IsWaitingBefore, AreInOrder}
+use Rattle.traced_completion.specs.Pending.{IsPending, AreAllPending, ambiguities_of}
 use Rattle.traced_completion.specs.StoreLaws.{StoresAreUnique, LeastWordsAreLeast, NothingIsPendingAtFirst, TakenOnesAreAmbiguities, PendingWordsAreOver}
-use Rattle.traced_completion.proofs.Comparing.{not_before_itself, not_before_each_other}
-use Rattle.traced_completion.proofs.Ascending.{ascending-same, contains-cases, contains-first, first-before}
+use Rattle.ambiguities.proofs.Comparing.{not_before_itself, not_before_each_other}
+use Rattle.ambiguities.proofs.Ascending.{ascending-same, contains-none, contains-cases, contains-first, first-before}
 use Rattle.traced_completion.proofs.Staying.{ambiguity-append}
 
 pub stores-unique : StoresAreUnique
 stores-unique letters compare rank rules treated one other laws left right =
-    ascending-same (IsBeforeInStore compare) (not_before_itself compare laws.total) (not_before_each_other compare laws.total) one other left.ascending right.ascending
+    ascending-same (IsWaitingBefore compare) (not_before_itself compare laws.total) (not_before_each_other compare laws.total) one other left.ascending right.ascending
     (λ z at. (right.members z).1 ((left.members z).0 at)) (λ z at. (left.members z).1 ((right.members z).0 at))
 
 pub least-words : LeastWordsAreLeast
-least-words compare rules treated [] all = λ w pending. none w ((all.members w).1 pending)
-  where
-    none : (w : Waiting) → Contains [] w → ⊥
-    none w (k, inside, is) = omega (arith, inside)
+least-words compare rules treated [] all = λ w pending. contains-none w ((all.members w).1 pending)
 least-words compare rules treated (v ∷ store) all = record {
   which = v.which;
   pending = (all.members v).0 (contains-first v store);
   least = λ w pending. least w (contains-cases v store w ((all.members w).1 pending));
 }
   where
-    by : (w : Waiting) → IsBeforeInStore compare v w → (w.word ≡ v.word) ⊎ (compare v.word w.word ≡ Less)
+    by : (w : Waiting) → IsWaitingBefore compare v w → (w.word ≡ v.word) ⊎ (compare v.word w.word ≡ Less)
     by w (inl less) = inr less
     by w (inr (same, before)) = inl (sym same)
 
     least : (w : Waiting) → (v ≡ w) ⊎ Contains store w → (w.word ≡ v.word) ⊎ (compare v.word w.word ≡ Less)
     least w (inl same) = inl (ap (λ (x : Waiting). x.word) (sym same))
-    least w (inr at) = by w (first-before (IsBeforeInStore compare) v store all.ascending w at)
+    least w (inr at) = by w (first-before (IsWaitingBefore compare) v store all.ascending w at)
 
 -- what is pending is an ambiguity of the rules
 pub pending-all : (P : Waiting → Type 0) (compare : Compare) (rules : List Rule) (treated : List Ambiguity) (store : List Waiting) → AreAllPending compare rules treated store
@@ -48,17 +49,37 @@ pending-all P compare rules treated store all each = All-weaker (Contains store)
 
 pub nothing-at_first : NothingIsPendingAtFirst
 nothing-at_first compare treated = record {
-  members = λ w. (λ at. absurd (none w at), λ pending. absurd (no_rule w pending));
+  members = λ w. (λ at. absurd (contains-none w at), λ pending. absurd (no_rule w pending));
   ascending = λ i j d before inside. absurd (omega (arith, inside));
 }
   where
-    none : (w : Waiting) → Contains [] w → ⊥
-    none w (k, inside, is) = omega (arith, inside)
-
     no_rule : (w : Waiting) → IsPending [] treated w → ⊥
     no_rule w pending =
         let is = pending.is in
         omega (arith, rule_at-first [] w.which.i is.first is.first_numbered, rule_at-last [] w.which.i is.first is.first_numbered)
+
+-- where all rules are known, no ambiguity is new
+pub nothing-new : (compare : Compare) (rules : List Rule) (known : ℕ) → length rules ≤ known → AreInOrder compare rules (IsAmbiguityFrom (known + 1) rules) []
+nothing-new compare rules known past = record {
+  members = λ w. (λ at. absurd (contains-none w at), λ new. absurd (no_rule w.which new.0.0 new.0.1));
+  ascending = λ i j d before inside. absurd (omega (arith, inside));
+}
+  where
+    no_rule : (a : Ambiguity) → IsAmbiguity rules a → (known + 1 ≤ a.i) ⊎ (known + 1 ≤ a.j) → ⊥
+    no_rule a is (inl first) = omega (arith, first, past, rule_at-last rules a.i is.first is.first_numbered)
+    no_rule a is (inr second) = omega (arith, second, past, rule_at-last rules a.j is.second is.second_numbered)
+
+pub new-in_order : (compare : Compare) (rules : List Rule) (known : ℕ) (found : List Ambiguity) (items : List Waiting) → ((a : Ambiguity) → Contains found a ↔ IsAmbiguityFrom (known + 1) rules a)
+    → AreInOrder compare rules (Contains found) items → AreInOrder compare rules (IsAmbiguityFrom (known + 1) rules) items
+new-in_order compare rules known found items members = exactly-same (IsWaitingBefore compare) (λ w. Contains found w.which × (w.word ≡ overlap_word_of rules w.which))
+    (λ w. IsAmbiguityFrom (known + 1) rules w.which × (w.word ≡ overlap_word_of rules w.which)) items
+    (λ w. (λ new. ((members w.which).1 new.0, new.1), λ at. ((members w.which).0 at.0, at.1)))
+
+pub new-over : (letters : ℕ) (compare : Compare) (rules : List Rule) (known : ℕ) (items : List Waiting) → All (IsRule letters compare) rules
+    → AreInOrder compare rules (IsAmbiguityFrom (known + 1) rules) items → All (λ (w : Waiting). IsOver letters w.word) items
+new-over letters compare rules known items each new =
+    exactly-all (IsWaitingBefore compare) (λ w. IsAmbiguityFrom (known + 1) rules w.which × (w.word ≡ overlap_word_of rules w.which)) (λ (w : Waiting). IsOver letters w.word) items new
+    (λ w is. subst (IsOver letters) (sym is.1) (over_overlap_word letters compare rules w.which each is.0.0))
 
 pub taken-ambiguities : TakenOnesAreAmbiguities
 taken-ambiguities compare rules more treated store taken each all =

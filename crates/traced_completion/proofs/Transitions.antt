@@ -24,7 +24,7 @@ use Rattle.traced_completion.specs.declared.budget.Budget.{Budget}
 use Rattle.traced_completion.specs.declared.completion.Completion.{Completion}
 use Rattle.traced_completion.specs.declared.completion.Step.{Step}
 use Rattle.traced_completion.specs.declared.completion.Step.TheVariants.{Went, Closed, Stopped}
-use Rattle.traced_completion.specs.declared.pending.waiting.Waiting.{Waiting}
+use Rattle.ambiguities.specs.declared.waiting.Waiting.{Waiting}
 use Rattle.traced_completion.specs.Results.{each_in_turn}
 use Rattle.rule_making.specs.Making.{Recorded}
 use Rattle.traced_completion.specs.Works.{generator_work, first_of, InTurn, InTwoPasses, EndsWith}
@@ -33,7 +33,7 @@ use Rattle.traced_completion.specs.Pending.{AreAllPending, IsNextStore, ambiguit
 use Rattle.rule_making.specs.Records.{HasRecords}
 use Rattle.traced_completion.specs.PlainRun.{RunState, Outcome, went, closed, stopped, Setting, start, recorded, taken_count, Ends, TreatsFirst, TreatsPending, IsRound, IsRoundZero, IsRunState, setting_of}
 use Rattle.traced_completion.specs.Completions.{IsBudget, state_of, outcome_of, IsUnchanged, IsUnchangedAfter, IsGivingUp, IsRunOf, IsCompletionOf}
-use Rattle.traced_completion.proofs.Ascending.{contains-first}
+use Rattle.ambiguities.proofs.Ascending.{contains-first}
 use Rattle.traced_completion.proofs.StoreLemmas.{nothing-at_first, taken-ambiguities}
 
 -- a completion that stays

@@ -19,7 +19,7 @@ use Rattle.rule_reduce.specs.declared.fault.ReduceFault.TheVariants as fault
 use Rattle.rule_reduce.specs.RuleLists.{rule_from}
 use Rattle.rule_reduce.proofs.MadeRules.{one_content}
 use Rattle.ambiguities.specs.declared.ambiguity.Ambiguity.{Ambiguity}
-use Rattle.traced_completion.specs.declared.pending.waiting.Waiting.{Waiting}
+use Rattle.ambiguities.specs.declared.waiting.Waiting.{Waiting}
 use Rattle.traced_completion.specs.Results.{each_in_turn}
 use Rattle.rule_making.specs.Making.{Recorded, Rest, leads_negative, IsMadeFrom, Adds}
 use Rattle.traced_completion.specs.Works.{Work, generator_work, First, first_of, Goes, InTurn, InTwoPasses, second_work}

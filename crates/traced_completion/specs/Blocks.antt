@@ -1,12 +1,21 @@
 -- Blocks of waiting ambiguities, and what is put among them.
-use Rattle.std.specs.Prelude.{◌≡◌, ℕ, ◌+◌, ◌-◌, ◌<◌, ◌≤◌, List, [], ◌∷◌, ◌++◌, length, take, drop, slice_index_or, slice_set}
+use Rattle.std.specs.Prelude.{◌≡◌, ℕ, ◌+◌, ◌-◌, ◌<◌, ◌≤◌, false, List, [], ◌∷◌, ◌++◌, length, take, drop, slice_index_or, slice_set}
 use Rattle.std.specs.List.{All, AllPairs, insert, remove, flat_map}
 use Rattle.std.specs.List.Sorted.{IsPermutation}
+use Rattle.std.specs.Ordering.{is_lt}
 use Rattle.std.specs.declared.cmp.Ordering.TheVariants.{Less}
 use Rattle.word_core.specs.Letters.{IsOver}
 use Rattle.word_orders.specs.Admissible.{Compare}
-use Rattle.traced_completion.specs.declared.pending.waiting.Waiting.{Waiting}
-use Rattle.traced_completion.specs.StoreOrder.{waiting_cmp, IsUpTo, last_of}
+use Rattle.ambiguities.specs.declared.waiting.Waiting.{Waiting}
+use Rattle.ambiguities.specs.Order.{waiting_cmp}
+
+-- The first one isn't above the second one.
+abbrev pub IsUpTo : Compare → Waiting → Waiting → Type 0
+IsUpTo compare v w = is_lt (waiting_cmp compare w v) ≡ false
+
+-- the last one of a list, and another one where there is none
+abbrev pub last_of : List Waiting → Waiting → Waiting
+last_of items d = slice_index_or items (length items - 1) d
 
 -- the ambiguities of all blocks
 abbrev pub joined : List (List Waiting) → List Waiting

@@ -13,7 +13,7 @@ use Rattle.traced_completion.specs.declared.completion.Completion.{Completion}
 use Rattle.traced_completion.specs.declared.completion.Step.{Step}
 use Rattle.traced_completion.specs.declared.completion.Step.TheVariants.{Went, Closed, Stopped}
 use Rattle.word_orders.specs.declared.any.AnyOrder.{AnyOrder}
-use Rattle.traced_completion.specs.declared.pending.waiting.Waiting.{Waiting}
+use Rattle.ambiguities.specs.declared.waiting.Waiting.{Waiting}
 use Rattle.traced_completion.specs.declared.budget.Budget.{Budget}
 use Rattle.traced_completion.specs.Pending.{AreAllPending}
 use Rattle.traced_completion.specs.PlainRun.{RunState, Outcome, went, closed, stopped, IsCauseOf, recorded, IsRunState, setting_of}

@@ -11,6 +11,7 @@ pub use Rattle.rule_making.specs.Making
 pub use Rattle.rule_making.specs.Records
 pub use Rattle.ambiguities.specs.Ambiguities
 pub use Rattle.ambiguities.specs.Listed
+pub use Rattle.ambiguities.specs.Order
 pub use Rattle.ambiguities.specs.SPolynomials
 pub use Rattle.adjoint_rules.specs.Problem
 pub mod Limits
@@ -18,8 +19,6 @@ pub mod Results
 pub mod Works
 pub mod Reductions
 pub mod Pending
-pub mod StoreOrder
-pub mod Keys
 pub mod StoreLaws
 pub mod UnitsFirst
 pub mod PlainRun

@@ -6,13 +6,9 @@ use Rattle.word_orders.specs.Admissible.{Compare}
 use Rattle.rule_reduce.specs.declared.rule.Rule.{Rule}
 use Rattle.ambiguities.specs.declared.ambiguity.Ambiguity.{Ambiguity}
 use Rattle.ambiguities.specs.Ambiguities.{IsAmbiguity, overlap_word_of}
-use Rattle.ambiguities.specs.Listed.{IsBefore, ListsExactly}
-use Rattle.traced_completion.specs.declared.pending.waiting.Waiting.{Waiting}
-
--- The first one is taken before the second: by the overlap word, and where they have the same one by the first rule,
--- then by the second rule, then overlaps before inclusions, then by the place.
-abbrev pub IsBeforeInStore : Compare → Waiting → Waiting → Type 0
-IsBeforeInStore compare a b = (compare a.word b.word ≡ Less) ⊎ ((a.word ≡ b.word) × IsBefore a.which b.which)
+use Rattle.ambiguities.specs.declared.waiting.Waiting.{Waiting}
+use Rattle.ambiguities.specs.Listed.{ListsExactly}
+use Rattle.ambiguities.specs.Order.{IsWaitingBefore}
 
 -- An ambiguity of the rules, which is not among the treated ones, with its overlap word.
 pub record IsPending (rules : List Rule) (treated : List Ambiguity) (w : Waiting) : Type 0 where
@@ -22,7 +18,7 @@ pub record IsPending (rules : List Rule) (treated : List Ambiguity) (w : Waiting
 
 -- The list has exactly the pending ones, each before all later ones.
 abbrev pub AreAllPending : Compare → List Rule → List Ambiguity → List Waiting → Type 0
-AreAllPending compare rules treated store = ListsExactly (IsBeforeInStore compare) (IsPending rules treated) store
+AreAllPending compare rules treated store = ListsExactly (IsWaitingBefore compare) (IsPending rules treated) store
 
 -- the ambiguities of a list, without their words
 abbrev pub ambiguities_of : List Waiting → List Ambiguity

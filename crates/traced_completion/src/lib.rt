@@ -18,6 +18,6 @@ pub use causes::reduction_cause;
 pub use completion::{Completion, Step};
 pub use laws::{rounds_are_unique, states_are_bounded, states_are_unique, states_have_rules};
 pub use pending::{
-    Pending, Waiting, ambiguities_stay, least_words_are_least, nothing_is_pending_at_first,
+    Pending, ambiguities_stay, least_words_are_least, nothing_is_pending_at_first,
     pending_words_are_over, stores_are_unique, taken_ones_are_ambiguities,
 };

@@ -1,9 +1,9 @@
 //! A part of the store: waiting ambiguities, one after another.
 ghost use Rattle.std.specs.Prelude.{◌≡◌, ◌≤◌, length, take, drop, IfOk, OnOk, OnErr};
 ghost use Rattle.std.specs.List.{insert, remove};
-ghost use Rattle.traced_completion.specs.declared.pending.waiting.Waiting.{Waiting};
+ghost use Rattle.ambiguities.specs.declared.waiting.Waiting.{Waiting};
 
-use super::Waiting;
+use ambiguities::Waiting;
 use std::alloc::AllocError;
 use std::marker::Model;
 
@@ -15,7 +15,7 @@ pub(super) struct Block {
 
 impl Model for Block {
     ghost use Rattle.std.specs.Prelude.{List};
-    ghost use Rattle.traced_completion.specs.declared.pending.waiting.Waiting.{Waiting};
+    ghost use Rattle.ambiguities.specs.declared.waiting.Waiting.{Waiting};
 
     ghost Value = { List Waiting };
 

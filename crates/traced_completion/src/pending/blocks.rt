@@ -2,13 +2,13 @@
 ghost use Rattle.std.specs.Prelude.{◌≡◌, ◌+◌, ◌<◌, ◌≤◌, suc, [], ◌∷◌, ◌++◌, length, take, drop, IfOk, OnOk, OnErr, slice_index_or, slice_get, Some};
 ghost use Rattle.std.specs.List.{All, AllPairs};
 ghost use Rattle.std.specs.List.Sorted.{IsPermutation};
-ghost use Rattle.traced_completion.specs.StoreOrder.{IsUpTo};
+ghost use Rattle.traced_completion.specs.Blocks.{IsUpTo};
 ghost use Rattle.word_core.specs.Letters.{IsOver};
 ghost use Rattle.traced_completion.specs.Blocks.{IsPut, IsFilled, restored, joined};
 
-use super::Waiting;
 use super::block::Block;
 use super::finding::{block_for, first_above};
+use ambiguities::Waiting;
 use std::alloc::AllocError;
 use word_orders::WordOrder;
 

@@ -4,12 +4,12 @@ ghost use Rattle.std.specs.List.{All};
 ghost use Rattle.std.specs.Ordering.{is_lt};
 ghost use Rattle.std.specs.declared.cmp.Ordering.TheVariants.{Less};
 ghost use Rattle.word_core.specs.Letters.{IsOver};
-ghost use Rattle.traced_completion.specs.declared.pending.waiting.Waiting.{Waiting};
-ghost use Rattle.traced_completion.specs.StoreOrder.{waiting_cmp, IsUpTo, last_of};
+ghost use Rattle.ambiguities.specs.declared.waiting.Waiting.{Waiting};
+ghost use Rattle.ambiguities.specs.Order.{waiting_cmp};
+ghost use Rattle.traced_completion.specs.Blocks.{IsUpTo, last_of};
 
-use super::Waiting;
 use super::block::Block;
-use super::order::compare;
+use ambiguities::{Waiting, compare_waiting};
 use word_orders::WordOrder;
 
 // The first place at which one above the ambiguity stands, where they are in their order. In any case the one at the answer
@@ -25,7 +25,7 @@ pub(super) fn first_above<O: WordOrder>(order: &O, items: &[Waiting], waiting: &
     let mut high = items.len();
     while low < high {
         let middle = low + (high - low) / 2;
-        if compare(order, waiting, &items[middle]).is_lt() {
+        if compare_waiting(order, waiting, &items[middle]).is_lt() {
             high = middle;
         } else {
             low = middle + 1;
@@ -42,7 +42,7 @@ fn is_last_above<O: WordOrder>(order: &O, block: &Block, waiting: &Waiting) -> b
     ensures { (d : Waiting) → result ≡ is_lt (waiting_cmp (O.compare order.now) waiting.now (last_of block.now d)) }
 {
     let items = block.as_slice();
-    compare(order, waiting, &items[items.len() - 1]).is_lt()
+    compare_waiting(order, waiting, &items[items.len() - 1]).is_lt()
 }
 
 // A block from which on the ambiguity may belong: the near one, where the last ambiguity of the block before it isn't above

@@ -1,15 +1,16 @@
 //! The ordered store of pending ambiguities.
-ghost use Rattle.std.specs.Prelude.{◌≡◌, ◌<◌, ◌≤◌, [], length, take, IfOk, OnOk, OnErr, slice_get, Some};
-ghost use Rattle.std.specs.List.{All};
+ghost use Rattle.std.specs.Prelude.{◌≡◌, ◌+◌, ◌<◌, ◌≤◌, [], length, take, IfOk, OnOk, OnErr, slice_get, Some};
+ghost use Rattle.std.specs.List.{All, AllPairs};
 ghost use Rattle.std.specs.Option.{option_copied};
 ghost use Rattle.word_core.specs.Letters.{IsOver};
+ghost use Rattle.ambiguities.specs.Listed.{IsAmbiguityFrom};
+ghost use Rattle.ambiguities.specs.Order.{AreInOrder};
+ghost use Rattle.traced_completion.specs.Blocks.{IsUpTo};
 ghost use Rattle.traced_completion.specs.Pending.{IsNextStore, ambiguities_of, first_word};
 
-use super::Waiting;
 use super::block::Block;
 use super::blocks::{at_place, renew};
-use super::sorting::new_waiting;
-use ambiguities::Ambiguity;
+use ambiguities::{Ambiguity, Waiting, between, in_order};
 use rule_reduce::Rules;
 use std::alloc::{AllocError, Global};
 use std::marker::Model;
@@ -25,7 +26,7 @@ pub struct Pending {
 
 impl Model for Pending {
     ghost use Rattle.std.specs.Prelude.{List};
-    ghost use Rattle.traced_completion.specs.declared.pending.waiting.Waiting.{Waiting};
+    ghost use Rattle.ambiguities.specs.declared.waiting.Waiting.{Waiting};
     ghost use Rattle.std.specs.Prelude.{◌≡◌, ◌<◌, length};
     ghost use Rattle.std.specs.List.{All};
     ghost use Rattle.traced_completion.specs.Blocks.{joined};
@@ -110,4 +111,21 @@ impl Pending {
             None => Err(AllocError),
         }
     }
+}
+
+// The ambiguities in which a rule after the known ones is, with their overlap words, in their order.
+fn new_waiting<O: WordOrder>(
+    alloc: Global,
+    rules: &Rules<O>,
+    known: u32,
+) -> Result<Vec<Waiting>, AllocError>
+    ensures new { IfOk result (λ items. AreInOrder (O.compare rules.now.order) rules.now.rules (IsAmbiguityFrom (known + 1) rules.now.rules) items.items) }
+    ensures sorted { IfOk result (λ items. AllPairs (IsUpTo (O.compare rules.now.order)) items.items) }
+    ensures over { IfOk result (λ items. All (λ w. IsOver (O.letters rules.now.order) w.word) items.items) }
+{
+    if known as usize >= rules.rules.len() {
+        return Ok(Vec::new(alloc));
+    }
+    let found = between(rules, known + 1)?;
+    in_order(alloc, rules, found.as_slice())
 }

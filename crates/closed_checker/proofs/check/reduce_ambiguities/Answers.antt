@@ -5,7 +5,7 @@ use Rattle.std.specs.List.{All}
 use Rattle.word_orders.specs.Specified.{made_cmp}
 use Rattle.ambiguities.specs.declared.ambiguity.Kind.TheVariants.{Overlap}
 use Rattle.ambiguities.specs.declared.ambiguity.Ambiguity.{Ambiguity}
-use Rattle.ambiguity_order.specs.Order.{AreAllInOrder}
+use Rattle.ambiguities.specs.Order.{AreAllInOrder}
 use Rattle.closed_checker.specs.declared.part.Part.TheVariants as part
 use Rattle.closed_checker.specs.Rests.{order_of, rules_of, rest_of}
 use Rattle.closed_checker.specs.Closed.{LeavesZero}

@@ -3,7 +3,7 @@ use Rattle.std.proofs.lemmas.Result.{IfOk-weaker}
 use Rattle.std.proofs.lemmas.List.{length-append}
 use Rattle.word_orders.specs.Specified.{made_cmp, letters_of}
 use Rattle.ambiguities.specs.Ambiguities.{IsAmbiguity}
-use Rattle.traced_completion.specs.declared.pending.waiting.Waiting.{Waiting}
+use Rattle.ambiguities.specs.declared.waiting.Waiting.{Waiting}
 use Rattle.traced_completion.specs.Results.{each_in_turn}
 use Rattle.traced_completion.specs.Works.{first_of, InTwoPasses}
 use Rattle.traced_completion.specs.Pending.{ambiguities_of, first_word}

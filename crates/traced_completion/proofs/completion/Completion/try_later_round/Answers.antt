@@ -7,7 +7,7 @@ use Rattle.word_orders.specs.Specified.{made_cmp, letters_of}
 use Rattle.rule_reduce.specs.declared.fault.ReduceFault.TheVariants.{Memory}
 use Rattle.ambiguities.specs.Ambiguities.{IsAmbiguity}
 use Rattle.ambiguities.specs.declared.ambiguity.Ambiguity.{Ambiguity}
-use Rattle.traced_completion.specs.declared.pending.waiting.Waiting.{Waiting}
+use Rattle.ambiguities.specs.declared.waiting.Waiting.{Waiting}
 use Rattle.traced_completion.specs.Results.{Explains, each_in_turn}
 use Rattle.traced_completion.specs.Works.{first_of}
 use Rattle.traced_completion.specs.Reductions.{plain_first}

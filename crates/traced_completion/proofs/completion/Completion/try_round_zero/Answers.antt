@@ -4,7 +4,7 @@ use Rattle.word_core.specs.Letters.{IsOver}
 use Rattle.word_orders.specs.Specified.{made_cmp, letters_of}
 use Rattle.rule_reduce.specs.declared.fault.ReduceFault.TheVariants.{Memory}
 use Rattle.rule_making.specs.Making.{Recorded}
-use Rattle.traced_completion.specs.declared.pending.waiting.Waiting.{Waiting}
+use Rattle.ambiguities.specs.declared.waiting.Waiting.{Waiting}
 use Rattle.adjoint_rules.specs.Problem.{polynomials}
 use Rattle.adjoint_rules.proofs.Counted.{few_units_closed}
 use Rattle.traced_completion.specs.Works.{generator_work, InTurn, EndsWith}

@@ -7,7 +7,7 @@ use Rattle.std.proofs.lemmas.List.{append_assoc, append-nil}
 use Rattle.std.proofs.lemmas.List.Elements.{All-head, All-tail}
 use Rattle.std.proofs.lemmas.List.Sorted.{IsPermutation-refl}
 use Rattle.word_core.specs.Letters.{IsOver}
-use Rattle.traced_completion.specs.declared.pending.waiting.Waiting.{Waiting}
+use Rattle.ambiguities.specs.declared.waiting.Waiting.{Waiting}
 use Rattle.traced_completion.specs.Blocks.{IsPut, joined, restored, taken_out}
 use Rattle.traced_completion.proofs.BlockLemmas.{restored-more, put-taken_out, filled-more}
 use Rattle.traced_completion.proofs.pending.blocks.put_all.Goals as goal

@@ -3,7 +3,7 @@ use Rattle.std.specs.List.{All}
 use Rattle.std.specs.Vec.{vec_capacity, vec_len}
 use Rattle.std.specs.Vec.Iter.{into_iter_items, into_iter_len}
 use Rattle.word_core.specs.Letters.{IsOver}
-use Rattle.traced_completion.specs.declared.pending.waiting.Waiting.{Waiting}
+use Rattle.ambiguities.specs.declared.waiting.Waiting.{Waiting}
 use Rattle.traced_completion.specs.Blocks.{IsFilled, restored}
 use Rattle.traced_completion.proofs.pending.blocks.put_all.Given as goal
 

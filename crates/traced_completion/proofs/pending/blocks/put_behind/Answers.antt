@@ -2,8 +2,8 @@ use Rattle.std.proofs.Common.{rules, ◌≡◌, ◌≤◌, ◌++◌, ◌∷◌, 
 use Rattle.std.specs.List.{AllPairs}
 use Rattle.std.specs.List.Sorted.{IsPermutation}
 use Rattle.std.proofs.lemmas.List.Sorted.{IsPermutation-refl}
-use Rattle.traced_completion.specs.declared.pending.waiting.Waiting.{Waiting}
-use Rattle.traced_completion.specs.StoreOrder.{IsUpTo}
+use Rattle.ambiguities.specs.declared.waiting.Waiting.{Waiting}
+use Rattle.traced_completion.specs.Blocks.{IsUpTo}
 use Rattle.traced_completion.specs.Blocks.{joined}
 use Rattle.traced_completion.proofs.BlockLemmas.{pushed-behind, nothing-behind}
 use Rattle.traced_completion.proofs.pending.blocks.put_behind.Goals as goal

@@ -2,8 +2,8 @@ use Rattle.std.proofs.Common.{◌≡◌, ◌≤◌, ◌++◌, ℕ, List, length,
 use Rattle.std.specs.List.{All, AllPairs}
 use Rattle.std.specs.List.Sorted.{IsPermutation}
 use Rattle.word_core.specs.Letters.{IsOver}
-use Rattle.traced_completion.specs.declared.pending.waiting.Waiting.{Waiting}
-use Rattle.traced_completion.specs.StoreOrder.{IsUpTo}
+use Rattle.ambiguities.specs.declared.waiting.Waiting.{Waiting}
+use Rattle.traced_completion.specs.Blocks.{IsUpTo}
 use Rattle.traced_completion.specs.Blocks.{joined}
 use Rattle.traced_completion.proofs.BlockLemmas.{all-blocks, rest-behind}
 use Rattle.traced_completion.proofs.pending.blocks.renew.Goals as goal

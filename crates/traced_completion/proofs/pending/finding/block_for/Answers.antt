@@ -2,8 +2,9 @@ use Rattle.std.proofs.Common.{◌≡◌, ℕ, ◌+◌, ◌-◌, ◌<◌, List, [
 use Rattle.std.specs.Ordering.{is_lt}
 use Rattle.std.specs.declared.cmp.Ordering.TheVariants.{Less}
 use Rattle.std.proofs.lemmas.List.{get_or_default}
-use Rattle.traced_completion.specs.declared.pending.waiting.Waiting.{Waiting}
-use Rattle.traced_completion.specs.StoreOrder.{waiting_cmp, IsUpTo, last_of}
+use Rattle.ambiguities.specs.declared.waiting.Waiting.{Waiting}
+use Rattle.ambiguities.specs.Order.{waiting_cmp}
+use Rattle.traced_completion.specs.Blocks.{IsUpTo, last_of}
 use Rattle.traced_completion.proofs.pending.finding.block_for.Goals as goal
 
 pub loop-low-preserved : goal.loop-low-preserved

@@ -2,8 +2,9 @@ use Rattle.std.proofs.Common.{◌≡◌, ℕ, ◌+◌, ◌-◌, ◌<◌, ◌/◌
 use Rattle.std.specs.Ordering.{is_lt}
 use Rattle.std.specs.declared.cmp.Ordering.TheVariants.{Less}
 use Rattle.std.proofs.lemmas.List.{get_or_default}
-use Rattle.traced_completion.specs.declared.pending.waiting.Waiting.{Waiting}
-use Rattle.traced_completion.specs.StoreOrder.{waiting_cmp, IsUpTo}
+use Rattle.ambiguities.specs.declared.waiting.Waiting.{Waiting}
+use Rattle.ambiguities.specs.Order.{waiting_cmp}
+use Rattle.traced_completion.specs.Blocks.{IsUpTo}
 use Rattle.traced_completion.proofs.pending.finding.first_above.Goals as goal
 
 pub loop-low-preserved : goal.loop-low-preserved
@@ -17,7 +18,7 @@ loop-low-preserved g c =
     let inside : half < length items = omega (arith, below, kept.within) in
     let same : half ≡ half + 1 - 1 = omega arith in
     let item : (d : Waiting) → c.index-items-middle.result ≡ get_or items half d = λ d. c.index-items-middle.is ∙ get_or_default items half c.index-items-middle.result d inside in
-    let here : is_lt (waiting_cmp compare waiting c.index-items-middle.result) ≡ false = sym (c.is_lt.ensures ∙ ap is_lt c.compare.ensures) ∙ c.if-is_lt.false in
+    let here : is_lt (waiting_cmp compare waiting c.index-items-middle.result) ≡ false = sym (c.is_lt.ensures ∙ ap is_lt c.compare_waiting.ensures) ∙ c.if-is_lt.false in
     record {
       ordered = omega (arith, below);
       within = kept.within;

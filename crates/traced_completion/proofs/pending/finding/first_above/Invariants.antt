@@ -1,7 +1,8 @@
 use Rattle.std.proofs.Common.{◌≡◌, ◌-◌, ◌<◌, ◌≤◌, length, slice_index_or}
 use Rattle.std.specs.declared.cmp.Ordering.TheVariants.{Less}
-use Rattle.traced_completion.specs.declared.pending.waiting.Waiting.{Waiting}
-use Rattle.traced_completion.specs.StoreOrder.{waiting_cmp, IsUpTo}
+use Rattle.ambiguities.specs.declared.waiting.Waiting.{Waiting}
+use Rattle.ambiguities.specs.Order.{waiting_cmp}
+use Rattle.traced_completion.specs.Blocks.{IsUpTo}
 use Rattle.traced_completion.proofs.pending.finding.first_above.Given as goal
 
 -- the one before the lower end isn't above, and the one at the upper end is

@@ -1,7 +1,0 @@
-use Rattle.std.proofs.Common.{[], take}
-use Rattle.ambiguity_order.specs.Finding.{IsAdded, IsOfFirsts}
-use Rattle.ambiguity_order.proofs.finding.find_all.Given as goal
-
--- those of the first words that were passed
-abbrev pub invariant-loop-first : goal.invariant-loop-first
-invariant-loop-first l = IsAdded (IsOfFirsts l.table (take l.first-index l.table)) [] l.found

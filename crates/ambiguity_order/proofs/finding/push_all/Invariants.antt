@@ -1,7 +1,0 @@
-use Rattle.std.proofs.Common.{take}
-use Rattle.ambiguity_order.specs.Finding.{IsAdded, IsWith}
-use Rattle.ambiguity_order.proofs.finding.push_all.Given as goal
-
--- those with the words that were passed
-abbrev pub invariant-loop-second : goal.invariant-loop-second
-invariant-loop-second l = IsAdded (IsWith (take l.second-index l.seconds) l.first l.kind l.place) l.fn.found l.found

@@ -1,7 +1,0 @@
-use Rattle.std.proofs.Common.{◌<◌}
-use Rattle.ambiguity_order.specs.Finding.{IsAdded, IsOfFirst}
-use Rattle.ambiguity_order.proofs.finding.push_first.Given as goal
-
--- those at the places that were passed
-abbrev pub invariant-loop-place : goal.invariant-loop-place
-invariant-loop-place l = IsAdded (IsOfFirst l.table l.first (λ p. p < l.place)) l.fn.found l.found

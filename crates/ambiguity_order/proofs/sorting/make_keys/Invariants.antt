@@ -1,7 +1,0 @@
-use Rattle.std.proofs.Common.{◌≡◌, map, take}
-use Rattle.ambiguity_order.specs.Keys.{key_of}
-use Rattle.ambiguity_order.proofs.sorting.make_keys.Given as goal
-
--- the keys of the ambiguities that were passed
-abbrev pub invariant-loop-which : goal.invariant-loop-which
-invariant-loop-which g l = l.keys.items ≡ map (key_of (g.O.WordOrder.measure_of l.rules.order) l.rules.rules) (take l.which-index l.found)

@@ -1,6 +1,0 @@
-use Rattle.std.proofs.Common.{◌≡◌, take}
-use Rattle.ambiguity_order.proofs.table.letters_of.Given as goal
-
--- the letters that were passed
-abbrev pub invariant-loop-place : goal.invariant-loop-place
-invariant-loop-place l = l.letters ≡ take l.place l.word

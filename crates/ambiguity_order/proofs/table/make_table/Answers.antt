@@ -1,7 +1,0 @@
-use Rattle.std.proofs.Common.{rules}
-use Rattle.ambiguity_order.proofs.Tables.{table-sorted}
-use Rattle.ambiguity_order.proofs.table.make_table.Goals as goal
-
-pub returns : goal.returns
-returns c =
-    table-sorted c.args.rules.now c.in_ok-leads.leads.items c.sort_leads.new.leads.items c.in_ok-leads.ensures c.sort_leads.ensures.permutation (search rules)

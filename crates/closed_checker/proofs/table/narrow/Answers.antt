@@ -1,0 +1,21 @@
+use Rattle.std.proofs.Common.{rules, ◌+◌, not, nat_lt, nat_eq, filter, sym, ap, ◌∙◌, subst}
+use Rattle.std.specs.List.Sorted.{IsNonDecreasingBy}
+use Rattle.std.proofs.lemmas.List.Kept.{IsNonDecreasingBy-filter}
+use Rattle.closed_checker.specs.declared.table.Lead.{Lead}
+use Rattle.closed_checker.specs.Table.{rank_at}
+use Rattle.closed_checker.proofs.Cutting.{filter-between}
+use Rattle.closed_checker.proofs.table.narrow.Goals as goal
+
+pub split-requires-2 : goal.split-requires-2
+split-requires-2 c =
+    let rank = λ (l : Lead). rank_at c.args.depth l.letters in
+    subst (IsNonDecreasingBy rank) (sym c.split.ensures.others)
+    (IsNonDecreasingBy-filter rank (λ l. not (nat_lt (rank l) (c.from-least.result + 1))) c.args.leads.now c.requires)
+
+pub returns : goal.returns
+returns c =
+    let rank = λ (l : Lead). rank_at c.args.depth l.letters in
+    c.split-2.ensures.below
+    ∙ ap (filter (λ l. nat_lt (rank l) (c.from-least.result + 1 + 1))) c.split.ensures.others
+    ∙ filter-between rank (c.from-least.result + 1) c.args.leads.now
+    ∙ ap (λ n. filter (λ l. nat_eq (rank l) n) c.args.leads.now) (search rules)
