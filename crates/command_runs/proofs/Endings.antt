@@ -17,7 +17,8 @@ use Rattle.command_runs.specs.Files.{AfterFiles, AreHeld, IsMissing, IsFirstTooL
 use Rattle.command_runs.specs.Answers.{Answers}
 use Rattle.command_runs.specs.Ends.{EndsBy, MayEnd, other_words, called}
 use Rattle.command_runs.specs.Put.{IsPut, whole, in_part}
-use Rattle.command_runs.specs.Run.{Run, SaysLoadFailed, SaysTooLong, SaysAnswer}
+use Rattle.command_runs.specs.Run.{SaysLoadFailed, SaysTooLong, SaysAnswer}
+use Rattle.command_runs.specs.Seen.{Run}
 use Rattle.command_runs.specs.Says.{Says}
 use Rattle.command_runs.specs.Headline.{HasMeaning}
 use Rattle.command_runs.specs.Promises.{IsMeant, PutsWhatIsMeant}

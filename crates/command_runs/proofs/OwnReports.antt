@@ -16,7 +16,7 @@ use Rattle.report_readback.specs.ModelsReadBack.{IsReadAsModels, refuted_in}
 use Rattle.report_readback.specs.Answered.{PassesLimit, IsAnsweredWithinLimits}
 use Rattle.report_readback.specs.OwnEvidence.{IsItsOwnEvidence}
 use Rattle.command_shape.specs.Ending.{Ending, line}
-use Rattle.stated_problem.specs.Statement.{IsStated}
+use Rattle.stated_problem.specs.Stated.{IsStated}
 use Rattle.command_shape.specs.Blocks.{block_text, refused_text, JudgesFrom, accepted, refused, faulty, read}
 use Rattle.stated_problem.proofs.Statements.{stated_leads}
 use Rattle.command_shape.proofs.BlockTexts.{passing_answered, text_answered_once}

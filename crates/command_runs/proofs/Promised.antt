@@ -16,7 +16,7 @@ use Rattle.report_text.specs.declared.verdict.Verdict.TheVariants as verdict
 use Rattle.report_text.specs.Report.{block_text, report_of, heads_of}
 use Rattle.report_readback.proofs.Declared.{declared_names_are_names}
 use Rattle.command_shape.specs.Ending.{Ending}
-use Rattle.stated_problem.specs.Statement.{IsStated}
+use Rattle.stated_problem.specs.Stated.{IsStated}
 use Rattle.claim_decider.specs.declared.outcome.Outcome.{Outcome}
 use Rattle.prove_command.specs.declared.prove.Asked.{Asked}
 use Rattle.prove_command.specs.Answers.{IsVerdictOn, proved, not_derivable, refuted, undecided, AreVerdictsOn, asked_by_bench}

@@ -11,7 +11,7 @@ use Rattle.command_shape.specs.Ending.{Ending}
 use Rattle.command_shape.specs.Texts.{limit_text, line_text, evidence_fault}
 use Rattle.command_shape.specs.Blocks.{faulty, read, RefusesBlock}
 use Rattle.cancel_rules.specs.Meaning.{IsCancellationSound}
-use Rattle.stated_problem.specs.Statement.{IsStated}
+use Rattle.stated_problem.specs.Stated.{IsStated}
 use Rattle.evidence_commands.specs.Kind.{Kind, AnswersText}
 use Rattle.evidence_commands.proofs.Owed.{IsJudged}
 use Rattle.command_runs.specs.Promises.Lines.{HasLineBefore, claim_line, block_line}

@@ -12,7 +12,8 @@ use Rattle.command_words.specs.declared.call.Call.TheVariants.{Prove, Refute, Be
 use Rattle.command_words.specs.declared.evidence.EvidenceCommand.{EvidenceCommand}
 use Rattle.command_words.specs.declared.evidence.EvidenceCommand.TheVariants.{Check, Model, Confirm, Explain, Cancel}
 use Rattle.command_shape.specs.Ending.{Ending}
-use Rattle.stated_problem.specs.Statement.{IsStated, OverStatement, faulty, stated}
+use Rattle.stated_problem.specs.Statement.{OverStatement, faulty, stated}
+use Rattle.stated_problem.specs.Stated.{IsStated}
 use Rattle.prove_command.specs.Answers.{asked_by}
 use Rattle.evidence_commands.specs.Commands.{AnswersEvidence}
 use Rattle.command_runs.specs.CallFiles.{statement_of, evidence_of}

@@ -39,7 +39,7 @@ use Rattle.statement_meaning.specs.Meanings.{SaysEquations}
 use Rattle.statement_meaning.proofs.Claims.{claim_there}
 use Rattle.statement_meaning.proofs.Meanings.{zeros_from_held, claim_is_read}
 use Rattle.command_shape.specs.Ending.{Ending}
-use Rattle.stated_problem.specs.Statement.{IsStated}
+use Rattle.stated_problem.specs.Stated.{IsStated}
 use Rattle.normal_category.specs.Tests.{is_sharp}
 use Rattle.normal_forms.specs.SharpMeans.{SharpMeans, StarSharpMeans}
 use Rattle.equation_chain.specs.Steps.{steps_of}
@@ -48,7 +48,8 @@ use Rattle.evidence_commands.specs.Check.{claim_number, named_text, certificates
 use Rattle.evidence_commands.specs.Model.{models}
 use Rattle.evidence_commands.specs.Confirm.{sharp_ending, closed_text, bases}
 use Rattle.evidence_commands.specs.Explain.{chains}
-use Rattle.evidence_commands.specs.Cancel.{letters_text, accepted_text, CancelledMeans, cancellations}
+use Rattle.evidence_commands.specs.Cancel.{accepted_text, CancelledMeans, cancellations}
+use Rattle.evidence_commands.specs.CalledLetters.{letters_text}
 use Rattle.evidence_commands.proofs.Certificates.{names, certificates_are_judged}
 use Rattle.evidence_commands.proofs.Models.{models_are_judged}
 use Rattle.evidence_commands.proofs.Bases.{bases_are_judged}

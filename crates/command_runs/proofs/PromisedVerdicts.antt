@@ -21,7 +21,7 @@ use Rattle.statement_meaning.proofs.Claims.{claim_there}
 use Rattle.report_text.specs.declared.verdict.Verdict.{Verdict}
 use Rattle.report_text.specs.declared.verdict.Verdict.TheVariants as verdict
 use Rattle.report_text.specs.Heads.{row_count, said_of}
-use Rattle.stated_problem.specs.Statement.{IsStated}
+use Rattle.stated_problem.specs.Stated.{IsStated}
 use Rattle.prove_command.specs.Says.{VerdictMeans}
 use Rattle.command_runs.specs.Promises.Lines.{HasLineBefore, claim_line, block_line, number_limit}
 use Rattle.command_runs.specs.Promises.Proved.{IsProved, SaysProved}

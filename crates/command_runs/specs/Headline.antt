@@ -7,7 +7,7 @@ use Rattle.command_runs.specs.Answers.{Answers}
 use Rattle.command_runs.specs.Says.{Says}
 use Rattle.command_runs.specs.Ends.{EndsBy}
 use Rattle.command_runs.specs.Put.{IsPut}
-use Rattle.command_runs.specs.Run.{Run}
+use Rattle.command_runs.specs.Seen.{Run}
 
 -- There is an ending that is put as its status says, whole or in part. It is the usage line on words that are no call; at a file that
 -- couldn't be loaded it says so;

@@ -7,6 +7,7 @@ pub mod Call
 pub mod Files
 pub mod Ends
 pub mod Put
+pub mod Seen
 pub mod Run
 pub mod Headline
 pub mod Promises

@@ -9,7 +9,7 @@ use Rattle.report_text.specs.Report.{report_of}
 use Rattle.report_readback.specs.Answered.{PassesLimit}
 use Rattle.command_shape.specs.Ending.{Ending, line, refused_evidence}
 use Rattle.command_shape.specs.Texts.{evidence_fault}
-use Rattle.stated_problem.specs.Statement.{IsStated}
+use Rattle.stated_problem.specs.Stated.{IsStated}
 use Rattle.command_shape.specs.Blocks.{refused_text}
 use Rattle.prove_command.specs.declared.prove.Asked.{Asked}
 use Rattle.prove_command.specs.Answers.{AnswersClaims}

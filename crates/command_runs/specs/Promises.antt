@@ -14,7 +14,7 @@ use Rattle.traced_completion.specs.declared.budget.Budget.{Budget}
 use Rattle.command_runs.specs.Call.{IsCalled}
 use Rattle.command_runs.specs.CallFiles.{files_of, statement_of, evidence_of}
 use Rattle.command_runs.specs.Files.{WereLoaded}
-use Rattle.command_runs.specs.Run.{Run}
+use Rattle.command_runs.specs.Seen.{Run}
 use Rattle.command_runs.specs.Promises.Proved.{ProvedIsMeant}
 use Rattle.command_runs.specs.Promises.Accepted.{AcceptedIsMeant}
 use Rattle.command_runs.specs.Promises.Refuted.{RefutedIsMeant}

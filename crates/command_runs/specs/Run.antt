@@ -1,37 +1,16 @@
 -- What the contract of the top call says of words, devices and status.
-use Rattle.std.specs.Prelude.{ℕ, ◌≡◌, ◌≢◌, ◌⊎◌, List, take, Option, Bool, IsTrue, String}
+use Rattle.std.specs.Prelude.{ℕ, ◌≡◌, ◌≢◌, ◌⊎◌, List, take, String}
 use Rattle.std.specs.declared.alloc.Global.{Global}
-use Rattle.std.specs.Io.KnownBytes.{Appends}
-use Rattle.flow_io.specs.Causes.{Rose}
-use Rattle.flow_io.specs.Told.{Told, MayExceed}
+use Rattle.flow_io.specs.Told.{MayExceed}
 use Rattle.command_words.specs.declared.call.Call.{Call}
 use Rattle.command_shape.specs.declared.files.FileWord.{FileWord}
 use Rattle.command_runs.specs.CallFiles.{files_of}
 use Rattle.command_runs.specs.Call.{IsCalled, IsTaken}
 use Rattle.command_shape.specs.Ending.{Ending, load_failed, too_long}
-use Rattle.command_runs.specs.Files.{RoseAt, WereLoaded, AreHeld, IsReached, IsMissing, IsFirstTooLong}
+use Rattle.command_runs.specs.Files.{WereLoaded, AreHeld, IsReached, IsMissing, IsFirstTooLong}
 use Rattle.command_runs.specs.Answers.{Answers}
 use Rattle.command_runs.specs.Ends.{MayEnd}
-
--- What the devices tell of a run: of each file, of the names whose count of faults rose, of the bytes that were put, of the sink that is
--- finished or whose count rose.
-pub record Run : Type 1 where
-  pub told : List ℕ → Told
-  pub rose : List ℕ → Type 0
-  pub put : List ℕ → Type 0
-  pub finished : Type 0
-  pub sink_rose : Type 0
-
--- a run between two states of a shelf and two of a sink
-abbrev pub seen : {Shelf Sink : Type 0} → (Shelf → List ℕ → Told) → (Shelf → List ℕ → ℕ) → (Sink → Option (List ℕ)) → (Sink → Bool)
-    → (Sink → ℕ) → Shelf → Shelf → Sink → Sink → Run
-seen file faults written is_finished sink_faults shelf new_shelf sink new_sink = record {
-  told = file shelf;
-  rose = RoseAt (faults shelf) (faults new_shelf);
-  put = λ bytes. Appends (written sink) (written new_sink) bytes;
-  finished = IsTrue (is_finished new_sink);
-  sink_rose = Rose (sink_faults sink) (sink_faults new_sink);
-}
+use Rattle.command_runs.specs.Seen.{Run}
 
 -- Every status but 5 and 6: the whole report of an ending that is allowed was put, and the sink is finished.
 abbrev pub IsReported : List (String Global) → Run → ℕ → Type 0

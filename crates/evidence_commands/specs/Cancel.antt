@@ -1,17 +1,15 @@
 -- What `cancel` reads, judges and prints, and what that means.
-use Rattle.std.specs.Prelude.{⊤, ℕ, ◌≡◌, false, List, [], ◌∷◌, ◌++◌, codes, decimal, Option, Some}
-use Rattle.std.specs.List.{AllByRecursion, flat_map}
+use Rattle.std.specs.Prelude.{⊤, ℕ, ◌≡◌, false, List, ◌++◌, codes, decimal, Option, Some}
+use Rattle.std.specs.List.{AllByRecursion}
 use Rattle.definitions.specs.Category.{Structure, InvolutionLaws}
 use Rattle.definitions.specs.Poly.{Term}
 use Rattle.definitions.specs.Quiver.{Quiver}
 use Rattle.definitions.specs.Representation.{Representation, StarRepresents, Cancels}
 use Rattle.definitions.specs.Soundness.{HasSignature, HasValueZero}
-use Rattle.word_core.specs.declared.letter.Letter.{Letter}
 use Rattle.quiver.specs.Declarations.{Declaration, quiver_of}
 use Rattle.adjoint_rules.specs.declared.problem.Problem.{Problem}
 use Rattle.adjoint_rules.specs.Problem.{polynomials, generators_in}
 use Rattle.adjoint_rules.specs.Claims.{claim_at}
-use Rattle.block_text.specs.Written.{letter_text}
 use Rattle.cancel_rules.specs.declared.cancellation.Cancellation.{Cancellation}
 use Rattle.cancel_rules.specs.declared.refusal.CancelRefusal.{CancelRefusal}
 use Rattle.cancel_rules.specs.declared.refusal.CancelRefusal.TheVariants as refusal
@@ -19,25 +17,9 @@ use Rattle.cancel_rules.specs.Acceptance.{IsAccepted, IsRefused}
 use Rattle.cancel_rules.specs.Cancellations.{IsCancellationOf}
 use Rattle.cancel_rules.specs.Meaning.{AreMonic, AreEpic, MakesZeroByCancelling}
 use Rattle.cancellation_text.specs.Cancellations.{IsCancellations, IsFirstFault}
+use Rattle.evidence_commands.specs.CalledLetters.{letters_text}
 use Rattle.evidence_commands.specs.Causes.{claim_text, cause_text, HasLetters}
 use Rattle.evidence_commands.specs.Kind.{Kind}
-
--- a blank and the name of a letter
-abbrev pub name_text : List Declaration → Letter → List ℕ
-name_text ds a = codes " " ++ letter_text ds a.0
-
--- the names of letters, each after a blank
-abbrev pub names_text : List Declaration → List Letter → List ℕ
-names_text ds letters = flat_map (name_text ds) letters
-
--- a word and the letters that are called so, where there are any
-abbrev pub called_text : List Declaration → List ℕ → List Letter → List ℕ
-called_text ds word [] = []
-called_text ds word (a ∷ letters) = word ++ names_text ds (a ∷ letters)
-
--- the letters that are called monic, and those that are called epic
-abbrev pub letters_text : List Declaration → List Letter → List Letter → List ℕ
-letters_text ds monic epic = called_text ds (codes " monic") monic ++ called_text ds (codes " epic") epic
 
 -- what accepting a proof says: its claim, its denominator, and the letters that it calls monic and epic
 abbrev pub accepted_text : List Declaration → Cancellation → List ℕ

@@ -7,7 +7,8 @@ use Rattle.adjoint_rules.specs.declared.problem.Problem.{Problem}
 use Rattle.block_text.specs.Fault.{Fault}
 use Rattle.command_shape.specs.Ending.{Ending}
 use Rattle.command_shape.specs.Blocks.{OverEvidence, AcceptsBlock, RefusesBlock, Judges, lines_on}
-use Rattle.stated_problem.specs.Statement.{IsStated, OverStatement}
+use Rattle.stated_problem.specs.Statement.{OverStatement}
+use Rattle.stated_problem.specs.Stated.{IsStated}
 
 pub record Kind (Block Refusal : Type 0) : Type 1 where
   -- the blocks that a text has over the letters of a quiver, or the first thing that is wrong with it

@@ -4,7 +4,8 @@ use Rattle.std.specs.List.{AllByRecursion}
 use Rattle.definitions.specs.Category.{Structure}
 use Rattle.adjoint_rules.specs.declared.problem.Problem.{Problem}
 use Rattle.command_shape.specs.Ending.{Ending, refused_statement}
-use Rattle.stated_problem.specs.Statement.{IsStated, IsRefusedStatement}
+use Rattle.stated_problem.specs.Statement.{IsRefusedStatement}
+use Rattle.stated_problem.specs.Stated.{IsStated}
 use Rattle.evidence_commands.specs.Kind.{Kind, AnswersBoth, accepted_lines, Says}
 
 module _ {Block Refusal : Type 0} (kind : Kind Block Refusal) where

@@ -4,6 +4,7 @@ pub mod Check
 pub mod Model
 pub mod Confirm
 pub mod Explain
+pub mod CalledLetters
 pub mod Cancel
 pub mod Commands
 pub mod Laws

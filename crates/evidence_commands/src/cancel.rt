@@ -2,7 +2,8 @@
 ghost use Rattle.std.specs.Prelude.{◌≡◌, ◌++◌, All, IfOk, OnOk};
 ghost use Rattle.cancel_rules.specs.Acceptance.{IsLetterOf, IsReadableCancellation};
 ghost use Rattle.evidence_commands.specs.Causes.{claim_text};
-ghost use Rattle.evidence_commands.specs.Cancel.{cancellations, name_text, names_text, called_text, letters_text, HasRefusalLetters};
+ghost use Rattle.evidence_commands.specs.Cancel.{cancellations, HasRefusalLetters};
+ghost use Rattle.evidence_commands.specs.CalledLetters.{name_text, names_text, called_text, letters_text};
 
 use crate::cause::{put_cause, put_claim};
 use crate::kind::EvidenceKind;

@@ -13,7 +13,8 @@ use Rattle.matrix_models.specs.Matrix.{Matrix, entry_at, matrix_of}
 use Rattle.matrix_models.specs.Matrices.{matrices, identity_matrix, transpose}
 use Rattle.matrix_models.specs.Entries.{entry_at-matrix_of}
 use Rattle.matrix_models.specs.declared.model.Model.{Model}
-use Rattle.model_checker.specs.Models.{arrow_of, representation_of, matrix_or_zero, IsMap, HaveMatrices}
+use Rattle.model_checker.specs.Models.{IsMap, HaveMatrices}
+use Rattle.model_checker.specs.Representations.{arrow_of, representation_of, matrix_or_zero}
 use Rattle.model_candidates.specs.Candidates.{Entry, entry, is_same_entry, side_in, entries_of, value_at, value_of_entry, entry_shown, matrix_by, model_by, is_solved, is_solved_map}
 use Rattle.model_candidates.specs.Unknowns.{solved_flags, set_count, filled}
 use Rattle.model_candidates.proofs.Affine.{IsAffine}

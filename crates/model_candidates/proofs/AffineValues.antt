@@ -14,7 +14,7 @@ use Rattle.matrix_models.specs.Matrix.{Matrix, entry_at}
 use Rattle.matrix_models.specs.Matrices.{matrices, zero_matrix, matrix_sum, matrix_product}
 use Rattle.matrix_models.specs.Entries.{entry_at_below}
 use Rattle.matrix_models.specs.Laws.{matrices_laws}
-use Rattle.model_checker.specs.Models.{representation_of}
+use Rattle.model_checker.specs.Representations.{representation_of}
 use Rattle.model_candidates.specs.Candidates.{side_in, entries_of, model_by, is_solved, solved_count}
 use Rattle.model_candidates.specs.Plans.{has_few}
 use Rattle.model_candidates.specs.Unknowns.{solved_flags, set_count, filled}

@@ -19,7 +19,8 @@ use Rattle.adjoint_rules.specs.declared.problem.Problem.{Problem}
 use Rattle.adjoint_rules.specs.Problem.{polynomials, IsTypedOf, HasObjects}
 use Rattle.adjoint_rules.proofs.Generators.{assumptions_have_signatures}
 use Rattle.model_candidates.specs.declared.plan.LinearAssumption.{LinearAssumption}
-use Rattle.model_checker.specs.Models.{representation_of, IsZeroIn}
+use Rattle.model_checker.specs.Models.{IsZeroIn}
+use Rattle.model_checker.specs.Representations.{representation_of}
 use Rattle.model_candidates.specs.Candidates.{is_linear}
 use Rattle.model_candidates.specs.Plans.{AreAsked, AreLinearAssumptions, IsAssumption, IsZeroAtSignature, has_few, is_asked}
 use Rattle.model_checker.proofs.Places.{all_at, zip_at}

@@ -26,7 +26,8 @@ use Rattle.matrix_models.specs.declared.model.Model.{Model}
 use Rattle.adjoint_rules.specs.declared.problem.Problem.{Problem}
 use Rattle.adjoint_rules.specs.Problem.{polynomials, numbers, generators_in}
 use Rattle.adjoint_rules.proofs.Generators.{posed_quiver, marked_are_objects, zero_along}
-use Rattle.model_checker.specs.Models.{IsModel, HaveMatrices, IsZeroIn, representation_of}
+use Rattle.model_checker.specs.Models.{IsModel, HaveMatrices, IsZeroIn}
+use Rattle.model_checker.specs.Representations.{representation_of}
 use Rattle.model_checker.proofs.Arrows.{star_represents}
 use Rattle.model_candidates.specs.Candidates.{is_linear, is_solved, linear_generators, solved_count}
 use Rattle.model_candidates.specs.Plans.{linear_assumptions}

@@ -16,7 +16,8 @@ use Rattle.adjoint_rules.specs.declared.parts.Shape.{Shape}
 use Rattle.adjoint_rules.specs.declared.problem.Problem.{Problem}
 use Rattle.adjoint_rules.specs.Problem.{polynomials}
 use Rattle.adjoint_rules.proofs.Generators.{generators_have_signatures}
-use Rattle.model_checker.specs.Models.{representation_of, IsZeroIn}
+use Rattle.model_checker.specs.Models.{IsZeroIn}
+use Rattle.model_checker.specs.Representations.{representation_of}
 use Rattle.model_candidates.specs.Candidates.{entries_of, model_by, is_exhaustive, digits, draws, is_linear, IsShapeOf, IsSolution, CanBegin, CanTake, IsGreedy, IsCandidate}
 use Rattle.model_candidates.specs.Unknowns.{solved_flags}
 use Rattle.model_checker.proofs.Values.{zero_from_value}

@@ -15,7 +15,8 @@ use Rattle.matrix_models.specs.Matrices.{transpose, IsObject}
 use Rattle.matrix_models.specs.Entries.{entry_at-matrix_of, matrix_of_is_matrix, same_matrix}
 use Rattle.matrix_models.specs.Laws.{transpose_laws}
 use Rattle.matrix_models.proofs.Primes.{any_of}
-use Rattle.model_checker.specs.Models.{map_at, IsModel, IsMap, HaveMatrices}
+use Rattle.model_checker.specs.Models.{IsModel, IsMap, HaveMatrices}
+use Rattle.model_checker.specs.Representations.{map_at}
 use Rattle.model_candidates.specs.Candidates.{Entry, entry, is_same_entry, is_self, side_in, is_declared_map, entries_of, value_at, value_of_entry, entry_shown, matrix_by, place_by, model_by}
 use Rattle.model_candidates.proofs.EntryPlaces.{shown_mirrored, shown_behind}
 

@@ -12,7 +12,7 @@ use Rattle.adjoint_rules.specs.declared.parts.Shape.{Shape}
 use Rattle.matrix_models.specs.Matrix.{Matrix, entry_at}
 use Rattle.matrix_models.specs.Matrices.{matrices, zero_matrix}
 use Rattle.matrix_models.specs.Laws.{matrices_laws}
-use Rattle.model_checker.specs.Models.{representation_of}
+use Rattle.model_checker.specs.Representations.{representation_of}
 use Rattle.model_checker.proofs.Places.{all_at}
 use Rattle.model_candidates.specs.declared.solved_terms.Known.{Known}
 use Rattle.model_candidates.specs.Candidates.{is_solved, model_by, side_in, solved_count}

@@ -13,7 +13,8 @@ use Rattle.matrix_models.specs.Matrices.{matrices}
 use Rattle.matrix_models.specs.declared.model.Model.{Model}
 use Rattle.adjoint_rules.proofs.Generators.{posed_quiver}
 use Rattle.adjoint_rules.specs.declared.parts.Shape.{Shape}
-use Rattle.model_checker.specs.Models.{side_of, IsModel, HaveMatrices}
+use Rattle.model_checker.specs.Models.{IsModel, HaveMatrices}
+use Rattle.model_checker.specs.Representations.{side_of}
 use Rattle.model_candidates.specs.declared.plan.LinearAssumption.{LinearAssumption}
 use Rattle.model_candidates.specs.declared.solved_terms.Known.{Known}
 use Rattle.model_candidates.specs.declared.solved_terms.SolvedTerm.{SolvedTerm}

@@ -11,7 +11,8 @@ use Rattle.adjoint_rules.specs.declared.parts.Shape.{Shape}
 use Rattle.adjoint_rules.specs.declared.problem.Problem.{Problem}
 use Rattle.adjoint_rules.specs.Problem.{IsShape}
 use Rattle.adjoint_rules.proofs.Generators.{posed_quiver}
-use Rattle.model_checker.specs.Models.{IsZeroIn, representation_of}
+use Rattle.model_checker.specs.Models.{IsZeroIn}
+use Rattle.model_checker.specs.Representations.{representation_of}
 use Rattle.model_candidates.specs.declared.plan.LinearAssumption.{LinearAssumption}
 use Rattle.model_candidates.specs.Candidates.{entries_of, model_by, IsSolution}
 use Rattle.model_candidates.specs.Unknowns.{solved_flags, filled, picked}

@@ -8,7 +8,8 @@ use Rattle.adjoint_rules.specs.declared.parts.Shape.{Shape}
 use Rattle.adjoint_rules.specs.Problem.{IsShape}
 use Rattle.matrix_models.specs.Matrix.{entry_at}
 use Rattle.matrix_models.specs.Entries.{entry_at-matrix_of}
-use Rattle.model_checker.specs.Models.{arrow_of, IsMap}
+use Rattle.model_checker.specs.Models.{IsMap}
+use Rattle.model_checker.specs.Representations.{arrow_of}
 use Rattle.model_candidates.specs.Candidates.{side_in, entries_of, is_declared_map, is_solved, is_solved_map, matrix_by}
 use Rattle.model_candidates.specs.Unknowns.{solved_flags, set_count, filled, unit_values}
 use Rattle.model_candidates.specs.LetterNumbers.{map_behind, number_at}

@@ -12,7 +12,8 @@ use Rattle.adjoint_rules.specs.Problem.{IsShape, IsSide}
 use Rattle.matrix_models.specs.Matrix.{entry_at}
 use Rattle.matrix_models.specs.Matrices.{transpose}
 use Rattle.matrix_models.specs.Entries.{entry_at-matrix_of}
-use Rattle.model_checker.specs.Models.{arrow_of, matrix_or_zero, IsMap}
+use Rattle.model_checker.specs.Models.{IsMap}
+use Rattle.model_checker.specs.Representations.{arrow_of, matrix_or_zero}
 use Rattle.model_checker.proofs.Arrows.{arrow_of-map, arrow_of-adjoint, adjoint_is_map}
 use Rattle.model_candidates.specs.declared.letter_tables.LetterTable.{LetterTable}
 use Rattle.model_candidates.specs.Candidates.{Entry, entry, entries_of, entry_shown, is_declared_map, is_same_entry, matrix_by, model_by, side_in, value_at, value_of_entry}

@@ -16,7 +16,8 @@ use Rattle.adjoint_rules.specs.declared.parts.Shape.{Shape}
 use Rattle.adjoint_rules.specs.Problem.{IsShape}
 use Rattle.matrix_models.specs.Laws.{matrices_laws}
 use Rattle.matrix_models.specs.declared.model.Model.{Model}
-use Rattle.model_checker.specs.Models.{representation_of, side_of, IsModel, HaveMatrices}
+use Rattle.model_checker.specs.Models.{IsModel, HaveMatrices}
+use Rattle.model_checker.specs.Representations.{representation_of, side_of}
 use Rattle.model_checker.proofs.Arrows.{represents}
 use Rattle.model_candidates.specs.declared.solved_terms.SolvedTerm.{SolvedTerm}
 use Rattle.model_candidates.specs.Candidates.{side_in, entries_of, is_declared_map, is_solved}

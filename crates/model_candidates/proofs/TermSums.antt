@@ -16,7 +16,7 @@ use Rattle.matrix_models.specs.Matrices.{matrices, total}
 use Rattle.matrix_models.specs.Totals.{total_same}
 use Rattle.matrix_models.specs.Laws.{matrices_laws}
 use Rattle.matrix_models.specs.declared.model.Model.{Model}
-use Rattle.model_checker.specs.Models.{representation_of}
+use Rattle.model_checker.specs.Representations.{representation_of}
 use Rattle.model_candidates.specs.Candidates.{side_in, entries_of, is_solved}
 use Rattle.model_candidates.specs.Unknowns.{solved_flags, unknown_numbers}
 use Rattle.model_candidates.specs.Factors.{letters_product, residue, term_around, solved_term, listed, solved_terms, place_factor, term_factor, terms_factor}

@@ -13,7 +13,8 @@ use Rattle.matrix_models.specs.declared.model.Model.{Model}
 use Rattle.adjoint_rules.specs.declared.parts.Shape.{Shape}
 use Rattle.adjoint_rules.specs.declared.problem.Problem.{Problem}
 use Rattle.adjoint_rules.specs.Problem.{HasObjects, IsTypedOf, polynomials}
-use Rattle.model_checker.specs.Models.{IsZeroIn, representation_of}
+use Rattle.model_checker.specs.Models.{IsZeroIn}
+use Rattle.model_checker.specs.Representations.{representation_of}
 use Rattle.model_checker.proofs.Places.{all_at}
 use Rattle.model_checker.proofs.Values.{zero_from_value}
 use Rattle.model_candidates.specs.Candidates.{IsCandidate, IsGreedy, IsSolution, draws, is_exhaustive, model_by}

@@ -18,7 +18,7 @@ use Rattle.matrix_models.specs.Matrices.{matrices, matrix_sum, zero_matrix}
 use Rattle.matrix_models.specs.Entries.{entry_at-matrix_of, same_matrix}
 use Rattle.matrix_models.specs.Laws.{matrices_laws}
 use Rattle.matrix_models.specs.Totals.{add_mod}
-use Rattle.model_checker.specs.Models.{representation_of}
+use Rattle.model_checker.specs.Representations.{representation_of}
 use Rattle.model_checker.proofs.Places.{all_at}
 use Rattle.model_candidates.specs.declared.word_rows.EntryValues.{EntryValues}
 use Rattle.model_candidates.specs.Candidates.{side_in}

@@ -11,7 +11,7 @@ use Rattle.adjoint_rules.specs.Problem.{IsShape}
 use Rattle.matrix_models.specs.Matrix.{Matrix, entry_at}
 use Rattle.matrix_models.specs.Matrices.{matrices, matrix_product}
 use Rattle.matrix_models.specs.Laws.{matrices_laws}
-use Rattle.model_checker.specs.Models.{arrow_of, representation_of}
+use Rattle.model_checker.specs.Representations.{arrow_of, representation_of}
 use Rattle.model_candidates.specs.Candidates.{side_in, entries_of, solved_count}
 use Rattle.model_candidates.proofs.AffineArrows.{model_at, arrow_unsolved, represents_at}
 use Rattle.model_candidates.proofs.AffineValues.{count_without, first_unsolved}

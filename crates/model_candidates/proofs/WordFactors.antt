@@ -11,7 +11,7 @@ use Rattle.adjoint_rules.specs.Problem.{IsShape}
 use Rattle.matrix_models.specs.Matrix.{Matrix, entry_at}
 use Rattle.matrix_models.specs.Matrices.{matrices, total}
 use Rattle.matrix_models.specs.Totals.{total_same, total_zero}
-use Rattle.model_checker.specs.Models.{arrow_of, representation_of}
+use Rattle.model_checker.specs.Representations.{arrow_of, representation_of}
 use Rattle.model_candidates.specs.Candidates.{side_in, entries_of, is_solved, solved_count}
 use Rattle.model_candidates.specs.Unknowns.{solved_flags, set_count, unit_values}
 use Rattle.model_candidates.specs.LetterNumbers.{number_at}

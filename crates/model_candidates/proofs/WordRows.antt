@@ -21,7 +21,7 @@ use Rattle.matrix_models.specs.Totals.{total_mod, total_pick, total_same, total_
 use Rattle.adjoint_rules.specs.Limits.{shape_side_limit}
 use Rattle.adjoint_rules.specs.Problem.{IsSide}
 use Rattle.adjoint_rules.proofs.Generators.{posed_quiver}
-use Rattle.model_checker.specs.Models.{representation_of}
+use Rattle.model_checker.specs.Representations.{representation_of}
 use Rattle.model_checker.proofs.Arrows.{arrow_of-identity, represents}
 use Rattle.model_candidates.specs.declared.word_rows.EntryValues.{EntryValues}
 use Rattle.model_candidates.specs.declared.letter_tables.LetterTable.{LetterTable}

@@ -13,7 +13,8 @@ use Rattle.adjoint_rules.specs.declared.problem.Problem.{Problem}
 use Rattle.adjoint_rules.specs.Problem.{polynomials}
 use Rattle.model_candidates.specs.declared.plan.LinearAssumption.{LinearAssumption}
 use Rattle.model_candidates.specs.declared.plan.Plan.{Plan}
-use Rattle.model_checker.specs.Models.{representation_of, IsZeroIn}
+use Rattle.model_checker.specs.Models.{IsZeroIn}
+use Rattle.model_checker.specs.Representations.{representation_of}
 use Rattle.model_candidates.specs.Candidates.{IsShapeOf, entries_of, is_exhaustive, is_linear, solved_count}
 use Rattle.model_candidates.specs.Unknowns.{set_count, solved_flags}
 use Rattle.model_candidates.specs.LetterNumbers.{numbers_of_letters}

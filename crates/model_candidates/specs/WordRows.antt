@@ -7,7 +7,7 @@ use Rattle.matrix_models.specs.Matrix.{Matrix, entry_at}
 use Rattle.matrix_models.specs.Matrices.{matrices}
 use Rattle.matrix_models.specs.declared.model.Model.{Model}
 use Rattle.adjoint_rules.specs.Problem.{IsShape}
-use Rattle.model_checker.specs.Models.{arrow_of, representation_of}
+use Rattle.model_checker.specs.Representations.{arrow_of, representation_of}
 use Rattle.model_candidates.specs.declared.word_rows.EntryValues.{EntryValues}
 use Rattle.model_candidates.specs.Candidates.{model_by}
 use Rattle.model_candidates.specs.Factors.{letters_product}

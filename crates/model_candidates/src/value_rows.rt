@@ -7,7 +7,7 @@ ghost use Rattle.quiver.specs.Declarations.{object_count};
 ghost use Rattle.adjoint_rules.specs.Limits.{shape_side_limit};
 ghost use Rattle.matrix_models.specs.Matrix.{IsModulus, entry_at};
 ghost use Rattle.matrix_models.specs.Matrices.{matrices};
-ghost use Rattle.model_checker.specs.Models.{representation_of};
+ghost use Rattle.model_checker.specs.Representations.{representation_of};
 ghost use Rattle.model_candidates.specs.Candidates.{side_in};
 ghost use Rattle.model_candidates.specs.Residues.{residues};
 ghost use Rattle.model_candidates.specs.WordRows.{AreTabled, model_in, quiver_in, value_in};

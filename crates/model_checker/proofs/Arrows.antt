@@ -11,7 +11,8 @@ use Rattle.matrix_models.specs.Matrix.{Matrix, IsSide}
 use Rattle.matrix_models.specs.Matrices.{matrices, transpose, identity_matrix, IsObject}
 use Rattle.matrix_models.specs.Laws.{matrices_laws, transpose_laws}
 use Rattle.matrix_models.specs.declared.model.Model.{Model}
-use Rattle.model_checker.specs.Models.{side_of, map_at, matrix_or_zero, arrow_of, representation_of, IsModel, IsMap, HaveMatrices}
+use Rattle.model_checker.specs.Models.{IsModel, IsMap, HaveMatrices}
+use Rattle.model_checker.specs.Representations.{side_of, map_at, matrix_or_zero, arrow_of, representation_of}
 
 -- the side that stands at the place of an object
 pub side_read : (m : Model) (place v x : ℕ) → slice_get m.sides place ≡ Some x → place ≡ v → x ≡ side_of m v

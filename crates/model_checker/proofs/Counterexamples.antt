@@ -16,7 +16,8 @@ use Rattle.matrix_models.specs.declared.model.Model.{Model}
 use Rattle.adjoint_rules.specs.declared.problem.Problem.{Problem}
 use Rattle.adjoint_rules.specs.Problem.{polynomials, IsTypedOf, HasObjects}
 use Rattle.adjoint_rules.proofs.Generators.{posed_quiver, generators_have_signatures, generators_are_zero}
-use Rattle.model_checker.specs.Models.{representation_of, IsZeroIn, IsClaimNumber, claim_polynomial}
+use Rattle.model_checker.specs.Models.{IsZeroIn, IsClaimNumber, claim_polynomial}
+use Rattle.model_checker.specs.Representations.{representation_of}
 use Rattle.model_checker.specs.Laws.{HasOtherValue, RefutingModelsAreCounterexamples, RefutedClaimsDoNotFollow}
 use Rattle.model_checker.proofs.Arrows.{star_represents}
 use Rattle.model_checker.proofs.Places.{all_at, zip_at, generator_at-number}

@@ -22,7 +22,8 @@ use Rattle.adjoint_rules.specs.declared.problem.Problem.{Problem}
 use Rattle.adjoint_rules.specs.Problem.{IsTypedOf, HasObjects}
 use Rattle.model_checker.specs.declared.refusal.ModelRefusal.{ModelRefusal}
 use Rattle.model_checker.specs.declared.refusal.ModelRefusal.TheVariants as refusal
-use Rattle.model_checker.specs.Models.{side_of, map_at, representation_of, IsMap, HasEnds, IsSelfTransposed, HasMatrix, HaveMatrices, IsClaimNumber, IsZeroIn, assumptions_of, claim_polynomial, IsFitting, Refutes}
+use Rattle.model_checker.specs.Models.{IsMap, HasEnds, IsSelfTransposed, HasMatrix, HaveMatrices, IsClaimNumber, IsZeroIn, assumptions_of, claim_polynomial, IsFitting, Refutes}
+use Rattle.model_checker.specs.Representations.{side_of, map_at, representation_of}
 use Rattle.model_checker.specs.Memory.{IsMemory}
 use Rattle.model_checker.specs.Refusals.{IsAtMap, RefusesMap, IsFirstNotZero, RefusesModel}
 use Rattle.model_checker.specs.Laws.{EachModelIsJudged, RefutingModelIsNotRefused, ModelRefusalIsUnique}

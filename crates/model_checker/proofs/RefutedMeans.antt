@@ -7,7 +7,8 @@ use Rattle.matrix_models.specs.declared.model.Model.{Model}
 use Rattle.adjoint_rules.specs.declared.problem.Problem.{Problem}
 use Rattle.adjoint_rules.specs.Problem.{polynomials, numbers}
 use Rattle.adjoint_rules.proofs.Generators.{posed_quiver, marked_are_objects}
-use Rattle.model_checker.specs.Models.{representation_of, claim_polynomial, IsModel, Refutes}
+use Rattle.model_checker.specs.Models.{claim_polynomial, IsModel, Refutes}
+use Rattle.model_checker.specs.Representations.{representation_of}
 use Rattle.model_checker.specs.Laws.{HasOtherValue}
 use Rattle.model_checker.specs.RefutedMeans.{RefutedMeans}
 use Rattle.model_checker.proofs.Counterexamples.{refuting_models_are_counterexamples}

@@ -16,7 +16,8 @@ use Rattle.representations.proofs.TypedTerms.{words_are_paths}
 use Rattle.matrix_models.specs.Matrix.{Matrix}
 use Rattle.matrix_models.specs.Matrices.{IsObject, matrices, zero_matrix}
 use Rattle.matrix_models.specs.declared.model.Model.{Model}
-use Rattle.model_checker.specs.Models.{side_of, arrow_of, representation_of, IsModel, HaveMatrices}
+use Rattle.model_checker.specs.Models.{IsModel, HaveMatrices}
+use Rattle.model_checker.specs.Representations.{side_of, arrow_of, representation_of}
 use Rattle.model_checker.specs.Listed.{AreOfModel}
 use Rattle.model_checker.proofs.Arrows.{represents, side_object, arrow_of-past}
 

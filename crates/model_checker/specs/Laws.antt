@@ -12,7 +12,8 @@ use Rattle.matrix_models.specs.declared.model.Model.{Model}
 use Rattle.adjoint_rules.specs.declared.problem.Problem.{Problem}
 use Rattle.adjoint_rules.specs.Problem.{polynomials}
 use Rattle.model_checker.specs.declared.refusal.ModelRefusal.{ModelRefusal}
-use Rattle.model_checker.specs.Models.{representation_of, IsModel, IsZeroIn, assumptions_of, claim_polynomial, Refutes}
+use Rattle.model_checker.specs.Models.{IsModel, IsZeroIn, assumptions_of, claim_polynomial, Refutes}
+use Rattle.model_checker.specs.Representations.{representation_of}
 use Rattle.model_checker.specs.Refusals.{RefusesModel, IsMemory}
 
 -- The polynomial has a signature, and at this its value in the model isn't the zero matrix.

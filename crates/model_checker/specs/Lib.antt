@@ -1,3 +1,4 @@
+pub mod Representations
 pub mod Models
 pub mod Memory
 pub mod Refusals

@@ -4,7 +4,7 @@ use Rattle.std.specs.List.{range_with_len}
 use Rattle.definitions.specs.Quiver.{Quiver, letters}
 use Rattle.matrix_models.specs.Matrix.{Matrix}
 use Rattle.matrix_models.specs.declared.model.Model.{Model}
-use Rattle.model_checker.specs.Models.{arrow_of}
+use Rattle.model_checker.specs.Representations.{arrow_of}
 
 -- the sides of the objects, and the matrix of each letter
 pub record AreOfModel (q : Quiver) (m : Model) (objects : List ℕ) (arrows : List Matrix) : Type 0 where

@@ -1,39 +1,17 @@
--- The representation that matrices for the declared maps describe, and when they refute a claim.
-use Rattle.std.specs.Prelude.{◌≡◌, ◌<◌, ◌≤◌, ℕ, List, length, get_or, nat_lt, nat_le, Option, Some, None, if◌then◌else◌}
+-- Which matrices for the declared maps are a model, and when they refute a claim.
+use Rattle.std.specs.Prelude.{◌≡◌, ◌<◌, ◌≤◌, ℕ, List, length, Some}
 use Rattle.std.specs.List.{All, AllByRecursion}
 use Rattle.definitions.specs.Poly.{Poly}
 use Rattle.definitions.specs.Quiver.{Quiver, letters, source, target, star}
 use Rattle.definitions.specs.Combination.{generator_at}
-use Rattle.definitions.specs.Representation.{Representation}
 use Rattle.definitions.specs.Soundness.{HasValueZero}
 use Rattle.quiver.specs.Declarations.{quiver_of}
 use Rattle.matrix_models.specs.Matrix.{Matrix, IsModulus, IsSide, IsMatrix}
-use Rattle.matrix_models.specs.Matrices.{matrices, identity_matrix, zero_matrix, transpose}
+use Rattle.matrix_models.specs.Matrices.{matrices, transpose}
 use Rattle.matrix_models.specs.declared.model.Model.{Model}
 use Rattle.adjoint_rules.specs.declared.problem.Problem.{Problem}
 use Rattle.adjoint_rules.specs.Problem.{polynomials}
-
--- the side of the object with this number
-abbrev pub side_of : Model → ℕ → ℕ
-side_of m v = get_or m.sides v 1
-
--- the matrix at the place of the letter with this number
-abbrev pub map_at : Model → ℕ → Option Matrix
-map_at m a = get_or m.maps a None
-
--- a zero matrix stands where there is none
-abbrev pub matrix_or_zero : ℕ → Option Matrix → Matrix
-matrix_or_zero modulus None = zero_matrix modulus 1 1
-matrix_or_zero modulus (Some x) = x
-
--- An identity goes to the identity matrix, a declared map to its matrix, and the adjoint of a declared map to the transpose of that map's.
-abbrev pub arrow_of : Quiver → Model → ℕ → Matrix
-arrow_of q m a =
-    if nat_lt a q.objects then identity_matrix m.modulus (side_of m a)
-    else (if nat_le a (star q a) then matrix_or_zero m.modulus (map_at m a) else transpose m.modulus (matrix_or_zero m.modulus (map_at m (star q a))))
-
-abbrev pub representation_of : Quiver → Model → Representation ℕ Matrix
-representation_of q m = record { object = side_of m; arrow = arrow_of q m }
+use Rattle.model_checker.specs.Representations.{side_of, map_at, representation_of}
 
 -- a modulus, a side for each object, and a place for each letter
 pub record IsModel (q : Quiver) (m : Model) : Type 0 where

@@ -9,7 +9,8 @@ use Rattle.matrix_models.specs.declared.model.Model.{Model}
 use Rattle.adjoint_rules.specs.declared.problem.Problem.{Problem}
 use Rattle.model_checker.specs.declared.refusal.ModelRefusal.{ModelRefusal}
 use Rattle.model_checker.specs.declared.refusal.ModelRefusal.TheVariants as refusal
-use Rattle.model_checker.specs.Models.{map_at, IsMap, HasEnds, IsSelfTransposed, HaveMatrices, IsClaimNumber, IsZeroIn, assumptions_of}
+use Rattle.model_checker.specs.Models.{IsMap, HasEnds, IsSelfTransposed, HaveMatrices, IsClaimNumber, IsZeroIn, assumptions_of}
+use Rattle.model_checker.specs.Representations.{map_at}
 use Rattle.model_checker.specs.Models.{claim_polynomial, IsFitting, MakesAssumptionsZero}
 pub use Rattle.model_checker.specs.Memory.{IsMemory}
 

@@ -7,7 +7,8 @@ use Rattle.matrix_models.specs.Matrices.{matrices, transpose}
 use Rattle.matrix_models.specs.declared.model.Model.{Model}
 use Rattle.adjoint_rules.specs.declared.problem.Problem.{Problem}
 use Rattle.adjoint_rules.specs.Problem.{polynomials, generators_in}
-use Rattle.model_checker.specs.Models.{representation_of, IsZeroIn, claim_polynomial}
+use Rattle.model_checker.specs.Models.{IsZeroIn, claim_polynomial}
+use Rattle.model_checker.specs.Representations.{representation_of}
 use Rattle.model_checker.specs.Laws.{HasOtherValue}
 
 -- What it means that the claim with this number is refuted by this model: matrices over the integers modulo its modulus, with transposes as adjoints.

@@ -4,7 +4,8 @@ ghost use Rattle.definitions.specs.Quiver.{letters, IsQuiver};
 ghost use Rattle.quiver.specs.Declarations.{letter_count, quiver_of};
 ghost use Rattle.matrix_models.specs.Matrix.{Matrix};
 ghost use Rattle.matrix_models.specs.Matrices.{transpose};
-ghost use Rattle.model_checker.specs.Models.{map_at, arrow_of, IsModel, HaveMatrices};
+ghost use Rattle.model_checker.specs.Models.{IsModel, HaveMatrices};
+ghost use Rattle.model_checker.specs.Representations.{map_at, arrow_of};
 ghost use Rattle.model_checker.specs.Listed.{AreOfModel};
 
 use category_laws::{Category, Involutive};

@@ -4,7 +4,8 @@ ghost use Rattle.definitions.specs.Quiver.{letters, IsQuiver, IsTyped};
 ghost use Rattle.definitions.specs.Soundness.{HasValueZero};
 ghost use Rattle.quiver.specs.Declarations.{object_count, quiver_of};
 ghost use Rattle.matrix_models.specs.Matrices.{matrices};
-ghost use Rattle.model_checker.specs.Models.{representation_of, IsModel, HaveMatrices};
+ghost use Rattle.model_checker.specs.Models.{IsModel, HaveMatrices};
+ghost use Rattle.model_checker.specs.Representations.{representation_of};
 ghost use Rattle.model_checker.specs.Listed.{AreOfModel};
 
 use category_laws::Category;

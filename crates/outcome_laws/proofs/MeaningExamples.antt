@@ -7,7 +7,8 @@ use Rattle.adjoint_rules.specs.declared.problem.Problem.{Problem}
 use Rattle.traced_completion.specs.declared.budget.Budget.{Budget}
 use Rattle.claim_decider.specs.declared.outcome.Outcome.TheVariants as outcome
 use Rattle.cofactor_checker.specs.ProvedMeans.{EvidenceAddsUp}
-use Rattle.outcome_laws.specs.Meanings.{Follows, OutcomeMeans}
+use Rattle.outcome_laws.specs.Meanings.{OutcomeMeans}
+use Rattle.outcome_laws.specs.Halts.{Follows}
 
 -- evidence that names another claim does not add up
 another_claim : (problem : Problem) → EvidenceAddsUp problem 2 (evidence.Plain (record { claim = 1; denominator = pos 1; rows = [] })) → ⊥

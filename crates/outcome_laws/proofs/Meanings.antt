@@ -32,7 +32,8 @@ use Rattle.claim_decider.specs.declared.outcome.Outcome.{Outcome}
 use Rattle.claim_decider.specs.declared.outcome.Outcome.TheVariants as outcome
 use Rattle.claim_decider.specs.Outcomes.{record_of, Expands, Gathers, IsProved, evidence_of_zero, IsDoneBy, IsDoneWith, GetsOutcome, at_once, after_round, by_closing, by_stop}
 use Rattle.cofactor_checker.specs.ProvedMeans.{EvidenceAddsUp}
-use Rattle.outcome_laws.specs.Meanings.{OutcomeMeans, HaltMeans, DerivedClaimsAddUp, ClosedClaimsAreOutside, LeastWordsBoundDerivations, HaltedCertificatesAreInside, OutcomesMeanWhatTheySay}
+use Rattle.outcome_laws.specs.Meanings.{OutcomeMeans, DerivedClaimsAddUp, ClosedClaimsAreOutside, LeastWordsBoundDerivations, HaltedCertificatesAreInside, OutcomesMeanWhatTheySay}
+use Rattle.outcome_laws.specs.Halts.{HaltMeans}
 use Rattle.outcome_laws.specs.Causes.{CauseMeans}
 use Rattle.outcome_laws.proofs.OpenRuns.{open_run, closed_outside, stop_means}
 use Rattle.outcome_laws.proofs.RoundCauses.{stop_says}

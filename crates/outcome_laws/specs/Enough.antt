@@ -15,7 +15,8 @@ use Rattle.claim_decider.specs.declared.outcome.Outcome.{Outcome}
 use Rattle.claim_decider.specs.declared.outcome.Outcome.TheVariants as outcome
 use Rattle.claim_decider.specs.Outcomes.{IsOpen}
 use Rattle.claim_decider.specs.Decided.{AreOutcomesOf}
-use Rattle.outcome_laws.specs.Meanings.{FollowsBelow, IsOutcomeAt}
+use Rattle.outcome_laws.specs.Meanings.{IsOutcomeAt}
+use Rattle.outcome_laws.specs.Halts.{FollowsBelow}
 use Rattle.outcome_laws.specs.Counts.{short_ambiguities}
 
 -- the letters that are in play, ascending

@@ -3,6 +3,7 @@ pub mod ProblemStates
 pub mod ReductionSteps
 pub mod Certificates
 pub mod Causes
+pub mod Halts
 pub mod Meanings
 pub mod OutcomeLetters
 pub mod EvidenceLimits

@@ -1,39 +1,19 @@
 -- What an outcome of a claim means.
 use Rattle.std.specs.Prelude.{◌≡◌, ℕ, List, Some}
-use Rattle.definitions.specs.Combination.{InRationalIdeal}
-use Rattle.word_orders.specs.Specified.{asked_cmp}
 use Rattle.nc_polynomial.specs.declared.poly.Poly.{Poly}
-use Rattle.quiver.specs.Declarations.{letter_count}
 use Rattle.traced_rows.specs.declared.evidence.Evidence.{Evidence}
 use Rattle.traced_rows.specs.declared.evidence.Format.{Format}
 use Rattle.cofactor_trace.specs.declared.halt.Place.TheVariants as place
 use Rattle.cofactor_trace.specs.declared.halt.Halt.{Halt}
 use Rattle.cofactor_checker.specs.ProvedMeans.{EvidenceAddsUp}
-use Rattle.ambiguities.specs.Resolved.{ComesBelow}
 use Rattle.adjoint_rules.specs.declared.problem.Problem.{Problem}
-use Rattle.adjoint_rules.specs.Problem.{polynomials}
 use Rattle.adjoint_rules.specs.Claims.{claim_at}
 use Rattle.traced_completion.specs.declared.budget.Budget.{Budget}
 use Rattle.traced_completion.specs.PlainRun.{setting_of}
 use Rattle.claim_decider.specs.declared.outcome.Outcome.{Outcome}
 use Rattle.claim_decider.specs.declared.outcome.Outcome.TheVariants as outcome
 use Rattle.claim_decider.specs.Outcomes.{IsOutcomeOf}
-use Rattle.outcome_laws.specs.Causes.{CauseMeans}
-
--- some positive multiple of the claim with this number is a combination of the generators; a number of no claim has the claim zero
-abbrev pub Follows : Problem → ℕ → Type 0
-Follows problem number = InRationalIdeal (polynomials problem.generators) (claim_at problem number)
-
--- some positive multiple of it is a combination in which all words are below the word, in the order that is asked for
-abbrev pub FollowsBelow : Problem → List ℕ → ℕ → Type 0
-FollowsBelow problem word number =
-    ComesBelow (letter_count problem.parts.quiver) (asked_cmp problem.parts.order) (polynomials problem.generators) word (claim_at problem number)
-
--- The cause is as it says. Below the least word that is pending the claim is no combination, and where the work stopped in making its certificate it follows.
-pub record HaltMeans (problem : Problem) (budget : Budget) (number : ℕ) (h : Halt) : Type 0 where
-  pub cause_means : CauseMeans problem budget number h.place h.least h.cause
-  pub not_below : (word : List ℕ) → h.least ≡ Some word → FollowsBelow problem word number → ⊥
-  pub inside : (round : ℕ) → h.place ≡ place.Certificate round → Follows problem number
+use Rattle.outcome_laws.specs.Halts.{Follows, FollowsBelow, HaltMeans}
 
 -- A claim that is derived has evidence that adds up, one that is closed does not follow, and of one that is halted holds what its halt means.
 abbrev pub OutcomeMeans : Problem → Budget → ℕ → Outcome → Type 0

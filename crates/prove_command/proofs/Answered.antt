@@ -19,7 +19,8 @@ use Rattle.claim_decider.proofs.UniqueRules.{last_rules_unique}
 use Rattle.representations.specs.Evidence.{IsEvidenceSound}
 use Rattle.model_checker.specs.Models.{IsClaimNumber}
 use Rattle.model_search.proofs.LeastBreaking.{least_means}
-use Rattle.outcome_laws.specs.Meanings.{OutcomeMeans, HaltMeans}
+use Rattle.outcome_laws.specs.Meanings.{OutcomeMeans}
+use Rattle.outcome_laws.specs.Halts.{HaltMeans}
 use Rattle.outcome_laws.proofs.AskedOrders.{asked_rank, asked_cmp-admissible}
 use Rattle.outcome_laws.proofs.Meanings.{outcomes_mean_what_they_say}
 use Rattle.outcome_laws.proofs.Problems.{each_problem_has_outcomes}
@@ -27,7 +28,8 @@ use Rattle.cofactor_checker.proofs.ProvedMeans.{proved_means}
 use Rattle.report_text.specs.declared.verdict.Verdict.{Verdict}
 use Rattle.report_text.specs.Report.{report_of, status_of}
 use Rattle.command_shape.specs.Ending.{Ending}
-use Rattle.stated_problem.specs.Statement.{IsStated, OverStatement}
+use Rattle.stated_problem.specs.Statement.{OverStatement}
+use Rattle.stated_problem.specs.Stated.{IsStated}
 use Rattle.prove_command.specs.declared.prove.Asked.{Asked}
 use Rattle.prove_command.specs.Answers.{Print, AreVerdictsOn, AnswersClaims}
 use Rattle.prove_command.specs.Says.{VerdictMeans, PrintsMeant, SaysDecided, ReportsMeant, SaysReported}

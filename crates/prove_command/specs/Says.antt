@@ -11,7 +11,7 @@ use Rattle.report_text.specs.declared.verdict.Verdict.{Verdict}
 use Rattle.report_text.specs.declared.verdict.Verdict.TheVariants.{Proved, NotDerivable, Refuted, Undecided, NotRefuted}
 use Rattle.report_text.specs.Report.{report_of}
 use Rattle.report_readback.specs.OwnEvidence.{IsItsOwnEvidence}
-use Rattle.outcome_laws.specs.Meanings.{Follows, HaltMeans}
+use Rattle.outcome_laws.specs.Halts.{Follows, HaltMeans}
 use Rattle.cofactor_checker.specs.ProvedMeans.{ProvedMeans}
 use Rattle.command_shape.specs.Ending.{Ending}
 use Rattle.stated_problem.specs.Statement.{OverStatement}

@@ -11,7 +11,8 @@ use Rattle.report_text.specs.declared.verdict.Verdict.{Verdict}
 use Rattle.report_text.specs.declared.verdict.Verdict.TheVariants as verdict
 use Rattle.report_text.specs.Report.{report_of, status_of, IsVerdictOver}
 use Rattle.command_shape.specs.Ending.{Ending}
-use Rattle.stated_problem.specs.Statement.{IsStated, OverStatement}
+use Rattle.stated_problem.specs.Statement.{OverStatement}
+use Rattle.stated_problem.specs.Stated.{IsStated}
 use Rattle.report_readback.specs.OwnEvidence.{IsItsOwnEvidence}
 use Rattle.report_readback.proofs.Declared.{declared_names_are_names}
 use Rattle.refute_command.proofs.OwnEvidence.{searched_is_evidence}

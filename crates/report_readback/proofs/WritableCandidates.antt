@@ -16,7 +16,8 @@ use Rattle.adjoint_rules.proofs.Generators.{posed_quiver}
 use Rattle.expressions.proofs.Maps.{map_after_objects, map_before_adjoint}
 use Rattle.matrix_models.specs.Matrix.{Matrix}
 use Rattle.matrix_models.specs.declared.model.Model.{Model}
-use Rattle.model_checker.specs.Models.{map_at, HaveMatrices}
+use Rattle.model_checker.specs.Models.{HaveMatrices}
+use Rattle.model_checker.specs.Representations.{map_at}
 use Rattle.model_candidates.specs.Candidates.{digits, is_declared_map, matrix_by, place_by, model_by, IsCandidate, naming, Breaks}
 use Rattle.model_search.proofs.SearchAnswers.{breaking_candidates_refute}
 use Rattle.block_text.specs.Back.{is_named}

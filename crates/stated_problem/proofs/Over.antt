@@ -5,7 +5,8 @@ use Rattle.command_shape.specs.declared.stop.Stop.{Stop}
 use Rattle.command_shape.specs.Ending.{Ending}
 use Rattle.command_shape.specs.Stop.{StopsBy, EndsAs}
 use Rattle.command_shape.proofs.Stops.{stops_weaker, ends_weaker, ended_by}
-use Rattle.stated_problem.specs.Statement.{IsStated, OverStatement, faulty, stated}
+use Rattle.stated_problem.specs.Statement.{OverStatement, faulty, stated}
+use Rattle.stated_problem.specs.Stated.{IsStated}
 
 pub over_stated : (bytes : List ℕ) (P Q : Problem → Ending → Type 0) (ending : Ending) → ((problem : Problem) → IsStated bytes problem → P problem ending → Q problem ending)
     → OverStatement bytes P ending → OverStatement bytes Q ending

@@ -14,7 +14,8 @@ use Rattle.signature_typing.proofs.Unique.{problem_is_unique}
 use Rattle.signature_typing.proofs.EachStatement.{each_statement_has_a_problem_or_a_fault}
 use Rattle.command_shape.specs.Ending.{Ending, refused_statement}
 use Rattle.command_shape.specs.Texts.{statement_fault}
-use Rattle.stated_problem.specs.Statement.{IsStated, typing_text, IsRefusedStatement, no_tree, no_problem, OverStatement, faulty, stated}
+use Rattle.stated_problem.specs.Statement.{typing_text, IsRefusedStatement, no_tree, no_problem, OverStatement, faulty, stated}
+use Rattle.stated_problem.specs.Stated.{IsStated}
 use Rattle.stated_problem.proofs.Problems.{one_problem}
 use Rattle.stated_problem.proofs.Syntax.{tree_once, no_fault, fault_once}
 

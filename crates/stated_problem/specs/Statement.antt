@@ -7,15 +7,10 @@ use Rattle.statement_syntax.specs.Fault.{IsTreeOf, IsFirstFault, code_of}
 use Rattle.adjoint_rules.specs.declared.problem.Problem.{Problem}
 use Rattle.signature_typing.specs.declared.fault.TypeFault.{TypeFault}
 use Rattle.signature_typing.specs.declared.fault.TypeFault.TheVariants as typing
-use Rattle.signature_typing.specs.Typing.{fault_of, IsProblemOf}
+use Rattle.signature_typing.specs.Typing.{fault_of}
 use Rattle.command_shape.specs.Ending.{Ending, refused_statement}
 use Rattle.command_shape.specs.Texts.{statement_fault}
-
--- The bytes are a statement, and this is its problem.
-pub record IsStated (bytes : List ℕ) (problem : Problem) : Type 0 where
-  pub statements : List Statement
-  pub tree : IsTreeOf bytes statements
-  pub elaborated : IsProblemOf statements problem
+use Rattle.stated_problem.specs.Stated.{IsStated}
 
 -- what the line of a fault of names and types says; want of memory is told by no line
 abbrev pub typing_text : TypeFault → Option (List ℕ)

@@ -3,7 +3,8 @@ ghost use Rattle.std.specs.Prelude.{◌≤◌, ℕ, List, IfOk, IfErr, length};
 ghost use Rattle.statement_syntax.specs.Fault.{IsTreeOf};
 ghost use Rattle.signature_typing.specs.Typing.{IsProblemOf};
 ghost use Rattle.command_shape.specs.FileWords.{statement_limit};
-ghost use Rattle.stated_problem.specs.Statement.{IsStated, OverStatement};
+ghost use Rattle.stated_problem.specs.Statement.{OverStatement};
+ghost use Rattle.stated_problem.specs.Stated.{IsStated};
 ghost use Rattle.command_shape.specs.Stop.{StopsBy};
 
 use adjoint_rules::Problem;

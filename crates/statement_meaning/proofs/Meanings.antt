@@ -15,7 +15,7 @@ use Rattle.abbreviations.specs.Written.{assumptions_of, claims_of}
 use Rattle.adjoint_rules.specs.declared.problem.Problem.{Problem}
 use Rattle.adjoint_rules.specs.Problem.{polynomials}
 use Rattle.adjoint_rules.specs.Claims.{claim_at}
-use Rattle.model_checker.specs.Models.{representation_of}
+use Rattle.model_checker.specs.Representations.{representation_of}
 use Rattle.statement_meaning.specs.Values.{Holds}
 use Rattle.statement_names.specs.Numbered.{declarations_of}
 use Rattle.statement_meaning.specs.Laws.{reading, AreRead, IsRead}

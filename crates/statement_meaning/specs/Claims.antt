@@ -1,14 +1,10 @@
--- What it means that a claim of a file is proved, and that it is refuted, by its equations as they stand in the file.
+-- What it means that a claim of a file is proved, by its equations as they stand in the file.
 use Rattle.std.specs.Prelude.{◌≡◌, ℕ, zero, suc, ℤ, false, List, slice_get, Some}
 use Rattle.std.specs.List.{AllByRecursion}
 use Rattle.definitions.specs.Category.{Structure, InvolutionLaws}
 use Rattle.definitions.specs.Quiver.{Quiver}
 use Rattle.definitions.specs.Representation.{Representation, Represents, StarRepresents, Cancels}
 use Rattle.quiver.specs.Declarations.{quiver_of}
-use Rattle.matrix_models.specs.Matrix.{Matrix}
-use Rattle.matrix_models.specs.Matrices.{matrices, transpose}
-use Rattle.matrix_models.specs.declared.model.Model.{Model}
-use Rattle.model_checker.specs.Models.{representation_of}
 use Rattle.statement_syntax.specs.declared.tree.Statement.{Statement}
 use Rattle.abbreviations.specs.declared.written.Equation.{Equation}
 use Rattle.abbreviations.specs.Written.{assumptions_of, claims_of}
@@ -46,14 +42,3 @@ pub record ProvesClaim {Object Arrow : Type 0} (s : Structure Object Arrow) (sta
   pub plain : is_starred statements ≡ false → (involution : Arrow → Arrow) (f : Representation Object Arrow)
       → Represents s (quiver_in statements) f → Cancels s d
       → AssumptionsHold (read_in s involution statements f) statements → ClaimHolds (read_in s involution statements f) statements number
-
--- the file is read in the matrices of a model, with transposes as adjoints
-abbrev pub read_by_model : List Statement → Model → Reading ℕ Matrix
-read_by_model statements m = read_in (matrices m.modulus) (transpose m.modulus) statements (representation_of (quiver_in statements) m)
-
--- The claim is refuted by the model: its matrices are a star representation of what the file declares, in which all assumptions hold, and no
--- claim with this number does.
-pub record RefutesClaim (statements : List Statement) (number : ℕ) (m : Model) : Type 0 where
-  pub represents : StarRepresents (matrices m.modulus) (transpose m.modulus) (quiver_in statements) (representation_of (quiver_in statements) m)
-  pub assumptions : AssumptionsHold (read_by_model statements m) statements
-  pub claim : (e : Equation) → IsClaim statements number e → Holds (read_by_model statements m) e.left e.right → ⊥

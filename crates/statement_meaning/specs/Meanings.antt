@@ -8,7 +8,8 @@ use Rattle.adjoint_rules.specs.Claims.{claim_at}
 use Rattle.signature_typing.specs.Typing.{IsProblemOf}
 use Rattle.cofactor_checker.specs.ProvedMeans.{MeansZero}
 use Rattle.model_checker.specs.RefutedMeans.{RefutedMeans}
-use Rattle.statement_meaning.specs.Claims.{ProvesClaim, RefutesClaim}
+use Rattle.statement_meaning.specs.Claims.{ProvesClaim}
+use Rattle.statement_meaning.specs.Counterexamples.{RefutesClaim}
 use Rattle.statement_meaning.specs.Laws.{StatementsAreRead, StarredStatementsAreRead}
 
 -- What `proved`, `accepted` and `explained` mean of a claim of a problem, they say of the file.

@@ -13,7 +13,7 @@ use Rattle.abbreviations.specs.declared.written.Equation.{Equation}
 use Rattle.statement_names.specs.Numbered.{declarations_of}
 use Rattle.statement_names.specs.Marked.{is_starred}
 use Rattle.statement_meaning.specs.Claims.{quiver_in, read_in, AssumptionsHold, IsClaim, ClaimHolds}
-use Rattle.evidence_commands.specs.Cancel.{letters_text}
+use Rattle.evidence_commands.specs.CalledLetters.{letters_text}
 use Rattle.command_runs.specs.Promises.Lines.{HasLine, block_line}
 
 -- in the representation d cancels, and these letters have monic and epic arrows

@@ -4,7 +4,7 @@ use Rattle.definitions.specs.Combination.{InRationalIdeal}
 use Rattle.adjoint_rules.specs.declared.problem.Problem.{Problem}
 use Rattle.adjoint_rules.specs.Problem.{polynomials}
 use Rattle.adjoint_rules.specs.Claims.{claim_at}
-use Rattle.stated_problem.specs.Statement.{IsStated}
+use Rattle.stated_problem.specs.Stated.{IsStated}
 use Rattle.command_runs.specs.Promises.Lines.{HasLine, claim_line, block_line, number_limit}
 
 -- The bytes are a statement with a claim of this number, of which no positive multiple is a combination of the generators.

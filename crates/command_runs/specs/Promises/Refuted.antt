@@ -8,7 +8,8 @@ use Rattle.statement_syntax.specs.declared.tree.Statement.{Statement}
 use Rattle.statement_syntax.specs.Fault.{IsTreeOf}
 use Rattle.statement_names.specs.Numbered.{declarations_of}
 use Rattle.abbreviations.specs.declared.written.Equation.{Equation}
-use Rattle.statement_meaning.specs.Claims.{IsClaim, RefutesClaim}
+use Rattle.statement_meaning.specs.Claims.{IsClaim}
+use Rattle.statement_meaning.specs.Counterexamples.{RefutesClaim}
 use Rattle.command_runs.specs.Promises.Lines.{HasLineBefore, claim_line, block_line, number_limit}
 
 -- The bytes are a file with a claim of this number, and a model that is shown, by the names that the file declares, refutes it.

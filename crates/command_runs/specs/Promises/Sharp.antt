@@ -5,7 +5,7 @@ use Rattle.rule_reduce.specs.declared.rule.Rule.{Rule}
 use Rattle.adjoint_rules.specs.declared.problem.Problem.{Problem}
 use Rattle.adjoint_rules.specs.Claims.{claim_at}
 use Rattle.normal_forms.specs.SharpMeans.{SharpMeans, StarSharpMeans}
-use Rattle.stated_problem.specs.Statement.{IsStated}
+use Rattle.stated_problem.specs.Stated.{IsStated}
 use Rattle.command_runs.specs.Promises.Lines.{HasLine, block_line, number_limit}
 
 -- The bytes are a statement, and the normal forms of some rules tell its claim with this number from zero.

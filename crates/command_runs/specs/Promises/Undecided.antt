@@ -6,9 +6,9 @@ use Rattle.traced_completion.specs.declared.budget.Budget.{Budget}
 use Rattle.command_words.specs.Limits.{default_pairs, default_steps}
 use Rattle.command_words.specs.declared.call.Call.{Call}
 use Rattle.command_words.specs.declared.call.Call.TheVariants.{Prove}
-use Rattle.outcome_laws.specs.Meanings.{HaltMeans}
+use Rattle.outcome_laws.specs.Halts.{HaltMeans}
 use Rattle.report_text.specs.Heads.{cause_text, place_text, least_text}
-use Rattle.stated_problem.specs.Statement.{IsStated}
+use Rattle.stated_problem.specs.Stated.{IsStated}
 use Rattle.command_runs.specs.Promises.Lines.{HasLine, claim_line, number_limit}
 
 -- the pairs and the steps that a call may spend: those that it names, or else the defaults

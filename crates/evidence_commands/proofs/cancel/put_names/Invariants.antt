@@ -1,5 +1,5 @@
 use Rattle.std.proofs.Common.{◌≡◌, ◌++◌, take}
-use Rattle.evidence_commands.specs.Cancel.{names_text}
+use Rattle.evidence_commands.specs.CalledLetters.{names_text}
 use Rattle.evidence_commands.proofs.cancel.put_names.Given as goal
 
 abbrev pub invariant-loop-letter : goal.invariant-loop-letter

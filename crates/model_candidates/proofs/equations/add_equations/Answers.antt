@@ -4,7 +4,7 @@ use Rattle.definitions.specs.Quiver.{IsTyped}
 use Rattle.definitions.specs.Representation.{value_at}
 use Rattle.matrix_models.specs.Matrices.{matrices}
 use Rattle.matrix_models.specs.Pivots.{Add, AreAgainst}
-use Rattle.model_checker.specs.Models.{representation_of, side_of}
+use Rattle.model_checker.specs.Representations.{representation_of, side_of}
 use Rattle.model_candidates.specs.Known.{numbers_in}
 use Rattle.model_candidates.specs.Plans.{has_few, terms_of}
 use Rattle.model_candidates.specs.Equations.{assumption_value}

@@ -7,7 +7,7 @@ use Rattle.quiver.specs.Declarations.{letter_count, quiver_of}
 use Rattle.quiver.proofs.Counts.{letters-quiver_of}
 use Rattle.matrix_models.specs.Matrices.{matrices}
 use Rattle.representations.proofs.ValueLoop.{term_is_path}
-use Rattle.model_checker.specs.Models.{representation_of}
+use Rattle.model_checker.specs.Representations.{representation_of}
 use Rattle.adjoint_rules.specs.Limits.{shape_side_limit}
 use Rattle.model_candidates.specs.declared.solved_terms.SolvedTerm.{SolvedTerm}
 use Rattle.model_candidates.specs.Known.{numbers_in}

@@ -4,7 +4,7 @@ use Rattle.std.proofs.lemmas.List.FromFn.{map-range_with_len_more}
 use Rattle.definitions.specs.Quiver.{letters}
 use Rattle.quiver.specs.Declarations.{quiver_of}
 use Rattle.quiver.proofs.Counts.{letters-quiver_of}
-use Rattle.model_checker.specs.Models.{arrow_of}
+use Rattle.model_checker.specs.Representations.{arrow_of}
 use Rattle.model_checker.proofs.representation.representation_of.Goals as goal
 
 pub loop-number-preserved : goal.loop-number-preserved
