@@ -5,6 +5,7 @@ names another one than this checkout's. The table is that of examples/README.md.
 """
 from __future__ import annotations
 
+import contextlib
 import os
 import random
 import re
@@ -13,7 +14,7 @@ import subprocess
 import sys
 import time
 from pathlib import Path
-from typing import Callable, List, NamedTuple, Optional, Tuple
+from typing import Callable, Dict, List, NamedTuple, Optional, Tuple
 
 from opprove.search import join
 from opprove.search import variants
@@ -416,26 +417,12 @@ def faults(folder: Path) -> str:
     return f"{len(cases) + 3} faults of a search are told by one line"
 
 
-def children(process: int) -> List[int]:
-    """The processes that a process has started, by /proc."""
-    found = []
+def processes() -> Dict[int, List[str]]:
+    """For each process of /proc its state, its parent and what stands there after these."""
+    found = {}
     for path in Path("/proc").glob("[0-9]*/stat"):
-        try:
-            if int(path.read_text().rsplit(")", 1)[1].split()[1]) == process:
-                found.append(int(path.parent.name))
-        except OSError:
-            pass  # it has ended
-    return found
-
-
-def running(numbers: List[int]) -> List[int]:
-    """Those that are there, and not only to be waited for."""
-    found = []
-    for number in numbers:
-        try:
-            found += [number] if Path(f"/proc/{number}/stat").read_text().rsplit(")", 1)[1].split()[0] != "Z" else []
-        except OSError:
-            pass  # it has ended
+        with contextlib.suppress(OSError):  # it has ended
+            found[int(path.parent.name)] = path.read_text().rsplit(")", 1)[1].split()
     return found
 
 
@@ -453,13 +440,13 @@ def interrupts(folder: Path) -> str:
         try:
             for _ in range(1000):  # until a claim is settled
                 time.sleep(0.1 if not (keep / "claim_1.certificate").exists() else 0)
-            started = children(process.pid)
+            started = [number for number, fields in processes().items() if int(fields[1]) == process.pid]
             process.send_signal(number)
             answer = answer_of(process)
         finally:
             process.kill()
         time.sleep(0.2)
-        need(not running(started), (number, started))
+        need(all(fields[0] == "Z" for one, fields in processes().items() if one in started), (number, started))
         is_told = number == signal.SIGKILL or (answer.status == 12 and "# claim 1 proved" in answer.out)
         need(is_told and "Traceback" not in answer.error, (number, answer))
     return "runs that are ended leave no process, and print what was settled"

@@ -5,7 +5,7 @@ import itertools
 import re
 import sys
 from pathlib import Path
-from typing import Callable, Iterator, List, Optional, Tuple
+from typing import Callable, Dict, Iterator, List, Optional, Tuple
 
 import trying_node
 from opprove.checkers import candidates
@@ -92,35 +92,23 @@ MODELS: List[Tuple[bytes, bytes, str]] = [
     (MAPS, b"model 1\nmodulus 3\n", "# refused K2 line 2\n"),
     (MAPS, b"model 1\nclaim 1\nend\n", "# refused K2 line 3\n"),
     (MAPS, b"model 1\nclaim 1\nmodulus 1\n", "# refused K2 line 3\n"),
-    (MAPS, model(b"claim 1\n"), "# refused K2 line 4\n"),
-    (MAPS, model(b"side U 0\n"), "# refused K2 line 4\n"),
-    (MAPS, model(b"side [U] 1\n"), "# refused K2 line 4\n"),
-    (MAPS, model(b"side U 1\nside U 1\n"), "# refused K2 line 5\n"),
-    (MAPS, model(b"map a = 1\nmap a = 3\n"), "# refused K2 line 5\n"),
-    (MAPS, model(b"map a =\n"), "# refused K2 line 4\n"),
-    (MAPS, model(b"map a 1\n"), "# refused K2 line 4\n"),
-    (MAPS, model(b"map a = 1 ;\n"), "# refused K2 line 4\n"),
-    (MAPS, model(b"map a = ; 1\n"), "# refused K2 line 4\n"),
-    (MAPS, model(b"map a = -1\n"), "# refused K2 line 4\n"),
-    (MAPS, model(b"map q = 7 0 ; 7\n"), "# refused K2 line 4\n"),
-    (MAPS, model(b"map a' = 1\n"), "# refused K2 line 4\n"),
-    (MAPS, model(b"map %s = 1\n" % (b"a" * 33)), "# refused K2 line 4\n"),
-    (MAPS, model(b"end 1\n"), "# refused K2 line 4\n"),
-    # names that are not declared, or are of the other kind
-    (MAPS, model(b"side W 65\n"), "# refused K3 line 4\n"),
-    (MAPS, model(b"side a 1\n"), "# refused K3 line 4\n"),
-    (MAPS, model(b"map U = 1\n"), "# refused K3 line 4\n"),
-    (MAPS, model(b"map %s = 3\n" % (b"a" * 32)), "# refused K3 line 4\n"),
-    # numbers past their bounds, and too many of them
     (MAPS, b"model 1\nclaim 4294967296\n", "# refused K4 line 2\n"),
     (MAPS, b"model 1\nclaim 1\nmodulus 2147483648\n", "# refused K4 line 3\n"),
-    (MAPS, model(b"map a = 1 3\n"), "# refused K4 line 4\n"),
-    (MAPS, model(b"map a = 3" + b" 1" * 64 + b"\n"), "# refused K4 line 4\n"),
-    (MAPS, model(b"side U 65\n"), "# refused K5 line 4 limit 64\n"),
-    (MAPS, model(b"map a = 1" + b" 1" * 64 + b"\n"), "# refused K5 line 4 limit 64\n"),
-    (MAPS, model(b"map a = 1" + b" ; 1" * 64 + b"\n"), "# refused K5 line 4 limit 64\n"),
-    (MAPS, model(b"map a = 1" + b" ; 1" * 63 + b"\nmap p = 1" + b" 1" * 63 + b"\n"), "# refused K6\n"),
 ]
+# Of MAPS what stands behind the head of a model, by what is said of it: lines that don't fit the grammar, names that are not declared or
+# of the other kind, numbers past their bounds, and too many of them.
+FAULTY_LINES: Dict[str, List[bytes]] = {
+    "# refused K2 line 4\n": [
+        b"claim 1\n", b"side U 0\n", b"side [U] 1\n", b"map a =\n", b"map a 1\n", b"map a = 1 ;\n", b"map a = ; 1\n",
+        b"map a = -1\n", b"map q = 7 0 ; 7\n", b"map a' = 1\n", b"map %s = 1\n" % (b"a" * 33), b"end 1\n",
+    ],
+    "# refused K2 line 5\n": [b"side U 1\nside U 1\n", b"map a = 1\nmap a = 3\n"],
+    "# refused K3 line 4\n": [b"side W 65\n", b"side a 1\n", b"map U = 1\n", b"map %s = 3\n" % (b"a" * 32)],
+    "# refused K4 line 4\n": [b"map a = 1 3\n", b"map a = 3" + b" 1" * 64 + b"\n"],
+    "# refused K5 line 4 limit 64\n": [b"side U 65\n", b"map a = 1" + b" 1" * 64 + b"\n", b"map a = 1" + b" ; 1" * 64 + b"\n"],
+    "# refused K6\n": [b"map a = 1" + b" ; 1" * 63 + b"\nmap p = 1" + b" 1" * 63 + b"\n"],
+}  # fmt: skip
+MODELS += [(MAPS, model(text), want) for want, texts in FAULTY_LINES.items() for text in texts]
 
 # Statements of searches, each with seeds: all candidates of a shape and draws, maps that are solved for and maps that
 # aren't, generators that have solutions and some that have none, claims that are refuted and claims that aren't.
