@@ -1,4 +1,4 @@
-#!/usr/bin/env -S PYTHONPATH=python/src:python/tests python3
+#!/usr/bin/env -S PYTHONPATH=python/src:python/tests python3 -B
 """Measures opprove beside plain programs: measure.py [WORD | TABLE [NAME] ..], with prove, counts, workers, refute, explain, confirm
 or cancel for TABLE
 
@@ -21,7 +21,6 @@ import tempfile
 from pathlib import Path
 from typing import Callable, List, NamedTuple, Optional, Tuple
 
-sys.dont_write_bytecode = True
 import measure_cancel
 import measure_commands
 import measure_confirm

@@ -7,16 +7,12 @@ makes the rows whose name begins so.
 """
 from __future__ import annotations
 
-import filecmp
-import sys
-from functools import partial
 from pathlib import Path
 from typing import Callable, List, NamedTuple, Optional, Tuple
 
 import cancel_rows
-from measuring import OPPROVE, Text, bound, build, growing, least_by, quotient_text, told, write
+from measuring import Text, both, checked, quotient_text, table, told, write
 
-FINE = 0
 LIMIT = 2**26  # bytes of the text
 MAPS = [f"m{number}" for number in range(1, 201)]
 ONE = f"object P\nmap {' '.join(MAPS)} : P -> P\nassume m1 m2 = 0\nclaim m2 = 0\n"
@@ -100,26 +96,13 @@ NAMES = ["bytes", "`cancel` s", "MB", "`check` s", "MB", "plain s", "MB", "by `c
 
 def cells(case: Case, plain: str, folder: Path) -> Tuple[List[str], float]:
     """Those of a row of the table, and the seconds of `cancel`."""
-    statement, proof, evidence, out, want = (folder / name for name in ("statement.op", "proof.cert", "beside.cert", "out", "want"))
-    write(statement, iter([case.statement()]))
-    size = write(proof, case.proof())
-    other = least_by([plain, "cancel", str(statement), str(proof)], want, lambda status: status == FINE)
-    own = least_by([str(OPPROVE), "cancel", str(statement), str(proof)], out, lambda status: status == FINE and filecmp.cmp(out, want, shallow=False))
-    beside = (" | ", "")
+    own, other = both("cancel", iter([case.statement()]), case.proof(), plain, folder)
+    size, beside = (folder / "evidence.cert").stat().st_size, (" | ", "")
     if case.beside:
-        write(evidence, case.beside())
-        checked = least_by([str(OPPROVE), "check", str(statement), str(evidence)], out, lambda status: status == FINE)
-        beside = (told(checked), quotient_text(own, checked))
+        write(folder / "evidence.cert", case.beside())
+        by_check = checked(folder)
+        beside = (told(by_check), quotient_text(own, by_check))
     return [f"{size:,}", told(own), beside[0], told(other), beside[1], quotient_text(own, other)], own.seconds
 
 
-def rows(words: List[str], folder: Path) -> Text:
-    plain = build("plain", folder)
-    bound()
-    made = ((case.name, partial(cells, case, plain, folder)) for case in CASES)
-    return growing(NAMES, made, words, "blocks")
-
-
-if __name__ == "__main__":
-    print("usage: measure.py cancel [NAME]", file=sys.stderr)
-    sys.exit(1)
+rows = table(NAMES, CASES, cells, "blocks")

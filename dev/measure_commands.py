@@ -6,7 +6,6 @@ those of language 2. NAME behind measure.py makes the rows whose name begins so.
 from __future__ import annotations
 
 import itertools
-import sys
 from pathlib import Path
 from typing import Callable, List, NamedTuple, Optional
 
@@ -80,8 +79,3 @@ def rows(words: List[str], folder: Path) -> Text:
     if commands:
         yield head("bytes", "`opprove` s", "MB", "beside s", "MB", "quotient")
     yield from (row(command, folder) for command in commands)
-
-
-if __name__ == "__main__":
-    print("usage: measure.py [NAME]", file=sys.stderr)
-    sys.exit(1)

@@ -8,13 +8,11 @@ NAME behind the word makes the rows whose name begins so.
 from __future__ import annotations
 
 import itertools
-import sys
-from functools import partial
 from pathlib import Path
 from random import Random
 from typing import Callable, Iterator, List, NamedTuple, Tuple
 
-from measuring import OPPROVE, Text, Usage, bound, build, growing, least, least_by, quotient_text, told, write
+from measuring import OPPROVE, Text, Usage, least, least_by, quotient_text, table, told, write
 
 FINE, REFUSED, UNDERIVABLE = 0, 7, 10
 LIMIT = 2**26  # bytes of the text
@@ -77,7 +75,7 @@ CASES = [
     Case("long: 64 MiB of rules with words of 500 letters", lambda: basis(long_rules())),
     Case("reading: the same, and a line that isn't in the grammar", lambda: basis(long_rules(), "rest c c'' \n"), False),
 ]
-BENCH = f"prove's basis of `bench {SIZE}`'s statement"
+BENCH = Case(f"prove's basis of `bench {SIZE}`'s statement", lambda: iter(()))  # which `prove` writes
 NAMES = ["bytes", "`confirm` s", "MB", "beside it s", "MB", "quotient"]
 
 
@@ -96,6 +94,8 @@ def bench_cells(folder: Path) -> Tuple[List[str], float]:
 
 
 def case_cells(case: Case, plain: str, folder: Path) -> Tuple[List[str], float]:
+    if case is BENCH:
+        return bench_cells(folder)
     statement, text, out = (folder / name for name in ("statement.op", "text.basis", "out"))
     write(statement, iter([STATEMENT]))
     size = write(text, case.basis())
@@ -106,13 +106,4 @@ def case_cells(case: Case, plain: str, folder: Path) -> Tuple[List[str], float]:
     return cells(size, least([str(OPPROVE), "confirm", *files], out, is_told), other)
 
 
-def rows(words: List[str], folder: Path) -> Text:
-    plain = build("plain", folder)
-    bound()
-    made = [(BENCH, partial(bench_cells, folder)), *((case.name, partial(case_cells, case, plain, folder)) for case in CASES)]
-    return growing(NAMES, made, words, "apart")
-
-
-if __name__ == "__main__":
-    print("usage: measure.py confirm [NAME]", file=sys.stderr)
-    sys.exit(1)
+rows = table(NAMES, [BENCH, *CASES], case_cells, "apart")

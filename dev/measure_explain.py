@@ -6,17 +6,13 @@ how many times the seconds grow. NAME behind the word makes the rows whose name 
 """
 from __future__ import annotations
 
-import filecmp
 import itertools
-import sys
-from functools import partial
 from pathlib import Path
 from typing import Callable, List, NamedTuple, Tuple
 
 import explain_rows
-from measuring import NO_MEMORY, OPPROVE, Text, Usage, bound, build, growing, least_by, quotient_text, told, write
+from measuring import NO_MEMORY, Text, both, checked, quotient_text, table, told
 
-FINE = 0
 TEN = list("abcdefghij")
 SUM = f"({'+'.join(TEN)})"
 TERMS = f"object U\nmap {' '.join(TEN)} : U -> U\nassume {SUM * 3} = 0\nassume a = b\nclaim a = a\n"  # the first has 1,000
@@ -72,34 +68,13 @@ CASES = [
 NAMES = ["bytes", "`explain` s", "MB", "`check` s", "MB", "plain s", "MB", "by plain", "by `check`", "beside `check`"]
 
 
-def runs(case: Case, plain: str, folder: Path) -> Tuple[int, Usage, Usage, Usage]:
-    """The bytes of the report, and the runs of `explain`, of `check` and of the plain program."""
-    statement, evidence, out, want = (folder / name for name in ("statement.op", "evidence.cert", "out", "want"))
-    write(statement, iter([case.statement]))
-    write(evidence, case.evidence())
-    files = [str(statement), str(evidence)]
-    other = least_by([plain, "explain", *files], want, lambda status: status == FINE)
-    is_same = lambda status: status == FINE and filecmp.cmp(out, want, shallow=False)
-    own = least_by([str(OPPROVE), "explain", *files], out, is_same)
-    checked = least_by([str(OPPROVE), "check", *files], out, lambda status: status == FINE)
-    return want.stat().st_size, own, checked, other
-
-
 def cells(case: Case, plain: str, folder: Path) -> Tuple[List[str], float]:
     """Those of a row of the table, and the seconds of `explain`."""
-    size, own, checked, other = runs(case, plain, folder)
-    above = "" if NO_MEMORY in (own.status, checked.status) else f"{1e6 * (own.megabytes - checked.megabytes) / size:.2f}"
-    times = [quotient_text(own, other), quotient_text(own, checked), above]
-    return [f"{size:,}", told(own), told(checked), told(other), *times], own.seconds
+    own, other = both("explain", iter([case.statement]), case.evidence(), plain, folder)
+    size, beside = (folder / "want").stat().st_size, checked(folder)
+    above = "" if NO_MEMORY in (own.status, beside.status) else f"{1e6 * (own.megabytes - beside.megabytes) / size:.2f}"
+    times = [quotient_text(own, other), quotient_text(own, beside), above]
+    return [f"{size:,}", told(own), told(beside), told(other), *times], own.seconds
 
 
-def rows(words: List[str], folder: Path) -> Text:
-    plain = build("plain", folder)
-    bound()
-    made = ((case.name, partial(cells, case, plain, folder)) for case in CASES)
-    return growing(NAMES, made, words, "letters")
-
-
-if __name__ == "__main__":
-    print("usage: measure.py explain [NAME]", file=sys.stderr)
-    sys.exit(1)
+rows = table(NAMES, CASES, cells, "letters")

@@ -10,15 +10,13 @@ from __future__ import annotations
 
 import itertools
 import re
-import sys
 from pathlib import Path
 from typing import Callable, Dict, List, Tuple
 
 import costly
 import presentations
-from opprove.checkers import tree
-from opprove.checkers.check import Problem
-from measuring import NO_MEMORY, OPPROVE, Text, Usage, bound, build, head, least, line, load, quotient, quotient_text, told, write
+from measuring import NO_MEMORY, OPPROVE, Text, Usage, bound, build, head, least, line, load
+from measuring import quotient, quotient_text, told, write, write_tree
 from trying import LIBRARY, installed, need, run
 
 PAIRS = [1000, 5000, 20000]
@@ -53,10 +51,9 @@ def prove_words(statement: Path, pairs: int, workers: int) -> List[str]:
 
 def calls(text: str, pairs: int, plain: str, folder: Path) -> Tuple[List[str], List[str]]:
     """The calls of both programs on a statement."""
-    statement, lines = folder / "statement.op", folder / "statement.tree"
+    statement = folder / "statement.op"
     write(statement, iter([text]))
-    write(lines, (line + "\n" for line in tree.tree_lines(Problem(str(statement)))))
-    return prove_words(statement, pairs, 1), [plain, str(lines), "--pairs", str(pairs), "--format", "1"]
+    return prove_words(statement, pairs, 1), [plain, str(write_tree(statement)), "--pairs", str(pairs), "--format", "1"]
 
 
 def both(text: str, pairs: int, plain: str, folder: Path) -> Tuple[Usage, Usage]:
@@ -135,8 +132,3 @@ def worker_rows(words: List[str], folder: Path) -> Text:
             alone, report = alone or usage, report or out.read_text(encoding="utf-8")
             shares = [f"{alone.wall / usage.wall:.2f}", quotient_text(usage, alone)]
             yield line(name, f"{pairs:,}", f"{workers}", f"{usage.wall:.3f}", f"{usage.seconds:.3f}", *shares)
-
-
-if __name__ == "__main__":
-    print("usage: measure.py prove | counts | workers", file=sys.stderr)
-    sys.exit(1)

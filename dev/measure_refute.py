@@ -7,20 +7,13 @@ name begins so.
 from __future__ import annotations
 
 import itertools
-import sys
 from pathlib import Path
 from typing import Callable, Dict, List
 
 import presentations
-from opprove.checkers import tree
-from opprove.checkers.check import Problem
-from measuring import OPPROVE, Text, bound, build, head, least, line, quotient_text, told, write
+from measuring import OPPROVE, Text, bound, build, head, least, line, quotient_text, told, write, write_tree
 
 NOT_REFUTED = 13
-
-
-def numbered(letter: str, count: int) -> List[str]:
-    return [f"{letter}{number}" for number in range(1, count + 1)]
 
 
 def text_of(*lines: str) -> str:
@@ -28,7 +21,7 @@ def text_of(*lines: str) -> str:
 
 
 def commuting(count: int) -> str:
-    maps, inverses = numbered("a", count), numbered("b", count)
+    maps, inverses = presentations.named("a", count), presentations.named("b", count)
     lines = [f"inverse {one} {other}" for one, other in zip(maps, inverses)]
     lines += [f"assume {one} {two} = {two} {one}" for one, two in itertools.combinations(maps, 2)]
     return text_of("object V", f"map {' '.join(maps + inverses)} : V -> V", *lines, "claim b1 a2 = a2 b1")
@@ -38,11 +31,11 @@ def path(count: int) -> str:
     """Pseudoinverses along a path of objects."""
     lines = [f"map a{place} : V{place - 1} -> V{place}\nmap x{place} : V{place} -> V{place - 1}" for place in range(1, count + 1)]
     pairs = [f"pinv a{place} x{place}" for place in range(1, count + 1)]
-    return text_of(f"object V0 {' '.join(numbered('V', count))}", *lines, *pairs, "claim x1 a1 x1 = x1")
+    return text_of(f"object V0 {' '.join(presentations.named('V', count))}", *lines, *pairs, "claim x1 a1 x1 = x1")
 
 
 def projections(count: int) -> str:
-    maps = numbered("p", count)
+    maps = presentations.named("p", count)
     return text_of("object V", f"map {' '.join(maps)} : V -> V", *(f"projection {name}" for name in maps), "claim p1 p1 p1 = p1")
 
 
@@ -65,7 +58,7 @@ def schur() -> str:
 
 def unused(maps: int, used: List[str], *lines: str) -> str:
     """Maps of one object, most of which stand in no equation."""
-    return text_of("object V", f"map {' '.join(used + numbered('m', maps - len(used)))} : V -> V", *lines)
+    return text_of("object V", f"map {' '.join(used + presentations.named('m', maps - len(used)))} : V -> V", *lines)
 
 
 FIELD = "model 101 V 4"
@@ -93,10 +86,9 @@ SEARCHES: Dict[str, Callable[[], str]] = {
 
 def row(name: str, plain: str, folder: Path) -> str:
     """A line of the table."""
-    statement, lines, out = folder / "statement.op", folder / "statement.tree", folder / "out"
+    statement, out = folder / "statement.op", folder / "out"
     write(statement, iter([SEARCHES[name]()]))
-    write(lines, (line + "\n" for line in tree.tree_lines(Problem(str(statement)))))
-    other = least([plain, str(lines)], out, lambda status, text: status == NOT_REFUTED)
+    other = least([plain, str(write_tree(statement))], out, lambda status, text: status == NOT_REFUTED)
     want = out.read_text(encoding="utf-8")
     own = least([str(OPPROVE), "refute", str(statement), "--workers", "1"], out, lambda status, text: (status, text) == (NOT_REFUTED, want))
     return line(name, told(own), told(other), quotient_text(own, other))
@@ -109,8 +101,3 @@ def rows(words: List[str], folder: Path) -> Text:
     for name in SEARCHES:
         if name.startswith(tuple(words[:1])) or not words:
             yield row(name, plain, folder)
-
-
-if __name__ == "__main__":
-    print("usage: measure.py refute", file=sys.stderr)
-    sys.exit(1)

@@ -1,12 +1,16 @@
 """What measure.py and its tables share: plain programs that are built, runs whose time and memory is told, and lines of tables."""
 from __future__ import annotations
 
+import filecmp
 import os
 import resource
 import time
+from functools import partial
 from pathlib import Path
-from typing import Callable, Iterable, Iterator, List, NamedTuple, Sequence, Tuple
+from typing import Any, Callable, Iterable, Iterator, List, NamedTuple, Sequence, Tuple
 
+from opprove.checkers import tree
+from opprove.checkers.check import Problem
 from trying import PROGRAM as OPPROVE
 from trying import Failed, build
 
@@ -33,6 +37,13 @@ def write(path: Path, text: Text) -> int:
     with path.open("w", newline="\n", encoding="utf-8") as file:
         file.writelines(text)
     return path.stat().st_size
+
+
+def write_tree(statement: Path) -> Path:
+    """The file with the tree of a statement, beside it."""
+    lines = statement.with_suffix(".tree")
+    write(lines, (f"{line}\n" for line in tree.tree_lines(Problem(str(statement)))))
+    return lines
 
 
 def measured(words: List[str], out: Path) -> Usage:
@@ -82,6 +93,7 @@ def quotient_text(own: Usage, other: Usage) -> str:
 
 # The name of a row, and what makes its cells, with the seconds that grow.
 Row = Tuple[str, Callable[[], Tuple[List[str], float]]]
+Table = Callable[[List[str], Path], Text]  # of the words of the call, in a folder
 
 
 def load() -> str:
@@ -96,6 +108,32 @@ def head(*names: str) -> str:
 
 def line(*cells: str) -> str:
     return f"| {' | '.join(cells)} |"
+
+
+def both(word: str, statement: Text, evidence: Text, plain: str, folder: Path) -> Tuple[Usage, Usage]:
+    """The runs of a command by opprove and by plain.rs, which have to accept the evidence and print the same bytes. The files stay."""
+    write(folder / "statement.op", statement)
+    write(folder / "evidence.cert", evidence)
+    words, out, want = [word, str(folder / "statement.op"), str(folder / "evidence.cert")], folder / "out", folder / "want"
+    other = least_by([plain, *words], want, lambda status: status == 0)
+    return least_by([str(OPPROVE), *words], out, lambda status: status == 0 and filecmp.cmp(out, want, shallow=False)), other
+
+
+def checked(folder: Path) -> Usage:
+    """That of `check` of the files that are there."""
+    words = ["check", str(folder / "statement.op"), str(folder / "evidence.cert")]
+    return least_by([str(OPPROVE), *words], folder / "out", lambda status: status == 0)
+
+
+def table(names: Sequence[str], cases: Sequence[Any], cells: Callable[[Any, str, Path], Tuple[List[str], float]], longer: str) -> Table:
+    """What makes the table of cases that have names, beside plain.rs."""
+
+    def rows(words: List[str], folder: Path) -> Text:
+        plain = build("plain", folder)
+        bound()
+        return growing(names, ((case.name, partial(cells, case, plain, folder)) for case in cases), words, longer)
+
+    return rows
 
 
 def growing(names: Sequence[str], rows: Iterable[Row], words: List[str], longer: str) -> Text:

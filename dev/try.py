@@ -1,4 +1,4 @@
-#!/usr/bin/env -S PYTHONPATH=python/src:python/tests python3
+#!/usr/bin/env -S PYTHONPATH=python/src:python/tests python3 -B
 """Tries what stands in the repository: try.py [NAME ..], with all names where none is named.
 
 A name is a file python/tests/test_NAME.py, or one of these: `checker`, what the gate runs, `files`, `opprove`, `guide`, `release`,
@@ -8,7 +8,6 @@ from __future__ import annotations
 
 import functools
 import json
-import os
 import re
 import subprocess
 import sys
@@ -16,7 +15,6 @@ import tempfile
 from pathlib import Path
 from typing import Callable, Dict, List
 
-sys.dont_write_bytecode = True
 import measure
 import try_guide
 import try_library
@@ -25,7 +23,7 @@ import try_plain
 import try_release
 from opprove.cli import TOOLS
 from opprove.words.calls import OPTIONS
-from trying import PROGRAM, TESTS, TOP, Answer, Skipped, installed, need, run, run_checks, stored, tool
+from trying import TESTS, TOP, Answer, Skipped, built, installed, is_built, need, run, run_checks, stored, tool
 
 def plain(folder: Path) -> str:
     """The program that opprove is measured by, and a row of the table where opprove is built."""
@@ -34,7 +32,7 @@ def plain(folder: Path) -> str:
     for statement, evidence in cases:
         answer = run(program, statement, evidence)
         need((answer.status == 0) == ("refused" not in evidence.stem), (evidence, answer))
-    if os.access(PROGRAM, os.X_OK):
+    if is_built():
         answer = run(sys.executable, TOP / "dev" / "measure.py", "growth: 10")
         need(answer.status == 0 and answer.out.count("\n") == 3, answer)
     return f"{len(cases)} certificates are answered right by plain.rs"
@@ -190,9 +188,7 @@ def costly_files() -> str:
 
 
 def devices() -> str:
-    if not os.access(PROGRAM, os.X_OK):
-        raise Skipped("opprove is not built")
-    answer = run(sys.executable, TOP / "dev" / "try_devices.py", PROGRAM)
+    answer = run(sys.executable, TOP / "dev" / "try_devices.py", built())
     need(answer.status == 0 and not answer.error, answer)
     lines = answer.out.splitlines()
     return f"{sum(': skipped, ' not in line for line in lines)} of {len(lines)} trials of devices are as they should be"

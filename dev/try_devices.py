@@ -1,4 +1,4 @@
-#!/usr/bin/env -S PYTHONPATH=python/src:python/tests python3
+#!/usr/bin/env -S PYTHONPATH=python/src:python/tests python3 -B
 """Tries the program from outside, over devices that fail: try_devices.py [--long] [PROGRAM]
 
 Gives PROGRAM, or the one that the variable OPPROVE names, or the one that is built, files that can't be read or change while they
@@ -22,9 +22,8 @@ import tempfile
 import threading
 import time
 from pathlib import Path
-from typing import Any, Callable, Dict, Iterator, List, NamedTuple, Optional, Sequence, Tuple
+from typing import IO, Any, Callable, Dict, Iterator, List, NamedTuple, Optional, Sequence, Tuple
 
-sys.dont_write_bytecode = True
 from trying import PROGRAM, Failed, Skipped, installed, need, usage_line
 
 USAGE, FAULTY, NOT_LOADED, SINK_FAILED, NO_MEMORY, REFUSED, LOADER_FAILED = 2, 3, 4, 5, 6, 7, 127
@@ -197,15 +196,6 @@ def changing_file(place: Place) -> str:
 # ---- Outputs
 
 
-@contextlib.contextmanager
-def opened(path: str, flags: int) -> Iterator[int]:
-    file = os.open(path, flags)
-    try:
-        yield file
-    finally:
-        os.close(file)
-
-
 def ignoring(*more: Callable[[], object]) -> Callable[[], None]:
     """What is done before the program starts: the signals of broken pipes and of long files are ignored."""
 
@@ -218,27 +208,29 @@ def ignoring(*more: Callable[[], object]) -> Callable[[], None]:
     return before
 
 
-def closed_output(place: Place) -> str:
+def output_closed(place: Place) -> str:
     return cut_short("closed", place.run(CHECK, preexec_fn=ignoring(lambda: os.close(1))), SINK_FAILED, b"")
 
 
-def full_device(place: Place) -> str:
-    with opened("/dev/full", os.O_WRONLY) as file:
-        return cut_short("/dev/full", place.run(CHECK, stdout=file, preexec_fn=ignoring()), SINK_FAILED, b"")
-
-
-def output_for_reading(place: Place) -> str:
-    with opened(str(place.folder / "s"), os.O_RDONLY) as file:
-        return cut_short("for reading", place.run(CHECK, stdout=file, preexec_fn=ignoring()), SINK_FAILED, b"")
-
-
-def closed_pipe(place: Place) -> str:
+def broken_pipe() -> IO[bytes]:
     reader, writer = os.pipe()
     os.close(reader)
-    try:
-        return cut_short("a closed pipe", place.run(CHECK, stdout=writer, preexec_fn=ignoring()), SINK_FAILED, b"")
-    finally:
-        os.close(writer)
+    return open(writer, "wb")
+
+
+# What standard output is that takes nothing.
+SINKS: Dict[str, Callable[[Path], IO[bytes]]] = {
+    "output full": lambda folder: open("/dev/full", "wb"), "output opened for reading": lambda folder: (folder / "s").open("rb"),
+    "a pipe whose reader has gone": lambda folder: broken_pipe(),
+}  # fmt: skip
+
+
+def sink(name: str) -> Callable[[Place], str]:
+    def trial(place: Place) -> str:
+        with SINKS[name](place.folder) as file:
+            return cut_short(name, place.run(CHECK, stdout=file, preexec_fn=ignoring()), SINK_FAILED, b"")
+
+    return trial
 
 
 def to_file(place: Place, path: Path, preexec: Callable[[], None]) -> str:
@@ -249,7 +241,7 @@ def to_file(place: Place, path: Path, preexec: Callable[[], None]) -> str:
     return cut_short(path, Answer(status, path.read_bytes()), SINK_FAILED, report.out)
 
 
-def file_size(place: Place) -> str:
+def limit_on_files(place: Place) -> str:
     limit = (65_536, resource.RLIM_INFINITY)
     return to_file(place, place.folder / "short", ignoring(lambda: resource.setrlimit(resource.RLIMIT_FSIZE, limit)))
 
@@ -289,11 +281,8 @@ def not_read(place: Place, reader: int, writer: int) -> str:
 
 def full_pipe(place: Place) -> str:
     reader, writer = os.pipe()
-    try:
+    with open(reader, "rb"), open(writer, "wb"):
         return not_read(place, reader, writer)
-    finally:
-        os.close(reader)
-        os.close(writer)
 
 
 def full_socket(place: Place) -> str:
@@ -361,15 +350,9 @@ REFUSED_MOST = 500
 
 # Words that decide and search, of which all but the first three are tried with --long alone.
 ALLOCATING = [
-    CHECK,
-    ["prove", "doubled"],
-    ["prove", "doubled", "--format", "1"],
-    ["prove", "one_sided"],
-    ["refute", "one_sided"],
-    ["refute", "numbered"],
-    ["refute", "drawn"],
-    ["prove", "power", "--pairs", "33", "--no-models"],
-]
+    "check s c", "prove doubled", "prove doubled --format 1", "prove one_sided", "refute one_sided", "refute numbered", "refute drawn",
+    "prove power --pairs 33 --no-models",
+]  # fmt: skip
 
 
 def preload(place: Place) -> Path:
@@ -449,13 +432,7 @@ def small_stack(place: Place) -> str:
 INJECTED: List[Tuple[str, int, Optional[str], str, int, bytes]] = [
     (call, number, file, error, NOT_LOADED, b"# load failed %s\n" % file.encode())
     for file in ("s", "c")
-    for call, number, error in (
-        ("openat", 1, "EIO"),
-        ("read", 1, "EIO"),
-        ("read", 2, "EIO"),
-        ("read", 1, "EINTR"),
-        ("read", 2, "EINTR"),
-    )
+    for call, number, error in [("openat", 1, "EIO"), *(("read", number, error) for error in ("EIO", "EINTR") for number in (1, 2))]
 ] + [("write", 1, None, error, SINK_FAILED, b"") for error in ("EIO", "ENOSPC", "EINTR")]
 
 
@@ -476,26 +453,14 @@ def failing_calls(place: Place) -> str:
 
 def trials(is_long: bool) -> Iterator[Tuple[str, Callable[[Place], str]]]:
     yield from ((name, load(words, status, report)) for name, words, status, report in LOADS)
-    yield "an unreadable file", unreadable
-    yield "standard input by its name", standard_input
-    yield "a named pipe", named_pipe
-    yield "a file that is rewritten", changing_file
-    yield "standard output closed", closed_output
-    yield "standard output full", full_device
-    yield "standard output opened for reading", output_for_reading
-    yield "a pipe whose reader has gone", closed_pipe
-    yield "a limit on the sizes of files", file_size
-    yield "a full disk", full_disk
-    yield "a full pipe that doesn't block", full_pipe
-    yield "a full socket that doesn't block", full_socket
-    yield "signals", ended_by_signals
-    yield "stopped and continued", stopped
-    yield "address spaces", address_spaces
-    yield "no further threads", no_threads
-    yield "a small stack", small_stack
-    yield "calls of the system that fail", failing_calls
+    yield from ((name, sink(name)) for name in SINKS)
+    for trial in (
+        unreadable, standard_input, named_pipe, changing_file, output_closed, limit_on_files, full_disk, full_pipe, full_socket,
+        ended_by_signals, stopped, address_spaces, no_threads, small_stack, failing_calls,
+    ):  # fmt: skip
+        yield trial.__name__.replace("_", " "), trial
     for words in ALLOCATING if is_long else ALLOCATING[:3]:
-        yield f"allocations of {' '.join(words)}", refused_allocations(words)
+        yield f"allocations of {words}", refused_allocations(words.split())
 
 
 def furnish(folder: Path, program: Path) -> None:
@@ -512,23 +477,18 @@ def furnish(folder: Path, program: Path) -> None:
         file.truncate(2**40)
 
 
-def told(name: str, trial: Callable[[Place], str], place: Place) -> Tuple[str, bool]:
-    try:
-        return f"{name}: {trial(place)}", True
-    except Skipped as reason:
-        return f"{name}: skipped, as {reason}", True
-    except (Failed, OSError, subprocess.SubprocessError) as fault:
-        return f"{name}: FAILED: {fault}", False
-
-
 def try_all(place: Place) -> bool:
     """Prints a line for each trial, and tells whether all of them hold."""
-    holds = True
+    failed = 0
     for name, trial in trials(place.is_long):
-        line, is_fine = told(name, trial, place)
-        print(line, flush=True)
-        holds &= is_fine
-    return holds
+        try:
+            line = trial(place)
+        except Skipped as reason:
+            line = f"skipped, as {reason}"
+        except (Failed, OSError, subprocess.SubprocessError) as fault:
+            line, failed = f"FAILED: {fault}", failed + 1
+        print(f"{name}: {line}", flush=True)
+    return failed == 0
 
 
 def main() -> int:

@@ -7,7 +7,6 @@ Python run all the same: what it prints into a file by `tee` is then taken from 
 """
 from __future__ import annotations
 
-import os
 import re
 import shlex
 import shutil
@@ -16,7 +15,8 @@ from pathlib import Path
 from typing import Callable, Dict, List, NamedTuple
 
 from opprove import cli
-from trying import EXAMPLES, PROGRAM, SOURCE, TOP, Skipped, installed, need, run, tool
+from trying import EXAMPLES, PROGRAM, SOURCE, TOP, installed, is_built, need, run, tool
+from trying import built as built_program
 
 GUIDE, README = TOP / "docs" / "GUIDE.md", TOP / "README.md"
 TUTORIALS = sorted((TOP / "docs" / "tutorials").glob("*.md"))
@@ -104,8 +104,7 @@ def alone(folder: Path) -> str:
 
 
 def built(folder: Path) -> str:
-    if not os.access(PROGRAM, os.X_OK):
-        raise Skipped("opprove is not built, and its commands of the guide are not run")
+    built_program()
     count = followed(folder, lambda command, _: not command.asks_coq())
     commands = read(GUIDE.read_text(encoding="utf-8")).commands
     need(count == sum(not command.asks_coq() for command in commands), f"{count} commands")
@@ -124,12 +123,11 @@ def tutorials(folder: Path) -> str:
 def coq(folder: Path) -> str:
     """What Coq is asked, with the reports that it wants, which are made where the program is built."""
     installed("coqc")
-    is_built = os.access(PROGRAM, os.X_OK)
     lines = [command.line for command in read(GUIDE.read_text(encoding="utf-8")).commands if "./opprove coq " in command.line]
     asked = {name for line in lines for name in re.findall(r"\w+\.(?:report|model)\b", line)}
 
     def is_wanted(command: Command, place: Path) -> bool:
-        if is_built and asked & {*re.findall(r"(?:>|tee )(\w+\.\w+)", command.line)}:
+        if is_built() and asked & {*re.findall(r"(?:>|tee )(\w+\.\w+)", command.line)}:
             return True
         return (command.asks_coq() or "./opprove coq " in command.line) and has_files(command.line.split(">")[0], place)
 
@@ -140,8 +138,7 @@ def coq(folder: Path) -> str:
 
 def readme(folder: Path) -> str:
     """The commands of README, whose statement is an example."""
-    if not os.access(PROGRAM, os.X_OK):
-        raise Skipped("opprove is not built, and the commands of README are not run")
+    built_program()
     blocks = re.findall(r"^```\n(.*?)^```$", README.read_text(encoding="utf-8"), re.MULTILINE | re.DOTALL)
     statement = (EXAMPLES / "pseudoinverses.op").read_text(encoding="utf-8")
     need(blocks[0] in statement, "the statement of README")
@@ -161,8 +158,7 @@ def table(folder: Path) -> str:
     calls = re.findall(r"^\|.*\| `(.*)` \|$", (TOP / "docs" / "TOOLS.md").read_text(encoding="utf-8"), re.MULTILINE)
     words = {call.split()[1] for call in calls}
     need(words == {it.word for it in cli.TOOLS}, words ^ {it.word for it in cli.TOOLS})
-    if not os.access(PROGRAM, os.X_OK):
-        raise Skipped("opprove is not built, and the calls of the table of tools are not made")
+    built_program()
     place = Path(tempfile.mkdtemp(dir=folder))
     for name in ("examples", "library"):
         shutil.copytree(TOP / name, place / name)

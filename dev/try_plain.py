@@ -1,4 +1,4 @@
-#!/usr/bin/env -S PYTHONPATH=python/src:python/tests python3
+#!/usr/bin/env -S PYTHONPATH=python/src:python/tests python3 -B
 """Tries the plain programs plain_run.rs and plain_models.rs: try_plain.py [COUNT]
 
 Compares plain_models.rs with candidates.py, byte for byte, on the searches of test_models.py, on the examples and on
@@ -12,7 +12,6 @@ from __future__ import annotations
 
 import functools
 import itertools
-import os
 import random
 import re
 import sys
@@ -20,16 +19,14 @@ import tempfile
 from pathlib import Path
 from typing import Callable, Dict, Iterator, List, NamedTuple, Tuple
 
-sys.dont_write_bytecode = True
 from opprove.checkers import candidates
 import presentations
-from opprove.checkers import tree
 import try_guide
 import test_models
 import test_words
 from opprove.checkers.check import MODULI, Problem, Refusal
-from measuring import OPPROVE, build
-from trying import EXAMPLES, GALLERY, LIBRARY, TOP, Answer, checker, is_second, need, reads_language_2, run, run_checks
+from measuring import OPPROVE, build, write_tree
+from trying import EXAMPLES, GALLERY, LIBRARY, TOP, Answer, checker, is_built, need, run, run_checks
 
 SEEDS = [1, 7, 2**64 - 1]
 COUNT = 500
@@ -124,32 +121,17 @@ class Maker:
 # ---- Searches
 
 
-def write_tree(statement: Path, folder: Path) -> Path:
-    lines = folder / "statement.tree"
-    lines.write_text("".join(line + "\n" for line in tree.tree_lines(Problem(str(statement)))), encoding="utf-8")
-    return lines
-
-
-def is_asked() -> bool:
-    return os.access(OPPROVE, os.X_OK)
-
-
-def reads(statement: Path) -> bool:
-    """Whether opprove is asked of a statement."""
-    return is_asked() and (reads_language_2(OPPROVE) or not is_second(statement))
-
-
 def is_long(problem: Problem, out: str) -> bool:
     """Whether candidates.py would try thousands of candidates to the end."""
     counts = [candidates.Search(problem, shape).count for shape in candidates.shapes_of(problem)]
     return " not refuted " in out and sum(counts) > MANY or any(count > MANY and count != 4096 for count in counts)
 
 
-def searched(statement: Path, seed: int, plain: str, folder: Path, skips: Callable[[], bool]) -> bool:
+def searched(statement: Path, seed: int, plain: str, skips: Callable[[], bool]) -> bool:
     """Fails unless all programs print one report. Whether candidates.py was asked."""
     problem = Problem(str(statement))
-    answer = run(plain, write_tree(statement, folder), "--seed", seed)
-    if reads(statement):
+    answer = run(plain, write_tree(statement), "--seed", seed)
+    if is_built():
         other = run(OPPROVE, "refute", statement, "--seed", seed, "--workers", 1)
         need(other == answer, (statement.read_text(encoding="utf-8"), seed, answer, other))
     if is_long(problem, answer.out) and skips():
@@ -178,7 +160,7 @@ def texts(count: int) -> Iterator[Tuple[str, int]]:
 
 
 def by_whom(tool: str) -> str:
-    return f"{tool} and opprove" if is_asked() else tool
+    return f"{tool} and opprove" if is_built() else tool
 
 
 def searches(folder: Path, count: int = COUNT) -> str:
@@ -192,7 +174,7 @@ def searches(folder: Path, count: int = COUNT) -> str:
             need(answer == Answer(3, line + "\n", ""), (text, line, answer))
             continue
         made += 1
-        asked += searched(statement, seed, plain, folder, lambda: next(long_ones) % 5 > 0)
+        asked += searched(statement, seed, plain, lambda: next(long_ones) % 5 > 0)
     return f"{made} searches are answered by plain_models.rs as by {by_whom('candidates.py')}, which was asked {asked} times"
 
 
@@ -245,7 +227,7 @@ def by_hand(folder: Path) -> str:
     gallery = [(GALLERY[name].read_text(encoding="utf-8"), words, want) for name, words, want in SECOND]
     for text, words, want in HEADS + gallery:
         statement.write_text(text, encoding="utf-8")
-        answer = run(plain, write_tree(statement, folder), *words.split())
+        answer = run(plain, write_tree(statement), *words.split())
         need(heads(answer.out) == [f"# claim {number} {said}" for number, said in enumerate(want, 1)], (text, words, want, answer))
     return f"{len(HEADS)} runs of plain_run.rs have the head lines that were worked out by hand, and {len(SECOND)} those of the gallery"
 
@@ -285,7 +267,7 @@ def documents(folder: Path) -> str:
         statement.write_bytes(told.statement)
         wanted = heads(told.report)
         if wanted and not refusal(statement):
-            answer = run(plain, write_tree(statement, folder), *told.words)
+            answer = run(plain, write_tree(statement), *told.words)
             found = heads(answer.out)
             is_same = [want == line or " refuted" in want and " proved " not in line for want, line in zip(wanted, found)]
             need(len(found) == len(wanted) and all(is_same), (told, found))
@@ -298,14 +280,14 @@ def heads(text: str) -> List[str]:
     return [line for line in text.split("\n") if line.startswith("# claim ")]
 
 
-def same_run(statement: Path, plain: str, folder: Path) -> None:
+def same_run(statement: Path, plain: str) -> None:
     """Fails unless both ways to look for overlaps, and opprove where it is asked, give the same head lines."""
-    lines = write_tree(statement, folder)
+    lines = write_tree(statement)
     for number in (1, 2):
         words = ["--pairs", 150, "--steps", 500, "--format", number]
         answer, pairwise = run(plain, lines, *words), run(plain, lines, *words, "--pairwise")
         need(answer.status == 0 and answer.out.split("seconds")[0] == pairwise.out.split("seconds")[0], (statement, answer, pairwise))
-        if reads(statement):
+        if is_built():
             other = run(OPPROVE, "prove", statement, *words, "--no-models", "--workers", 1)
             need(heads(other.out) == heads(answer.out), (statement.read_text(encoding="utf-8"), answer.out, other.out))
 
@@ -317,7 +299,7 @@ def runs(folder: Path, count: int = COUNT) -> str:
     for text in [*examples, *(make(*numbers) for make, numbers in RUN), *(maker.statement() for _ in range(count))]:
         statement.write_text(text, encoding="utf-8")
         if not refusal(statement):
-            same_run(statement, plain, folder)
+            same_run(statement, plain)
             made += 1
     return f"{made} runs in both formats have the head lines of {by_whom('plain_run.rs --pairwise')}"
 

@@ -1,4 +1,4 @@
-#!/usr/bin/env -S PYTHONPATH=python/src:python/tests python3
+#!/usr/bin/env -S PYTHONPATH=python/src:python/tests python3 -B
 """Tries release.sh, in a clone of this checkout with what is changed here.
 
 Where ./opprove has built the program of these sources, and its object is there, that is what is released; else a stand-in in C,
@@ -17,7 +17,6 @@ from hashlib import sha256
 from pathlib import Path
 from typing import Callable, Dict, List, Tuple
 
-sys.dont_write_bytecode = True
 from opprove.cli import TOOLS
 from trying import STATEMENTS, TOP, Answer, Skipped, installed, need, run, run_checks
 

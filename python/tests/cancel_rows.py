@@ -3,8 +3,7 @@ from __future__ import annotations
 
 from typing import List, NamedTuple, Tuple
 
-GREATEST = 2**127 - 1
-M, M1 = str(GREATEST), str(GREATEST + 1)
+from confirm_rows import M, M1, lines
 
 
 class Run(NamedTuple):
@@ -14,11 +13,6 @@ class Run(NamedTuple):
     statement: str
     proof: str
     report: str
-
-
-def lines(text: str) -> str:
-    """A text in which ` / ` stands between lines."""
-    return "".join(f"{line}\n" for line in text.split(" / "))
 
 
 def edited(text: str, *edits: str) -> str:

@@ -24,6 +24,21 @@ def needs_program(case: unittest.TestCase) -> None:
         case.skipTest("opprove isn't built: OPPROVE names a program")
 
 
+class Asking(unittest.TestCase):
+    """Tests that ask the program, each with a folder of its own."""
+
+    def setUp(self) -> None:
+        needs_program(self)
+        holder = tempfile.TemporaryDirectory()
+        self.addCleanup(holder.cleanup)
+        self.folder = Path(holder.name)
+
+    def file(self, text: str, name: str = "asked.op") -> Path:
+        path = self.folder / name
+        path.write_text(text)
+        return path
+
+
 class Answer(NamedTuple):
     status: int
     out: str

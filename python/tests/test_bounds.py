@@ -5,12 +5,11 @@ of models are in the table of test_models.py.
 """
 from __future__ import annotations
 
-import os
 import sys
 from pathlib import Path
 from typing import Callable, Iterator, List, NamedTuple, Optional, Tuple
 
-from trying import PROGRAM, checker, main, need, run
+from trying import PROGRAM, by_whom, checker, is_built, main, need, run
 
 MOST = 2**127 - 1  # of coefficients
 ACCEPTED = "# block 1 accepted claim 1 denominator 1"
@@ -132,8 +131,7 @@ def evidence_numbers() -> Iterator[Bound]:
     yield bound(lambda n: (SIMPLE, rows(claim=n)), 2**32 - 1, "# refused K4 line 2", refused[0], refused[0])
     yield bound(lambda n: (SIMPLE, rows(f"1 () {n} ()")), 2**32 - 1, "# refused K4 line 4", refused[1], refused[1])
     goal = "goal scale 1\n"
-    row = bound(lambda n: (SIMPLE, rows(f"1 () lemma {n} ()", middle=goal)), 2**32 - 1, "# refused K4 line 5", refused[2], refused[2])
-    yield row
+    yield bound(lambda n: (SIMPLE, rows(f"1 () lemma {n} ()", middle=goal)), 2**32 - 1, "# refused K4 line 5", refused[2], refused[2])
     accepted = "# block 1 accepted claim 1 denominator {}"
     said = accepted.format(MOST), accepted.format(MOST + 1)
     yield bound(lambda n: (SIMPLE, rows(f"{n} () 1 ()", denominator=n)), MOST, "# refused K4 line 3", *said)
@@ -196,8 +194,7 @@ def sums() -> Iterator[Bound]:
     full = "1 () 1 ()"
     last, past = lemmas(full), lemmas(full + "\nrow 1 () 2 ()")
     yield Bound((statement, last), (statement, past), "# block 1 refused C9 lemma 1", taken=ACCEPTED)
-    long = bound(lambda n: (ZERO, lemmas(f"1 ({' '.join('a' * (n - 1))}) 1 ()")), 500, "# block 1 refused C9 lemma 1", taken=ACCEPTED)
-    yield long
+    yield bound(lambda n: (ZERO, lemmas(f"1 ({' '.join('a' * (n - 1))}) 1 ()")), 500, "# block 1 refused C9 lemma 1", taken=ACCEPTED)
     last, past = lemmas(*[full] * 50), lemmas(*[full] * 50, "1 () 2 ()")
     yield Bound((statement, last), (statement, past), "# block 1 refused C11 row 51 limit 1000000", taken=ACCEPTED)
 
@@ -210,7 +207,7 @@ def tried(texts: Texts, said: str, by_opprove: str, folder: Path) -> None:
     answer = run(*checker("check"), statement, evidence)
     shown = [text if len(text) < 3000 else text[:1500] + " .. " + text[-1500:] for text in texts]
     need(answer.out.split("\n")[-2:] == [said, ""] and not answer.error, (shown, said, answer))
-    if os.access(PROGRAM, os.X_OK):
+    if is_built():
         other = run(PROGRAM, "check", statement, evidence)
         need(other.out.split("\n")[-2:] == [by_opprove, ""], (shown, by_opprove, other))
         need(said != by_opprove or other.out == answer.out, (shown, answer, other))
@@ -223,8 +220,7 @@ def bounds(folder: Path) -> str:
             tried(one.last, one.kept, one.kept, folder)
             tried(one.next, one.taken or one.refused, one.refused, folder)
             count, free = count + 1, free + (one.taken is not None)
-    by = "by check.py and by opprove" if os.access(PROGRAM, os.X_OK) else "by check.py alone, as opprove is not built"
-    return f"{count} bounds are tried {by}, {free} of them on numbers and sums, which check.py doesn't have"
+    return f"{count} bounds are tried {by_whom('check.py')}, {free} of them on numbers and sums, which check.py doesn't have"
 
 
 CHECKS: List[Callable[[Path], str]] = [bounds]

@@ -6,25 +6,26 @@ OPPROVE names such a program, it prints the same bytes; so does plain.rs, of pro
 """
 from __future__ import annotations
 
+import itertools
 import re
 import sys
 from pathlib import Path
 from random import Random
 from typing import Callable, Dict, Iterator, List, Tuple
 
-sys.dont_write_bytecode = True
 from opprove.checkers import cancel
 import cancel_rows
 import test_chains
 from opprove.checkers.check import Problem
 from opprove.checkers.check import DONE, REFUSED
-from trying import Answer, GALLERY, checker, main, need, run, tool
+from trying import GALLERY, LETTER, NUMBER, Answer, checker, lowered, main, need, replaced, run, tool, with_line
 from trying_second import Files, Second, files_in
 
 COUNT = 60  # random proofs
 LARGE = 2**16  # bytes of a text that is asked of other scripts
 UNREAD_EVIDENCE = re.compile(rb"\[|'|^[ \t]*#|\r|^(?:model|basis|certificate) ", re.MULTILINE)
 SECOND = Second(cancel, unread_evidence=UNREAD_EVIDENCE)
+EXCHANGED = {"left": "right", "right": "left", "monic": "epic", "epic": "monic"}
 BOUNDS = re.compile("refused (?:K4|C4|C5|C9|C11) ")  # what check.py and `opprove chain` don't look at
 
 
@@ -133,21 +134,15 @@ def gallery(folder: Path) -> str:
 
 def changed(text: str, letters: List[str]) -> Iterator[str]:
     """The text with one change: of a number, a letter or a side, or of a line that is left out, comes twice or goes down."""
-    lines = text.split("\n")
-    for place, line in enumerate(lines):
-        front, back = lines[:place], lines[place + 1 :]
-        for match in re.finditer(r"(?<![^ (])-?[0-9]+(?![^ )])", line):
-            for other in (int(match.group()) + 1, 0, int(match.group()) * (2**127 - 1)):
-                yield "\n".join([*front, f"{line[: match.start()]}{other}{line[match.end() :]}", *back])
-        for match in re.finditer(r"(?<=[( ])[^ ()0-9+-][^ ()]*(?=[^()]*\) )|(?<=[( ])[^ ()0-9]+(?=[^()]*\)$)|(?<=ic )\S+|(?<=l [0-9] )\S+", line):
-            for other in [letter for letter in letters if letter != match.group()][:2]:
-                yield "\n".join([*front, line[: match.start()] + other + line[match.end() :], *back])
-        for one, other in (("left", "right"), ("right", "left"), ("monic", "epic"), ("epic", "monic")):
-            if f" {one} " in f" {line} ":
-                yield "\n".join([*front, line.replace(one, other), *back])
-        yield "\n".join([*front, *back])
-        yield "\n".join([*front, line, line, *back])
-        yield "\n".join([*front, *back[:1], line, *back[1:]])
+
+    def others(line: str) -> Iterator[List[str]]:
+        yield from replaced(line, NUMBER, lambda number: [int(number) + 1, 0, int(number) * (2**127 - 1)])
+        for pattern in (LETTER, r"(?<=ic )\S+", r"(?<=l [0-9] )\S+"):
+            yield from replaced(line, pattern, lambda found: [letter for letter in letters if letter != found][:2])
+        yield from replaced(line, r"\b(?:left|right|monic|epic)\b", lambda word: [EXCHANGED[word]])
+        yield from ([], [line, line])
+
+    return itertools.chain(with_line(text, others), lowered(text))
 
 
 def changes(folder: Path) -> str:

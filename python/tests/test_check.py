@@ -1,7 +1,6 @@
 """Tries check.py against opprove: on the examples, on reports of `prove`, on changed certificates and on faulty texts."""
 from __future__ import annotations
 
-import functools
 import os
 import re
 import sys
@@ -10,72 +9,47 @@ from typing import Callable, Iterator, List, Tuple
 
 import test_models
 import trying_node
+from opprove.checkers import check
 from opprove.checkers.check import status_of
 from test_translations import TRANSLATIONS
-from trying import (
-    EXAMPLES, PROGRAM, STATEMENTS, Answer, Skipped, checker, decided, is_second, main, need, reads_language_2, run, stored, tool,
-)  # fmt: skip
+from trying import LETTER, NUMBER, STATEMENTS, Answer, built, checker, decided, main, need, replaced, run, stored, tool, with_line
+from trying_second import Second
+
+SECOND = Second(check)
 
 # ---- The two checkers
 
 
-def judged(statement: Path, evidence: Path) -> Tuple[str, bool]:
-    """The last line of check.py, and whether opprove was asked too, which has to give the same report."""
-    answer = run(*checker("check"), statement, evidence)
-    line = answer.out.split("\n")[-2] if answer.out.endswith("\n") else ""
+def judged(statement: Path, evidence: Path) -> str:
+    """The last line of the report, which opprove has to give too."""
+    answer = SECOND.agreed(statement, evidence)
+    line = answer.out.split("\n")[-2]
     status = 0 if re.fullmatch("# block [0-9]+ accepted .*", line) else status_of(line)
-    need(answer.status == status and not answer.error and line.startswith("# "), (statement, evidence, answer))
-    is_asked = is_read_by_opprove(evidence) and (reads_language_2() or not is_second(statement))
-    if is_asked:
-        other = run(PROGRAM, "check", statement, evidence)
-        need(other == answer, (statement.read_bytes(), evidence.read_bytes(), answer, other))
-    if b"cancellation " not in evidence.read_bytes():
-        trying_node.agrees("check", statement, evidence, answer)
-    return line, is_asked
+    need(answer.status == status and line.startswith("# "), (statement, evidence, answer))
+    return line
 
 
-def is_read_by_opprove(evidence: Path) -> bool:
-    return os.access(PROGRAM, os.X_OK) and (reads_lemmas() or b"certificate 2" not in evidence.read_bytes())
-
-
-@functools.lru_cache(maxsize=None)
-def reads_lemmas() -> bool:
-    """Whether the program that is built reads certificates with lemmas."""
-    evidence = EXAMPLES / "tools" / "pasted_squares_lemma.cert"
-    return run(PROGRAM, "check", EXAMPLES / "pasted_squares.op", evidence).status == 0
-
-
-def expect(accepted: bool, statement: Path, evidence: Path) -> bool:
-    """Fails where the answer is another one, and tells whether opprove gave it too."""
-    line, is_asked = judged(statement, evidence)
+def expect(accepted: bool, statement: Path, evidence: Path) -> None:
+    line = judged(statement, evidence)
     need((" accepted " in line) == accepted, (statement, evidence.read_text(), line))
-    return is_asked
-
-
-def told(count: int, by_both: int, what: str) -> str:
-    if not os.access(PROGRAM, os.X_OK):
-        return f"{count} {what}; by check.py alone, as opprove is not built"
-    others = f"; {count - by_both} by check.py alone, whose format opprove does not read" if by_both < count else ""
-    return f"{by_both} {what} of check.py and of opprove{others}"
 
 
 def examples(folder: Path) -> str:
     cases = list(stored())
-    by_both = sum(expect("refused" not in evidence.stem, statement, evidence) for statement, evidence in cases)
+    for statement, evidence in cases:
+        expect("refused" not in evidence.stem, statement, evidence)
     for statement in STATEMENTS:
         answer = run(*checker("check"), statement, os.devnull)
         need(answer == Answer(7, "# refused K7\n", ""), (statement, answer))
-    return told(len(cases), by_both, "certificates of the examples are answered by the same line")
+    return f"{len(cases)} certificates of the examples are answered by {SECOND.by_whom()}"
 
 
 def reports(folder: Path) -> str:
     """The reports of prove on the gallery."""
-    if not os.access(PROGRAM, os.X_OK):
-        raise Skipped("opprove is not built, and its reports are not read")
-    count = 0
+    program, count = built(), 0
     for statement in decided():
         for number in (1, 2):
-            answer = run(PROGRAM, "prove", statement, "--pairs", 2000, "--format", number)
+            answer = run(program, "prove", statement, "--pairs", 2000, "--format", number)
             need(answer.status in (0, 10, 11, 12), (statement, answer))
             evidence = folder / "report.cert"
             evidence.write_text(answer.out)
@@ -84,7 +58,7 @@ def reports(folder: Path) -> str:
                 count += 1
             test_models.refuted_claims(statement, answer.out, folder)
     need(count >= 20, f"{count} reports with certificates")
-    return f"{count} reports of prove are accepted by check.py, and by opprove where it reads their format"
+    return f"{count} reports of prove are accepted by {SECOND.by_whom()}"
 
 
 # ---- Changed certificates
@@ -92,20 +66,15 @@ def reports(folder: Path) -> str:
 
 def changed(text: str, letters: List[str]) -> Iterator[str]:
     """The text with one change: of a number, of a letter, or of a row that is left out."""
-    lines = text.split("\n")
-    for place, line in enumerate(lines):
-        front, back = lines[:place], lines[place + 1 :]
-        if line.startswith("#"):
-            continue
-        for match in re.finditer(r"(?<![^ (])-?[0-9]+(?![^ )])", line):
-            # With lemmas another denominator may do too, but not 0.
-            other = 0 if line.startswith("denominator") and "certificate 2" in text else int(match.group()) + 1
-            yield "\n".join(front + [f"{line[: match.start()]}{other}{line[match.end() :]}"] + back)
-        for match in re.finditer(r"(?<=[( ])[^ ()0-9]+(?=[^()]*\) )|(?<=[( ])[^ ()0-9]+(?=[^()]*\)$)", line):
-            other = next(letter for letter in letters if letter != match.group())
-            yield "\n".join(front + [line[: match.start()] + other + line[match.end() :]] + back)
-        if line.startswith("row"):
-            yield "\n".join(front + back)
+
+    def others(line: str) -> Iterator[List[str]]:
+        # With lemmas another denominator may do too, but not 0.
+        is_scale = line.startswith("denominator") and "certificate 2" in text
+        yield from replaced(line, NUMBER, lambda number: [0 if is_scale else int(number) + 1])
+        yield from replaced(line, LETTER, lambda found: [next(letter for letter in letters if letter != found)])
+        yield from [[]] * line.startswith("row")
+
+    return with_line(text, lambda line: others(line) if line[:1] != "#" else ())
 
 
 def maps_of(statement: Path) -> List[str]:
@@ -114,16 +83,15 @@ def maps_of(statement: Path) -> List[str]:
 
 
 def changes(folder: Path) -> str:
-    count = by_both = 0
-    evidence = folder / "changed.cert"
+    count, evidence = 0, folder / "changed.cert"
     for statement, original in stored():
         if "refused" not in original.stem:
             for text in changed(original.read_text(), maps_of(statement)):
                 evidence.write_text(text)
-                by_both += expect(False, statement, evidence)
+                expect(False, statement, evidence)
                 count += 1
     need(count >= 30, f"{count} changes")
-    return told(count, by_both, "changed certificates are refused by the same line")
+    return f"{count} changed certificates are refused by {SECOND.by_whom()}"
 
 
 # ---- Bad input
@@ -170,13 +138,11 @@ def bad_input(folder: Path) -> str:
     head = b"object U\nmap a : U -> U\nassume 2 a = 0\nclaim a = 0\n"
     cases = FAULTY + [(head, b"certificate " + rows, line) for rows, line in ROWS]
     statement, evidence = folder / "faulty.op", folder / "faulty.cert"
-    by_both = 0
     for text, rows, line in cases:
         statement.write_bytes(text)
         evidence.write_bytes(rows)
-        found, is_asked = judged(statement, evidence)
+        found = judged(statement, evidence)
         need(found == line, (text, rows, line, found))
-        by_both += is_asked
         # Whether sums are equal is for other systems to say, and `coq` takes any number of blocks.
         others = [name for name in TRANSLATIONS if " C6 " not in line and not (name == "coq" and " K5 " in line)]
         for name in ["chain", *others]:
@@ -189,7 +155,7 @@ def bad_input(folder: Path) -> str:
     for name in (checker("check"), tool("latex"), tool("chain"), checker("explain")):
         answer = run(*name, missing, evidence)
         need((answer.status, answer.out + answer.error) == (4, f"# load failed {missing}\n"), (name, answer))
-    return told(len(cases), by_both, "faulty inputs are answered by the same line")
+    return f"{len(cases)} faulty inputs are answered by {SECOND.by_whom()}"
 
 
 CHECKS: List[Callable[[Path], str]] = [examples, reports, changes, bad_input, trying_node.count]

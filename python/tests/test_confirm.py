@@ -6,21 +6,19 @@ names such a program, it prints the same bytes; so does plain.rs, of bases that 
 """
 from __future__ import annotations
 
-import os
+import itertools
 import re
 import sys
 from pathlib import Path
 from random import Random
 from typing import Callable, Dict, Iterator, List
 
-sys.dont_write_bytecode = True
 from opprove.checkers import confirm
 import confirm_rows
 from opprove.checkers.check import Problem, Refusal
 from opprove.checkers.confirm import Bases, Order, Poly, Rules, as_texts, gcd_of, text_of
 from opprove.checkers.check import DONE
-from trying import PROGRAM as OPPROVE
-from trying import Answer, Skipped, decided, main, need, run
+from trying import NUMBER, PROGRAM, Answer, built, decided, is_built, lowered, main, need, replaced, run, with_line
 from trying_second import UNREAD_EVIDENCE, Files, Second, files_in
 
 COUNT = 40  # random statements
@@ -44,9 +42,9 @@ def confirmed(files: Files) -> Answer:
 
 def basis_of(row: confirm_rows.Run, files: Files) -> str:
     """That of a row: where opprove is there, the report of its own run."""
-    if not row.is_proved or not os.access(OPPROVE, os.X_OK):
+    if not row.is_proved or not is_built():
         return row.basis
-    report = run(OPPROVE, "prove", files.statement).out
+    report = run(PROGRAM, "prove", files.statement).out
     need(report == row.basis, (row.name, report, row.basis))
     return report
 
@@ -68,22 +66,15 @@ def calls(folder: Path) -> str:
 
 def changed(text: str, letters: List[str]) -> Iterator[str]:
     """The text with one change: of a number, a letter or a sign, or of a line that is left out, comes twice or goes down."""
-    lines = text.split("\n")
-    for place, line in enumerate(lines):
-        front, back = lines[:place], lines[place + 1 :]
-        for match in re.finditer(r"(?<![^ ])[0-9]+(?![^ ])", line):
-            for other in (int(match.group()) + 1, int(match.group()) * (2**127 - 1)):
-                yield "\n".join([*front, f"{line[: match.start()]}{other}{line[match.end() :]}", *back])
-        if not line.startswith(("rule ", "rest ")):
-            continue
-        for match in re.finditer(r"(?<= )[^ 0-9+-][^ ]*", line):
-            for other in [letter for letter in letters if letter != match.group()][:2]:
-                yield "\n".join([*front, line[: match.start()] + other + line[match.end() :], *back])
-        for match in re.finditer(r"(?<= )[+-](?= )", line):
-            yield "\n".join([*front, line[: match.start()] + "+-"["-+".index(match.group())] + line[match.end() :], *back])
-        yield "\n".join([*front, *back])
-        yield "\n".join([*front, line, line, *back])
-        yield "\n".join([*front, *back[:1], line, *back[1:]])
+
+    def others(line: str) -> Iterator[List[str]]:
+        yield from replaced(line, NUMBER, lambda number: [int(number) + 1, int(number) * (2**127 - 1)])
+        if line.startswith(("rule ", "rest ")):
+            yield from replaced(line, r"(?<= )[^ 0-9+-][^ ]*", lambda found: [letter for letter in letters if letter != found][:2])
+            yield from replaced(line, r"(?<= )[+-](?= )", lambda sign: "+-"["-+".index(sign)])
+            yield from ([], [line, line])
+
+    return itertools.chain(with_line(text, others), lowered(text, ("rule ", "rest ")))
 
 
 def changes(folder: Path) -> str:
@@ -102,11 +93,9 @@ def changes(folder: Path) -> str:
 
 def reports(folder: Path) -> str:
     """Those of `prove` on the examples, and changed ones."""
-    if not os.access(OPPROVE, os.X_OK):
-        raise Skipped("opprove is not built, and its bases are not confirmed")
-    files, bases, count = files_in(folder), 0, 0
+    program, files, bases, count = built(), files_in(folder), 0, 0
     for statement in decided():
-        report = run(OPPROVE, "prove", statement, "--pairs", 2000, "--no-models", seconds=600).out
+        report = run(program, "prove", statement, "--pairs", 2000, "--no-models", seconds=600).out
         if "\nbasis " not in f"\n{report}":
             continue
         files.write(statement.read_text("utf-8"), report)

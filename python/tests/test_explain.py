@@ -8,24 +8,21 @@ where rustc is.
 """
 from __future__ import annotations
 
-import os
 import re
 import sys
 from pathlib import Path
 from random import Random
 from typing import Callable, Iterator, List, Tuple
 
-sys.dont_write_bytecode = True
 from opprove.checkers import explain
 import explain_rows
-from opprove.translations import chain as to_chain
+from opprove.translations import chain as chain_tool
 import test_chains
 from opprove.checkers.check import Certificate, Evidence, Poly, Problem, Refusal, Share, add, judge
 from opprove.checkers.chain_text import Texts
 from opprove.checkers.check import DONE, FAULTY, REFUSED, status_of
 from explain_rows import Run
-from trying import PROGRAM as OPPROVE
-from trying import Answer, Skipped, installed, main, need, run, stored, tool
+from trying import NUMBER, PROGRAM, Answer, built, is_built, main, need, replaced, run, stored, tool, typeset, with_line
 from trying_second import UNREAD, Files, Second, files_in
 
 COUNT = 60  # random certificates
@@ -58,7 +55,7 @@ def as_certificate(lines: List[str]) -> List[List[str]]:
     return groups
 
 
-def sums_of(proof: to_chain.Proof) -> List[Poly]:
+def sums_of(proof: chain_tool.Proof) -> List[Poly]:
     (chain,) = proof.chains
     return [chain.start(), *(step.total for step in chain.steps)]
 
@@ -69,13 +66,13 @@ def told(files: Files, report: str) -> int:
     chains = files.folder / "explained.chain"
     chains.write_bytes(report.encode())
     problem = Problem(str(files.statement))
-    texts, reader = Texts(problem, str(chains)), to_chain.Reader(problem)
+    texts, reader = Texts(problem, str(chains)), chain_tool.Reader(problem)
     for number, text in enumerate(texts.chains, 1):
         proof = reader.told(text)
         is_turned = reader.claims[text.claim - 1].left == {}
-        test_chains.read_proof(problem, as_certificate(list(to_chain.text(reader, proof))), is_turned)
+        test_chains.read_proof(problem, as_certificate(list(chain_tool.text(reader, proof))), is_turned)
         judge(problem, reader.shortened(proof), f"chain {number}")
-        files.evidence.write_text("\n".join(to_chain.certificate_text(problem, reader.shortened(proof))), encoding="utf-8")
+        files.evidence.write_text("\n".join(chain_tool.certificate_text(problem, reader.shortened(proof))), encoding="utf-8")
         again = explained(files)
         need(again.status == 0, (report, again))
         chains.write_bytes(again.out.encode())
@@ -100,9 +97,9 @@ def tried(files: Files) -> int:
 
 def evidence_of(row: Run, files: Files) -> str:
     """That of a row: where opprove is there, the report of its own run."""
-    if not row.prove_format or not SECOND.is_asked():
+    if not row.prove_format or not is_built():
         return row.evidence
-    return run(OPPROVE, "prove", files.statement, "--format", row.prove_format).out
+    return run(PROGRAM, "prove", files.statement, "--format", row.prove_format).out
 
 
 def rows(folder: Path) -> str:
@@ -249,20 +246,14 @@ def plainly(statement: Path, evidence: Path) -> str:
     """The evidence, with those of its certificates in format 1 that have no lemmas."""
     problem, texts = Problem(str(statement)), []
     for certificate in Evidence(problem, str(evidence)).certificates:
-        texts.append("\n".join(to_chain.certificate_text(problem, certificate)) + "\n")
+        texts.append("\n".join(chain_tool.certificate_text(problem, certificate)) + "\n")
     return "".join(texts)
 
 
 def changed(text: str) -> Iterator[str]:
     """The text with one change: of a number, or of a row that is left out or comes twice."""
-    lines = text.split("\n")
-    for place, line in enumerate(lines):
-        for match in re.finditer(r"(?<![^ (])-?[0-9]+(?![^ )])", line):
-            other = f"{line[: match.start()]}{int(match.group()) + 1}{line[match.end() :]}"
-            yield "\n".join([*lines[:place], other, *lines[place + 1 :]])
-        if line.startswith("row "):
-            yield "\n".join([*lines[:place], *lines[place + 1 :]])
-            yield "\n".join([*lines[:place], line, line, *lines[place + 1 :]])
+    moves = lambda line: [[], [line, line]] * line.startswith("row ")
+    return with_line(text, lambda line: [*replaced(line, NUMBER, lambda number: [int(number) + 1]), *moves(line)])
 
 
 def examples(folder: Path) -> str:
@@ -285,11 +276,9 @@ def examples(folder: Path) -> str:
 
 def proofs(folder: Path) -> str:
     """The proofs of the examples in format 1."""
-    if not os.access(OPPROVE, os.X_OK):
-        raise Skipped("opprove is not built, and its proofs are not explained")
-    files, chains, lines = files_in(folder), 0, 0
+    program, files, chains, lines = built(), files_in(folder), 0, 0
     for statement in test_chains.decided():
-        report = run(OPPROVE, "prove", statement, "--pairs", 2000, "--format", 1).out
+        report = run(program, "prove", statement, "--pairs", 2000, "--format", 1).out
         if "\ncertificate " in report:
             files.write(statement.read_text("utf-8"), report)
             answer = explained(files)
@@ -325,7 +314,7 @@ def random_rows(maker: test_chains.Maker) -> Tuple[str, Certificate]:
         add(total, row.coefficient, maker.middle(row), row.left, row.right)
     left: Poly = {word: value // goal.scale for word, value in total.items() if random.random() < 0.6}
     right = {word: -value // goal.scale for word, value in total.items() if word not in left}
-    writer = to_chain.Writer(maker.problem.names, " ")
+    writer = chain_tool.Writer(maker.problem.names, " ")
     text = f"{writer.sum(left, ends) if left else test_chains.ZEROS[ends]} = {writer.sum(right, ends)}"
     return text, Certificate(1, goal.scale, [Share(goal.scale, rows)])
 
@@ -337,7 +326,7 @@ def random_certificates(folder: Path, count: int = COUNT) -> str:
         template = PLAIN if number % 3 == 0 else test_chains.RANDOM
         maker = test_chains.Maker(random, files.statement, template)
         claim, made = random_rows(maker)
-        text = "\n".join(to_chain.certificate_text(maker.problem, made))
+        text = "\n".join(chain_tool.certificate_text(maker.problem, made))
         statement = f"{maker.text}claim {claim}\n"
         for other in list(changed(text))[:: 1 + count // 20]:
             files.write(statement, other)
@@ -350,7 +339,7 @@ def random_certificates(folder: Path, count: int = COUNT) -> str:
 
 def latex(folder: Path) -> str:
     """The chains of the rows and of the examples, as pdflatex sets them."""
-    program, files, bodies = installed("pdflatex"), Files(folder, None), []
+    files, bodies = Files(folder, None), []
     cases = [(row.statement, row.evidence) for row in explain_rows.runs() if len(row.report) < LARGE and row.report.endswith("end\n")]
     for statement, evidence in stored():
         text = plainly(statement, evidence) if "refused" not in evidence.stem else "certificate 2"
@@ -360,10 +349,7 @@ def latex(folder: Path) -> str:
         chain = folder / "typeset.chain"
         chain.write_text(explained(files).out, encoding="utf-8")
         bodies += set_text(files.statement, chain, "--latex").out.split("\n")
-    head = [r"\documentclass{article}", r"\usepackage{amsmath}", r"\allowdisplaybreaks", r"\begin{document}"]
-    (folder / "told.tex").write_text("\n".join([*head, *bodies, r"\end{document}"]))
-    answer = run(program, "-interaction=nonstopmode", "-halt-on-error", "told.tex", folder=folder, seconds=600)
-    need(answer.status == 0, answer)
+    typeset(["\n".join(bodies)], folder)
     return f"{sum(line[:8] == '% claim ' for line in bodies)} chains that were read are typeset by pdflatex"
 
 

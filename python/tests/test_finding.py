@@ -4,11 +4,9 @@ What they ought to find is known from the literature or by hand; that it holds i
 """
 from __future__ import annotations
 
-import tempfile
 import unittest
-from pathlib import Path
 
-from searching import Answer, accepted, needs_program, own_statement, tool
+from searching import Answer, Asking, accepted, own_statement, tool
 
 NORMAL = "object V\nmap a x : V -> V\npinv a x\nassume a a' = a' a\nclaim a x = x a\n"
 # Urquhart: the pseudoinverse by a {1,4}-inverse g and a {1,3}-inverse h
@@ -40,18 +38,7 @@ claim 0 x = 0
 TWO = "object V\nmap a b : V -> V\nassume 2 a = 0\nassume 3 a b = 0\nclaim a b = 0\n"
 
 
-class Finding(unittest.TestCase):
-    def setUp(self) -> None:
-        needs_program(self)
-        holder = tempfile.TemporaryDirectory()
-        self.addCleanup(holder.cleanup)
-        self.folder = Path(holder.name)
-
-    def file(self, text: str, name: str = "asked.op") -> Path:
-        path = self.folder / name
-        path.write_text(text)
-        return path
-
+class Finding(Asking):
     def check_own(self, answer: Answer) -> str:
         """The statement of the answer, for which its certificate is accepted."""
         statement = own_statement(answer)

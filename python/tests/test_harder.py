@@ -1,34 +1,28 @@
-"""Tries `opprove search`, join.py and their variants: test_harder.py [COUNT | table]
+"""Tries `opprove search`, join.py and their variants: test_harder.py [table]
 
-COUNT (20) random pairs of a lemma and a claim are joined, and changed ones. What asks opprove is skipped
-where that is not built; OPPROVE names another one than this checkout's. The table is that of examples/README.md.
+Random pairs of a lemma and a claim are joined, and changed ones. What asks opprove is skipped where that is not built; OPPROVE
+names another one than this checkout's. The table is that of examples/README.md.
 """
 from __future__ import annotations
 
+import contextlib
 import os
 import random
 import re
 import signal
 import subprocess
 import sys
-import tempfile
 import time
 from pathlib import Path
-from typing import Callable, List, NamedTuple, Optional, Tuple
+from typing import Callable, Dict, List, NamedTuple, Optional, Tuple
 
-sys.dont_write_bytecode = True
 from opprove.search import join
 from opprove.search import variants
 from opprove.checkers.check import Certificate, Evidence, Poly, Problem, Refusal, Row, Share, add, judge
-from trying import EXAMPLES, GALLERY, LIBRARY, PROGRAM, Answer, Skipped, checker, need, run, run_checks, tool
+from trying import EXAMPLES, GALLERY, LIBRARY, PROGRAM, Answer, Skipped, built, checker, is_built, main, need, run, tool
 
-OPPROVE = os.environ.setdefault("OPPROVE", str(PROGRAM))
-
-
-def built() -> str:
-    if not os.access(OPPROVE, os.X_OK):
-        raise Skipped("opprove is not built, and no variants are run")
-    return OPPROVE
+os.environ["OPPROVE"] = str(PROGRAM)
+COUNT = 20  # random pairs
 
 
 # ---- Variants
@@ -230,8 +224,8 @@ def is_accepted(folder: Path, text: str) -> bool:
         answer = True
     except Refusal:
         answer = False
-    if os.access(OPPROVE, os.X_OK):
-        status = run(OPPROVE, "check", statement, path).status
+    if is_built():
+        status = run(PROGRAM, "check", statement, path).status
         need(status == (0 if answer else 7), (statement.read_text(), text, status))
     return answer
 
@@ -248,7 +242,7 @@ def changed(draws: random.Random, pair: Pair) -> Pair:
     return Pair(pair.statement, pieces)
 
 
-def compositions(folder: Path, count: int) -> str:
+def compositions(folder: Path, count: int = COUNT) -> str:
     """Pairs lemma by lemma, each accepted for its whole, and refused where a piece that is used was changed."""
     draws, done, by_join = random.Random(3), 0, 0
     while done < count:
@@ -263,7 +257,7 @@ def compositions(folder: Path, count: int) -> str:
                 done += other != text
             except Refusal:
                 by_join, done = by_join + 1, done + 1  # a scale that doesn't divide
-    asked = "both checkers" if os.access(OPPROVE, os.X_OK) else "check.py alone, as opprove is not built"
+    asked = "both checkers" if is_built() else "check.py alone, as opprove is not built"
     return f"{count} compositions are accepted by {asked}, and changed ones refused, {by_join} of them by join.py"
 
 
@@ -291,7 +285,7 @@ def join_refusals(folder: Path) -> str:
 # ---- Searches
 
 
-def harder(*words: object, **more: str) -> "subprocess.Popen[str]":
+def search(*words: object, **more: str) -> "subprocess.Popen[str]":
     environment = {**os.environ, "LC_ALL": "C.UTF-8", **more}
     command = [*tool("search"), *map(str, words)]
     return subprocess.Popen(command, stdout=subprocess.PIPE, stderr=subprocess.PIPE, text=True, env=environment)
@@ -312,7 +306,7 @@ SETTLED = {
 def settled(folder: Path, statement: Path) -> Tuple[float, Answer]:
     """The search of a minute on a statement, whose report `check` and `model` read whole."""
     start = time.monotonic()
-    answer = answer_of(harder(statement, "--seconds", 60))
+    answer = answer_of(search(statement, "--seconds", 60))
     seconds = time.monotonic() - start
     report = folder / "report"
     report.write_text(answer.out)
@@ -351,7 +345,7 @@ def lemmas(folder: Path) -> str:
     statement, file = folder / "by_lemma.op", folder / "lemmas"
     statement.write_text(BY_LEMMA)
     file.write_text("claim x = y # the first\n\nclaim a x = 0\n")
-    answer = answer_of(harder(statement, "--lemmas", file, "--only", "inside,lemmas,written"))
+    answer = answer_of(search(statement, "--lemmas", file, "--only", "inside,lemmas,written"))
     parts = ["\ngoal scale 1\nrow 1 (b) lemma ", "\n#   assume x = y  # a lemma\n", "\n# lemma x = y\n"]
     need(answer.status == 0 and all(part in answer.out for part in parts) and "a x = 0" not in answer.out, answer)
     return "a claim goes through by a lemma of a file"
@@ -361,12 +355,12 @@ def kept(folder: Path) -> str:
     """The variants that are kept can be run by hand; a basis of another order has a statement file with that order."""
     built()
     statement, keep = LIBRARY / "harder" / "one_sided_beside.op", folder / "kept"
-    answer = answer_of(harder(statement, "--keep", keep, "--only", "given,defined"))
+    answer = answer_of(search(statement, "--keep", keep, "--only", "given,defined"))
     need(answer.status == 10 and answer.out.startswith("# claim 1 not derivable rules 14\nbasis 1\n"), answer)
     words = re.search("^# found by given defined: opprove (.*)$", answer.out, flags=re.MULTILINE).group(1).split(" ")
     block = answer.out[: answer.out.index("# found")]
     for command in (words, ["prove", str(keep / "claim_1_order.op")]):
-        again = run(OPPROVE, *command)
+        again = run(PROGRAM, *command)
         need(again.status == 10 and again.out == block, (command, block, again))
     return "variants that are kept give the same answer by hand"
 
@@ -381,12 +375,12 @@ def by_lemmas(folder: Path) -> str:
     }  # fmt: skip
     for name, (texts, count) in parts.items():
         words = ["--only", "lemmas,inside,written", "--jobs", 1]
-        answer = answer_of(harder(LIBRARY / "harder" / f"{name}.op", *words))
+        answer = answer_of(search(LIBRARY / "harder" / f"{name}.op", *words))
         need(answer.status == 0 and all(answer.out.count(text) >= count for text in texts), (name, answer))
     return f"{len(parts)} statements go through by lemmas"
 
 
-def table(folder: Path) -> None:
+def table(folder: Path) -> str:
     """What prove says without a search for models, which variants did it, how long that took, and how many rows."""
     for path in sorted((LIBRARY / "harder").glob("*.op")):
         default = run(built(), "prove", path, "--workers", "1", "--no-models")
@@ -396,6 +390,7 @@ def table(folder: Path) -> None:
         rows = re.findall("^# claim [0-9]+ (?:proved .*rows ([0-9]+)|(.*))$", answer.out, flags=re.MULTILINE)
         cells = [f"`{path.name}`", ", ".join(f"`{one}`" for one in sorted(set(said))), ", ".join(found)]
         print("| " + " | ".join([*cells, f"{seconds:.1f}", ", ".join(one or other for one, other in rows)]) + " |", flush=True)
+    return "the table of examples/README.md"
 
 
 def faults(folder: Path) -> str:
@@ -411,37 +406,23 @@ def faults(folder: Path) -> str:
         ([fine, "--keep", fine], 1, "", "search: "),
     ]  # fmt: skip
     for words, status, out, error in cases:
-        answer = answer_of(harder(*words))
+        answer = answer_of(search(*words))
         is_line = answer.error.startswith(error) and answer.error.count("\n") == (error != "")
         need((answer.status, answer.out) == (status, out) and is_line, (words, answer))
     for wrong in ([fine, "--only", "nothing"], []):
-        answer = answer_of(harder(*wrong))
+        answer = answer_of(search(*wrong))
         need((answer.status, answer.out) == (2, "") and answer.error.startswith("usage: opprove search "), (wrong, answer))
-    answer = answer_of(harder(fine, OPPROVE=str(folder / "missing")))
+    answer = answer_of(search(fine, OPPROVE=str(folder / "missing")))
     need(answer.status == 1 and not answer.out and answer.error.count("\n") == 1, answer)
     return f"{len(cases) + 3} faults of a search are told by one line"
 
 
-def children(process: int) -> List[int]:
-    """The processes that a process has started, by /proc."""
-    found = []
+def processes() -> Dict[int, List[str]]:
+    """For each process of /proc its state, its parent and what stands there after these."""
+    found = {}
     for path in Path("/proc").glob("[0-9]*/stat"):
-        try:
-            if int(path.read_text().rsplit(")", 1)[1].split()[1]) == process:
-                found.append(int(path.parent.name))
-        except OSError:
-            pass  # it has ended
-    return found
-
-
-def running(numbers: List[int]) -> List[int]:
-    """Those that are there, and not only to be waited for."""
-    found = []
-    for number in numbers:
-        try:
-            found += [number] if Path(f"/proc/{number}/stat").read_text().rsplit(")", 1)[1].split()[0] != "Z" else []
-        except OSError:
-            pass  # it has ended
+        with contextlib.suppress(OSError):  # it has ended
+            found[int(path.parent.name)] = path.read_text().rsplit(")", 1)[1].split()
     return found
 
 
@@ -455,17 +436,17 @@ def interrupts(folder: Path) -> str:
     undecided.write_text(statement.read_text().replace("claim a = b", "claim a b a = b a b\nclaim a = b"))
     for number in (signal.SIGINT, signal.SIGTERM, signal.SIGKILL):
         keep = folder / f"interrupted_{number}"
-        process = harder(undecided, "--seconds", 100, "--only", "whole", "--jobs", 2, "--keep", keep)
+        process = search(undecided, "--seconds", 100, "--only", "whole", "--jobs", 2, "--keep", keep)
         try:
             for _ in range(1000):  # until a claim is settled
                 time.sleep(0.1 if not (keep / "claim_1.certificate").exists() else 0)
-            started = children(process.pid)
+            started = [number for number, fields in processes().items() if int(fields[1]) == process.pid]
             process.send_signal(number)
             answer = answer_of(process)
         finally:
             process.kill()
         time.sleep(0.2)
-        need(not running(started), (number, started))
+        need(all(fields[0] == "Z" for one, fields in processes().items() if one in started), (number, started))
         is_told = number == signal.SIGKILL or (answer.status == 12 and "# claim 1 proved" in answer.out)
         need(is_told and "Traceback" not in answer.error, (number, answer))
     return "runs that are ended leave no process, and print what was settled"
@@ -477,7 +458,7 @@ def stand_ins(folder: Path) -> str:
     for line, status, beginning in (("kill -9 $$", 12, ""), ("exit 5", 1, "search: [Errno 28] ")):
         stand_in.write_text(f'#!/bin/sh\ncase "$*" in *"--pairs 1 "*|bench*) exec {built()} "$@";; *) {line};; esac\n')
         stand_in.chmod(0o700)
-        answer = answer_of(harder(statement, "--seconds", 3, OPPROVE=str(stand_in)))
+        answer = answer_of(search(statement, "--seconds", 3, OPPROVE=str(stand_in)))
         need(answer.status == status and re.fullmatch("(# claim 1 undecided seconds [0-9]+\n# ended: .*\n)?", answer.out), answer)
         need(answer.error.startswith(beginning) and answer.error.count("\n") <= 1, answer)
     return "runs that are killed or have no space end no search with a trace"
@@ -494,22 +475,9 @@ def full_disk(folder: Path) -> str:
     return "a full disk ends a search with status 5"
 
 
-def checks(folder: Path, count: int) -> List[Callable[[], str]]:
-    return [
-        lambda: selections(folder), lambda: orders(folder), lambda: shapes(folder), lambda: compositions(folder, count),
-        lambda: join_refusals(folder), lambda: faults(folder), lambda: lemmas(folder), lambda: kept(folder),
-        lambda: by_lemmas(folder), lambda: interrupts(folder), lambda: stand_ins(folder), lambda: full_disk(folder),
-        lambda: statements(folder),
-    ]  # fmt: skip
-
-
-def main(words: List[str]) -> int:
-    with tempfile.TemporaryDirectory() as name:
-        if words == ["table"]:
-            table(Path(name))
-            return 0
-        return run_checks("ok", checks(Path(name), int(words[0]) if words else 20))
-
+CHECKS: List[Callable[[Path], str]] = [
+    selections, orders, shapes, compositions, join_refusals, faults, lemmas, kept, by_lemmas, interrupts, stand_ins, full_disk, statements,
+]  # fmt: skip
 
 if __name__ == "__main__":
-    sys.exit(main(sys.argv[1:]))
+    sys.exit(main([table] if sys.argv[1:] == ["table"] else CHECKS))

@@ -1,5 +1,4 @@
-"""Tries what language 2 adds to statements, row by row: by check.py, check_model.py and candidates.py, and by opprove where
-the program that is built reads language 2.
+"""Tries what language 2 adds to statements, row by row: by check.py, check_model.py and candidates.py, and by opprove.
 
 ` / ` ends a line of a statement or of evidence. The answers were worked out by hand from docs/FORMATS.md.
 """
@@ -13,7 +12,7 @@ from typing import Callable, Iterator, List, NamedTuple, Optional
 
 import test_words
 from opprove.checkers.check import Problem, Refusal
-from trying import EXAMPLES, GALLERY, PROGRAM, STATEMENTS, Answer, checker, is_second, main, need, reads_language_2, run
+from trying import EXAMPLES, GALLERY, PROGRAM, STATEMENTS, Answer, built, by_whom, checker, is_built, is_second, main, need, run
 
 ZERO = "certificate 2 / claim 1 / denominator 1 / goal scale 1 / end"
 ACCEPTED = "# block 1 accepted claim 1 denominator 1"
@@ -208,7 +207,7 @@ def tried(row: Row, command: str, folder: Path) -> None:
     is_right = answer.out.startswith(row.own) if row.own else answer.out == report
     status = 3 if row.answer.startswith("# refused S") else 7 if " refused " in row.answer else 11 if command == "refute" else 0
     need(is_right and not answer.error and (row.own or answer.status == status), (row, answer))
-    if reads_language_2():
+    if is_built():
         other = run(PROGRAM, command, *paths)
         need(other == Answer(status, report, ""), (row, other))
 
@@ -224,8 +223,7 @@ def rows(folder: Path) -> str:
     for command, table in TABLES:
         for row in table:
             tried(row, command, folder)
-    by = "by Python and by opprove" if reads_language_2() else "by Python alone, as no opprove is built that reads it"
-    return f"{sum(len(table) for _, table in TABLES)} rows on language 2 are answered as they should be, {by}"
+    return f"{sum(len(table) for _, table in TABLES)} rows on language 2 are answered as they should be, {by_whom('Python')}"
 
 
 # ---- Language 1 with `language 2` in front
@@ -275,15 +273,13 @@ def in_front(folder: Path) -> str:
 
 def reports_in_front(folder: Path) -> str:
     """The examples of language 1 are answered by the same bytes with `language 2` in front, in both formats."""
-    if not reads_language_2():
-        return "skipped: no opprove is built that reads language 2"
-    path, count = folder / "row.op", 0
+    program, path, count = built(), folder / "row.op", 0
     for example in filter(lambda example: not is_second(example), [*EXAMPLES.glob("*.op"), *GALLERY.values()]):
         for words in ([], ["--format", "1"]):
             path.write_bytes(example.read_bytes())
-            answer = run(PROGRAM, "prove", path, *words)
+            answer = run(program, "prove", path, *words)
             path.write_bytes(b"language 2\n" + example.read_bytes())
-            need(run(PROGRAM, "prove", path, *words) == answer, (example, words, answer))
+            need(run(program, "prove", path, *words) == answer, (example, words, answer))
             count += 1
     need(count > 20, count)
     return f"{count} reports on the examples of language 1 have the same bytes with `language 2` in front"

@@ -1,20 +1,20 @@
 """Tries check_model.py and candidates.py, and compares them with `model` and `refute` of opprove where these are built."""
 from __future__ import annotations
 
-import functools
 import itertools
-import os
 import re
 import sys
 from pathlib import Path
-from typing import Callable, Iterator, List, Optional, Tuple
+from typing import Callable, Dict, Iterator, List, Optional, Tuple
 
 import trying_node
-from opprove import tool
 from opprove.checkers import candidates
 from opprove.checkers import check_model
 from opprove.checkers.check import Problem, Refusal
-from trying import GALLERY, PROGRAM, Answer, Skipped, checker, decided, main, need, run
+from trying import GALLERY, PROGRAM, Answer, built, by_whom, checker, decided, is_built, main, need, run, with_line
+from trying_second import Second
+
+SECOND = Second(check_model)
 
 MAPS = b"object U V\nmap p : U -> U self\nmap a : U -> V\nclaim a = 0\n"
 RIGHT = b"object U V\nmap a : U -> V\nmap b : V -> U\nassume a b = [V]\nclaim b a = [U]\n"
@@ -92,35 +92,23 @@ MODELS: List[Tuple[bytes, bytes, str]] = [
     (MAPS, b"model 1\nmodulus 3\n", "# refused K2 line 2\n"),
     (MAPS, b"model 1\nclaim 1\nend\n", "# refused K2 line 3\n"),
     (MAPS, b"model 1\nclaim 1\nmodulus 1\n", "# refused K2 line 3\n"),
-    (MAPS, model(b"claim 1\n"), "# refused K2 line 4\n"),
-    (MAPS, model(b"side U 0\n"), "# refused K2 line 4\n"),
-    (MAPS, model(b"side [U] 1\n"), "# refused K2 line 4\n"),
-    (MAPS, model(b"side U 1\nside U 1\n"), "# refused K2 line 5\n"),
-    (MAPS, model(b"map a = 1\nmap a = 3\n"), "# refused K2 line 5\n"),
-    (MAPS, model(b"map a =\n"), "# refused K2 line 4\n"),
-    (MAPS, model(b"map a 1\n"), "# refused K2 line 4\n"),
-    (MAPS, model(b"map a = 1 ;\n"), "# refused K2 line 4\n"),
-    (MAPS, model(b"map a = ; 1\n"), "# refused K2 line 4\n"),
-    (MAPS, model(b"map a = -1\n"), "# refused K2 line 4\n"),
-    (MAPS, model(b"map q = 7 0 ; 7\n"), "# refused K2 line 4\n"),
-    (MAPS, model(b"map a' = 1\n"), "# refused K2 line 4\n"),
-    (MAPS, model(b"map %s = 1\n" % (b"a" * 33)), "# refused K2 line 4\n"),
-    (MAPS, model(b"end 1\n"), "# refused K2 line 4\n"),
-    # names that are not declared, or are of the other kind
-    (MAPS, model(b"side W 65\n"), "# refused K3 line 4\n"),
-    (MAPS, model(b"side a 1\n"), "# refused K3 line 4\n"),
-    (MAPS, model(b"map U = 1\n"), "# refused K3 line 4\n"),
-    (MAPS, model(b"map %s = 3\n" % (b"a" * 32)), "# refused K3 line 4\n"),
-    # numbers past their bounds, and too many of them
     (MAPS, b"model 1\nclaim 4294967296\n", "# refused K4 line 2\n"),
     (MAPS, b"model 1\nclaim 1\nmodulus 2147483648\n", "# refused K4 line 3\n"),
-    (MAPS, model(b"map a = 1 3\n"), "# refused K4 line 4\n"),
-    (MAPS, model(b"map a = 3" + b" 1" * 64 + b"\n"), "# refused K4 line 4\n"),
-    (MAPS, model(b"side U 65\n"), "# refused K5 line 4 limit 64\n"),
-    (MAPS, model(b"map a = 1" + b" 1" * 64 + b"\n"), "# refused K5 line 4 limit 64\n"),
-    (MAPS, model(b"map a = 1" + b" ; 1" * 64 + b"\n"), "# refused K5 line 4 limit 64\n"),
-    (MAPS, model(b"map a = 1" + b" ; 1" * 63 + b"\nmap p = 1" + b" 1" * 63 + b"\n"), "# refused K6\n"),
 ]
+# Of MAPS what stands behind the head of a model, by what is said of it: lines that don't fit the grammar, names that are not declared or
+# of the other kind, numbers past their bounds, and too many of them.
+FAULTY_LINES: Dict[str, List[bytes]] = {
+    "# refused K2 line 4\n": [
+        b"claim 1\n", b"side U 0\n", b"side [U] 1\n", b"map a =\n", b"map a 1\n", b"map a = 1 ;\n", b"map a = ; 1\n",
+        b"map a = -1\n", b"map q = 7 0 ; 7\n", b"map a' = 1\n", b"map %s = 1\n" % (b"a" * 33), b"end 1\n",
+    ],
+    "# refused K2 line 5\n": [b"side U 1\nside U 1\n", b"map a = 1\nmap a = 3\n"],
+    "# refused K3 line 4\n": [b"side W 65\n", b"side a 1\n", b"map U = 1\n", b"map %s = 3\n" % (b"a" * 32)],
+    "# refused K4 line 4\n": [b"map a = 1 3\n", b"map a = 3" + b" 1" * 64 + b"\n"],
+    "# refused K5 line 4 limit 64\n": [b"side U 65\n", b"map a = 1" + b" 1" * 64 + b"\n", b"map a = 1" + b" ; 1" * 64 + b"\n"],
+    "# refused K6\n": [b"map a = 1" + b" ; 1" * 63 + b"\nmap p = 1" + b" 1" * 63 + b"\n"],
+}  # fmt: skip
+MODELS += [(MAPS, model(text), want) for want, texts in FAULTY_LINES.items() for text in texts]
 
 # Statements of searches, each with seeds: all candidates of a shape and draws, maps that are solved for and maps that
 # aren't, generators that have solutions and some that have none, claims that are refuted and claims that aren't.
@@ -173,50 +161,28 @@ GREEDY: List[str] = [
 # ---- Models
 
 
-@functools.lru_cache(maxsize=None)
-def knows(command: str) -> bool:
-    """Whether opprove is built and has `model` or `refute`. One that was built before they were answers by its usage."""
-    files = ["missing"] * (2 if command == "model" else 1)
-    return os.access(PROGRAM, os.X_OK) and run(PROGRAM, command, *files).status != 2
-
-
-def by_both(tool: str, command: str) -> str:
-    return f"by {tool} and by opprove" if knows(command) else f"by {tool} alone, as opprove {command} is not built"
-
-
-def said_of(statement: Path, text: Path) -> str:
-    """The report of check_model.py, which opprove has to give too, where it is asked."""
-    status, lines = tool.answer(check_model.report, [str(statement), str(text)])
-    out = "".join(f"{line}\n" for line in lines)
-    if knows("model"):
-        other = run(PROGRAM, "model", statement, text)
-        want = Answer(status, out, "")
-        need(other == want, (statement.read_bytes(), text.read_bytes(), want, other))
-    trying_node.agrees("model", statement, text, Answer(status, out, ""))
-    return out
-
-
 def models(folder: Path) -> str:
     """The table of models."""
     statement, text = folder / "statement.op", folder / "models"
     for words, evidence, want in MODELS:
         statement.write_bytes(words)
         text.write_bytes(evidence)
-        said = said_of(statement, text)
+        said = SECOND.agreed(statement, text).out
         need(said == want, (words, evidence, want, said))
     answer = run(*checker("check_model"), statement, text)
     need(answer == Answer(7, said, ""), answer)
-    return f"{len(MODELS)} texts of models are answered as worked out by hand, {by_both('check_model.py', 'model')}"
+    return f"{len(MODELS)} texts of models are answered as worked out by hand, by {SECOND.by_whom()}"
 
 
 def changed(text: str) -> Iterator[str]:
     """The text with one change: a line twice or not at all, or other numbers or names in it."""
-    lines = text.split("\n")
-    for place, line in enumerate(lines):
-        others = [re.sub("[0-9]+", "0", line), re.sub("[0-9]+", lambda match: str(int(match.group()) + 1), line)]
-        others += [re.sub(rf"\b{name}\b", other, line) for name, other in ("UV", "VU", "ax", "xa", "ba", "bp", "pa")]
-        for new in ([], [line, line], *([other] for other in others if other != line)):
-            yield "\n".join(lines[:place] + new + lines[place + 1 :])
+
+    def others(line: str) -> Iterator[List[str]]:
+        found = [re.sub("[0-9]+", "0", line), re.sub("[0-9]+", lambda match: str(int(match.group()) + 1), line)]
+        found += [re.sub(rf"\b{name}\b", other, line) for name, other in ("UV", "VU", "ax", "xa", "ba", "bp", "pa")]
+        yield from ([], [line, line], *([other] for other in found if other != line))
+
+    return with_line(text, others)
 
 
 def changed_models(folder: Path) -> str:
@@ -227,9 +193,9 @@ def changed_models(folder: Path) -> str:
         for other in changed(evidence.decode()) if want == CONFIRMED else []:
             statement.write_bytes(words)
             text.write_text(other)
-            need(said_of(statement, text).startswith("# "), (words, other))
+            need(SECOND.agreed(statement, text).out.startswith("# "), (words, other))
             count += 1
-    return f"{count} changed models are answered {by_both('check_model.py', 'model')}"
+    return f"{count} changed models are answered by {SECOND.by_whom()}"
 
 
 # ---- Searches
@@ -241,7 +207,7 @@ def confirmed(statement: Path, out: str, folder: Path) -> None:
     text.write_text(out, encoding="utf-8")
     claims = re.findall("^# claim ([0-9]+) refuted$", out, re.MULTILINE)
     want = "".join(f"# block {block} confirmed claim {claim}\n" for block, claim in enumerate(claims, 1))
-    said = said_of(statement, text)
+    said = SECOND.agreed(statement, text).out
     need(said == (want or "# refused K7\n"), (statement, out, said))
 
 
@@ -261,7 +227,7 @@ def searched(statement: Path, seed: int, folder: Path) -> None:
     except Refusal as refusal:
         lines, status = [str(refusal)], 3
     out = "".join(f"{line}\n" for line in lines)
-    if knows("refute"):
+    if is_built():
         other = run(PROGRAM, "refute", statement, "--seed", seed)
         need(other == Answer(status, out, ""), (statement.read_bytes(), seed, out, other))
     if status != 3:
@@ -278,12 +244,11 @@ def searches(folder: Path) -> str:
             count += 1
     answer = run(*checker("candidates"), GALLERY["one_sided_inverse"], "--seed", 5)
     need(answer == Answer(11, ONE_SIDED, ""), answer)
-    return f"{count} searches are made, and their models are confirmed, {by_both('candidates.py', 'refute')}"
+    return f"{count} searches are made, and their models are confirmed, {by_whom('candidates.py')}"
 
 
 def example_searches(folder: Path) -> str:
-    if not knows("refute"):
-        raise Skipped("opprove refute is not built, and its searches on the examples are not compared")
+    built()
     statements = decided()
     for statement in statements:
         searched(statement, 1, folder)

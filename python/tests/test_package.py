@@ -15,23 +15,22 @@ import subprocess
 import sys
 import xml.etree.ElementTree
 from pathlib import Path
+from functools import reduce
+from operator import mul
 from random import Random
-from typing import Callable, Dict, List, NamedTuple, Tuple
+from typing import Callable, Dict, List, NamedTuple, Tuple, Union
 
-sys.dont_write_bytecode = True
 from opprove import program as programs
+from opprove import text
 from opprove.checkers import check
+from opprove.text import StatementText
 import trying
-from opprove import Expression, NotTyped, Object, Refused, Report, Statement, Verdict, from_sympy
-from trying import EXAMPLES, GALLERY, PROGRAM, STATEMENTS, TESTS, TOP, Failed, Skipped, decided, need, run, tool, usage_line
-
-NAMED = os.environ.get("OPPROVE") or str(PROGRAM)
+from opprove import Equation, Expression, NotTyped, Object, Refused, Report, Statement, Verdict, from_sympy
+from trying import EXAMPLES, GALLERY, STATEMENTS, TESTS, TOP, Failed, Skipped, built, decided, need, run, tool, typeset, usage_line
 
 
 def program() -> str:
-    if not os.access(NAMED, os.X_OK):
-        raise Skipped("opprove is not built")
-    return NAMED
+    return str(built())
 
 
 # ---- Statements, built from objects
@@ -83,73 +82,42 @@ WRITTEN: List[Callable[["Statement"], None]] = [
 
 
 class Builder:
-    """Builds a statement by the operators of Python, token by token of a text. What is declared comes first."""
+    """Builds the statement of a file by the operators of Python. What is declared comes first."""
 
     def __init__(self, path: Path) -> None:
-        self.statement = Statement()
-        lines = [line.tokens for line in check.lines_of(str(path)) if line.tokens[0].text != "language"]
-        order = {"object": 0, "map": 1}
-        for self.tokens in sorted(lines, key=lambda tokens: order.get(tokens[0].text, 2)):
-            self.line([token.text for token in self.tokens[:-1]])
+        self.statement = s = Statement()
+        text = StatementText.read(str(path))
+        s.objects(" ".join(text.objects))
+        for one in text.maps.values():
+            s.map(one.name, s[one.source], s[one.target], self_adjoint=one.is_self)
+        equations = {"assume": (one for one in text.assumptions if one.word == "assume"), "claim": iter(text.claims)}
+        for line in text.lines:
+            words = [token.text for token in line.tokens[1:-1]]
+            if line.word in equations:
+                getattr(s, line.word)(self.equation(next(equations[line.word])))
+            elif line.word in ("pinv", "inverse", "inner", "projection", "solve", "eliminate"):
+                getattr(s, line.word)(*(s[name] for name in words))
+            elif line.word == "model":
+                s.shape(int(words[0]), *((s[name], int(side)) for name, side in zip(words[1::2], words[2::2])))
+            elif words[:1] == ["weight"]:
+                s.weights(*((s[name], int(weight)) for name, weight in zip(words[1::2], words[2::2])))
+            elif line.word == "order":
+                s.write("order degree")
 
-    def line(self, words: List[str]) -> None:
-        s, word, names = self.statement, words[0], words[1:]
-        if word == "object":
-            s.objects(" ".join(names))
-        elif word == "map":
-            place = names.index(":")
-            source, target = s[names[place + 1]], s[names[place + 3]]
-            s.maps(" ".join(names[:place]), source, target, self_adjoint=names[-1] == "self" and len(names) > place + 4)
-        elif word in ("assume", "claim"):
-            getattr(s, word)(self.equation())
-        elif word in ("pinv", "inverse", "inner", "projection", "solve", "eliminate"):
-            getattr(s, word)(*(s[name] for name in names))
-        elif word == "model":
-            s.shape(int(names[0]), *((s[name], int(side)) for name, side in zip(names[1::2], names[2::2])))
-        elif names[:1] == ["weight"]:
-            s.weights(*((s[name], int(weight)) for name, weight in zip(names[1::2], names[2::2])))
-        else:
-            s.write(" ".join(words))
-
-    def take(self, *kinds: str) -> str:
-        """The next token, if it is of one of these kinds."""
-        return self.tokens.pop(0).text if self.tokens[0].kind in kinds else ""
-
-    def equation(self) -> Equation:
-        self.take("name")
-        left = self.sum()
-        need(self.take("="), self.tokens)
-        right = self.sum()
+    def equation(self, one: text.Equation) -> Equation:
+        left, right = self.value(one.left), self.value(one.right)
         return (left * right if isinstance(left, int) else left) == right  # as 0 alone has no ends
 
-    def sum(self) -> Expression:
-        sign = self.take("+", "-")
-        total = -self.term() if sign == "-" else self.term()
-        while self.tokens[0].kind in ("+", "-"):
-            total = total + self.term() if self.take("+", "-") == "+" else total - self.term()
-        return total
-
-    def term(self) -> Expression:
-        number = self.take("literal")
-        value = None
-        while self.tokens[0].kind in ("name", "[", "("):
-            value = self.factor() if value is None else value * self.factor()
-        if value is None:
-            return int(number)
-        return int(number) * value if number else value
-
-    def factor(self) -> Expression:
-        if self.take("("):
-            value = self.sum()
-            self.take(")")
-        elif self.take("["):
-            value = self.statement[self.take("name")].id
-            self.take("]")
-        else:
-            value = self.statement[self.take("name")]
-        while mark := self.take("'", "^"):
-            value = value.H if mark == "'" else value ** int(self.take("literal"))
-        return value
+    def value(self, node: text.Expression) -> Union[Expression, int]:
+        parts = [self.value(part) for part in node.parts]
+        if node.kind == "sum":
+            pairs = zip(node.parts[1:], parts[1:])
+            return reduce(lambda total, pair: total - -pair[1] if pair[0].kind == "negative" else total + pair[1], pairs, parts[0])
+        return {
+            "map": lambda: self.statement[node.name], "identity": lambda: self.statement[node.name].id, "zero": lambda: 0,
+            "product": lambda: reduce(mul, parts), "scaled": lambda: node.number * parts[0], "negative": lambda: -parts[0],
+            "adjoint": lambda: parts[0].H, "power": lambda: parts[0] ** node.number,
+        }[node.kind]()  # fmt: skip
 
 
 def polys(problem: check.Problem) -> Tuple[object, ...]:
@@ -165,18 +133,17 @@ def problem_of(folder: Path, text: str) -> check.Problem:
 def gallery(folder: Path) -> str:
     """The statements from objects are those of the files, which are read and written back."""
     for build in WRITTEN:
-        build(built := Statement())
+        build(made := Statement())
         path = GALLERY[build.__name__]
-        need(polys(problem_of(folder, str(built))) == polys(check.Problem(str(path))), (path, str(built)))
-    paths = STATEMENTS
-    for path in paths:
-        built, read, problem = Builder(path).statement, Statement.read(path), check.Problem(str(path))
-        need(polys(problem_of(folder, str(built))) == polys(problem), (path, str(built)))
+        need(polys(problem_of(folder, str(made))) == polys(check.Problem(str(path))), (path, str(made)))
+    for path in STATEMENTS:
+        made, read, problem = Builder(path).statement, Statement.read(path), check.Problem(str(path))
+        need(polys(problem_of(folder, str(made))) == polys(problem), (path, str(made)))
         need(str(read) == path.read_text() and str(Statement.read(problem_file(folder, str(read)))) == str(read), path)
-        need(len(read.claims) == len(problem.claims) == len(built.claims), path)
-        lines = [[token.text for token in check.tokens_of(line, 1)] for line in str(built).split("\n")]
-        need({token for line in lines for token in line} >= {*built.names} and {*built.names} == {*read.names}, path)
-    return f"{len(paths)} statements are built from objects, {len(WRITTEN)} of them by hand, and read and written"
+        need(len(read.claims) == len(problem.claims) == len(made.claims), path)
+        lines = [[token.text for token in check.tokens_of(line, 1)] for line in str(made).split("\n")]
+        need({token for line in lines for token in line} >= {*made.names} and {*made.names} == {*read.names}, path)
+    return f"{len(STATEMENTS)} statements are built from objects, {len(WRITTEN)} of them by hand, and read and written"
 
 
 def problem_file(folder: Path, text: str) -> Path:
@@ -203,7 +170,8 @@ def heads(folder: Path) -> str:
         count += sum([confirmed(verdict) for verdict in verdicts + more])
         proofs += [verdict._repr_latex_() for verdict in verdicts if verdict]
     need(count >= 38 and len(paths) >= 12, (count, paths))
-    typeset(folder, proofs)
+    if shutil.which("pdflatex"):
+        typeset(proofs, folder)
     return f"{len(paths)} statements of the gallery have the head lines of its page; {count} verdicts are confirmed, and not with a change"
 
 
@@ -272,9 +240,6 @@ class Sample(NamedTuple):
 
     expression: Expression
     poly: Poly
-
-    def is_endomorphism(self) -> bool:
-        return self.expression.source is self.expression.target
 
 
 class Samples:
@@ -511,19 +476,8 @@ def notebook(folder: Path) -> str:
         if path.stem in ("pasted_squares", "one_sided_inverses", "pseudoinverses"):
             s = Statement.read(path.with_suffix(".op"))
             proofs.append(Verdict(1, s.claims[0], "proved", "denominator 1", path.read_text(), str(s))._repr_latex_())
-    by = "typeset by pdflatex" if typeset(folder, proofs) else "not typeset, as pdflatex is not installed"
-    return f"pictures are XML, and {len(proofs)} proofs are {by}"
-
-
-def typeset(folder: Path, proofs: List[str]) -> bool:
-    """Whether pdflatex is there to typeset them."""
-    head = [r"\documentclass{article}", r"\usepackage{amsmath}", r"\begin{document}"]
-    (folder / "proofs.tex").write_text("\n\n".join([*head, *proofs, r"\end{document}"]))
-    program = shutil.which("pdflatex")
-    if program:
-        answer = run(program, "-interaction=nonstopmode", "-halt-on-error", "proofs.tex", folder=folder)
-        need(answer.status == 0, answer)
-    return program is not None
+    typeset(proofs, folder)
+    return f"pictures are XML, and {len(proofs)} proofs are typeset by pdflatex"
 
 
 SHOWN = """\

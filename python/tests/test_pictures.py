@@ -10,9 +10,9 @@ from pathlib import Path
 from random import Random
 from typing import Callable, List
 
-from opprove.translations import picture as quiver
+from opprove.translations import picture
 from opprove.checkers.check import Problem
-from trying import EXAMPLES, STATEMENTS, Answer, Skipped, installed, main, need, run, tool
+from trying import EXAMPLES, STATEMENTS, Answer, Skipped, installed, main, need, run, tool, typeset
 
 
 # Statements whose pictures are hard: names beyond ASCII and long ones, many maps with the same ends, objects with no map,
@@ -27,7 +27,7 @@ HARD = [
 ]
 
 
-def is_right(shown: quiver.Picture) -> None:
+def is_right(shown: picture.Picture) -> None:
     """No two objects share a cell, no straight arrow runs over one, and arrows that are there and back are bent."""
     cells = shown.cells
     need(len({*cells}) == len(shown.objects) == len(cells), shown)
@@ -54,23 +54,23 @@ def drawn(folder: Path) -> str:
     paths = STATEMENTS + hard(folder)
     for path in paths:
         problem = Problem(str(path))
-        shown = quiver.picture_of(problem)
+        shown = picture.picture_of(problem)
         is_right(shown)
         maps = [name for arrow in shown.arrows for name in arrow.names]
         declared = [name for name in problem.names if name[0] != "[" and name[-1] != "'"]
         need(sorted(maps) == sorted(declared), (path, shown))
-        text = quiver.svg(shown)
+        text = picture.svg(shown)
         found = xml.etree.ElementTree.fromstring(text)
         words = [word for part in found.iter() if part.tag.endswith("}text") for word in re.split(",? ", (part.text or "").rstrip(","))]
         need(sorted(words) == sorted(declared + shown.objects), (path, words))
-        need(text == quiver.svg(quiver.picture_of(problem)), (path, "another picture the second time"))
+        need(text == picture.svg(picture.picture_of(problem)), (path, "another picture the second time"))
     return f"{len(paths)} statements are drawn: what is drawn is XML, with no object twice in a place or below a straight arrow"
 
 
 def known() -> str:
     """The places of two squares side by side, the stored picture of them, and what is wrong with words and statements."""
     path = EXAMPLES / "pasted_squares.op"
-    cells = quiver.picture_of(Problem(str(path))).cells
+    cells = picture.picture_of(Problem(str(path))).cells
     need(cells == [(0, 0), (1, 0), (2, 0), (0, 1), (1, 1), (2, 1)], cells)
     stored = (EXAMPLES / "tools" / "pasted_squares.svg").read_text()
     call = tool("picture")
@@ -90,7 +90,7 @@ def twelve() -> str:
     for count in (12, 20, 40):
         maps = [(f"a{number}", random.choice(objects), random.choice(objects)) for number in range(count)]
         start = time.process_time()
-        is_right(quiver.picture(objects, maps))
+        is_right(picture.picture(objects, maps))
         longest = max(longest, time.process_time() - start)
     need(longest < 2, f"{longest:.1f} s for twelve objects")
     return "twelve objects have their places within 2 s of processor time"
@@ -99,7 +99,7 @@ def twelve() -> str:
 def graphviz(folder: Path) -> str:
     program = installed("dot")
     for number, path in enumerate(STATEMENTS + hard(folder)):
-        (folder / "graph.dot").write_text(quiver.dot(quiver.picture_of(Problem(str(path)))), encoding="utf-8")
+        (folder / "graph.dot").write_text(picture.dot(picture.picture_of(Problem(str(path)))), encoding="utf-8")
         answer = run(program, "-Tsvg", folder / "graph.dot")
         need(answer.status == 0 and answer.out.rstrip().endswith("</svg>"), (path, answer))
     return f"{number + 1} graphs are read by dot"
@@ -107,13 +107,10 @@ def graphviz(folder: Path) -> str:
 
 def tikz(folder: Path) -> str:
     paths = [path for path in STATEMENTS + hard(folder) if path.read_text(encoding="utf-8").isascii()]
-    pictures = [quiver.tikz(quiver.picture_of(Problem(str(path)))) for path in paths]
-    head = [r"\documentclass{article}", r"\usepackage{amsmath}", r"\usepackage{tikz}", r"\begin{document}"]
-    (folder / "pictures.tex").write_text("\n\n".join([*head, *pictures, r"\end{document}"]))
+    pictures = [picture.tikz(picture.picture_of(Problem(str(path)))) for path in paths]
     if not Path("/usr/share/texlive/texmf-dist/tex/latex/pgf").exists() and run(installed("kpsewhich"), "tikz.sty").status:
         raise Skipped("TikZ is not installed")
-    answer = run(installed("pdflatex"), "-interaction=nonstopmode", "-halt-on-error", "pictures.tex", folder=folder)
-    need(answer.status == 0, answer)
+    typeset(pictures, folder, "tikz")
     return f"{len(pictures)} pictures are typeset by pdflatex with TikZ"
 
 

@@ -7,7 +7,6 @@ from __future__ import annotations
 import os
 import random
 import re
-import tempfile
 import unittest
 from pathlib import Path
 from typing import List
@@ -18,8 +17,7 @@ from opprove.search.chase import Letters, first_of
 from opprove.search.findings import is_accepted
 from opprove.search.proofs import Writer, takes
 from opprove.search.running import Program
-from searching import PROGRAM, accepted, needs_program, own_statement
-from searching import Answer as Printed
+from searching import PROGRAM, Answer, Asking, accepted, own_statement
 
 COUNT = int(os.environ.get("PLANTED", "10"))
 
@@ -40,12 +38,9 @@ def shuffled(draws: random.Random, lines: List[str]) -> str:
     return "".join(f"assume {line}\n" for line in lines)
 
 
-class Planted(unittest.TestCase):
+class Planted(Asking):
     def setUp(self) -> None:
-        needs_program(self)
-        holder = tempfile.TemporaryDirectory()
-        self.addCleanup(holder.cleanup)
-        self.folder = Path(holder.name)
+        super().setUp()
         self.program = Program(Path(PROGRAM))
 
     def test_cancellations(self) -> None:
@@ -68,11 +63,9 @@ class Planted(unittest.TestCase):
                 self.assertLessEqual(taken.get("epic", set()), set(epic.split()))
                 self.assertTrue(is_accepted(self.program, self.folder, text, Writer(found).block()))
 
-    def answer(self, made: "object", text: str, *words: str) -> Printed:
-        path = self.folder / "asked.op"
-        path.write_text(text)
-        lines, status = made([str(path), *words], self.folder)  # type: ignore[operator]
-        return Printed(status, "\n".join(lines) + "\n", "")
+    def answer(self, made: "object", text: str, *words: str) -> Answer:
+        lines, status = made([str(self.file(text)), *words], self.folder)  # type: ignore[operator]
+        return Answer(status, "\n".join(lines) + "\n", "")
 
     def test_solutions(self) -> None:
         """u = v k in other words: what u is said to be is v k by the assumptions."""

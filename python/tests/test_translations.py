@@ -6,7 +6,7 @@ import sys
 from pathlib import Path
 from typing import Callable, List
 
-from trying import EXAMPLES, Answer, Skipped, installed, main, need, run, stored, tool
+from trying import EXAMPLES, Answer, Skipped, installed, main, need, run, stored, tool, typeset
 
 TRANSLATIONS = {"singular": ".sing", "sympy": "_sympy.py", "latex": ".tex", "coq": ".v"}
 
@@ -51,11 +51,7 @@ def cofactors(folder: Path) -> str:
 
 def latex(folder: Path) -> str:
     body = [run(*tool("latex"), *words).out for words in stored()]
-    parts = [r"\documentclass{article}", r"\usepackage{amsmath}", r"\begin{document}", *body, r"\end{document}"]
-    (folder / "paper.tex").write_text("\n".join(parts))
-    words = ["-interaction=nonstopmode", "-halt-on-error", "paper.tex"]
-    answer = run(installed("pdflatex"), *words, folder=folder)
-    need(answer.status == 0, answer)
+    typeset(body, folder)
     return f"{len(body)} identities are typeset by pdflatex"
 
 

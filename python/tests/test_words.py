@@ -15,12 +15,12 @@ import sys
 import tempfile
 from pathlib import Path
 from typing import Callable, Dict, Iterator, List, NamedTuple, Tuple
+from unittest.mock import patch
 
-sys.dont_write_bytecode = True
 from opprove.words import calls, why
-from opprove.words import statement as why_statement
+from opprove.words.statement import RULES
 from opprove.checkers.check import Problem, Refusal
-from trying import GALLERY, PROGRAM, SOURCE, TOP, Answer, Skipped, decided, installed, main, need, reads_language_2, run, tool, usage_line
+from trying import GALLERY, PROGRAM, SOURCE, TOP, Answer, Skipped, decided, installed, is_built, main, need, run, tool, usage_line
 from opprove.words.parts import Screen, on_screen
 
 DATA = TOP / "python" / "tests" / "data"
@@ -105,15 +105,13 @@ def told(case: Case) -> str:
 
 
 def asked(case: Case) -> Tuple[int, str]:
-    program = os.environ.get("OPPROVE") or str(PROGRAM)
-    answer = run(program, *case.words, folder=Path.cwd())
+    answer = run(PROGRAM, *case.words, folder=Path.cwd())
     return answer.status, answer.out
 
 
 def is_run(case: Case) -> bool:
-    """Whether the program is built, reads the language of the case, and takes no long time for it."""
-    is_read = not case.files.get("s.op", "").startswith("language 2\n") or reads_language_2(Path(why.PROGRAM))
-    return is_read and case.name not in NOT_RUN and os.access(why.PROGRAM, os.X_OK)
+    """Whether the program is built, and takes no long time for the case."""
+    return case.name not in NOT_RUN and is_built()
 
 
 def write(folder: Path) -> None:
@@ -165,8 +163,8 @@ def edited(text: str, chance: random.Random) -> str:
 
 def answer_of(path: Path) -> str:
     """The line of opprove on a statement, or that of check.py where it isn't built."""
-    if os.access(why.PROGRAM, os.X_OK):
-        return run(why.PROGRAM, "prove", path, "--no-models", "--pairs", 1).out
+    if is_built():
+        return run(PROGRAM, "prove", path, "--no-models", "--pairs", 1).out
     try:
         Problem(str(path))
     except Refusal as refusal:
@@ -187,7 +185,7 @@ def edits(folder: Path, count: int = 100, seed: int = 1) -> str:
         faults += 1
         told = why.explanation(["prove", str(path)], why.Answer(3, line))
         need(len(told) == 1 and told[0].sentence.startswith(place[1] + ": "), (text, line, told))
-        need(told[0].sentence[len(place[1]) + 2 :] != why_statement.RULES[place[1]].text, (text, line, told))
+        need(told[0].sentence[len(place[1]) + 2 :] != RULES[place[1]].text, (text, line, told))
         if place[2]:
             need_caret(on_screen(told, SCREEN), text.split("\n")[int(place[2]) - 1], int(place[3]))
     return f"{faults} faults of {count} edits of the gallery are told with a caret at their column"
@@ -214,7 +212,7 @@ def editor(folder: Path) -> str:
     statement.write_text(FAULTY)
     program.write_text(STAND_IN)
     program.chmod(0o755)
-    with set_program(program):
+    with patch.dict(os.environ, OPPROVE=str(program)):
         for words, column in ((["--editor"], 9), (["--editor", "--bytes"], 10)):
             answer = run(*tool("why"), *words, statement)
             need(answer == Answer(3, f"{statement}:3:{column}: error: {SENTENCE}\n", ""), answer)
@@ -223,17 +221,6 @@ def editor(folder: Path) -> str:
         except Skipped as what:
             return f"a fault is told to editors by its line and column; {what}"
     return "a fault is told to editors by its line and column, and vim goes there"
-
-
-@contextlib.contextmanager
-def set_program(path: Path) -> Iterator[None]:
-    before = os.environ.get("OPPROVE")
-    os.environ["OPPROVE"] = str(path)
-    try:
-        yield
-    finally:
-        os.environ.pop("OPPROVE")
-        os.environ.update({} if before is None else {"OPPROVE": before})
 
 
 def vim(folder: Path, statement: Path) -> None:

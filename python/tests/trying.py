@@ -3,6 +3,7 @@ from __future__ import annotations
 
 import functools
 import os
+import re
 import shutil
 import subprocess
 import sys
@@ -33,7 +34,7 @@ STATEMENTS = sorted([*EXAMPLES.glob("**/*.op"), *GALLERY.values(), *LIBRARY.glob
 os.environ["PYTHONPATH"] = f"{SOURCE}:{TESTS}"  # for the scripts that are run
 # The program that OPPROVE names, and else that of a gate here, or of `./opprove build`.
 BUILT = [TOP / "crates" / "opprove" / "out" / "opprove", TOP / "out" / "opprove"]
-PROGRAM = Path(os.environ.get("OPPROVE") or next((path for path in BUILT if path.exists()), BUILT[1])).resolve()
+PROGRAM = Path(os.environ.get("OPPROVE") or str(next((path for path in BUILT if path.exists()), BUILT[1]))).resolve()
 
 
 class Failed(Exception):
@@ -67,11 +68,19 @@ def run(*words: object, folder: Path = TOP, seconds: int = 120) -> Answer:
     return Answer(done.returncode, done.stdout.decode(), done.stderr.decode())
 
 
-@functools.lru_cache(maxsize=None)
-def reads_language_2(program: Path = PROGRAM) -> bool:
-    """Whether the program is built, and reads statements of language 2."""
-    statement = GALLERY["drazin_commutes"]
-    return os.access(program, os.X_OK) and run(program, "check", statement, os.devnull).status == 7
+def is_built() -> bool:
+    return os.access(PROGRAM, os.X_OK)
+
+
+def built() -> Path:
+    """The program, without which a check is skipped."""
+    if not is_built():
+        raise Skipped("opprove is not built, and what is asked of it is not tried")
+    return PROGRAM
+
+
+def by_whom(tool: str) -> str:
+    return f"by {tool} and by opprove" if is_built() else f"by {tool} alone, as opprove is not built"
 
 
 def is_second(statement: Path) -> bool:
@@ -80,10 +89,17 @@ def is_second(statement: Path) -> bool:
 
 
 def decided() -> List[Path]:
-    """The statements of the examples and the gallery that prove decides by default: all but those for searches around the program, and
-    without those of language 2 where the program that is built doesn't read it."""
-    statements = sorted([*EXAMPLES.glob("*.op"), *GALLERY.values()])
-    return [path for path in statements if reads_language_2() or not is_second(path)]
+    """The statements of the examples and the gallery that prove decides by default: all but those for searches around the program."""
+    return sorted([*EXAMPLES.glob("*.op"), *GALLERY.values()])
+
+
+def typeset(bodies: Iterable[str], folder: Path, *packages: str) -> None:
+    """Has pdflatex set them; skipped where that isn't installed."""
+    head = [r"\documentclass{article}", *(rf"\usepackage{{{name}}}" for name in ("amsmath", *packages)), r"\allowdisplaybreaks"]
+    (folder / "typeset.tex").write_text("\n\n".join([*head, r"\begin{document}", *bodies, r"\end{document}"]))
+    words = ["-interaction=nonstopmode", "-halt-on-error", "typeset.tex"]
+    answer = run(installed("pdflatex"), *words, folder=folder, seconds=600)
+    need(answer.status == 0, answer)
 
 
 def stored() -> Iterator[Tuple[Path, Path]]:
@@ -92,6 +108,32 @@ def stored() -> Iterator[Tuple[Path, Path]]:
     evidence_texts = sorted([*EXAMPLES.glob("*.cert"), *EXAMPLES.glob("tools/*.cert")])
     for evidence in (path for path in evidence_texts if b"\ncertificate " in b"\n" + path.read_bytes()):
         yield next(path for path in statements if evidence.stem.startswith(path.stem)), evidence
+
+
+NUMBER = r"(?<![^ (])-?[0-9]+(?![^ )])"  # in a line of evidence
+LETTER = r"(?<=[( ])[^ ()0-9]+(?=[^()]*\) )|(?<=[( ])[^ ()0-9]+(?=[^()]*\)$)"  # in a row
+
+
+def with_line(text: str, others: Callable[[str], Iterable[List[str]]]) -> Iterator[str]:
+    """The text with one change: in the place of each line stands each of those lists of lines that are made of it."""
+    lines = text.split("\n")
+    for place, line in enumerate(lines):
+        for instead in others(line):
+            yield "\n".join([*lines[:place], *instead, *lines[place + 1 :]])
+
+
+def replaced(line: str, pattern: str, others: Callable[[str], Iterable[object]]) -> Iterator[List[str]]:
+    """The line with others in the place of what fits the pattern."""
+    for match in re.finditer(pattern, line):
+        yield from ([f"{line[: match.start()]}{other}{line[match.end() :]}"] for other in others(match.group()))
+
+
+def lowered(text: str, begins: Tuple[str, ...] = ("",)) -> Iterator[str]:
+    """The text with a line that begins so below the one after it."""
+    lines = text.split("\n")
+    for place, (line, below) in enumerate(zip(lines, lines[1:])):
+        if line.startswith(begins):
+            yield "\n".join([*lines[:place], below, line, *lines[place + 2 :]])
 
 
 def tool(word: str) -> List[str]:
@@ -104,7 +146,7 @@ def checker(name: str) -> List[str]:
     return [sys.executable, str(SOURCE / "opprove" / "checkers" / f"{name}.py")]
 
 
-def need(condition: bool, what: object) -> None:
+def need(condition: object, what: object) -> None:
     if not condition:
         raise Failed(str(what))
 

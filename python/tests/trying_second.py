@@ -1,19 +1,17 @@
-"""What test_explain.py, test_confirm.py and test_cancel.py share: a command and its second program, which have to answer by the same bytes."""
+"""What tests of the second checkers share: a command and its second program, which have to answer by the same bytes."""
 from __future__ import annotations
 
 import functools
-import os
 import re
 import subprocess
 from pathlib import Path
 from types import ModuleType
-from typing import NamedTuple, Optional, Sequence
+from typing import List, NamedTuple, Optional, Sequence
 
 import trying_node
 from opprove import tool
 from opprove.checkers import check
-from trying import PROGRAM as OPPROVE
-from trying import Answer, Skipped, build, checker, need, run
+from trying import PROGRAM, Answer, Skipped, build, checker, is_built, need, run
 
 SHOWN = 3000  # characters of a text that a failure shows
 # What plain.rs has no letters for, in a statement and in evidence.
@@ -54,31 +52,27 @@ class Second:
     def __init__(self, module: ModuleType, unread: "re.Pattern[str]" = UNREAD, unread_evidence: "re.Pattern[bytes]" = UNREAD_EVIDENCE) -> None:
         self.module, self.unread, self.unread_evidence = module, unread, unread_evidence
         self.name = module.__name__.split(".")[-1]
-        self.tool = checker(self.name)
-        self.has_third = self.name in trying_node.COMMANDS
-
-    def is_asked(self) -> bool:
-        """Whether a program is built that has the command."""
-        return has_command(self.name)
+        self.command, self.tool = self.name.replace("check_", ""), checker(self.name)
+        self.has_third = self.command in trying_node.COMMANDS
 
     def by_whom(self) -> str:
-        alone = f"{self.name}.py alone, as no opprove with `{self.name}` is built"
-        told = f"{self.name}.py and opprove" if self.is_asked() else alone
+        told = f"{self.name}.py and opprove" if is_built() else f"{self.name}.py alone, as opprove is not built"
         return f"{told}, {trying_node.by_node()}" if self.has_third else told
 
-    def answered(self, files: Files) -> Answer:
-        """The answer of the second program, with which the other programs have to agree."""
-        status, lines = tool.answer(self.module.report, [str(files.statement), str(files.evidence)])
+    def agreed(self, statement: Path, evidence: Path, plain: Optional[str] = None) -> Answer:
+        """The answer of the second program, with which the other programs have to agree, plain.rs where nothing is refused."""
+        status, lines = tool.answer(self.module.report, [str(statement), str(evidence)])
         answer = Answer(status, "".join(f"{line}\n" for line in lines), "")
-        others = [OPPROVE] if self.is_asked() else []
-        others += [files.plain] if files.plain and status == check.DONE and self.is_plain(files) else []
-        if self.has_third:
-            trying_node.agrees(self.name, files.statement, files.evidence, answer)
-        for program in others:
-            other = run(program, self.name, files.statement, files.evidence, seconds=600)
-            texts = files.statement.read_bytes()[:SHOWN], files.evidence.read_bytes()[:SHOWN]
+        if self.has_third and (self.command != "check" or b"cancellation " not in evidence.read_bytes()):
+            trying_node.agrees(self.command, statement, evidence, answer)
+        for program in [PROGRAM] * is_built() + [Path(plain or "")] * (plain is not None and status == check.DONE):
+            other = run(program, self.command, statement, evidence, seconds=600)
+            texts = statement.read_bytes()[:SHOWN], evidence.read_bytes()[:SHOWN]
             need(other == answer, (texts, answer.out[:SHOWN], other.out[:SHOWN], other.status, other.error))
         return answer
+
+    def answered(self, files: Files) -> Answer:
+        return self.agreed(files.statement, files.evidence, files.plain if self.is_plain(files) else None)
 
     def is_plain(self, files: Files) -> bool:
         """Whether plain.rs reads both files."""
@@ -89,7 +83,7 @@ class Second:
         """Files that aren't there or are too long, and words that aren't taken, as these more ones. The evidence is accepted."""
         files = Files(folder, None)
         files.write(statement, evidence)
-        programs = [self.tool] + ([[OPPROVE.resolve(), self.name]] if self.is_asked() else [])
+        programs: List[List[object]] = [[*self.tool], *([[PROGRAM, self.command]] * is_built())]
         with (folder / "long").open("wb") as file:
             file.truncate(2**26 + 1)
         for program in programs:
@@ -105,9 +99,4 @@ class Second:
             done = subprocess.run([*self.tool, files.statement, files.evidence], stdout=full, stderr=subprocess.PIPE)
             need((done.returncode, done.stderr) == (check.NO_OUTPUT, b""), done)
         return f"{len(programs) * 5 + 1} faulty calls of {self.name} are told"
-
-
-@functools.lru_cache(maxsize=None)
-def has_command(name: str) -> bool:
-    return os.access(OPPROVE, os.X_OK) and re.search(rf"\b{name}\b", run(OPPROVE).out) is not None
 

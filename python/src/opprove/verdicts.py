@@ -38,8 +38,8 @@ class Verdict:
     @property
     def denominator(self) -> Optional[int]:
         """That of a proof: the claim holds where it cancels."""
-        match = re.match(r"denominator (\d+)", self.detail)
-        return int(match.group(1)) if match else None
+        found = re.findall(r"^denominator (\d+)", self.detail)
+        return int(found[0]) if found else None
 
     @property
     def certificate(self) -> Optional[str]:
@@ -49,8 +49,8 @@ class Verdict:
     @property
     def modulus(self) -> Optional[int]:
         """That of the entries of a model."""
-        match = re.search(r"^modulus (\d+)$", self.block, re.MULTILINE)
-        return int(match.group(1)) if match else None
+        found = re.findall(r"^modulus (\d+)$", self.block, re.MULTILINE)
+        return int(found[0]) if found else None
 
     @property
     def sides(self) -> Dict[str, int]:
@@ -71,8 +71,7 @@ class Verdict:
     @property
     def rest(self) -> Optional[str]:
         """What these rules leave of the claim."""
-        match = re.search(r"^rest (.*)$", self.block, re.MULTILINE)
-        return match.group(1) if match else None
+        return next(iter(re.findall(r"^rest (.*)$", self.block, re.MULTILINE)), None)
 
     # ---- The tools in Python
 

@@ -9,7 +9,8 @@ from __future__ import annotations
 import random
 from typing import Callable, Dict, FrozenSet, Iterable, Iterator, List, NamedTuple, Optional, Tuple
 
-from opprove.checkers.check import Line, Poly, Problem, Token, check_names, fault, lines_of, read_lines
+from opprove.checkers.check import Line, Poly, Token, check_names, fault, lines_of
+from opprove.text import Map, StatementText
 
 WEIGHT_LIMIT = 1000
 DISTANCES = 3
@@ -25,30 +26,21 @@ class Equation(NamedTuple):
     pair: FrozenSet[str] = frozenset()  # the maps of the pinv, inverse or inner that says it
 
 
-class Map(NamedTuple):
-    name: str
-    source: str
-    target: str
-    is_self: bool
-
-
 class Statement:
     """A statement, taken apart: abbreviations are written out."""
 
     def __init__(self, path: str) -> None:
-        self.problem = problem = Problem(path)
-        self.text = "".join(line + "\n" for _, line in read_lines(path, "# refused S1 byte {}"))
-        self.objects = [name[1:-1] for name in problem.names if name[0] == "["]
-        self.maps: List[Map] = []
+        text = StatementText.read(path)
+        self.problem = problem = text.problem
+        self.text = "".join(f"{line.text}\n" for line in text.lines)
+        self.objects, self.maps = text.objects, list(text.maps.values())
         self.assumptions: List[Equation] = []
         self.claims: List[Equation] = []
         self.seconds: List[str] = []  # the second maps of pinv, inverse and inner
         self.others: List[List[str]] = []  # lines of other words: language, order, eliminate, solve, model
         polys = {False: iter(problem.assumptions), True: iter(problem.claims)}
         for line in problem.lines:
-            word, names = line.tokens[0].text, line.with_role("new_map")
-            ends, is_self = line.with_role("object"), line.with_role("self") != []
-            self.maps += [Map(name, ends[0], ends[1], is_self) for name in names]
+            word = line.tokens[0].text
             is_claim = word == "claim"
             equations = [self.equation(tokens, next(polys[is_claim])) for tokens in problem.equations(line)]
             (self.claims if is_claim else self.assumptions).extend(equations)

@@ -1,19 +1,20 @@
 """What why.py tells of the outcomes of claims: what was shown, by what, and what may help, as docs/COMMANDS.md and README have it."""
 from __future__ import annotations
 
+import functools
 import itertools
 import re
 import subprocess
 from typing import Callable, Dict, Iterator, List, NamedTuple, Optional, Tuple
 
 from opprove.checkers import check_model
-from opprove.checkers.check import Line, Problem, Refusal, add
+from opprove.checkers.check import Line, Problem, add
 from opprove.program import files, path
 from opprove.text import sections
 from opprove.translations import chain
 from opprove.words.calls import Call, typed
 from opprove.words.evidence import Text, matrices
-from opprove.words.parts import Quote, Told, counted, few, is_are, listed
+from opprove.words.parts import Quote, Rule, Told, counted, few, is_are, listed
 from opprove.words.statement import Statement
 
 SMALL_OBJECTS, SMALL_MAPS, SEARCH_SECONDS = 4, 10, 3  # of statements for which matrices are looked for at once
@@ -294,70 +295,55 @@ def helps(asked: Asked, cause: str) -> List[str]:
 
 # ---- All claims
 
-KINDS: Dict[str, Tuple[Callable[[Asked, Outcome], Told], str]] = {
-    "undecided": (undecided, "undecided"),
-    "refuted": (refuted, "refuted"),
-    "not derivable": (not_derivable, "not derivable"),
-    "not refuted": (not_refuted, "not refuted"),
-    "proved": (proved, "proved"),
-}
+KINDS: Dict[str, Callable[[Asked, Outcome], Told]] = {
+    "undecided": undecided, "refuted": refuted, "not derivable": not_derivable, "not refuted": not_refuted, "proved": proved,
+}  # fmt: skip
 
 
 def told_of(asked: Asked, report: str, briefly: bool = False) -> List[Told]:
     """Of each kind of outcome the first claim, or briefly its outcome alone, and the numbers of the others."""
-    found = outcomes(report)
-    told = []
-    for kind, (tell, name) in KINDS.items():
+    found, told = outcomes(report), []
+    for kind, tell in KINDS.items():
         of_kind = [outcome for outcome in found if outcome.kind == kind]
-        if not of_kind:
-            continue
-        try:
-            told.append(Told(f"claim {of_kind[0].claim} is {name}") if briefly else tell(asked, of_kind[0]))
-        except (Refusal, LookupError, StopIteration, ValueError, AttributeError, RecursionError):
-            told.append(Told(f"claim {of_kind[0].claim} is {name}"))
-        others = [str(outcome.claim) for outcome in of_kind[1:]]
-        if others:
-            told.append(Told(f"{'Claims' if len(others) > 1 else 'Claim'} {few(others, 12)} {is_are(len(others))} {name} too."))
+        for first in of_kind[:1]:
+            told.append(Rule(f"claim {first.claim} is {kind}", functools.partial(tell, asked)).told(first, None, briefly))
+        numbers = [str(outcome.claim) for outcome in of_kind[1:]]
+        if numbers:
+            told.append(Told(f"{'Claims' if len(numbers) > 1 else 'Claim'} {few(numbers, 12)} {is_are(len(numbers))} {kind} too."))
     return told
+
+
+BLOCK = re.compile("^# block [0-9]+ (accepted|explained|confirmed|closed) claim ([0-9]+)(?: denominator ([0-9]+))?( sharp)?", re.MULTILINE)
+NO_MORE = "This says nothing of matrices of finite size, nor of involutions for which r' r = 0 gives r = 0."
 
 
 def told_of_blocks(text: Text, report: str) -> List[Told]:
     """What the lines on accepted, explained, confirmed and closed blocks say."""
-    accepted = re.findall("^# block ([0-9]+) accepted claim ([0-9]+) denominator ([0-9]+)(?: (?:monic|epic) .*)?$", report, re.MULTILINE)
-    explained = re.findall("^# block ([0-9]+) explained claim ([0-9]+) denominator ([0-9]+) steps [0-9]+$", report, re.MULTILINE)
-    confirmed = re.findall("^# block ([0-9]+) confirmed claim ([0-9]+)$", report, re.MULTILINE)
-    if accepted and text.kind == "cancellation":
-        return [told_of_cancelled(accepted)]
-    if accepted:
-        scales = sorted({int(it[2]) for it in accepted if it[2] != "1"})
-        where = f"it is zero wherever the generators are{' and its denominator cancels' if scales else ''}"
-        told = f"{counted(len(accepted), 'certificate')} {is_are(len(accepted))} accepted, of {claims([it[1] for it in accepted])}"
-        return [Told(f"{told}: each adds up to its claim, so {where}", None, denominators(scales))]
-    if explained:
-        scales = sorted({int(it[2]) for it in explained if it[2] != "1"})
-        where = f"it is zero wherever the generators are{' and its denominator cancels' if scales else ''}"
-        told = f"{counted(len(explained), 'chain')} of {claims([it[1] for it in explained])}"
-        return [Told(f"{told}: each leads from its claim down to 0, so {where}", None, denominators(scales))]
-    if confirmed:
-        told = f"{counted(len(confirmed), 'model')} {is_are(len(confirmed))} confirmed, of {claims([it[1] for it in confirmed])}"
+    found = BLOCK.findall(report)
+    kind, count, numbers = found[0][0] if found else "", len(found), claims([claim for _, claim, _, _ in found])
+    scales = sorted({int(scale) for _, _, scale, _ in found if scale not in ("", "1")})
+    where = f"it is zero wherever the generators are{' and its denominator cancels' if scales else ''}"
+    if kind == "accepted" and text.kind == "cancellation":
+        where = where.replace(" and its", ", its") + " and the maps are monic and epic that its line names so"
+        meaning = "A map m is monic where m n = 0 holds for n = 0 only, and epic where n m = 0 does."
+        told = f"{counted(count, 'proof')} {is_are(count)} accepted, of {numbers}: each adds up to its claim, so {where}"
+        return [Told(told, None, (meaning, *denominators(scales)))]
+    if kind == "accepted":
+        told = f"{counted(count, 'certificate')} {is_are(count)} accepted, of {numbers}: each adds up to its claim, so {where}"
+        return [Told(told, None, denominators(scales))]
+    if kind == "explained":
+        told = f"{counted(count, 'chain')} of {numbers}: each leads from its claim down to 0, so {where}"
+        return [Told(told, None, denominators(scales))]
+    if kind == "confirmed":
+        told = f"{counted(count, 'model')} {is_are(count)} confirmed, of {numbers}"
         return [Told(f"{told}: the matrices make all assumptions zero, and the claim not")]
-    closed = re.findall("^# block ([0-9]+) closed claim ([0-9]+)( sharp)?$", report, re.MULTILINE)
-    if closed:
-        bases = f"{len(closed):,} {'basis is' if len(closed) == 1 else 'bases are'} closed, of {claims([it[1] for it in closed])}"
+    if kind == "closed":
+        bases = f"{count:,} {'basis is' if count == 1 else 'bases are'} closed, of {numbers}"
+        sharp = f"{sum(it != '' for _, _, _, it in found):,} of {count:,} sharp: the rules make a preadditive category that tells"
+        sharp += " the claim from zero, and one with an involution where the file is starred."
         told = f"{bases}: no positive multiple of it is a sum of rows over the generators, whatever their words"
-        sharp = f"{sum(it[2] != '' for it in closed):,} of {len(closed):,} sharp: the rules make a preadditive category that tells the claim from zero,"
-        sharp += " and one with an involution where the file is starred."
-        return [Told(told, None, (sharp, "This says nothing of matrices of finite size, nor of involutions for which r' r = 0 gives r = 0."))]
+        return [Told(told, None, (sharp, NO_MORE))]
     return []
-
-
-def told_of_cancelled(accepted: List[Tuple[str, str, str]]) -> Told:
-    """What the lines on accepted proofs say that take letters off."""
-    scales = sorted({int(it[2]) for it in accepted if it[2] != "1"})
-    where = f"it is zero wherever the generators are{', its denominator cancels' if scales else ''} and the maps are monic and epic that its line names so"
-    told = f"{counted(len(accepted), 'proof')} {is_are(len(accepted))} accepted, of {claims([it[1] for it in accepted])}: each adds up to its claim, so {where}"
-    meaning = "A map m is monic where m n = 0 holds for n = 0 only, and epic where n m = 0 does."
-    return Told(told, None, (meaning, *denominators(scales)))
 
 
 def denominators(scales: List[int]) -> Tuple[str, ...]:

@@ -6,9 +6,11 @@ import functools
 import itertools
 import re
 import unicodedata
+from collections import defaultdict
 from typing import Dict, List, NamedTuple, Optional, Set, Tuple
 
 from opprove.checkers.check import WORDS, Line, Problem, Refusal, Token, language_of, tokens_of
+from opprove.text.expressions import Parser
 from opprove.words.meant import Typed, meant
 from opprove.words.parts import LIMIT_OF_NUMBERS, Quote, Rule, Told, article, counted, did_you_mean, few, listed, ordinal, short
 
@@ -332,12 +334,11 @@ def primary_end(tokens: List[Token], place: int) -> int:
     return end
 
 
-def factor_end(tokens: List[Token], place: int) -> int:
-    """The same, with the marks after it."""
-    end = primary_end(tokens, place)
-    while tokens[end].kind in ("'", "^"):
-        end += 1 if tokens[end].kind == "'" else 2
-    return end
+def end_of(part: str, tokens: List[Token], place: int) -> int:
+    """Behind the last token of the factor, or the term, that begins here."""
+    parser = Parser(tokens, defaultdict(lambda: ("", "")), place)
+    getattr(parser, part)()
+    return parser.place
 
 
 def base_start(tokens: List[Token], place: int) -> int:
@@ -350,15 +351,6 @@ def base_start(tokens: List[Token], place: int) -> int:
     return start
 
 
-def term_end(tokens: List[Token], place: int) -> int:
-    """Behind the last factor of the term that begins here."""
-    end = place + (tokens[place].kind in ("+", "-"))
-    end += tokens[end].kind == "literal"
-    while tokens[end].kind in ("name", "[", "("):
-        end = factor_end(tokens, end)
-    return end
-
-
 def composed(fault: Fault) -> str:
     """Of a product, or of an abbreviation, whose faults stand at its first word."""
     left, right = fault.sides()
@@ -369,7 +361,7 @@ def composed(fault: Fault) -> str:
         base = fault.text(base_start(tokens, place), place)
         return f"{base}^{tokens[place + 1].text}: a power asks for a map from one object to itself, and {base} goes {leads(left)}"
     start = term_start(tokens, place)
-    front, factor = fault.text(start, place), fault.text(place, factor_end(tokens, place))
+    front, factor = fault.text(start, place), fault.text(place, end_of("factor", tokens, place))
     goes = f"{front} goes {leads(left)}, so the one after it has to end at {left[0]}, and {factor} ends at {right[1]}"
     return f"{short(f'{front} {factor}')}: {goes}"
 
@@ -394,7 +386,7 @@ def equal_ends(fault: Fault) -> str:
         sides = fault.text(1, equals), fault.text(place, len(tokens) - 1)
         one, goes = "both sides of an equation", f"{sides[0]} goes {leads(left)}, and {sides[1]} goes {leads(right)}"
     else:
-        term = fault.text(place, term_end(tokens, place))
+        term = fault.text(place, end_of("term", tokens, place))
         one, goes = "the terms of a sum", f"before this one it goes {leads(left)}, and {term} goes {leads(right)}"
     if left == right[::-1]:
         more = "; the adjoint of the second goes as the first does"
@@ -405,18 +397,15 @@ def open_zero(fault: Fault) -> str:
     tokens, place = fault.tokens(), fault.place()
     equals = next((at for at, token in enumerate(tokens) if token.kind == "="), 0)
     end = primary_end(tokens, place)
-    if any(token.kind == "literal" and int(token.text) > 1 for token in tokens[end : factor_end(tokens, place)]):
+    if any(token.kind == "literal" and int(token.text) > 1 for token in tokens[end : end_of("factor", tokens, place)]):
         base = fault.text(place, end)
         return f"the base of a power has a source and a target, and {base} has none: a 0 alone takes those of what it is added to"
-    if place == 1 and tokens[factor_end_or(tokens, place)].kind not in ("name", "[", "("):
+    first = "factor" if tokens[place].kind in ("name", "[", "(") else "term"
+    if place == 1 and tokens[end_of(first, tokens, place + (tokens[place].kind in ("+", "-")))].kind not in ("name", "[", "("):
         sides = f"neither {fault.text(1, equals)} nor {fault.text(equals + 1, len(tokens) - 1)} does"
         return f"one side of an equation has to say its source and target, and {sides}: 0 alone has none"
-    factor = fault.text(place, factor_end(tokens, place))
+    factor = fault.text(place, end_of("factor", tokens, place))
     return f"a factor of a product has a source and a target, and {factor} has none: a 0 alone takes those of what it is added to"
-
-
-def factor_end_or(tokens: List[Token], place: int) -> int:
-    return term_end(tokens, place) if tokens[place].kind in ("+", "-", "literal") else factor_end(tokens, place)
 
 
 def equation(fault: Fault) -> str:

@@ -16,7 +16,7 @@ import os
 import signal
 import subprocess
 import sys
-from typing import List, NamedTuple, Optional, Tuple
+from typing import List, NamedTuple, Optional
 
 from opprove.program import path as path_of_program
 from opprove.text import EvidenceText
@@ -25,6 +25,7 @@ from opprove.words.parts import Screen, Told, on_screen
 
 PROGRAM = path_of_program()
 PATIENCE = 2  # seconds for an explanation, and three times as many at a terminal; what takes longer is told by its status alone
+REPORTED = (0, 2, 3, 4, 5, 7, 10, 11, 12, 13)  # statuses that come with a report
 KEPT = 1 << 26  # bytes of a report that are read
 
 
@@ -108,7 +109,7 @@ def run_and_pass(words: List[str]) -> Answer:
     status = program.wait()
     for number in (signal.SIGINT, signal.SIGTERM, signal.SIGHUP):
         signal.signal(number, signal.SIG_DFL)
-    return Answer(5 if failed and status in why_statuses() else status, b"".join(parts).decode(errors="surrogateescape"))
+    return Answer(5 if failed and status in REPORTED else status, b"".join(parts).decode(errors="surrogateescape"))
 
 
 def hand_on_signals(program: "subprocess.Popen[bytes]") -> None:
@@ -116,11 +117,6 @@ def hand_on_signals(program: "subprocess.Popen[bytes]") -> None:
     signal.signal(signal.SIGINT, signal.SIG_IGN)
     for number in (signal.SIGTERM, signal.SIGHUP):
         signal.signal(number, lambda it, _: program.send_signal(it))
-
-
-def why_statuses() -> Tuple[int, ...]:
-    """Those that come with a report."""
-    return 0, 2, 3, 4, 5, 7, 10, 11, 12, 13
 
 
 def is_written(part: bytes) -> bool:
