@@ -1,5 +1,5 @@
 -- Each basis has exactly one outcome: it is closed, or one of its tests is the first that fails.
-use Rattle.std.proofs.Common.{◌≡◌, ◌≢◌, ◌⊎◌, inl, inr, ◌<◌, ◌≤◌, ℕ, zero, ◌+◌, ◌-◌, Bool, true, false, List, [], ◌∷◌, length, take, get_or, slice_get, Some, Result, Ok, Err, IfErr, All, Contains, refl, sym, ap}
+use Rattle.std.proofs.Common.{◌≡◌, ◌≢◌, ◌⊎◌, inl, inr, ◌<◌, ◌≤◌, ℕ, ◌+◌, ◌-◌, Bool, true, false, List, [], ◌∷◌, length, take, get_or, slice_get, Some, Result, Ok, Err, IfErr, All, Contains, refl, sym, ap}
 use Rattle.std.proofs.Common.{◌∙◌, subst, arith}
 use Rattle.std.proofs.Props as std
 use Rattle.std.specs.Ordering.{int_eq}
