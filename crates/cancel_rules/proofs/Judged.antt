@@ -1,5 +1,5 @@
 -- Each proof has exactly one outcome: it is accepted, or one of its tests is the first that fails.
-use Rattle.std.proofs.Common.{◌≡◌, ◌⊎◌, inl, inr, ℕ, ◌+◌, ◌≤◌, ℤ, List, [], ◌∷◌, ◌++◌, length, All, None, refl, sym, subst, ap, arith}
+use Rattle.std.proofs.Common.{◌≡◌, ◌⊎◌, inl, inr, ℕ, ◌+◌, ◌≤◌, ℤ, List, [], ◌∷◌, ◌++◌, length, All, refl, sym, subst, ap, arith}
 use Rattle.std.specs.List.{Contains}
 use Rattle.std.proofs.lemmas.Bool.{cases_eq}
 use Rattle.std.proofs.lemmas.List.Elements.{Contains-append_right, Contains-append_cases, Contains-push_cases}
@@ -31,7 +31,7 @@ use Rattle.cancel_rules.specs.declared.refusal.CancelRefusal.{CancelRefusal}
 use Rattle.cancel_rules.specs.declared.refusal.CancelRefusal.TheVariants as refusal
 use Rattle.cancel_rules.specs.Cancellations.{declared_for}
 use Rattle.cancel_rules.specs.Items.{stripped, item_polynomial, row_total, rows_in, HasAtEnd, IsDeclaredLetter, IsTypedItem, ComesOff, InCommon, CancelPasses, RefusesCancel, ItemPasses, ItemsPass, RefusesItem, RefusesItems}
-use Rattle.cancel_rules.specs.Acceptance.{claim_named, all_items, OfLemma, HasPositiveScales, CancelIsPosed, CancelHasShares, CancelBegins, HasItems, AcceptsCancellation, IsFirstLooseItem, CancelHasLooseGoal, RefusesBeginning, RefusesParts, RefusesCommon, RefusesCancellation, IsMemory}
+use Rattle.cancel_rules.specs.Acceptance.{claim_named, all_items, OfLemma, HasPositiveScales, CancelIsPosed, CancelHasShares, CancelBegins, AcceptsCancellation, IsFirstLooseItem, CancelHasLooseGoal, RefusesBeginning, RefusesParts, RefusesCommon, RefusesCancellation, IsMemory}
 use Rattle.cancel_rules.specs.Laws.{CancellationIsJudged, CancellationRefusalIsUnique, AcceptedCancellationIsNotRefused}
 use Rattle.cancel_rules.proofs.Outcomes.{refuses_from_beginning, refuses_from_items, refuses_from_goal}
 use Rattle.cancel_rules.proofs.Typing.{has_signature_or}

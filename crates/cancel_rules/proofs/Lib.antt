@@ -9,7 +9,6 @@ pub mod Judged
 pub mod Letters
 pub mod Steps
 pub mod Marking
-pub mod Ends
 pub mod Divides
 pub mod Signed
 pub mod Found

@@ -1,22 +1,11 @@
 -- Tables that mark letters, one letter after another.
-use Rattle.std.proofs.Common.{◌≡◌, ◌≢◌, ◌⊎◌, inl, inr, ℕ, zero, suc, ◌<◌, Bool, true, false, List, [], ◌∷◌, ◌++◌, length, get_or, set, replicate, refl, sym, ap, subst, ◌∙◌, arith}
+use Rattle.std.proofs.Common.{◌≡◌, ◌≢◌, ◌⊎◌, inl, inr, ℕ, ◌<◌, Bool, true, false, List, [], ◌∷◌, ◌++◌, length, get_or, set, sym, ap, subst, ◌∙◌}
 use Rattle.std.specs.List.{Contains}
 use Rattle.std.proofs.lemmas.Bool.{cases_eq}
 use Rattle.std.proofs.lemmas.List.{get_or-set_same, get_or-set_other}
 use Rattle.std.proofs.lemmas.List.Elements.{Contains-push, Contains-push_cases, Contains-append_left}
 use Rattle.word_core.specs.declared.letter.Letter.{Letter}
 use Rattle.cancel_rules.specs.Inner.{MarksLetters}
-
-none_marked : (n b : ℕ) → get_or (replicate n false) b false ≡ false
-none_marked zero b = refl
-none_marked (suc n) zero = refl
-none_marked (suc n) (suc b) = none_marked n b
-
-clash : (b : Bool) → b ≡ true → b ≡ false → ⊥
-clash b one other = absurd (cc)
-
-pub nothing_marked : (n : ℕ) → MarksLetters [] (replicate n false)
-nothing_marked n = record { each = λ a. (λ is. absurd (clash (get_or (replicate n false) a.0 false) is (none_marked n a.0)), λ h. let inside = h.1 in absurd (omega arith)) }
 
 pub one_more : (letters : List Letter) (a : Letter) (marks : List Bool) → a.0 < length marks → MarksLetters letters marks → MarksLetters (letters ++ a ∷ []) (set marks a.0 true)
 one_more letters a marks inside so_far = record { each = λ b. by b (cases_eq b.0 a.0) }

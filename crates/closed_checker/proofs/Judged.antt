@@ -1,11 +1,11 @@
 -- Each basis has exactly one outcome: it is closed, or one of its tests is the first that fails.
-use Rattle.std.proofs.Common.{◌≡◌, ◌≢◌, ◌⊎◌, inl, inr, ◌<◌, ◌≤◌, ℕ, zero, suc, ◌+◌, ◌-◌, Bool, true, false, List, [], ◌∷◌, length, take, get_or, slice_get, Some, Result, Ok, Err, IfErr, All, Contains, refl, sym, ap}
+use Rattle.std.proofs.Common.{◌≡◌, ◌≢◌, ◌⊎◌, inl, inr, ◌<◌, ◌≤◌, ℕ, ◌+◌, ◌-◌, Bool, true, false, List, [], ◌∷◌, length, take, get_or, slice_get, Some, Result, Ok, Err, IfErr, All, Contains, refl, sym, ap}
 use Rattle.std.proofs.Common.{◌∙◌, subst, arith}
 use Rattle.std.proofs.Props as std
 use Rattle.std.specs.Ordering.{int_eq}
 use Rattle.std.proofs.lemmas.Bool.Decides.{Decides-int_eq}
 use Rattle.std.proofs.lemmas.List.{get_or-take, length-take-le}
-use Rattle.std.proofs.lemmas.Option.{slice_get_within, slice_get-get_or, get_or_from_slice_get}
+use Rattle.std.proofs.lemmas.Option.{slice_get-get_or, get_or_from_slice_get}
 use Rattle.definitions.specs.Poly.{Term, word_eq}
 use Rattle.definitions.proofs.Linear.{word_eq-same, word_eq-true}
 use Rattle.common_lemmas.proofs.Decided.{IsDecided, decided_by, both_decided, le_decided}
@@ -19,7 +19,6 @@ use Rattle.rule_reduce.specs.declared.fault.ReduceFault.{ReduceFault}
 use Rattle.rule_reduce.specs.declared.fault.ReduceFault.TheVariants as halt
 use Rattle.rule_reduce.specs.NormalForms as reduce
 use Rattle.ambiguities.specs.declared.ambiguity.Ambiguity.{Ambiguity}
-use Rattle.ambiguities.specs.Ambiguities.{IsAmbiguity}
 use Rattle.ambiguities.specs.Order.{IsBeforeByWord}
 use Rattle.closed_checker.specs.ListLaws.{CanBeListed}
 use Rattle.closed_checker.proofs.Lists.{ambiguities_can_be_listed}
@@ -30,7 +29,7 @@ use Rattle.closed_checker.specs.declared.part.Part.TheVariants as part
 use Rattle.closed_checker.specs.declared.refusal.ClosedRefusal.{ClosedRefusal}
 use Rattle.closed_checker.specs.declared.refusal.ClosedRefusal.TheVariants as refusal
 use Rattle.closed_checker.specs.Rests.{order_of, rules_of, rest_of, MayBeRule}
-use Rattle.closed_checker.specs.Closed.{IsNumberUpTo, NamesClaim, HasRules, LeavesZero, IsClosedBasis, ComesBefore, Reaches, LacksRule, IsCauseOf, Refuses, IsMemory}
+use Rattle.closed_checker.specs.Closed.{NamesClaim, HasRules, LeavesZero, IsClosedBasis, ComesBefore, Reaches, LacksRule, IsCauseOf, Refuses, IsMemory}
 use Rattle.closed_checker.specs.Working.{GeneratorsPass, AmbiguitiesPass}
 use Rattle.closed_checker.specs.Laws.{EachBasisIsJudged, BasisRefusalIsUnique, ClosedBasisIsNotRefused}
 use Rattle.completion_laws.proofs.Ends.{Gives}

@@ -1,9 +1,9 @@
 -- Evidence of either format has exactly one outcome: it is accepted, or one of its tests is the first that fails.
-use Rattle.std.proofs.Common.{◌≡◌, ◌⊎◌, inl, inr, ℕ, ◌+◌, ℤ, pos, ◌≤ℤ◌, List, [], length, All, Option, Some, None, Result, Ok, Err, IfErr, refl, sym, subst, ap, arith}
+use Rattle.std.proofs.Common.{◌≡◌, ◌⊎◌, inl, inr, ℕ, ◌+◌, pos, ◌≤ℤ◌, List, [], length, All, Option, Some, None, Result, Ok, Err, IfErr, refl, sym, subst, ap, arith}
 use Rattle.std.proofs.lemmas.Int.{ints}
 use Rattle.coef_int.specs.declared.Overflow.{Overflow}
 use Rattle.coef_int.specs.Operations.{first_overflow}
-use Rattle.definitions.specs.Poly.{Poly, poly_multiple, SamePolynomial}
+use Rattle.definitions.specs.Poly.{Poly, poly_multiple}
 use Rattle.definitions.specs.Combination.{row_sum}
 use Rattle.nc_polynomial.specs.Terms.{products}
 use Rattle.traced_rows.specs.declared.certificate.Certificate.{Certificate}
@@ -19,7 +19,7 @@ use Rattle.cofactor_checker.specs.RowRefusals.{RefusesRow}
 use Rattle.cofactor_checker.specs.Lemmas.{LemmasPass, RefusesLemmaRows, RefusesLemmas, row_count}
 use Rattle.cofactor_checker.specs.Acceptance.{claim_of, Begins, Accepts, Refuses, IsMemory}
 use Rattle.cofactor_checker.specs.LemmaAcceptance.{goal_claim, all_polynomials, HasScale, IsTight, IsPositive, GoalIsPosed, HasShares, GoalBegins, IsFirstLoose, HasLooseGoal, AcceptsLemmas, RefusesBlock, RefusesLemmaCertificate}
-use Rattle.cofactor_checker.specs.Goals.{ReachesClaim, RefusesGoal}
+use Rattle.cofactor_checker.specs.Goals.{RefusesGoal}
 use Rattle.cofactor_checker.specs.Evidence.{AcceptsEvidence, RefusesEvidence}
 use Rattle.cofactor_checker.specs.Laws.{EachCertificateIsJudged, RefusalIsUnique, EvidenceIsJudged, EvidenceRefusalIsUnique, AcceptedEvidenceIsNotRefused}
 use Rattle.cofactor_checker.specs.declared.refusal.Refusal.{Refusal}

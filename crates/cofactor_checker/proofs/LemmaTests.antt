@@ -1,5 +1,5 @@
 -- Lemmas, one after another: exactly one outcome.
-use Rattle.std.proofs.Common.{◌≡◌, ◌⊎◌, inl, inr, ℕ, zero, suc, ◌+◌, ◌<◌, ◌≤◌, ◌%◌, nat_eq, nat_lt, ℤ, pos, negsuc, ◌≤ℤ◌, ◌<ℤ◌, List, [], ◌∷◌, ◌++◌, length, Bool, true, false, cond, Result, Ok, Err, refl, sym, subst, ap, ◌∙◌, arith}
+use Rattle.std.proofs.Common.{◌≡◌, ◌⊎◌, inl, inr, ℕ, zero, suc, ◌+◌, ◌≤◌, ◌%◌, nat_eq, nat_lt, ℤ, pos, negsuc, ◌≤ℤ◌, ◌<ℤ◌, List, [], ◌∷◌, ◌++◌, length, Bool, true, false, cond, Result, Ok, Err, refl, sym, subst, ap, ◌∙◌, arith}
 use Rattle.std.specs.Int.{◌∣◌}
 use Rattle.std.specs.Int.RustNames.{unsigned_abs}
 use Rattle.std.proofs.lemmas.Int.{ints}
@@ -15,7 +15,7 @@ use Rattle.traced_rows.specs.declared.evidence.Lemma.{Lemma}
 use Rattle.common_lemmas.proofs.Decided.{IsDecided, le_decided}
 use Rattle.common_lemmas.proofs.FirstFailure.{HasOneOutcome, no_test, one_test, then_test, reworded}
 use Rattle.cofactor_checker.specs.PlainRows.{plain_sum}
-use Rattle.cofactor_checker.specs.Lemmas.{LemmaRowsPass, lemma_polynomial, term_total, kept_limit, IsDivisible, LemmaPasses, LemmasPass, RefusesLemmaRows, IsLeastIndivisible, RefusesLemma, RefusesLemmas}
+use Rattle.cofactor_checker.specs.Lemmas.{LemmaRowsPass, lemma_polynomial, term_total, kept_limit, LemmaPasses, LemmasPass, RefusesLemmaRows, IsLeastIndivisible, RefusesLemma, RefusesLemmas}
 use Rattle.cofactor_checker.specs.Acceptance.{IsMemory}
 use Rattle.cofactor_checker.specs.declared.refusal.Refusal.{Refusal}
 use Rattle.cofactor_checker.specs.declared.refusal.Refusal.TheVariants as refusal

@@ -1,5 +1,5 @@
 -- what the steps of a check mean for its outcome
-use Rattle.std.proofs.Common.{◌≡◌, ℕ, ℤ, pos, ◌*ℤ◌, ◌≤ℤ◌, List, length, slice_get, Some, None, inl, inr, sym, ap, ◌∙◌, arith}
+use Rattle.std.proofs.Common.{◌≡◌, ℕ, ℤ, pos, ◌*ℤ◌, ◌≤ℤ◌, List, length, slice_get, Some, None, inr, sym, ap, ◌∙◌, arith}
 use Rattle.std.proofs.lemmas.Int.{ints}
 use Rattle.std.proofs.lemmas.Option.{slice_get_within}
 use Rattle.coef_int.specs.Operations.{first_overflow}
@@ -13,7 +13,7 @@ use Rattle.nc_polynomial.specs.declared.poly.Poly.{Poly}
 use Rattle.adjoint_rules.specs.Problem.{polynomials}
 use Rattle.traced_rows.specs.declared.certificate.Certificate.{Certificate}
 use Rattle.traced_rows.specs.Rows.{rows_of}
-use Rattle.cofactor_checker.specs.Acceptance.{claim_of, IsPosed, Begins, Accepts, Refuses, IsMemory}
+use Rattle.cofactor_checker.specs.Acceptance.{claim_of, IsPosed, Begins, Accepts, Refuses}
 use Rattle.cofactor_checker.specs.Difference.{IsLeastDifference}
 use Rattle.cofactor_checker.specs.Rows.{RowPasses, RowsPass}
 use Rattle.cofactor_checker.specs.RowRefusals.{RefusesRow}

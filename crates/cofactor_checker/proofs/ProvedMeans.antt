@@ -1,5 +1,5 @@
 -- Evidence of a claim that adds up means what is said of it.
-use Rattle.std.proofs.Common.{◌≡◌, ℕ, zero, suc, ◌<◌, ◌≤◌, ℤ, Bool, false, List, [], ◌∷◌, length, get_or, refl, sym, subst, arith}
+use Rattle.std.proofs.Common.{◌≡◌, ℕ, zero, suc, ◌<◌, ◌≤◌, ℤ, Bool, false, List, [], ◌∷◌, length, get_or, sym, subst, arith}
 use Rattle.std.specs.List.{AllByRecursion}
 use Rattle.definitions.specs.Category.{Structure, PreadditiveLaws}
 use Rattle.definitions.specs.Combination.{generator_at}

@@ -1,5 +1,5 @@
 -- Each model has exactly one outcome: it refutes its claim, or one of the tests is the first that fails.
-use Rattle.std.proofs.Common.{◌≡◌, ℕ, suc, ◌+◌, ◌-◌, ◌<◌, ◌≤◌, List, [], length, take, get_or, All, Some, None, slice_get, ◌⊎◌, inl, inr, refl, sym, subst, ap, ◌∙◌, arith}
+use Rattle.std.proofs.Common.{◌≡◌, ℕ, suc, ◌+◌, ◌-◌, ◌<◌, List, [], length, take, get_or, All, Some, None, slice_get, ◌⊎◌, inl, inr, refl, sym, subst, ap, ◌∙◌, arith}
 use Rattle.std.specs.List.{AllByRecursion}
 use Rattle.std.proofs.lemmas.Bool.{cases_eq}
 use Rattle.std.proofs.lemmas.List.{length-map}
@@ -22,12 +22,12 @@ use Rattle.adjoint_rules.specs.declared.problem.Problem.{Problem}
 use Rattle.adjoint_rules.specs.Problem.{IsTypedOf, HasObjects}
 use Rattle.model_checker.specs.declared.refusal.ModelRefusal.{ModelRefusal}
 use Rattle.model_checker.specs.declared.refusal.ModelRefusal.TheVariants as refusal
-use Rattle.model_checker.specs.Models.{IsMap, HasEnds, IsSelfTransposed, HasMatrix, HaveMatrices, IsClaimNumber, IsZeroIn, assumptions_of, claim_polynomial, IsFitting, Refutes}
+use Rattle.model_checker.specs.Models.{IsMap, HasEnds, IsSelfTransposed, HaveMatrices, IsClaimNumber, IsZeroIn, assumptions_of, claim_polynomial, Refutes}
 use Rattle.model_checker.specs.Representations.{side_of, map_at, representation_of}
 use Rattle.model_checker.specs.Memory.{IsMemory}
 use Rattle.model_checker.specs.Refusals.{IsAtMap, RefusesMap, IsFirstNotZero, RefusesModel}
 use Rattle.model_checker.specs.Laws.{EachModelIsJudged, RefutingModelIsNotRefused, ModelRefusalIsUnique}
-use Rattle.model_checker.proofs.Counterexamples.{Both, both_at, IsPosedOf, claims_are_posed, claim_at, claim_is, zero_from_posed}
+use Rattle.model_checker.proofs.Counterexamples.{both_at, IsPosedOf, claims_are_posed, claim_at, claim_is, zero_from_posed}
 use Rattle.model_checker.proofs.Decided.{matrix_decided, is_matrix_decided}
 use Rattle.model_checker.proofs.Places.{all_at, zip_at, generator_at-suc}
 

@@ -1,8 +1,6 @@
-use Rattle.std.proofs.Common.{rules, ◌≡◌, [], Some, None, Err, IsTrue, inl, refl, sym, subst, ap, ◌∙◌, length, ◌≤◌, arith, to_z, of_z}
-use mir.Syntax.{w128}
+use Rattle.std.proofs.Common.{rules, ◌≡◌, [], Some, None, Err, IsTrue, inl, refl, sym, subst, ap, ◌∙◌, length, ◌≤◌, arith}
 use Rattle.coef_int.specs.Operations.{first_overflow}
 use Rattle.std.specs.List.{All}
-use Rattle.coef_int.specs.Range.{IsCoefficient}
 use Rattle.nc_polynomial.specs.Terms.{products}
 use Rattle.adjoint_rules.specs.Problem.{polynomials}
 use Rattle.cofactor_checker.proofs.RowSums.{Names, named, length-polynomials}
