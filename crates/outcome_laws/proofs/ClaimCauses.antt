@@ -39,7 +39,7 @@ module _ (problem : Problem) (budget : Budget) (number rounds : ℕ) (s : RunSta
 
   -- nothing is left of the claim
   module _ (left : State) (ends : normal_form_of (asked_cmp problem.parts.order) s.rules (claim_at problem number) budget.steps ≡ Ok left) (none : left.rest ≡ []) where
-    abbrev recorded_claim : ClaimRecord problem number
+    abbrev recorded_claim : ClaimRecord problem budget number
     recorded_claim = record {
       rules = s.rules;
       are_rules = state_rules problem budget rounds s run;

@@ -38,7 +38,7 @@ halted_value (Ok q) p is = ap Ok (same_value q p is)
 halted_value (Err e) p is = absurd (no_value (halt_of e) p is)
 
 -- what the second reduction leaves, with its rows
-second_value : (f : First) (s : State) (p : List Term) (rest : Option Rest) → second_rest f s p ≡ Ok rest → rest_with p (second_rows f s) ≡ rest
+pub second_value : (f : First) (s : State) (p : List Term) (rest : Option Rest) → second_rest f s p ≡ Ok rest → rest_with p (second_rows f s) ≡ rest
 second_value f s [] rest is = same_value None rest is
 second_value f s (t ∷ p) rest is = go (first_overflow (rows_operations f s)) is
   where

@@ -16,7 +16,9 @@ pub mod SPolynomialFaults
 pub mod CertificateFaults
 pub mod DistinctTreated
 pub mod ReductionCauses
+pub mod MadeRules
 pub mod RoundFaults
+pub mod MadeStates
 pub mod RoundCauses
 pub mod ClaimCauses
 pub mod Meanings

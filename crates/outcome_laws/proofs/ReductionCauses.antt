@@ -38,7 +38,7 @@ module _ (problem : Problem) (budget : Budget) (number : ℕ) (at : Place) (leas
   reduction_means r e c (size letters is gets) why =
       by_cause e (halt_of (size_fault letters)) c (cause.Size letters) is (λ k. k) why (after_step r gets)
 
-  pub s_polynomial_means : (round : ℕ) → at ≡ place.Round (suc round) → (rules : List Rule) → AreRulesOf problem rules → (a : Ambiguity) → IsAmbiguity rules a → (e : ReduceFault) (d : PolyFault) (c : Cause)
+  pub s_polynomial_means : (round : ℕ) → at ≡ place.Round (suc round) → (rules : List Rule) → AreRulesOf problem budget rules → (a : Ambiguity) → IsAmbiguity rules a → (e : ReduceFault) (d : PolyFault) (c : Cause)
       → e ≡ halt_of d → SPolynomialStops rules a d → IsCauseOf e c → Means c
   s_polynomial_means round place_is rules are a is e d c same (sum_overflows o which fails of) why =
       by_cause e (fault.Overflow o) c (cause.Overflow o) (same ∙ ap halt_of which) (λ k. k) why

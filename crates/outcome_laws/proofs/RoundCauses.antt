@@ -3,7 +3,7 @@ use Rattle.std.proofs.Common.{◌≡◌, ◌⊎◌, inl, inr, ◌≤◌, ℕ, ze
 use Rattle.std.specs.List.{All, AllByRecursion, Contains}
 use Rattle.std.proofs.lemmas.Bool.{leb-true}
 use Rattle.std.proofs.lemmas.List.{length-map}
-use Rattle.std.proofs.lemmas.List.Elements.{All-map, All-take, Contains-append_cases, recursion_from_All}
+use Rattle.std.proofs.lemmas.List.Elements.{Contains-append_cases, recursion_from_All}
 use Rattle.coef_int.specs.declared.Overflow.{Overflow}
 use Rattle.coef_int.specs.Operations.{product_of}
 use Rattle.definitions.specs.Poly.{Term}
@@ -31,7 +31,7 @@ use Rattle.adjoint_rules.specs.declared.problem.Problem.{Problem}
 use Rattle.adjoint_rules.specs.Problem.{polynomials}
 use Rattle.completion_laws.specs.Conclusions.{NothingPendingBelow}
 use Rattle.completion_laws.proofs.Inside.{rules_are_inside}
-use Rattle.completion_laws.proofs.ShapeLaws.{normal_forms_are_shaped, s_polynomials_are_shaped}
+use Rattle.completion_laws.proofs.ShapeLaws.{s_polynomials_are_shaped}
 use Rattle.rule_making.specs.Making.{Recorded, negated_row, negated_rows}
 use Rattle.traced_completion.specs.declared.budget.Budget.{Budget}
 use Rattle.traced_completion.specs.declared.pending.waiting.Waiting.{Waiting}
@@ -40,18 +40,18 @@ use Rattle.traced_completion.specs.Works.{First, first_of, first_rows, rows_oper
 use Rattle.traced_completion.specs.Pending.{AreAllPending, ambiguities_of}
 use Rattle.traced_completion.specs.PlainRun.{Setting, RunState, stopped, IsCauseOf, recorded, Ends, taken_count, TreatsFirst, TreatsPending, IsRound, IsRunState, setting_of}
 use Rattle.traced_completion.proofs.RunStates.{states_bounded}
-use Rattle.traced_completion.proofs.StoreLemmas.{pending-all}
 use Rattle.word_orders.proofs.AskedOrders.{asked_rank}
 use Rattle.outcome_laws.specs.KeptRuns.{done_after}
-use Rattle.outcome_laws.specs.Causes.{AreRulesOf, IsFirstReduction, of_generator, of_ambiguity, of_first_rest, IsOfRows, of_row, of_multiple, of_taken, in_rows, CauseMeans}
+use Rattle.outcome_laws.specs.Causes.{AreMade, AreRulesOf, IsFirstReduction, of_generator, of_ambiguity, of_first_rest, IsOfRows, of_row, of_multiple, of_taken, in_rows, CauseMeans}
 use Rattle.outcome_laws.proofs.DistinctTreated.{distinct_treated}
 use Rattle.outcome_laws.proofs.LaterRounds.{BeginsWith}
 use Rattle.outcome_laws.proofs.Listed.{failing, value_of, value_listed}
+use Rattle.outcome_laws.proofs.MadeStates.{taken_are, generators_grow, First_is, first_is_of, rest_shaped, first_reduction, MadeFrom, seconds_grow, states_made}
 use Rattle.outcome_laws.proofs.OpenRuns.{same_halt, not_went, not_closed, order_laws, run_kept}
 use Rattle.outcome_laws.proofs.ProblemPolynomials.{any_letter, generators_are, generators_shaped, turns_in_range}
 use Rattle.outcome_laws.proofs.ReductionCauses.{reduction_means, s_polynomial_means, by_cause}
 use Rattle.outcome_laws.proofs.ReductionFaults.{normal_form_stops, normal_form_leaves}
-use Rattle.outcome_laws.proofs.RoundFaults.{Now, generator_fails, FirstFails, not_made, not_reduced, first_fails, IsFirstOf, is_first, are_firsts, SecondFails, second_fails, SecondStops, in_steps, in_products, second_stops}
+use Rattle.outcome_laws.proofs.RoundFaults.{Now, generator_fails, FirstFails, not_made, not_reduced, first_fails, are_firsts, SecondFails, second_fails, SecondStops, in_steps, in_products, second_stops}
 use Rattle.outcome_laws.proofs.SPolynomialFaults.{s_polynomial_stops}
 use Rattle.outcome_laws.proofs.StepMade.{reduced_of}
 use Rattle.outcome_laws.proofs.WholeRuns.{first_is_least_pending}
@@ -96,9 +96,10 @@ module _ (problem : Problem) (budget : Budget) where
   abbrev Kept_now : Recorded → List ℕ → List Ambiguity → Type 0
   Kept_now = Now (quiver_of problem.parts.quiver) any_letter letters compare rank (order_laws problem budget) generators (generators_are problem) budget.steps
 
-  rules_of : (r : Recorded) (done : List ℕ) (treated : List Ambiguity) → Kept_now r done treated → AreRulesOf problem r.rules
-  rules_of r done treated now = record {
+  rules_of : (r : Recorded) (done : List ℕ) (treated : List Ambiguity) → Kept_now r done treated → AreMade problem budget r.rules → AreRulesOf problem budget r.rules
+  rules_of r done treated now made = record {
     are_rules = now.0.are_rules;
+    made = made;
     apart = now.0.apart;
     inside = λ n g numbered. rules_are_inside letters compare generators r.rules r.made done treated n g now.0 numbered;
   }
@@ -106,8 +107,8 @@ module _ (problem : Problem) (budget : Budget) where
   state_now : (n : ℕ) (s : RunState) → IsRunState setting n s → Kept_now (recorded s) (done_after setting n) s.treated
   state_now n s is = let now = run_kept problem budget n s is in (now.kept, now.typed)
 
-  pub state_rules : (n : ℕ) (s : RunState) → IsRunState setting n s → AreRulesOf problem s.rules
-  state_rules n s is = rules_of (recorded s) (done_after setting n) s.treated (state_now n s is)
+  pub state_rules : (n : ℕ) (s : RunState) → IsRunState setting n s → AreRulesOf problem budget s.rules
+  state_rules n s is = rules_of (recorded s) (done_after setting n) s.treated (state_now n s is) (states_made problem budget n s is)
 
   module _ (number : ℕ) (least : Option (List ℕ)) where
     abbrev Means : Place → Cause → Type 0
@@ -117,13 +118,14 @@ module _ (problem : Problem) (budget : Budget) where
     zero_means : (s : RunState) → IsRunState setting 0 s → (e : ReduceFault) (c : Cause) → IsCauseOf e c
         → InTurn compare (map (generator_work compare budget.steps generators) setting.in_turn) (recorded s) (Err e) → Means (place.Round 0) c
     zero_means s is e c why turn =
+        let in_range = recursion_from_All (λ k. (1 ≤ k) × (k ≤ length generators)) setting.in_turn (turns_in_range problem) in
         let fails =
-        generator_fails (quiver_of problem.parts.quiver) any_letter letters compare rank (order_laws problem budget) generators (generators_are problem) budget.steps setting.in_turn
-        (recursion_from_All (λ k. (1 ≤ k) × (k ≤ length generators)) setting.in_turn (turns_in_range problem)) (recorded s) (done_after setting 0) s.treated e (state_now 0 s is) turn in
+        generator_fails (quiver_of problem.parts.quiver) any_letter letters compare rank (order_laws problem budget) generators (generators_are problem) budget.steps (AreMade problem budget) setting.in_turn in_range
+        (generators_grow problem budget setting.in_turn in_range) (recorded s) (done_after setting 0) s.treated e (state_now 0 s is) (states_made problem budget 0 s is) turn in
         reduction_means problem budget number (place.Round 0) least
         (record {
           rules = fails.before.rules;
-          are_rules = rules_of fails.before fails.done fails.treated fails.kept;
+          are_rules = rules_of fails.before fails.done fails.treated fails.kept fails.holds;
           polynomial = generator_at generators fails.number;
           is = of_generator fails.number fails.least (omega (arith, fails.most, length-map problem.generators (λ p. p.terms))) refl refl;
         }) e c
@@ -131,7 +133,7 @@ module _ (problem : Problem) (budget : Budget) where
 
     -- a later round
     module _ (n : ℕ) (s : RunState) (run : IsRunState setting (suc n) s) where
-      rules : AreRulesOf problem s.rules
+      rules : AreRulesOf problem budget s.rules
       rules = state_rules (suc n) s run
 
       first_means : (e : ReduceFault) (c : Cause) → IsCauseOf e c → FirstFails (quiver_of problem.parts.quiver) any_letter letters compare rank (order_laws problem budget) generators (generators_are problem) budget.steps s.rules e
@@ -149,55 +151,36 @@ module _ (problem : Problem) (budget : Budget) where
           }) e c
           (normal_form_stops letters compare rank s.rules p budget.steps e (order_laws problem budget) shaped ends) why
 
-      -- the first reduction of an ambiguity, seen from the rules so far
-      abbrev first_reduction : (a : Ambiguity) → IsAmbiguity s.rules a → (f : First) → first_of compare budget.steps s.rules a ≡ Ok f → (so_far : List Rule) → BeginsWith s.rules so_far → IsFirstReduction problem budget so_far (reduced_of f.reduced)
-      first_reduction a is f first_is so_far front =
-          let first = is_first (quiver_of problem.parts.quiver) any_letter letters compare rank (order_laws problem budget) generators (generators_are problem) budget.steps s.rules a f first_is in
-          let shaped = s_polynomials_are_shaped s.rules a first.polynomial first.made in
-          record {
-            first = s.rules;
-            more = front.more;
-            begins = front.is;
-            polynomial = first.polynomial;
-            is = record { ambiguity = a; is = is; shaped = shaped; is_sum = s_polynomials_balance s.rules a first.polynomial first.made };
-            leaves = normal_form_leaves letters compare rank s.rules first.polynomial budget.steps f.reduced (order_laws problem budget) shaped first.reduced;
-          }
-
       -- the rest of a first reduction isn't reduced, or a product of the rows overflows
-      steps_mean : (e : ReduceFault) (c : Cause) → IsCauseOf e c → (so_far : List Rule) → AreRulesOf problem so_far → (f : First) → IsShaped f.reduced.rest → IsFirstReduction problem budget so_far (reduced_of f.reduced)
+      steps_mean : (e : ReduceFault) (c : Cause) → IsCauseOf e c → (so_far : List Rule) → AreRulesOf problem budget so_far → (f : First) → IsShaped f.reduced.rest → IsFirstReduction problem budget so_far (reduced_of f.reduced)
           → normal_form_of compare so_far f.reduced.rest budget.steps ≡ Err e → Means (place.Round (suc n)) c
       steps_mean e c why so_far are f shaped first ends =
           reduction_means problem budget number (place.Round (suc n)) least
           (record { rules = so_far; are_rules = are; polynomial = f.reduced.rest; is = of_first_rest n (reduced_of f.reduced) refl first refl }) e c
           (normal_form_stops letters compare rank so_far f.reduced.rest budget.steps e (order_laws problem budget) shaped ends) why
 
-      second_means : (e : ReduceFault) (c : Cause) → IsCauseOf e c → SecondFails (quiver_of problem.parts.quiver) any_letter letters compare rank (order_laws problem budget) generators (generators_are problem) budget.steps s.rules e
+      second_means : (e : ReduceFault) (c : Cause) → IsCauseOf e c → SecondFails (quiver_of problem.parts.quiver) any_letter letters compare rank (order_laws problem budget) generators (generators_are problem) budget.steps (MadeFrom problem budget s.rules) s.rules e
           → Means (place.Round (suc n)) c
       second_means e c why fails =
           go (second_stops (quiver_of problem.parts.quiver) any_letter letters compare rank (order_laws problem budget) generators (generators_are problem) budget.steps fails.first fails.before.rules e fails.fails)
-          (is_first (quiver_of problem.parts.quiver) any_letter letters compare rank (order_laws problem budget) generators (generators_are problem) budget.steps s.rules fails.ambiguity fails.first fails.first_is)
+          (first_is_of problem budget s.rules fails.ambiguity fails.first fails.first_is)
         where
-          are : AreRulesOf problem fails.before.rules
-          are = rules_of fails.before fails.done fails.treated fails.kept
-
-          rest_shaped : IsFirstOf (quiver_of problem.parts.quiver) any_letter letters compare rank (order_laws problem budget) generators (generators_are problem) budget.steps s.rules fails.ambiguity fails.first
-              → IsShaped fails.first.reduced.rest
-          rest_shaped first =
-              normal_forms_are_shaped compare s.rules first.polynomial budget.steps fails.first.reduced (s_polynomials_are_shaped s.rules fails.ambiguity first.polynomial first.made) first.reduced
+          are : AreRulesOf problem budget fails.before.rules
+          are = rules_of fails.before fails.done fails.treated fails.kept fails.holds.1
 
           go : SecondStops (quiver_of problem.parts.quiver) any_letter letters compare rank (order_laws problem budget) generators (generators_are problem) budget.steps fails.first fails.before.rules e
-              → IsFirstOf (quiver_of problem.parts.quiver) any_letter letters compare rank (order_laws problem budget) generators (generators_are problem) budget.steps s.rules fails.ambiguity fails.first
+              → First_is problem budget s.rules fails.ambiguity fails.first
               → Means (place.Round (suc n)) c
           go (in_steps ends) first =
-              steps_mean e c why fails.before.rules are fails.first (rest_shaped first) (first_reduction fails.ambiguity fails.is fails.first fails.first_is fails.before.rules fails.begins) ends
+              steps_mean e c why fails.before.rules are fails.first (rest_shaped problem budget s.rules fails.ambiguity fails.first first) (first_reduction problem budget s.rules fails.ambiguity fails.is fails.first fails.first_is fails.before.rules fails.begins) ends
           go (in_products t o went is first_one) first =
               let fail = failing (rows_operations fails.first t) o first_one in
               by_cause problem budget number (place.Round (suc n)) least e (fault.Overflow o) c (cause.Overflow o) is (λ k. k) why
               (record {
                 out_of_range = fail.fails;
                 arithmetic = in_rows n fails.before.rules (reduced_of fails.first.reduced) (reduced_of t) refl are
-                    (first_reduction fails.ambiguity fails.is fails.first fails.first_is fails.before.rules fails.begins)
-                    (normal_form_leaves letters compare rank fails.before.rules fails.first.reduced.rest budget.steps t (order_laws problem budget) (rest_shaped first) went)
+                    (first_reduction problem budget s.rules fails.ambiguity fails.is fails.first fails.first_is fails.before.rules fails.begins)
+                    (normal_form_leaves letters compare rank fails.before.rules fails.first.reduced.rest budget.steps t (order_laws problem budget) (rest_shaped problem budget s.rules fails.ambiguity fails.first first) went)
                     (subst (λ (rows : List Row). IsOfRows (map (λ (row : Row). row.coef) rows) (reduced_of fails.first.reduced) (reduced_of t) o) first.rows_are (rows_operation fails.first t o fail.listed));
               })
 
@@ -217,10 +200,15 @@ module _ (problem : Problem) (budget : Budget) where
               (first_fails (quiver_of problem.parts.quiver) any_letter letters compare rank (order_laws problem budget) generators (generators_are problem) budget.steps s.rules taken e listed (ends ∙ ap Err (same d two)))
           go (Ok firsts) ends two =
               let now = state_now (suc n) s run in
+              let firsts_are =
+              are_firsts (quiver_of problem.parts.quiver) any_letter letters compare rank (order_laws problem budget) generators (generators_are problem) budget.steps s.rules taken firsts listed ends in
               second_means e c why
-              (second_fails (quiver_of problem.parts.quiver) any_letter letters compare rank (order_laws problem budget) generators (generators_are problem) budget.steps s.rules now.0.are_rules now.1 taken firsts
-              (are_firsts (quiver_of problem.parts.quiver) any_letter letters compare rank (order_laws problem budget) generators (generators_are problem) budget.steps s.rules taken firsts listed ends)
-              (recorded s) (done_after setting (suc n)) s.treated e (record { more = []; is = sym (append-nil s.rules) }) now two)
+              (second_fails (quiver_of problem.parts.quiver) any_letter letters compare rank (order_laws problem budget) generators (generators_are problem) budget.steps s.rules now.0.are_rules now.1
+              (MadeFrom problem budget s.rules) taken firsts firsts_are (seconds_grow problem budget s.rules taken firsts firsts_are)
+              (recorded s) (done_after setting (suc n)) s.treated e begins now (begins, states_made problem budget (suc n) s run) two)
+            where
+              begins : BeginsWith s.rules s.rules
+              begins = record { more = []; is = sym (append-nil s.rules) }
 
       -- the pairs are spent
       pairs_mean : (w : Waiting) (ws : List Waiting) → AreAllPending compare s.rules s.treated (w ∷ ws) → budget.pairs ≤ length s.treated → least ≡ Some w.word → Means place.Run (cause.Pairs (length s.treated))
@@ -260,11 +248,6 @@ module _ (problem : Problem) (budget : Budget) where
   later_stop : (number n : ℕ) (s : RunState) (h : Halt) → IsRunState setting (suc n) s → IsRound setting (suc n) s (stopped h) → StopMeans number h
   later_stop number n s h run round = go round.pending round.all_pending round.treats
     where
-      taken_are : (pending : List Waiting) (count : ℕ) → AreAllPending compare s.rules s.treated pending → All (IsAmbiguity s.rules) (ambiguities_of (take count pending))
-      taken_are pending count all =
-          All-map (IsAmbiguity s.rules) (λ (w : Waiting). w.which) (take count pending)
-          (All-take (λ (w : Waiting). IsAmbiguity s.rules w.which) count pending (pending-all (λ (w : Waiting). IsAmbiguity s.rules w.which) compare s.rules s.treated pending all (λ w one. one.is)))
-
       treated : (word : List ℕ) (taken : List Ambiguity) → All (IsAmbiguity s.rules) taken → (r : Result Recorded ReduceFault)
           → InTwoPasses compare budget.steps (each_in_turn (first_of compare budget.steps s.rules) taken) (recorded s) r → Ends (suc n) (Some word) (s.treated ++ taken) r (stopped h) → StopMeans number h
       treated word taken are (Ok t) passes ends = absurd (not_went h _ ends)
@@ -277,7 +260,7 @@ module _ (problem : Problem) (budget : Budget) where
           (pairs_mean number (Some w.word) n s run w ws all (leb-true budget.pairs (length s.treated) spent) refl)
       by_pairs w ws all false left treats =
           let count = taken_count budget s (w ∷ ws) in
-          treated w.word (ambiguities_of (take count (w ∷ ws))) (taken_are (w ∷ ws) count all) treats.result treats.passes treats.ends
+          treated w.word (ambiguities_of (take count (w ∷ ws))) (taken_are compare s.rules s.treated (w ∷ ws) count all) treats.result treats.passes treats.ends
 
       go : (ws : List Waiting) → AreAllPending compare s.rules s.treated ws → TreatsPending setting (suc n) s ws (stopped h) → StopMeans number h
       go [] all treats = absurd (not_closed h treats)

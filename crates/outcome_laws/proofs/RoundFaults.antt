@@ -23,6 +23,7 @@ use Rattle.traced_completion.specs.Results.{and_then, halted, unless_overflow, e
 use Rattle.traced_completion.specs.Works.{generator_rows, generator_work, First, first_of, rows_operations, second_rows, second_rest, second_reduction, second_work, Goes, InTurn}
 use Rattle.outcome_laws.specs.KeptRuns.{IsGenerator}
 use Rattle.outcome_laws.proofs.RunsKept.{no_value, same_value, went_on, KeptNow, generators_in_turn}
+use Rattle.outcome_laws.proofs.MadeRules.{Grows}
 use Rattle.outcome_laws.proofs.LaterRounds.{halted_value, BeginsWith, begins_with, ambiguities_in_turn}
 
 -- results
@@ -70,31 +71,35 @@ module _ (q : Quiver) (play : ℕ → Bool) (letters : ℕ) (compare : Compare) 
   Now = KeptNow q play letters compare rank laws generators each steps
 
   -- Round 0: rules so far, and a generator whose reduction by them has a fault.
-  pub record GeneratorFails (e : ReduceFault) : Type 0 where
+  pub record GeneratorFails (P : List Rule → Type 0) (e : ReduceFault) : Type 0 where
     pub before : Recorded
     pub done : List ℕ
     pub treated : List Ambiguity
     pub kept : Now before done treated
+    pub holds : P before.rules
     pub number : ℕ
     pub least : 1 ≤ number
     pub most : number ≤ length generators
     pub fails : normal_form_of compare before.rules (generator_at generators number) steps ≡ Err e
 
-  pub generator_fails : (numbers : List ℕ) → AllByRecursion (λ k. (1 ≤ k) × (k ≤ length generators)) numbers → (before : Recorded) (done : List ℕ) (treated : List Ambiguity) (e : ReduceFault) → Now before done treated
-      → InTurn compare (map (generator_work compare steps generators) numbers) before (Err e) → GeneratorFails e
-  generator_fails [] in_range before done treated e now turn = absurd (no_value e before turn)
-  generator_fails (n ∷ numbers) in_range before done treated e now turn =
-      go (generator_work compare steps generators n before.rules) refl turn (λ between here next. generator_fails numbers in_range.1 between (done ++ (n ∷ [])) treated e here next)
+  pub generator_fails : (P : List Rule → Type 0) (numbers : List ℕ) → AllByRecursion (λ k. (1 ≤ k) × (k ≤ length generators)) numbers
+      → AllByRecursion (Grows compare P) (map (generator_work compare steps generators) numbers) → (before : Recorded) (done : List ℕ) (treated : List Ambiguity) (e : ReduceFault)
+      → Now before done treated → P before.rules → InTurn compare (map (generator_work compare steps generators) numbers) before (Err e) → GeneratorFails P e
+  generator_fails P [] in_range grow before done treated e now held turn = absurd (no_value e before turn)
+  generator_fails P (n ∷ numbers) in_range grow before done treated e now held turn =
+      go (generator_work compare steps generators n before.rules) refl turn
+      (λ between here holds next. generator_fails P numbers in_range.1 grow.1 between (done ++ (n ∷ [])) treated e here holds next)
     where
       go : (r : Result (Option Rest) ReduceFault) → generator_work compare steps generators n before.rules ≡ r
           → Goes compare r before (λ between. InTurn compare (map (generator_work compare steps generators) numbers) between (Err e)) (Err e)
-          → ((between : Recorded) → Now between (done ++ (n ∷ [])) treated → InTurn compare (map (generator_work compare steps generators) numbers) between (Err e) → GeneratorFails e)
-          → GeneratorFails e
+          → ((between : Recorded) → Now between (done ++ (n ∷ [])) treated → P between.rules → InTurn compare (map (generator_work compare steps generators) numbers) between (Err e) → GeneratorFails P e)
+          → GeneratorFails P e
       go (Err d) ends on further = record {
         before = before;
         done = done;
         treated = treated;
         kept = now;
+        holds = held;
         number = n;
         least = in_range.0.0;
         most = in_range.0.1;
@@ -105,7 +110,7 @@ module _ (q : Quiver) (play : ℕ → Bool) (letters : ℕ) (compare : Compare) 
           further on.between
           (generators_in_turn q play letters compare rank laws generators each steps (n ∷ []) (in_range.0, tt) before on.between done treated now
           (subst (λ r. Goes compare r before (λ between. ◌≡◌ {A = Result Recorded ReduceFault} (Ok on.between) (Ok between)) (Ok on.between)) (sym ends) (record { between = on.between; added = on.added; next = refl })))
-          on.next
+          (grow.0 before on.between rest ends on.added held) on.next
 
   -- A later round: an ambiguity whose S-polynomial isn't made, or isn't reduced.
   pub data FirstFails (rules : List Rule) (e : ReduceFault) : Type 0 where
@@ -157,11 +162,12 @@ module _ (q : Quiver) (play : ℕ → Bool) (letters : ℕ) (compare : Compare) 
       subst (AreFirsts rules (a ∷ taken)) (same_value (one.value ∷ others.value) firsts others.rest) ((are.0, one.given), are_firsts rules taken others.value are.1 others.given)
 
   -- The rules so far of the round, and an ambiguity of those from before it whose second reduction has a fault.
-  pub record SecondFails (start : List Rule) (e : ReduceFault) : Type 0 where
+  pub record SecondFails (P : List Rule → Type 0) (start : List Rule) (e : ReduceFault) : Type 0 where
     pub before : Recorded
     pub done : List ℕ
     pub treated : List Ambiguity
     pub kept : Now before done treated
+    pub holds : P before.rules
     pub begins : BeginsWith start before.rules
     pub ambiguity : Ambiguity
     pub is : IsAmbiguity start ambiguity
@@ -170,23 +176,27 @@ module _ (q : Quiver) (play : ℕ → Bool) (letters : ℕ) (compare : Compare) 
     pub fails : second_work compare steps first before.rules ≡ Err e
 
   module _ (start : List Rule) (start_are : All (IsRule letters compare) start) (start_typed : AreTypedInPlay q play start) where
-    pub second_fails : (taken : List Ambiguity) (firsts : List First) → AreFirsts start taken firsts → (before : Recorded) (done : List ℕ) (treated : List Ambiguity) (e : ReduceFault)
-        → BeginsWith start before.rules → Now before done treated → InTurn compare (map (second_work compare steps) firsts) before (Err e) → SecondFails start e
-    second_fails [] [] are before done treated e front now turn = absurd (no_value e before turn)
-    second_fails [] (f ∷ fs) are before done treated e front now turn = absurd are
-    second_fails (a ∷ taken) [] are before done treated e front now turn = absurd are
-    second_fails (a ∷ taken) (f ∷ fs) are before done treated e front now turn =
-        go (second_work compare steps f before.rules) refl turn (λ between begins here next. second_fails taken fs are.1 between done (treated ++ (a ∷ [])) e begins here next)
+    pub second_fails : (P : List Rule → Type 0) (taken : List Ambiguity) (firsts : List First) → AreFirsts start taken firsts → AllByRecursion (Grows compare P) (map (second_work compare steps) firsts)
+        → (before : Recorded) (done : List ℕ) (treated : List Ambiguity) (e : ReduceFault)
+        → BeginsWith start before.rules → Now before done treated → P before.rules → InTurn compare (map (second_work compare steps) firsts) before (Err e) → SecondFails P start e
+    second_fails P [] [] are grow before done treated e front now held turn = absurd (no_value e before turn)
+    second_fails P [] (f ∷ fs) are grow before done treated e front now held turn = absurd are
+    second_fails P (a ∷ taken) [] are grow before done treated e front now held turn = absurd are
+    second_fails P (a ∷ taken) (f ∷ fs) are grow before done treated e front now held turn =
+        go (second_work compare steps f before.rules) refl turn
+        (λ between begins here holds next. second_fails P taken fs are.1 grow.1 between done (treated ++ (a ∷ [])) e begins here holds next)
       where
         go : (r : Result (Option Rest) ReduceFault) → second_work compare steps f before.rules ≡ r
             → Goes compare r before (λ between. InTurn compare (map (second_work compare steps) fs) between (Err e)) (Err e)
-            → ((between : Recorded) → BeginsWith start between.rules → Now between done (treated ++ (a ∷ [])) → InTurn compare (map (second_work compare steps) fs) between (Err e) → SecondFails start e)
-            → SecondFails start e
+            → ((between : Recorded) → BeginsWith start between.rules → Now between done (treated ++ (a ∷ [])) → P between.rules → InTurn compare (map (second_work compare steps) fs) between (Err e)
+            → SecondFails P start e)
+            → SecondFails P start e
         go (Err d) ends on further = record {
           before = before;
           done = done;
           treated = treated;
           kept = now;
+          holds = held;
           begins = front;
           ambiguity = a;
           is = are.0.0;
@@ -200,7 +210,7 @@ module _ (q : Quiver) (play : ℕ → Bool) (letters : ℕ) (compare : Compare) 
             (ap (λ r. and_then r (λ g. and_then (each_in_turn (first_of compare steps start) []) (λ gs. Ok (g ∷ gs)))) are.0.1)
             before on.between done treated front now
             (subst (λ r. Goes compare r before (λ between. ◌≡◌ {A = Result Recorded ReduceFault} (Ok on.between) (Ok between)) (Ok on.between)) (sym ends) (record { between = on.between; added = on.added; next = refl })))
-            on.next
+            (grow.0 before on.between rest ends on.added held) on.next
 
   -- What stops a second reduction: its steps, or a product of the rows of the rule that it makes.
   pub data SecondStops (f : First) (rules : List Rule) (e : ReduceFault) : Type 0 where

@@ -1,12 +1,13 @@
 -- What the cause of a halt says of the run of a problem.
-use Rattle.std.specs.Prelude.{◌≡◌, ◌≢◌, ◌≤◌, ℕ, suc, ℤ, neg_ℤ, ◌*ℤ◌, Bool, true, List, ◌++◌, map, length, Option, Some, Contains}
+use Rattle.std.specs.Prelude.{◌≡◌, ◌≢◌, ◌≤◌, ℕ, suc, ℤ, neg_ℤ, ◌*ℤ◌, Bool, true, List, [], ◌∷◌, ◌++◌, if◌then◌else◌, map, length, Option, Some, Contains}
 use Rattle.std.specs.List.{All, AllPairs}
 use Rattle.coef_int.specs.declared.Overflow.{Overflow}
 use Rattle.coef_int.specs.Operations.{product_of, exact_value}
 use Rattle.coef_int.specs.Range.{IsCoefficient}
-use Rattle.definitions.specs.Poly.{Term, SamePolynomial}
+use Rattle.definitions.specs.Poly.{Term, SamePolynomial, poly_multiple}
 use Rattle.definitions.specs.Combination.{InRationalIdeal, generator_at}
 use Rattle.word_orders.specs.Specified.{asked_cmp}
+use Rattle.nc_polynomial.specs.Content.{IsContent}
 use Rattle.nc_polynomial.specs.Shape.{IsShaped}
 use Rattle.quiver.specs.Declarations.{letter_count}
 use Rattle.traced_rows.specs.declared.Row.{Row}
@@ -31,30 +32,6 @@ use Rattle.traced_completion.specs.declared.budget.Budget.{Budget}
 use Rattle.outcome_laws.specs.Certificates.{IsOfCertificate, HasLongRow, HasManyRows}
 use Rattle.outcome_laws.specs.ReductionSteps.{Reduced, unreduced, HasOneMore, IsOfReduction, IsTooLarge, GetsTooLarge, Leaves, row_words, IsOfSum}
 
--- Rules in the order of the problem. Of each some positive multiple is a combination of the generators, and its leading word occurs in that
--- of no later one.
-pub record AreRulesOf (problem : Problem) (rules : List Rule) : Type 0 where
-  pub are_rules : All (IsRule (letter_count problem.parts.quiver) (asked_cmp problem.parts.order)) rules
-  pub apart : AreApart rules
-  pub inside : (n : ℕ) (g : Rule) → rule_at rules n ≡ Some g → InRationalIdeal (polynomials problem.generators) g.poly.terms
-
--- Between two rounds as many ambiguities were treated as the budget has pairs, no two of them the same: each is one of the rules, and resolved.
--- One of the rules is left, and the word is the least overlap word of those that are left.
-pub record PairsAreSpent (problem : Problem) (budget : Budget) (at : Place) (least : Option (List ℕ)) (spent : ℕ) : Type 0 where
-  pub place_is : at ≡ place.Run
-  pub budget_is : spent ≡ budget.pairs
-  pub rules : List Rule
-  pub are_rules : AreRulesOf problem rules
-  pub treated : List Ambiguity
-  pub many : length treated ≡ spent
-  pub distinct : AllPairs (λ a b. a ≢ b) treated
-  pub resolved : All (IsResolved (letter_count problem.parts.quiver) (asked_cmp problem.parts.order) rules) treated
-  pub left : Ambiguity
-  pub is_left : IsAmbiguity rules left
-  pub untreated : Contains treated left → ⊥
-  pub word_is : least ≡ Some (overlap_word_of rules left)
-  pub none_below : NothingPendingBelow (letter_count problem.parts.quiver) (asked_cmp problem.parts.order) rules treated (overlap_word_of rules left)
-
 -- The polynomial is, each word once, what the two multiples in the S-polynomial of an ambiguity of the rules add up to.
 pub record IsSPolynomial (rules : List Rule) (p : List Term) : Type 0 where
   pub ambiguity : Ambiguity
@@ -71,6 +48,52 @@ pub record IsFirstReduction (problem : Problem) (budget : Budget) (rules : List 
   pub is : IsSPolynomial first polynomial
   pub leaves : Leaves (asked_cmp problem.parts.order) first budget.steps (unreduced polynomial) now
 
+-- What becomes a rule is left by the rules so far: of a generator, or of what the first ones of them leave of an S-polynomial of theirs.
+pub data IsLeftBy (problem : Problem) (budget : Budget) (rules : List Rule) (rest : List Term) : Type 0 where
+  from_generator : (n : ℕ) (now : Reduced) → 1 ≤ n → n ≤ length problem.generators
+      → Leaves (asked_cmp problem.parts.order) rules budget.steps (unreduced (generator_at (polynomials problem.generators) n)) now
+      → rest ≡ now.rest → IsLeftBy problem budget rules rest
+  from_ambiguity : (first now : Reduced) → IsFirstReduction problem budget rules first
+      → Leaves (asked_cmp problem.parts.order) rules budget.steps (unreduced first.rest) now → rest ≡ now.rest → IsLeftBy problem budget rules rest
+
+-- the rest is the rule times the greatest common divisor of the rest's coefficients, or times the negative of that
+pub record IsRuleOf (rest : List Term) (g : Rule) : Type 0 where
+  pub content : ℤ
+  pub is_content : IsContent rest content
+  pub negated : Bool
+  pub divided : poly_multiple (if negated then neg_ℤ content else content) g.poly.terms ≡ rest
+
+-- Rules that are made one after another.
+pub data AreMade (problem : Problem) (budget : Budget) : List Rule → Type 0 where
+  no_rule : AreMade problem budget []
+  one_more : (rules : List Rule) (rest : List Term) (g : Rule) → AreMade problem budget rules → IsLeftBy problem budget rules rest → IsRuleOf rest g
+      → AreMade problem budget (rules ++ g ∷ [])
+
+-- Rules in the order of the problem, which are made one after another. Of each some positive multiple is a combination of the generators,
+-- and its leading word occurs in that of no later one.
+pub record AreRulesOf (problem : Problem) (budget : Budget) (rules : List Rule) : Type 0 where
+  pub are_rules : All (IsRule (letter_count problem.parts.quiver) (asked_cmp problem.parts.order)) rules
+  pub made : AreMade problem budget rules
+  pub apart : AreApart rules
+  pub inside : (n : ℕ) (g : Rule) → rule_at rules n ≡ Some g → InRationalIdeal (polynomials problem.generators) g.poly.terms
+
+-- Between two rounds as many ambiguities were treated as the budget has pairs, no two of them the same: each is one of the rules, and resolved.
+-- One of the rules is left, and the word is the least overlap word of those that are left.
+pub record PairsAreSpent (problem : Problem) (budget : Budget) (at : Place) (least : Option (List ℕ)) (spent : ℕ) : Type 0 where
+  pub place_is : at ≡ place.Run
+  pub budget_is : spent ≡ budget.pairs
+  pub rules : List Rule
+  pub are_rules : AreRulesOf problem budget rules
+  pub treated : List Ambiguity
+  pub many : length treated ≡ spent
+  pub distinct : AllPairs (λ a b. a ≢ b) treated
+  pub resolved : All (IsResolved (letter_count problem.parts.quiver) (asked_cmp problem.parts.order) rules) treated
+  pub left : Ambiguity
+  pub is_left : IsAmbiguity rules left
+  pub untreated : Contains treated left → ⊥
+  pub word_is : least ≡ Some (overlap_word_of rules left)
+  pub none_below : NothingPendingBelow (letter_count problem.parts.quiver) (asked_cmp problem.parts.order) rules treated (overlap_word_of rules left)
+
 -- What is reduced by the rules at the place, in the work on the claim with this number.
 pub data IsReducedAt (problem : Problem) (budget : Budget) (number : ℕ) (at : Place) (rules : List Rule) (p : List Term) : Type 0 where
   -- in round 0 a generator
@@ -86,7 +109,7 @@ pub data IsReducedAt (problem : Problem) (budget : Budget) (number : ℕ) (at : 
 -- A reduction at the place.
 pub record Reduction (problem : Problem) (budget : Budget) (number : ℕ) (at : Place) : Type 0 where
   pub rules : List Rule
-  pub are_rules : AreRulesOf problem rules
+  pub are_rules : AreRulesOf problem budget rules
   pub polynomial : List Term
   pub is : IsReducedAt problem budget number at rules polynomial
 
@@ -111,9 +134,9 @@ pub data IsOfRows (rows : List ℤ) (first second : Reduced) (o : Overflow) : Ty
   of_taken : (c : ℤ) → Contains first.taken c → o ≡ product_of (neg_ℤ c) second.multiplier → IsOfRows rows first second o
 
 -- Nothing is left of the claim by rules. Each of them has a record, whose rows add up to its scale times the rule, and so has the claim.
-pub record ClaimRecord (problem : Problem) (number : ℕ) : Type 0 where
+pub record ClaimRecord (problem : Problem) (budget : Budget) (number : ℕ) : Type 0 where
   pub rules : List Rule
-  pub are_rules : AreRulesOf problem rules
+  pub are_rules : AreRulesOf problem budget rules
   pub made : List Made
   pub recorded : AreRecorded (polynomials problem.generators) rules made
   pub claim : Made
@@ -125,14 +148,14 @@ pub data IsArithmeticAt (problem : Problem) (budget : Budget) (number : ℕ) (at
   in_reduction : (r : Reduction problem budget number at) → IsOfReduction (asked_cmp problem.parts.order) r.rules budget.steps (unreduced r.polynomial) o
       → IsArithmeticAt problem budget number at o
   -- in a later round of an S-polynomial
-  in_sum : (round : ℕ) (rules : List Rule) → at ≡ place.Round (suc round) → AreRulesOf problem rules → IsOfSPolynomial rules o
+  in_sum : (round : ℕ) (rules : List Rule) → at ≡ place.Round (suc round) → AreRulesOf problem budget rules → IsOfSPolynomial rules o
       → IsArithmeticAt problem budget number at o
   -- and of the rows of a rule that is made of one, by two reductions
-  in_rows : (round : ℕ) (rules : List Rule) (first second : Reduced) → at ≡ place.Round (suc round) → AreRulesOf problem rules
+  in_rows : (round : ℕ) (rules : List Rule) (first second : Reduced) → at ≡ place.Round (suc round) → AreRulesOf problem budget rules
       → (is : IsFirstReduction problem budget rules first) → Leaves (asked_cmp problem.parts.order) rules budget.steps (unreduced first.rest) second
       → IsOfRows (map (λ row. row.coef) (s_rows_of is.first is.is.ambiguity)) first second o → IsArithmeticAt problem budget number at o
   -- of a certificate
-  in_making : (round : ℕ) → at ≡ place.Certificate round → (r : ClaimRecord problem number) → IsOfCertificate r.made r.claim o
+  in_making : (round : ℕ) → at ≡ place.Certificate round → (r : ClaimRecord problem budget number) → IsOfCertificate r.made r.claim o
       → IsArithmeticAt problem budget number at o
 
 -- The product or sum is out of the range of coefficients, and it is one of those that are made at the place.
@@ -146,19 +169,19 @@ pub data IsSizeAt (problem : Problem) (budget : Budget) (number : ℕ) (at : Pla
   after_step : (r : Reduction problem budget number at) → GetsTooLarge (asked_cmp problem.parts.order) r.rules budget.steps (unreduced r.polynomial) letters
       → IsSizeAt problem budget number at letters
   -- in a later round one of the two multiples of rules in an S-polynomial, or their sum
-  in_multiple : (round : ℕ) (rules : List Rule) (a : Ambiguity) (row : Row) → at ≡ place.Round (suc round) → AreRulesOf problem rules → IsAmbiguity rules a
-      → Contains (s_rows_of rules a) row → IsTooLarge letters (row_words rules row) → IsSizeAt problem budget number at letters
-  in_s_polynomial : (round : ℕ) (rules : List Rule) (p : List Term) → at ≡ place.Round (suc round) → AreRulesOf problem rules → IsSPolynomial rules p
+  in_multiple : (round : ℕ) (rules : List Rule) (a : Ambiguity) (row : Row) → at ≡ place.Round (suc round) → AreRulesOf problem budget rules
+      → IsAmbiguity rules a → Contains (s_rows_of rules a) row → IsTooLarge letters (row_words rules row) → IsSizeAt problem budget number at letters
+  in_s_polynomial : (round : ℕ) (rules : List Rule) (p : List Term) → at ≡ place.Round (suc round) → AreRulesOf problem budget rules → IsSPolynomial rules p
       → IsTooLarge letters p → IsSizeAt problem budget number at letters
   -- a word of a row of a certificate
-  in_certificate : (round : ℕ) → at ≡ place.Certificate round → letters ≡ true → (r : ClaimRecord problem number) → HasLongRow r.made r.claim
+  in_certificate : (round : ℕ) → at ≡ place.Certificate round → letters ≡ true → (r : ClaimRecord problem budget number) → HasLongRow r.made r.claim
       → IsSizeAt problem budget number at letters
 
 -- The rows of a certificate of the claim with this number pass a limit.
-pub record AreRowsAt (problem : Problem) (number : ℕ) (at : Place) (letters : Bool) : Type 0 where
+pub record AreRowsAt (problem : Problem) (budget : Budget) (number : ℕ) (at : Place) (letters : Bool) : Type 0 where
   pub round : ℕ
   pub place_is : at ≡ place.Certificate round
-  pub record_of : ClaimRecord problem number
+  pub record_of : ClaimRecord problem budget number
   pub many : HasManyRows record_of.made record_of.claim letters
 
 -- What a cause says of the place, in the work on the claim with this number, and of the least overlap word that is named with it.
@@ -166,5 +189,5 @@ abbrev pub CauseMeans : Problem → Budget → ℕ → Place → Option (List �
 CauseMeans problem budget number at least (cause.Pairs spent) = PairsAreSpent problem budget at least spent
 CauseMeans problem budget number at least (cause.Steps limit) = StepsAreSpent problem budget number at limit
 CauseMeans problem budget number at least (cause.Size letters) = IsSizeAt problem budget number at letters
-CauseMeans problem budget number at least (cause.Rows letters) = AreRowsAt problem number at letters
+CauseMeans problem budget number at least (cause.Rows letters) = AreRowsAt problem budget number at letters
 CauseMeans problem budget number at least (cause.Overflow o) = IsOverflowAt problem budget number at o
