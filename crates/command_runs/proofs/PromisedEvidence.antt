@@ -63,6 +63,7 @@ use Rattle.command_runs.specs.Promises.NotDerivable.{SaysClosed, NotDerivableIsM
 use Rattle.command_runs.specs.Promises.Sharp.{IsSharp, SharpIsMeant}
 use Rattle.command_runs.specs.Promises.Undecided.{UndecidedIsMeant}
 use Rattle.command_runs.specs.Promises.{LinesAreMeant}
+use Rattle.command_runs.proofs.PromisedGenerators.{is_not_derivable}
 use Rattle.command_runs.proofs.QuietTexts.{lacks, cut}
 use Rattle.command_runs.proofs.QuietBlocks.{decimal_lacks}
 use Rattle.command_runs.proofs.ReportLines.{IsTold, line_is_told}
@@ -200,7 +201,7 @@ module _ {Object Arrow : Type 0} {s : Structure Object Arrow} (laws : Preadditiv
   closed_by text b holds means says = record {
     number = b.claim;
     says = ending_by (is_sharp problem.parts (polynomials b.rules)) (codes "claim " ++ decimal b.claim) text (ap (drop 7) says);
-    outside = record { problem = problem; stated = is; least = holds.has_rules.claim.least; most = holds.has_rules.claim.most; outside = means.closed.outside };
+    outside = is_not_derivable bytes problem is b.claim holds.has_rules.claim.least holds.has_rules.claim.most means.closed.outside;
   }
 
   -- no number has a blank in it

@@ -29,6 +29,7 @@ use Rattle.command_runs.specs.Promises.Refuted.{IsRefuted, IsNext}
 use Rattle.command_runs.specs.Promises.NotDerivable.{IsNotDerivable}
 use Rattle.command_runs.specs.Promises.Undecided.{IsUndecided}
 use Rattle.command_runs.specs.Promises.{LinesAreMeant}
+use Rattle.command_runs.proofs.PromisedGenerators.{is_not_derivable}
 use Rattle.command_runs.proofs.QuietTexts.{lacks, LineAt}
 use Rattle.command_runs.proofs.ReportLines.{at_start, claim_said, IsOfVerdict}
 
@@ -134,7 +135,7 @@ module _ {Object Arrow : Type 0} {s : Structure Object Arrow} (equations : SaysE
         → codes "not derivable " ++ text ≡ told_of problem.parts.quiver rules v → IsNotDerivable bytes number
     not_derivable_by number text (verdict.Proved e) holds least most says = absurd (differ 0 110 112 _ _ says refl refl (λ e. omega (arith, e)))
     not_derivable_by number text (verdict.NotDerivable rest) holds least most says =
-        record { problem = problem; stated = stated; least = least; most = most; outside = means number (verdict.NotDerivable rest) holds }
+        is_not_derivable bytes problem stated number least most (means number (verdict.NotDerivable rest) holds)
     not_derivable_by number text (verdict.Refuted m) holds least most says = absurd (differ 0 110 114 _ _ says refl refl (λ e. omega (arith, e)))
     not_derivable_by number text (verdict.Undecided h) holds least most says = absurd (differ 0 110 117 _ _ says refl refl (λ e. omega (arith, e)))
     not_derivable_by number text (verdict.NotRefuted candidates) holds least most says = absurd (differ 4 100 114 _ _ says refl refl (λ e. omega (arith, e)))

@@ -1,19 +1,37 @@
--- `not derivable` and `closed`: no positive multiple of the claim is a combination of the generators of the statement.
-use Rattle.std.specs.Prelude.{◌≡◌, ◌<◌, ◌≤◌, ◌⊎◌, ℕ, List, ◌++◌, length, codes, decimal}
+-- `not derivable` and `closed`: no positive multiple of the claim is a combination of the assumptions.
+use Rattle.std.specs.Prelude.{◌≡◌, ◌<◌, ◌⊎◌, ℕ, List, ◌++◌, map, codes, decimal, Ok}
+use Rattle.std.specs.List.{AllZip}
+use Rattle.definitions.specs.Poly.{Poly}
 use Rattle.definitions.specs.Combination.{InRationalIdeal}
-use Rattle.adjoint_rules.specs.declared.problem.Problem.{Problem}
-use Rattle.adjoint_rules.specs.Problem.{polynomials}
-use Rattle.adjoint_rules.specs.Claims.{claim_at}
-use Rattle.stated_problem.specs.Stated.{IsStated}
+use Rattle.definitions.specs.Generators.{generators_of}
+use Rattle.quiver.specs.Declarations.{Declaration}
+use Rattle.statement_syntax.specs.declared.tree.Statement.{Statement}
+use Rattle.statement_syntax.specs.Fault.{IsTreeOf}
+use Rattle.abbreviations.specs.declared.written.Equation.{Equation}
+use Rattle.abbreviations.specs.Written.{assumptions_of}
+use Rattle.expressions.specs.Polynomials.{equation_poly}
+use Rattle.statement_names.specs.Numbered.{declarations_of}
+use Rattle.statement_names.specs.Marked.{is_starred, marked_of}
+use Rattle.statement_meaning.specs.Claims.{quiver_in, IsClaim}
 use Rattle.command_runs.specs.Promises.Lines.{HasLine, claim_line, block_line, number_limit}
 
--- The bytes are a statement with a claim of this number, of which no positive multiple is a combination of the generators.
+-- the polynomial of the equation: its left side minus its right side
+abbrev pub IsPolynomialOf : List Declaration → Equation → Poly → Type 0
+IsPolynomialOf ds e p = equation_poly ds e.left e.right ≡ Ok p
+
+-- The bytes are a file with a claim of this number, of which no positive multiple is a combination of the generators: the assumptions, abbreviations
+-- written out, where the file is starred their adjoints, and what it is for the identities that occur to be identities.
 pub record IsNotDerivable (bytes : List ℕ) (number : ℕ) : Type 0 where
-  pub problem : Problem
-  pub stated : IsStated bytes problem
-  pub least : 1 ≤ number
-  pub most : number ≤ length problem.parts.claims
-  pub outside : InRationalIdeal (polynomials problem.generators) (claim_at problem number) → ⊥
+  pub statements : List Statement
+  pub file : IsTreeOf bytes statements
+  pub assumptions : List Poly
+  pub assumed : AllZip (IsPolynomialOf (declarations_of statements)) (assumptions_of (declarations_of statements) statements) assumptions
+  pub claim : Equation
+  pub is_claim : IsClaim statements number claim
+  pub polynomial : Poly
+  pub claimed : IsPolynomialOf (declarations_of statements) claim polynomial
+  pub outside : InRationalIdeal
+      (generators_of (quiver_in statements) (is_starred statements) (map (λ v. v.0) (marked_of (declarations_of statements) statements)) assumptions) polynomial → ⊥
 
 -- claim N, and then ` sharp`, or nothing
 pub record SaysClosed (bytes text : List ℕ) : Type 0 where
