@@ -12,6 +12,7 @@ from typing import Callable, Iterator, List, NamedTuple, Sequence, Tuple
 from opprove.checkers.check import Poly, Problem, Signature, Word
 from opprove.checkers.check_model import Matrix
 from opprove.translations.chain import has_powers
+from opprove.translations import sentences
 from opprove.translations.latex import GREEK
 
 GREEK_SIGNS = dict(zip(GREEK, "αβγδεζηθικλμνξπρστυφχψωΓΔΘΛΞΠΣΥΦΨΩ"))
@@ -135,6 +136,28 @@ class Writer:
 
     def sum(self, poly: Poly, ends: Signature, marks: Marks = lambda word: ()) -> str:
         return "".join(self.terms(poly, ends, marks))
+
+
+RAISED = {"'": "∗", "+": "†", "^+": "†", "-": "−"}  # marks of a sentence
+
+
+def sentence(text: str, is_map: Callable[[str], bool]) -> str:
+    """A sentence in HTML, with its formulas, which are written in ASCII."""
+    texts = []
+    for run, is_formula in sentences.runs(text, is_map):
+        shown = "".join(map(token, run))
+        texts.append(f'<span class="w">{shown}</span>' if is_formula else escape(run[0].text))
+    return "".join(texts)
+
+
+def token(piece: sentences.Piece) -> str:
+    """A token of a formula of a sentence."""
+    kind, text = piece
+    if kind not in ("atom", "close"):
+        return escape(text.replace("-", "−").replace("..", "⋯"))
+    name, marks = sentences.split_atom(text) if kind == "atom" else (text[0], sentences.split_marks(text[1:]))
+    shown = name if kind == "close" else HTML.number(int(name)) if name.isdigit() else HTML.name(*parts_of(name))
+    return shown + "".join(f"<sup>{escape(RAISED.get(mark) or mark.lstrip('^').replace('-', '−'))}</sup>" for mark in marks)
 
 
 def math(*parts: str) -> str:

@@ -136,7 +136,7 @@ class StatementWriter:
 
     def __init__(self, reader: Reader, text: str, about: Optional[Sequence[str]] = None) -> None:
         self.reader, self.text = reader, text
-        self.about = [" ".join(comments_of(text)).strip()] if about is None else about
+        self.about = [escape(" ".join(comments_of(text)).strip())] if about is None else about
         self.writer = Writer(reader.problem, MATHML)
 
     def glance(self) -> Iterator[str]:
@@ -154,7 +154,7 @@ class StatementWriter:
 
     def written(self) -> Iterator[str]:
         yield '<section class="statement"><h2>The statement</h2>'
-        yield from (f'<p class="about">{escape(line)}</p>' for line in self.about if line)
+        yield from (f'<p class="about">{line}</p>' for line in self.about if line)
         yield from self.glance()
         lines = re.split("\r?\n", self.text)
         lines = lines[:-1] if len(lines) > 1 and not lines[-1] else lines
@@ -258,6 +258,9 @@ class Found(NamedTuple):
 
     def of_claim(self, number: int) -> List[Piece]:
         return [piece for piece in self.pieces if piece.claim == number]
+
+    def is_map(self, name: str) -> bool:
+        return name in self.reader.problem.numbers
 
     def verdicts(self) -> List[List[str]]:
         """Those on each claim, each once."""

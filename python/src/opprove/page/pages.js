@@ -1,5 +1,6 @@
 "use strict";
-// The box of the index leaves the theorems that have all words which are typed, or an equation or a map of the shape that is typed.
+// The box of the index leaves the theorems that have all words which are typed, or an equation or a map of the shape that is typed, or
+// its text.
 
 (() => {
   const NAME = /^[\p{L}_]/u, TOKENS = /[\p{L}_][\p{L}\p{N}_]*|->|\d+|\S/gu;
@@ -17,14 +18,14 @@
 
   const theorems = [...document.querySelectorAll(".theorem")].map((element) => {
     const lines = element.dataset.shapes.split("\n");
-    return { element, text: `${element.textContent}\n${element.dataset.shapes}`.toLowerCase(), shapes: new Set(lines.map(shape)) };
+    return { element, text: [element.textContent, element.dataset.said, ...lines].join("\n").toLowerCase(), shapes: new Set(lines.map(shape)) };
   });
 
   function asks(part) {
     const words = part.toLowerCase().split(/\s+/).filter(Boolean);
     if (!/=|->/.test(part)) return ({ text }) => words.every((word) => text.includes(word));
     const wanted = [shape(part), shape(turned(part))];
-    return ({ shapes }) => wanted.some((each) => shapes.has(each));
+    return ({ text, shapes }) => wanted.some((each) => shapes.has(each)) || text.includes(part.trim().toLowerCase());
   }
 
   function find() {

@@ -24,12 +24,13 @@ import tempfile
 from concurrent.futures import ProcessPoolExecutor
 from html import escape
 from pathlib import Path
-from typing import Dict, Iterator, List, NamedTuple, Sequence, Set, Tuple
+from typing import Callable, Dict, Iterator, List, NamedTuple, Sequence, Set, Tuple
 from urllib.parse import quote
 
 from opprove.checkers.check import DONE, NO_MEMORY, NO_OUTPUT, NOT_LOADED, REFUSED, Refusal, loaded, status_of, written
 from opprove.notation import expand
 from opprove.notation.expansion import HEAD
+from opprove.page.formulas import sentence
 from opprove.page.page import Found, badge, comments_of, found_in, head, navigation, page_with, part
 from opprove.program import Refused, path as path_of_program, run
 from opprove.search.findings import positive
@@ -41,7 +42,9 @@ EVIDENCE = (".cert", ".star", ".model", ".report")  # the names of files of evid
 FIELDS = ("THEOREM", "SOURCE", "ASSUMES", "LEAVES OUT", "VERDICT")
 OPTIONS = re.compile(r"--(?:pairs|steps|seed) [0-9]+|--no-models")
 ORDER = re.compile(r"\bby (order [^;,]*)")  # of words, in which a basis is
-COLUMNS = ("denominators", "rows", "steps", "seconds", "used in")  # of the table of a library, those that the index shows
+COLUMNS = {  # of the table of a library, those that the index shows
+    "denominators": "denominator {}", "rows": "{} rows", "steps": "chains of up to {} steps", "seconds": "{} s", "used in": "used in {}",
+}  # fmt: skip
 NO_VERDICT = 12
 
 
@@ -213,11 +216,13 @@ def another(found: Found, said: str) -> str:
     return ""
 
 
-def about(fields: Dict[str, str], verdicts: str) -> List[str]:
-    """The paragraphs in front of a statement."""
-    names = {"SOURCE": "Source", "ASSUMES": "Assumed besides", "LEAVES OUT": "Left out"}
-    lines = [f"{name}: {fields[word]}" for word, name in names.items() if fields[word]]
-    return [fields["THEOREM"], *lines, f"Verdict: {fields['VERDICT'] or verdicts}"]
+def about(fields: Dict[str, str], verdicts: str, is_map: Callable[[str], bool]) -> List[str]:
+    """The paragraphs in front of a statement, in HTML."""
+    lines = [sentence(fields["THEOREM"], is_map)]
+    lines += [f"Source: {escape(fields['SOURCE'])}"] * bool(fields["SOURCE"])
+    for word, name in (("ASSUMES", "Assumed besides"), ("LEAVES OUT", "Left out")):
+        lines += [f"{name}: {sentence(fields[word], is_map)}"] * bool(fields[word])
+    return [*lines, f"Verdict: {escape(fields['VERDICT'] or verdicts)}"]
 
 
 def shapes_of(text: str) -> List[str]:
@@ -241,7 +246,7 @@ def make(job: Job, out: Path) -> Made:
         with tempfile.TemporaryDirectory(prefix="opprove-") as folder:
             found, missing = found_for(job, Path(folder))
         verdicts = [verdict for each in found.verdicts() for verdict in each]
-        page = page_with(found, title_of(job.statement.name), "", job.links, about(job.fields, told(verdicts)))
+        page = page_with(found, title_of(job.statement.name), "", job.links, about(job.fields, told(verdicts), found.is_map))
         fault = missing or another(found, job.fields["VERDICT"])
         status = NO_VERDICT if missing else REFUSED if fault else DONE
         made = Made(verdicts, shapes_of(job.statement.text), fault, status)
@@ -275,19 +280,19 @@ class Library(NamedTuple):
     def facts(self, entry: Entry) -> str:
         """What the table says of a file."""
         row = self.table.get((entry.chapter, entry.path.name), {})
-        units = {"denominators": "denominator {}", "rows": "{} rows", "steps": "{} steps", "seconds": "{} s", "used in": "used in {}"}
-        return " · ".join(units[column].format(row[column]) for column in COLUMNS if row.get(column))
+        return " · ".join(said.format(row[column]) for column, said in COLUMNS.items() if row.get(column))
 
 
 def item(entry: Entry, made: Dict[str, Made], facts: str) -> Iterator[str]:
     """A theorem: its name, its verdicts, its sentence, and its statements where they are several."""
     places = [place_of(entry.chapter, one.name) for one in entry.statements]
     shapes = dict.fromkeys(shape for place in places for shape in made[place].shapes)
-    yield f'<li class="theorem" data-shapes="{escape(chr(10).join(shapes))}">'
+    said, names = entry.fields["THEOREM"] or entry.fault, {shape.split(" : ")[0] for shape in shapes if " -> " in shape}
+    yield f'<li class="theorem" data-shapes="{escape(chr(10).join(shapes))}" data-said="{escape(said)}">'
     links = [link(place, one.name, made[place]) for place, one in zip(places, entry.statements)]
     every = [verdict for place in places for verdict in made[place].verdicts]
     yield links[0] if len(links) == 1 else f"<b>{escape(title_of(entry.path.stem))}</b> {badges(every)}"
-    yield f'<p class="about">{escape(entry.fields["THEOREM"] or entry.fault)}</p>'
+    yield f'<p class="about">{sentence(said, names.__contains__)}</p>'
     lines = [entry.fields["SOURCE"], facts]
     yield from (f'<p class="place">{escape(line)}</p>' for line in lines if line)
     yield f"<details><summary>{len(links)} statements</summary>{'<br>'.join(links)}</details></li>" if len(links) > 1 else "</li>"

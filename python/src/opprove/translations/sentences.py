@@ -7,7 +7,7 @@ follows it, and a map elsewhere.
 from __future__ import annotations
 
 import re
-from typing import Callable, Dict, Iterator, List, NamedTuple, Set
+from typing import Callable, Dict, Iterator, List, NamedTuple, Set, Tuple
 
 from opprove.translations.latex import escaped, name_in_latex
 
@@ -51,8 +51,7 @@ def is_formula(found: List[Piece], place: int, is_map: Callable[[str], bool]) ->
         behind = [piece for piece in found[place + 1 : place + 6] if piece.kind != "blank"]
         begins = text == "A" and (place == 0 or found[place - 2].text in (":", "."))
         return not begins and not is_article(behind)
-    name = re.match("[A-Za-z]*[0-9]*", text)
-    return not text.isalpha() or len(text) == 1 or (is_map(name.group() if name else text) and text not in WORDS)
+    return not text.isalpha() or len(text) == 1 or (is_map(text) and text not in WORDS)
 
 
 def is_article(behind: List[Piece]) -> bool:
@@ -67,16 +66,19 @@ def is_article(behind: List[Piece]) -> bool:
 
 def in_latex(sentence: str, named: Named, is_map: Callable[[str], bool]) -> str:
     """A sentence with its formulas between dollar signs."""
-    found, texts, place = pieces(sentence, is_map), [], 0
+    texts = []
+    for run, is_one in runs(sentence, is_map):
+        texts.append(" " * (run[0].text[0] == " ") + f"${formula(run, named)}$" if is_one else in_text(run[0]))
+    return "".join(texts)
+
+
+def runs(sentence: str, is_map: Callable[[str], bool]) -> Iterator[Tuple[List[Piece], bool]]:
+    """The tokens of a sentence: those of a formula together, others one by one, and whether they are a formula."""
+    found, place = pieces(sentence, is_map), 0
     while place < len(found):
         end = end_of_formula(found, place)
-        if end == place:
-            texts.append(in_text(found[place]))
-            place += 1
-        else:
-            texts.append(" " * (found[place].text[0] == " ") + f"${formula(found[place:end], named)}$")
-            place = end
-    return "".join(texts)
+        yield found[place : max(end, place + 1)], end > place
+        place = max(end, place + 1)
 
 
 def in_text(piece: Piece) -> str:
@@ -134,8 +136,7 @@ def token(piece: Piece, named: Named) -> str:
     """A token of a formula that is no bracket."""
     kind, text = piece
     if kind == "atom":
-        match = re.match("[A-Za-z]*[0-9]*", text)
-        name = match.group() if match else ""
+        name, _ = split_atom(text)
         return powered(named(name) if not name.isdigit() else name, list(marks(text[len(name) :])))
     if kind == "sign":
         return {";": r" \\ ", "..": r"\cdots "}.get(text.strip(), f" {text.strip()} ")
@@ -144,8 +145,19 @@ def token(piece: Piece, named: Named) -> str:
 
 def marks(text: str) -> Iterator[str]:
     """The superscripts that marks stand for."""
-    for mark in re.findall(r"\^\+|\^-?\w+|['#+-]", text):
+    for mark in split_marks(text):
         yield SYMBOLS.get(mark) or f"^{{{mark[1:]}}}"
+
+
+def split_marks(text: str) -> List[str]:
+    return re.findall(r"\^\+|\^-?\w+|['#+-]", text)
+
+
+def split_atom(text: str) -> Tuple[str, List[str]]:
+    """A name or a number, and its marks."""
+    match = re.match("[A-Za-z]*[0-9]*", text)
+    name = match.group() if match else ""
+    return name, split_marks(text[len(name) :])
 
 
 def powered(base: str, exponents: List[str]) -> str:
