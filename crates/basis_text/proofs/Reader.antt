@@ -7,7 +7,8 @@ use Rattle.block_text.specs.Lines.{number_limit}
 use Rattle.block_text.specs.Tokens.{begins_comment}
 use Rattle.block_text.proofs.Bounds.{bound_of, before, same_flaw}
 use Rattle.block_text.proofs.Owed.{IsReader}
-use Rattle.block_lines.specs.LineKinds.{PolynomialBound, names, writing, numbers, terms, words, polynomial_before, polynomial_behind, polynomial_read}
+use Rattle.block_lines.specs.LineKinds.{PolynomialBound, names, writing, numbers, terms, words, polynomial_before, polynomial_behind}
+use Rattle.block_lines.specs.LineReadings.{polynomial_read}
 use Rattle.block_lines.proofs.PolynomialReader.{polynomial_reader}
 use Rattle.block_lines.proofs.SectionBlocks.{number_read, block_read}
 use Rattle.block_lines.proofs.SectionReaders.{IsLineReader, none_read, line_read, lines_read}

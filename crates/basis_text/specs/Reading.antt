@@ -7,7 +7,7 @@ use Rattle.block_text.specs.Lines.{number_limit, number_of}
 use Rattle.block_text.specs.Steps.{Steps}
 use Rattle.block_lines.specs.declared.section.LinePlace.{LinePlace}
 use Rattle.block_lines.specs.declared.section.LinesPlace.{LinesPlace}
-use Rattle.block_lines.specs.LineKinds.{polynomial_read}
+use Rattle.block_lines.specs.LineReadings.{polynomial_read}
 use Rattle.block_lines.specs.SectionSteps.{no_steps, line_steps, lines_steps, block_steps}
 use Rattle.basis_text.specs.declared.place.BasisTerms.{BasisTerms}
 use Rattle.basis_text.specs.BasisLines.{basis_of}

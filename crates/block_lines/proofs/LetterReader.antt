@@ -10,7 +10,8 @@ use Rattle.block_text.specs.declared.fault.Flaw.{Flaw}
 use Rattle.block_text.specs.declared.fault.Flaw.TheVariants.{UnknownName}
 use Rattle.block_text.specs.Back.{is_named, is_inside}
 use Rattle.block_text.specs.Letters.{is_letter, letter_of}
-use Rattle.block_lines.specs.LineKinds.{letter_line, may_be_letter, letter_said, letter_behind, letter_token, letter_read}
+use Rattle.block_lines.specs.LineKinds.{letter_line, may_be_letter, letter_said, letter_behind}
+use Rattle.block_lines.specs.LineReadings.{letter_token, letter_read}
 use Rattle.block_text.specs.Lines.{Line, is, is_end}
 use Rattle.block_text.specs.Tokens.{tokens_of, is_skipped}
 use Rattle.block_text.specs.Written.{letter_text}

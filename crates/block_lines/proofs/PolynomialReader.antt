@@ -22,7 +22,8 @@ use Rattle.block_text.proofs.PolynomialBounds.{is_same}
 use Rattle.block_text.proofs.PolynomialFlaws.{tokens_unique}
 use Rattle.block_text.proofs.PolynomialLaws.{polynomial_is, flaw_is, poly_unique}
 use Rattle.block_text.proofs.Results.{by_test}
-use Rattle.block_lines.specs.LineKinds.{PolynomialBound, names, writing, numbers, terms, words, polynomial_before, polynomial_flaw, KeepsPolynomial, polynomial_behind, polynomial_read}
+use Rattle.block_lines.specs.LineKinds.{PolynomialBound, names, writing, numbers, terms, words, polynomial_before, polynomial_flaw, KeepsPolynomial, polynomial_behind}
+use Rattle.block_lines.specs.LineReadings.{polynomial_read}
 use Rattle.block_lines.proofs.SectionReaders.{IsLineReader, IsLineRead, IsLinePassed}
 
 module _ (ds : List Declaration) where

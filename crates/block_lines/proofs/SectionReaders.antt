@@ -26,7 +26,8 @@ use Rattle.block_text.proofs.Zips.{AllZip-unique, zip_length, zip_push}
 use Rattle.block_lines.specs.declared.section.LinePlace.{LinePlace}
 use Rattle.block_lines.specs.declared.section.LinePlace.TheVariants as at
 use Rattle.block_lines.specs.declared.section.LinesPlace.{LinesPlace}
-use Rattle.block_lines.specs.LineKinds.{LineKind, Reading, said_line}
+use Rattle.block_lines.specs.LineKinds.{LineKind, said_line}
+use Rattle.block_lines.specs.LineReadings.{Reading}
 use Rattle.block_lines.specs.Sections.{Section, no_lines, line_then, lines_then}
 use Rattle.block_lines.specs.SectionSteps.{SectionSteps, no_steps, grown, lines_place, line_next, line_steps, lines_next, lines_steps}
 

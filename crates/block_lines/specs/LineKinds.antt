@@ -1,17 +1,16 @@
 -- Kinds of lines of a block: a word behind which a number, a letter or a polynomial stands.
-use Rattle.std.specs.Prelude.{◌≡◌, ◌&&◌, ℕ, Bool, true, IsTrue, List, [], ◌∷◌, Option, Some, None, IfSome, Result, Err, if◌then◌else◌}
+use Rattle.std.specs.Prelude.{◌≡◌, ℕ, Bool, true, IsTrue, List, [], ◌∷◌, Option, Some, None, IfSome}
 use Rattle.std.specs.Option.{option_map}
 use Rattle.definitions.specs.Poly.{Poly}
 use Rattle.word_core.specs.declared.letter.Letter.{Letter}
 use Rattle.nc_polynomial.specs.Limits.{word_limit, term_limit}
 use Rattle.quiver.specs.Declarations.{Declaration}
 use Rattle.block_text.specs.declared.fault.Flaw.{Flaw}
-use Rattle.block_text.specs.declared.fault.Flaw.TheVariants.{BadLine, UnknownName, NotAsWritten, NumberTooLarge, TooMany}
+use Rattle.block_text.specs.declared.fault.Flaw.TheVariants.{UnknownName, NotAsWritten, NumberTooLarge, TooMany}
 use Rattle.block_text.specs.Letters.{is_letter, letter_of, is_number, number_within}
-use Rattle.block_text.specs.Lines.{Line, is, said}
+use Rattle.block_text.specs.Lines.{Line}
 use Rattle.block_text.specs.PolynomialLines.{PolynomialTokens, polynomial_line, IsPolynomialTokens, IsPolynomialOf, HasKnownLetters}
 use Rattle.block_text.specs.PolynomialLines.{IsAsWritten, HasNumbersWithin, HasFewTerms, HasShortWords}
-use Rattle.block_text.specs.PolynomialReading.{polynomial_of}
 
 -- A kind of line: which tokens it has, which bounds they keep, and what they say.
 pub record LineKind (Bound Value : Type 0) : Type 1 where
@@ -20,10 +19,6 @@ pub record LineKind (Bound Value : Type 0) : Type 1 where
   pub IsLine : Tokens → Type 0
   pub Keeps : Bound → Tokens → Type 0
   pub Says : Tokens → Value → Type 0
-
--- what a line says, or what is wrong with it
-abbrev pub Reading : Type 0 → Type 0
-Reading Value = Line → Result Value Flaw
 
 -- a line whose tokens have a value where they keep this bound
 abbrev pub said_line : {Bound T V : Type 0} → Bound → (T → Line) → (T → Type 0) → (T → Option V) → LineKind Bound V
@@ -56,16 +51,6 @@ letter_said ds (Some token) = option_map (λ a. Some (record { 0 = a })) (letter
 -- a word and a letter of the quiver, or the word alone
 abbrev pub letter_behind : {Bound : Type 0} → Bound → List Declaration → List ℕ → LineKind Bound (Option Letter)
 letter_behind bound ds word = said_line bound (letter_line word) (λ token. IsTrue (may_be_letter token)) (letter_said ds)
-
-abbrev pub letter_token : List ℕ → Line → Option (Option (List ℕ))
-letter_token word [] = None
-letter_token word (first ∷ []) = if is word first then Some None else None
-letter_token word (first ∷ token ∷ []) = if is word first && is_letter token then Some (Some token) else None
-letter_token word (first ∷ token ∷ more ∷ tokens) = None
-
--- how it is read
-abbrev pub letter_read : List Declaration → List ℕ → Reading (Option Letter)
-letter_read ds word line = said (letter_token word) (letter_said ds) UnknownName line
 
 -- the bounds on a polynomial, in the order in which they count
 pub data PolynomialBound : Type 0 where
@@ -107,8 +92,3 @@ polynomial_behind ds part word = record {
   Keeps = λ bound p. IfSome (part bound) (λ b. KeepsPolynomial ds b p);
   Says = IsPolynomialOf ds;
 }
-
--- the polynomial behind a word
-abbrev pub polynomial_read : List Declaration → List ℕ → Reading Poly
-polynomial_read ds word [] = Err BadLine
-polynomial_read ds word (token ∷ tokens) = if is word token then polynomial_of ds tokens else Err BadLine

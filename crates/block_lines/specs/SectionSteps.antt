@@ -5,7 +5,7 @@ use Rattle.block_text.specs.declared.fault.Flaw.{Flaw}
 use Rattle.block_text.specs.declared.fault.Flaw.TheVariants.{BadLine, TooMany}
 use Rattle.block_text.specs.Fault.{◌>>=◌}
 use Rattle.block_text.specs.Lines.{Line, begins, is_pair}
-use Rattle.block_lines.specs.LineKinds.{Reading}
+use Rattle.block_lines.specs.LineReadings.{Reading}
 use Rattle.block_text.specs.Steps.{Steps}
 use Rattle.block_lines.specs.declared.section.LinePlace.{LinePlace}
 use Rattle.block_lines.specs.declared.section.LinePlace.TheVariants as at

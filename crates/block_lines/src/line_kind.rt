@@ -3,7 +3,7 @@
 ghost use Rattle.std.specs.Prelude.{◌≡◌};
 ghost use Rattle.std.specs.Option.{option_copied, option_map};
 ghost use Rattle.block_text.specs.Fault.{Reads};
-ghost use Rattle.block_lines.specs.LineKinds.{Reading, letter_token, letter_read, polynomial_read};
+ghost use Rattle.block_lines.specs.LineReadings.{Reading, letter_token, letter_read, polynomial_read};
 ghost use Rattle.block_text.specs.Lines.{number_of};
 ghost use Rattle.block_text.specs.Tokens.{tokens_of};
 

@@ -12,7 +12,8 @@ use Rattle.block_text.specs.Texts as texts
 use Rattle.block_text.specs.Texts.{HasBlocks, IsBlocks}
 use Rattle.block_text.specs.Written.{letter_text}
 use Rattle.block_lines.specs.declared.section.LinePlace.{LinePlace}
-use Rattle.block_lines.specs.LineKinds.{letter_behind, letter_read, number_line}
+use Rattle.block_lines.specs.LineKinds.{letter_behind, number_line}
+use Rattle.block_lines.specs.LineReadings.{letter_read}
 use Rattle.block_lines.specs.Sections.{Section, no_lines, line_then, block_kind}
 use Rattle.block_lines.specs.SectionSteps.{no_steps, line_steps, block_steps}
 use Rattle.library_tests.specs.declared.shifts.Shift.{Shift}
