@@ -1,23 +1,27 @@
 -- What holds of the bases that are read, and bases by their terms.
-use Rattle.std.proofs.Common.{◌≡◌, ℕ, List, [], ◌∷◌, refl, ap, ap₂, subst, map}
+use Rattle.std.proofs.Common.{◌≡◌, ◌≤◌, ◌∙◌, ℕ, List, [], ◌∷◌, arith, length, refl, sym, ap, ap₂, subst, map}
 use Rattle.std.proofs.Props as std
 use Rattle.std.specs.List.{All, AllZip}
+use Rattle.std.proofs.lemmas.List.{length-map}
 use Rattle.std.proofs.lemmas.List.Elements.{All-nil, All-cons, All-head, All-tail, All-weaker}
 use Rattle.definitions.specs.Poly.{Poly as Terms}
 use Rattle.nc_polynomial.specs.declared.poly.Poly.{Poly}
 use Rattle.nc_polynomial.specs.Shape.{IsCanonical}
-use Rattle.quiver.specs.Declarations.{Declaration}
-use Rattle.block_text.specs.PolynomialLines.{PolynomialTokens, IsPolynomialTokens, IsPolynomialOf}
+use Rattle.word_core.specs.Letters.{IsOver}
+use Rattle.quiver.specs.Declarations.{Declaration, letter_count}
+use Rattle.block_text.specs.PolynomialBack.{IsPolynomialLine}
+use Rattle.block_text.specs.PolynomialLines.{PolynomialTokens, polynomial_line, IsPolynomialTokens, IsPolynomialOf}
 use Rattle.block_text.specs.Texts.{IsBlocks}
 use Rattle.block_text.proofs.EachText.{values_are}
+use Rattle.block_text.proofs.PolynomialLaws.{is_canonical, is_over}
+use Rattle.block_text.proofs.Zips.{zip_length}
+use Rattle.block_lines.specs.LineKinds.{PolynomialBound, names, writing, numbers, terms, words, KeepsPolynomial}
 use Rattle.basis_text.specs.declared.basis.Basis.{Basis}
 use Rattle.basis_text.specs.declared.place.BasisTerms.{BasisTerms}
-use Rattle.basis_text.specs.BasisBlocks.{BasisTokens, IsBasisBlock}
-use Rattle.basis_text.specs.BasisBounds.{Bound, KeepsOne, IsBasisOf}
+use Rattle.basis_text.specs.BasisLines.{Bound, on_polynomial, rules}
 use Rattle.basis_text.specs.Bases.{basis_kind, by_terms, AreCanonical, IsBases, IsBasisOver}
+use Rattle.basis_text.specs.Limits.{rule_limit}
 use Rattle.basis_text.specs.Reading.{basis_steps}
-use Rattle.basis_text.proofs.Lines.{KeepsPolynomial, polynomials_keep}
-use Rattle.basis_text.proofs.PolynomialLines.{IsOverQuiver, polynomial_canonical, polynomial_over}
 use Rattle.basis_text.proofs.Reader.{reader}
 
 -- polynomials by their terms
@@ -66,35 +70,48 @@ bases_with (v ∷ vs) each =
 
 -- what a tree says
 module _ (ds : List Declaration) where
+  abbrev KeepsAll : PolynomialTokens → Type 0
+  KeepsAll t = (bound : PolynomialBound) → KeepsPolynomial ds bound t
+
+  abbrev Tree : Type 0
+  Tree = (basis_kind ds).Tree
+
   -- what holds of the terms of a polynomial that keeps all bounds
-  module _ (P : Terms → Type 0) (each : (t : PolynomialTokens) (p : Terms) → IsPolynomialTokens t → ((bound : Bound) → KeepsPolynomial ds bound t) → IsPolynomialOf ds t p → P p) where
-    all_say : (ts : List PolynomialTokens) (ps : List Terms) → All IsPolynomialTokens ts → ((bound : Bound) → All (KeepsPolynomial ds bound) ts) → AllZip (IsPolynomialOf ds) ts ps → All P ps
+  module _ (P : Terms → Type 0) (each : (t : PolynomialTokens) (p : Terms) → IsPolynomialLine ds (polynomial_line t) p → P p) where
+    one_says : (t : PolynomialTokens) (p : Terms) → IsPolynomialTokens t → KeepsAll t → IsPolynomialOf ds t p → P p
+    one_says t p is keeps says =
+        each t p (record { tokens = t; are = refl; fit = is; known = keeps names; written = keeps writing; numbers = keeps numbers; few = keeps terms; short = keeps words; says = says })
+
+    all_say : (ts : List PolynomialTokens) (ps : List Terms) → All IsPolynomialTokens ts → ((bound : PolynomialBound) → All (KeepsPolynomial ds bound) ts) → AllZip (IsPolynomialOf ds) ts ps → All P ps
     all_say [] [] are keep say = All-nil P
     all_say [] (p ∷ ps) are keep say = absurd say
     all_say (t ∷ ts) [] are keep say = absurd say
     all_say (t ∷ ts) (p ∷ ps) are keep say =
-        All-cons P p ps (each t p (All-head IsPolynomialTokens t ts are) (λ bound. All-head (KeepsPolynomial ds bound) t ts (keep bound)) say.0)
+        All-cons P p ps (one_says t p (All-head IsPolynomialTokens t ts are) (λ bound. All-head (KeepsPolynomial ds bound) t ts (keep bound)) say.0)
         (all_say ts ps (All-tail IsPolynomialTokens t ts are) (λ bound. All-tail (KeepsPolynomial ds bound) t ts (keep bound)) say.1)
 
-    pub said : (b : BasisTokens) (v : BasisTerms) → IsBasisBlock b → ((bound : Bound) → KeepsOne ds bound b) → IsBasisOf ds b v → All P v.rules × P v.rest
-    said b v block keeps says =
-        let all = λ (bound : Bound). polynomials_keep ds b bound (keeps bound) in (
-          all_say b.rules v.rules block.rules (λ bound. All-tail (KeepsPolynomial ds bound) b.rest b.rules (all bound)) says.rules,
-          each b.rest v.rest block.rest (λ bound. All-head (KeepsPolynomial ds bound) b.rest b.rules (all bound)) says.rest,
+    said : (b : Tree) (v : BasisTerms) → (basis_kind ds).IsTree b → ((bound : Bound) → (basis_kind ds).Keeps bound b) → (basis_kind ds).Says b v → All P v.rules × P v.rest
+    said b v is keeps says =
+        subst (λ (w : BasisTerms). All P w.rules × P w.rest) (sym says.2) (
+          all_say b.1.0 says.0.1.0 is.1.0 (λ bound. (keeps (on_polynomial bound)).1.0) says.1.1.0,
+          one_says b.1.1.0 says.0.1.1.0 is.1.1.0 (λ bound. (keeps (on_polynomial bound)).1.2.0) says.1.1.1.0,
         )
 
-  tree_canonical : (b : BasisTokens) (v : BasisTerms) → IsBasisBlock b → ((bound : Bound) → KeepsOne ds bound b) → IsBasisOf ds b v → AreCanonical v
-  tree_canonical b v block keeps says =
-      let found = said IsCanonical (polynomial_canonical ds) b v block keeps says in record { rules = found.0; rest = found.1 }
-
-  -- the letters of the polynomials are letters of the quiver
+  -- the letters of the polynomials are letters of the quiver, and there are not too many rules
   record AreOver (v : BasisTerms) : Type 0 where
-    rules : All (IsOverQuiver ds) v.rules
-    rest : IsOverQuiver ds v.rest
+    rules : All (λ p. All (λ t. IsOver (letter_count ds) t.1) p) v.rules
+    rest : All (λ t. IsOver (letter_count ds) t.1) v.rest
+    few : length v.rules ≤ rule_limit
 
-  tree_over : (b : BasisTokens) (v : BasisTerms) → IsBasisBlock b → ((bound : Bound) → KeepsOne ds bound b) → IsBasisOf ds b v → AreOver v
-  tree_over b v block keeps says =
-      let found = said (IsOverQuiver ds) (polynomial_over ds) b v block keeps says in record { rules = found.0; rest = found.1 }
+  tree_canonical : (b : Tree) (v : BasisTerms) → (basis_kind ds).IsTree b → ((bound : Bound) → (basis_kind ds).Keeps bound b) → (basis_kind ds).Says b v → AreCanonical v
+  tree_canonical b v is keeps says =
+      let found = said IsCanonical (λ t p spelled. is_canonical ds (polynomial_line t) p spelled) b v is keeps says in record { rules = found.0; rest = found.1 }
+
+  tree_over : (b : Tree) (v : BasisTerms) → (basis_kind ds).IsTree b → ((bound : Bound) → (basis_kind ds).Keeps bound b) → (basis_kind ds).Says b v → AreOver v
+  tree_over b v is keeps says =
+      let found = said (λ p. All (λ t. IsOver (letter_count ds) t.1) p) (λ t p spelled. is_over ds (polynomial_line t) p spelled) b v is keeps says in
+      let count : length v.rules ≡ length b.1.0 = ap (λ (w : BasisTerms). length w.rules) says.2 ∙ sym (zip_length (IsPolynomialOf ds) b.1.0 says.0.1.0 says.1.1.0) in
+      record { rules = found.0; rest = found.1; few = omega (arith, count, (keeps rules).1.1 refl) }
 
   unmapped : {A B : Type 0} (P : B → Type 0) (f : A → B) (xs : List A) → All P (map f xs) → All (λ x. P (f x)) xs
   unmapped P f [] each = All-nil (λ x. P (f x))
@@ -104,10 +121,15 @@ module _ (ds : List Declaration) where
   pub are_canonical : (bytes : List ℕ) (vs : List BasisTerms) → IsBlocks (basis_kind ds) bytes vs → All AreCanonical vs
   are_canonical bytes vs is = values_are (basis_kind ds) (basis_steps ds) (reader ds) AreCanonical tree_canonical bytes vs is
 
+  all_over : (bytes : List ℕ) (bases : List Basis) → IsBases ds bytes bases → All (λ b. AreOver (by_terms b)) bases
+  all_over bytes bases is = unmapped AreOver by_terms bases (values_are (basis_kind ds) (basis_steps ds) (reader ds) AreOver tree_over bytes (map by_terms bases) is)
+
   basis_over : (b : Basis) → AreOver (by_terms b) → IsBasisOver ds b
-  basis_over b over = record { rules = unmapped (IsOverQuiver ds) (λ (p : Poly). p.terms) b.rules over.rules; rest = over.rest }
+  basis_over b over = record { rules = unmapped (λ p. All (λ t. IsOver (letter_count ds) t.1) p) (λ (p : Poly). p.terms) b.rules over.rules; rest = over.rest }
 
   pub are_over : (bytes : List ℕ) (bases : List Basis) → IsBases ds bytes bases → All (IsBasisOver ds) bases
-  are_over bytes bases is =
-      All-weaker (λ b. AreOver (by_terms b)) (IsBasisOver ds) basis_over bases
-      (unmapped AreOver by_terms bases (values_are (basis_kind ds) (basis_steps ds) (reader ds) AreOver tree_over bytes (map by_terms bases) is))
+  are_over bytes bases is = All-weaker (λ b. AreOver (by_terms b)) (IsBasisOver ds) basis_over bases (all_over bytes bases is)
+
+  pub are_few : (bytes : List ℕ) (bases : List Basis) → IsBases ds bytes bases → All (λ b. length b.rules ≤ rule_limit) bases
+  are_few bytes bases is =
+      All-weaker (λ b. AreOver (by_terms b)) (λ b. length b.rules ≤ rule_limit) (λ b over. omega (arith, over.few, length-map b.rules (λ (p : Poly). p.terms))) bases (all_over bytes bases is)

@@ -1,7 +1,3 @@
-mod Lines
-mod PolynomialLines
-mod OpenBlocks
-mod BasisLines
 pub mod Reader
 pub mod BasisValues
 pub mod EachText

@@ -4,22 +4,22 @@ use Rattle.std.specs.List.{All}
 use Rattle.nc_polynomial.specs.Shape.{IsCanonical}
 use Rattle.quiver.specs.Declarations.{Declaration}
 use Rattle.block_text.specs.Fault.{Fault}
-use Rattle.block_text.specs.Kind.{Kind, kind_of}
+use Rattle.block_text.specs.Kind.{Kind}
 use Rattle.block_text.specs.Texts as texts
 use Rattle.block_text.specs.Texts.{HasBlocks, IsBlocks}
+use Rattle.block_lines.specs.Sections.{block_kind}
 use Rattle.basis_text.specs.declared.basis.Basis.{Basis}
 use Rattle.basis_text.specs.declared.place.BasisTerms.{BasisTerms}
-use Rattle.basis_text.specs.BasisBlocks.{basis_front, IsBasisBlock}
-use Rattle.basis_text.specs.BasisBounds.{bounds, flaw_of, KeepsOne, IsBasisOf}
+use Rattle.basis_text.specs.BasisLines.{bounds, flaw_of, basis_lines, basis_of}
 use Rattle.basis_text.specs.Written.{IsPolyOver}
 
 -- blocks of these kinds aren't read
 abbrev pub other_words : List (List ℕ)
 other_words = codes "certificate" ∷ codes "model" ∷ codes "cancellation" ∷ []
 
--- Bases are a kind of block.
+-- basis 1, and its lines
 abbrev pub basis_kind : List Declaration → Kind BasisTerms
-basis_kind ds = kind_of basis_front IsBasisBlock other_words bounds flaw_of (KeepsOne ds) (IsBasisOf ds)
+basis_kind ds = block_kind (codes "basis") (codes "1") other_words bounds flaw_of (basis_lines ds) basis_of
 
 -- a basis by the terms of its polynomials
 abbrev pub by_terms : Basis → BasisTerms

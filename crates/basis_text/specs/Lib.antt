@@ -1,7 +1,6 @@
 pub mod Limits
-pub mod BasisBlocks
-pub mod BasisBounds
+pub mod BasisLines
 pub mod Written
 pub mod Bases
-pub mod Reading
 pub mod Back
+pub mod Reading

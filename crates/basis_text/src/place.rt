@@ -10,19 +10,3 @@ pub struct BasisTerms {
     pub rules: Listing<Listing<(i128, Word)>>,
     pub rest: Listing<(i128, Word)>,
 }
-
-/// How far a basis was read whose lines go on.
-#[derive(Drop)]
-pub enum Stage {
-    /// Behind its head.
-    Headed,
-    /// Behind its claim, or a rule.
-    Inside {
-        claim: u32,
-        rules: Listing<Listing<(i128, Word)>>,
-    },
-    /// Behind its rest.
-    Rested {
-        basis: BasisTerms,
-    },
-}

@@ -1,12 +1,16 @@
-//! What is made of the lines of a basis.
+//! Bases as a kind of block.
 
-ghost use Rattle.block_text.specs.Fault.{Reads};
-ghost use Rattle.block_text.specs.Tokens.{tokens_of};
-ghost use Rattle.basis_text.specs.Reading.{grown, inside, basis_steps};
+ghost use Rattle.std.specs.Prelude.{◌≡◌, codes};
+ghost use Rattle.block_text.specs.Lines.{number_limit};
+ghost use Rattle.basis_text.specs.Limits.{rule_limit};
+ghost use Rattle.basis_text.specs.Reading.{basis_steps};
 
 use crate::basis::RULE_LIMIT;
-use crate::place::{BasisTerms, Stage};
-use block_text::{BlockKind, Flaw, LineFault, claim_of, first_token, is, is_pair, read_polynomial};
+use crate::place::BasisTerms;
+use block_lines::{
+    LinePlace, LineThen, LinesPlace, LinesThen, NoLines, NumberLine, PolynomialLine, Section,
+};
+use block_text::{BlockKind, LineFault, NUMBER_LIMIT, is_pair};
 use lists::Listing;
 use quiver::Quiver;
 use std::alloc::{AllocError, Global};
@@ -18,48 +22,56 @@ pub struct Bases<'q> {
     pub quiver: &'q Quiver,
 }
 
-// A rule more, where there may be one.
-fn grown(
-    claim: u32,
-    mut rules: Listing<Listing<(i128, Word)>>,
-    rule: Listing<(i128, Word)>,
-) -> Result<Stage, LineFault>
-    ensures { Reads (λ s. s) result (grown claim rules rule) }
+// A rule for each line, and what they leave.
+type PolynomialLines<'q> = LinesThen<PolynomialLine<'q>, LineThen<PolynomialLine<'q>, NoLines>>;
+
+fn polynomial_lines(quiver: &Quiver) -> PolynomialLines<'_>
+    ensures rules { result.line.quiver.now ≡ quiver.now }
+    ensures rule { result.line.word.now ≡ codes "rule" }
+    ensures begins { result.word.now ≡ codes "rule" }
+    ensures most { result.limit ≡ rule_limit }
+    ensures last { result.rest.line.quiver.now ≡ quiver.now }
+    ensures rest { result.rest.line.word.now ≡ codes "rest" }
 {
-    if rules.len() >= RULE_LIMIT as usize {
-        return Err(LineFault::Flaw(Flaw::TooMany(RULE_LIMIT)));
+    let word = "rest";
+    let line = PolynomialLine { word, quiver };
+    let rest = LineThen {
+        line,
+        rest: NoLines,
+    };
+    let word = "rule";
+    let line = PolynomialLine { word, quiver };
+    let limit = RULE_LIMIT;
+    LinesThen {
+        word,
+        limit,
+        line,
+        rest,
     }
-    rules.push(rule)?;
-    Ok(Stage::Inside { claim, rules })
 }
 
-// A rule, or the rest.
-fn inside(
-    alloc: Global,
-    quiver: &Quiver,
-    claim: u32,
-    rules: Listing<Listing<(i128, Word)>>,
-    line: &[u8],
-) -> Result<Stage, LineFault>
-    ensures { Reads (λ s. s) result (inside quiver.now claim rules (tokens_of line.now)) }
+fn lines(quiver: &Quiver) -> LineThen<NumberLine, PolynomialLines<'_>>
+    ensures rules { result.rest.line.quiver.now ≡ quiver.now }
+    ensures rule { result.rest.line.word.now ≡ codes "rule" }
+    ensures begins { result.rest.word.now ≡ codes "rule" }
+    ensures limit { result.rest.limit ≡ rule_limit }
+    ensures last { result.rest.rest.line.quiver.now ≡ quiver.now }
+    ensures rest { result.rest.rest.line.word.now ≡ codes "rest" }
+    ensures claim { result.line.word.now ≡ codes "claim" }
+    ensures most { result.line.most ≡ number_limit }
 {
-    let Some((word, behind)) = first_token(line) else {
-        return Err(LineFault::Flaw(Flaw::BadLine));
-    };
-    if is("rule", word) {
-        let rule = read_polynomial(alloc, quiver, behind)?.terms;
-        grown(claim, rules, rule)
-    } else if is("rest", word) {
-        let rest = read_polynomial(alloc, quiver, behind)?.terms;
-        let basis = BasisTerms { claim, rules, rest };
-        Ok(Stage::Rested { basis })
-    } else {
-        Err(LineFault::Flaw(Flaw::BadLine))
-    }
+    let word = "claim";
+    let most = NUMBER_LIMIT as u32;
+    let line = NumberLine { word, most };
+    let rest = polynomial_lines(quiver);
+    LineThen { line, rest }
 }
 
 impl<'q> BlockKind for Bases<'q> {
-    type Begun = Stage;
+    type Begun = LinePlace<
+        u32,
+        LinesPlace<Listing<(i128, Word)>, LinePlace<Listing<(i128, Word)>, ()>>,
+    >;
 
     type Value = BasisTerms;
 
@@ -69,25 +81,27 @@ impl<'q> BlockKind for Bases<'q> {
         &["certificate", "model", "cancellation"]
     }
 
-    fn begin(&self, _alloc: Global, line: &[u8]) -> Option<Stage> {
-        is_pair("basis", "1", line).then_some(Stage::Headed)
-    }
-
-    fn next(&self, alloc: Global, stage: Stage, line: &[u8]) -> Result<Stage, LineFault> {
-        match stage {
-            Stage::Headed => Ok(Stage::Inside {
-                claim: claim_of(line)?,
-                rules: Listing::new(alloc),
-            }),
-            Stage::Inside { claim, rules } => inside(alloc, self.quiver, claim, rules, line),
-            Stage::Rested { .. } => Err(LineFault::Flaw(Flaw::BadLine)),
+    fn begin(&self, alloc: Global, line: &[u8]) -> Option<Self::Begun> {
+        if is_pair("basis", "1", line) {
+            Some(lines(self.quiver).start(alloc))
+        } else {
+            None
         }
     }
 
-    fn finish(&self, _alloc: Global, stage: Stage) -> Result<Option<BasisTerms>, AllocError> {
-        match stage {
-            Stage::Rested { basis } => Ok(Some(basis)),
-            _ => Ok(None),
+    fn next(
+        &self,
+        alloc: Global,
+        place: Self::Begun,
+        line: &[u8],
+    ) -> Result<Self::Begun, LineFault> {
+        lines(self.quiver).next(alloc, place, line)
+    }
+
+    fn finish(&self, _alloc: Global, place: Self::Begun) -> Result<Option<BasisTerms>, AllocError> {
+        match lines(self.quiver).finish(place) {
+            Some((claim, (rules, (rest, ())))) => Ok(Some(BasisTerms { claim, rules, rest })),
+            None => Ok(None),
         }
     }
 }

@@ -22,7 +22,6 @@ use Rattle.certificate_text.specs.Blocks.{head_line as certificate_head}
 use Rattle.basis_text.specs.declared.basis.Basis.{Basis}
 use Rattle.basis_text.specs.Back.{IsWritableBasis, text_of}
 use Rattle.basis_text.specs.Bases.{other_words, basis_kind, by_terms, HasBases, IsFirstFault}
-use Rattle.basis_text.specs.BasisBounds.{IsBasisOf}
 use Rattle.basis_text.proofs.BasesBack.{basis_written}
 use Rattle.basis_text.proofs.Reader.{reader}
 use Rattle.model_text.specs.Written.{model_text}
@@ -159,7 +158,7 @@ module _ (ds : List Declaration) (rules : List Poly) (declared : IsDeclared ds) 
 
 no_basis : (ds : List Declaration) (bytes : List ℕ) → HasBases ds bytes [] → IsFirstFault ds bytes no_block
 no_basis ds bytes has =
-    let nothing : own_in has.blocks ≡ [] = nil_from_length (own_in has.blocks) (zip_length (IsBasisOf ds) (own_in has.blocks) [] has.says) in
+    let nothing : own_in has.blocks ≡ [] = nil_from_length (own_in has.blocks) (zip_length (basis_kind ds).Says (own_in has.blocks) [] has.says) in
     none has.utf8 (record { blocks = has.blocks; are_blocks = has.are_blocks; none = nothing }) refl
 
 -- bases are what is read, or that there are none

@@ -1,4 +1,3 @@
 pub mod Loops
 pub mod Below
-mod ShiftReader
-mod ShiftTexts
+mod ShiftLaws

@@ -1,3 +1,1 @@
 pub mod Shifts
-pub mod ShiftSteps
-pub mod ShiftTexts

@@ -1,22 +1,19 @@
 //! Shifts, a kind of block of three lines: read from bytes and written back.
 
-ghost use Rattle.std.specs.Prelude.{◌≡◌, ◌<◌, ◌++◌, List, IfOk, IfSome, IsTrue, MatchResult, OnOk, length};
+ghost use Rattle.std.specs.Prelude.{◌≡◌, ◌<◌, ◌++◌, List, IfOk, IfSome, IsTrue, MatchResult, OnOk, codes, length};
 ghost use Rattle.std.specs.List.{All, list_all};
-ghost use Rattle.std.specs.Option.{option_copied, option_map};
 ghost use Rattle.quiver.specs.Declarations.{Declaration, IsDeclared, letter_count};
 ghost use Rattle.block_text.specs.Back.{is_named};
 ghost use Rattle.block_text.specs.Fault.{ExplainsBy};
 ghost use Rattle.block_text.specs.Laws.{AreTold, AreReadBack};
-ghost use Rattle.block_text.specs.Tokens.{tokens_of};
-ghost use Rattle.library_tests.specs.Shifts.{other_words, HasShifts, IsShifts, IsFirstFault};
-ghost use Rattle.library_tests.specs.ShiftSteps.{begin, letter_token, letter_at, number_at, next, finish, shift_steps};
-ghost use Rattle.library_tests.specs.ShiftTexts.{letter_line_text, shift_text, HasLetter, IsWritable};
+ghost use Rattle.block_text.specs.Lines.{number_limit};
+ghost use Rattle.library_tests.specs.Shifts.{shift_steps, other_words, HasShifts, IsShifts, IsFirstFault, letter_line_text, shift_text, HasLetter, IsWritable};
 
+use block_lines::{LetterLine, LinePlace, LineThen, NoLines, NumberLine, Section};
 use block_text::{
-    BlockKind, Flaw, LineFault, NUMBER_LIMIT, ReadText, first_token, is, is_letter, is_pair,
-    letter_of, number_of, put, put_letter, put_number, read_blocks,
+    BlockKind, LineFault, NUMBER_LIMIT, ReadText, is_pair, put, put_labelled, put_letter,
+    read_blocks,
 };
-use lists::Listing;
 use quiver::Quiver;
 use std::alloc::{AllocError, Global};
 use word_core::Letter;
@@ -28,77 +25,31 @@ pub struct Shift {
     pub by: u32,
 }
 
-/// How far a shift was read whose lines go on.
-#[derive(Clone, Copy)]
-enum Stage {
-    /// Behind its head.
-    Headed,
-    /// Behind its letter.
-    Lettered { letter: Option<Letter> },
-    /// Behind its number.
-    Whole { shift: Shift },
-}
-
-// Shifts over the letters of a quiver.
+// Blocks of `letter LETTER`, or `letter`, and `by N`, over the letters of a quiver.
 #[derive(Clone, Copy)]
 struct Shifts<'q> {
     quiver: &'q Quiver,
 }
 
-// The token of `letter LETTER`, none of `letter`.
-fn letter_token(line: &[u8]) -> Option<Option<&[u8]>>
-    ensures { option_map option_copied result ≡ letter_token (tokens_of line.now) }
+fn lines(quiver: &Quiver) -> LineThen<LetterLine<'_>, LineThen<NumberLine, NoLines>>
+    ensures letters { result.line.quiver.now ≡ quiver.now }
+    ensures letter { result.line.word.now ≡ codes "letter" }
+    ensures by { result.rest.line.word.now ≡ codes "by" }
+    ensures most { result.rest.line.most ≡ number_limit }
 {
-    let (word, rest) = first_token(line)?;
-    if !is("letter", word) {
-        return None;
-    }
-    match first_token(rest) {
-        None => Some(None),
-        Some((token, end)) if is_letter(token) && first_token(end).is_none() => Some(Some(token)),
-        _ => None,
-    }
-}
-
-fn letter_at(quiver: &Quiver, line: &[u8]) -> Result<Option<Letter>, Flaw>
-    ensures { result ≡ letter_at quiver.now (tokens_of line.now) }
-{
-    match letter_token(line) {
-        Some(None) => Ok(None),
-        Some(Some(token)) => match letter_of(quiver, token) {
-            Some(letter) => Ok(Some(letter)),
-            None => Err(Flaw::UnknownName),
-        },
-        None => Err(Flaw::BadLine),
-    }
-}
-
-// The number of `by N`.
-fn number_at(line: &[u8]) -> Result<u32, Flaw>
-    ensures { result ≡ number_at (tokens_of line.now) }
-{
-    number_of("by", NUMBER_LIMIT as u32, line)
-}
-
-fn next(quiver: &Quiver, stage: Stage, line: &[u8]) -> Result<Stage, Flaw>
-    ensures { result ≡ next quiver.now stage (tokens_of line.now) }
-{
-    match stage {
-        Stage::Headed => {
-            let letter = letter_at(quiver, line)?;
-            Ok(Stage::Lettered { letter })
-        }
-        Stage::Lettered { letter } => {
-            let by = number_at(line)?;
-            let shift = Shift { letter, by };
-            Ok(Stage::Whole { shift })
-        }
-        Stage::Whole { .. } => Err(Flaw::BadLine),
-    }
+    let most = NUMBER_LIMIT as u32;
+    let line = NumberLine { word: "by", most };
+    let rest = LineThen {
+        line,
+        rest: NoLines,
+    };
+    let word = "letter";
+    let line = LetterLine { word, quiver };
+    LineThen { line, rest }
 }
 
 impl<'q> BlockKind for Shifts<'q> {
-    type Begun = Stage;
+    type Begun = LinePlace<Option<Letter>, LinePlace<u32, ()>>;
 
     type Value = Shift;
 
@@ -108,18 +59,27 @@ impl<'q> BlockKind for Shifts<'q> {
         &["certificate", "model", "basis"]
     }
 
-    fn begin(&self, _alloc: Global, line: &[u8]) -> Option<Stage> {
-        is_pair("shift", "1", line).then_some(Stage::Headed)
+    fn begin(&self, alloc: Global, line: &[u8]) -> Option<Self::Begun> {
+        if is_pair("shift", "1", line) {
+            Some(lines(self.quiver).start(alloc))
+        } else {
+            None
+        }
     }
 
-    fn next(&self, _alloc: Global, stage: Stage, line: &[u8]) -> Result<Stage, LineFault> {
-        Ok(next(self.quiver, stage, line)?)
+    fn next(
+        &self,
+        alloc: Global,
+        place: Self::Begun,
+        line: &[u8],
+    ) -> Result<Self::Begun, LineFault> {
+        lines(self.quiver).next(alloc, place, line)
     }
 
-    fn finish(&self, _alloc: Global, stage: Stage) -> Result<Option<Shift>, AllocError> {
-        match stage {
-            Stage::Whole { shift } => Ok(Some(shift)),
-            _ => Ok(None),
+    fn finish(&self, _alloc: Global, place: Self::Begun) -> Result<Option<Shift>, AllocError> {
+        match lines(self.quiver).finish(place) {
+            Some((letter, (by, ()))) => Ok(Some(Shift { letter, by })),
+            None => Ok(None),
         }
     }
 }
@@ -159,8 +119,7 @@ pub fn put_shift(out: &mut Vec<u8>, quiver: &Quiver, shift: &Shift) -> Result<()
 {
     put(out, "shift 1\n")?;
     put_letter_line(out, quiver, shift.letter)?;
-    put(out, "by ")?;
-    put_number(out, u128::from(shift.by))?;
+    put_labelled(out, "by ", u128::from(shift.by))?;
     put(out, "\nend\n")
 }
 

@@ -1,7 +1,6 @@
 use Rattle.block_text.proofs.EachText.{values_told}
-use Rattle.library_tests.specs.Shifts.{shift_kind}
-use Rattle.library_tests.specs.ShiftSteps.{shift_steps}
-use Rattle.library_tests.proofs.ShiftReader.{reader, have_letters}
+use Rattle.library_tests.specs.Shifts.{shift_kind, shift_steps}
+use Rattle.library_tests.proofs.ShiftLaws.{reader, have_letters}
 use Rattle.library_tests.proofs.shifts.read_shifts.Goals as goal
 
 pub returns-clause-exact : goal.returns-clause-exact

@@ -1,4 +1,4 @@
-use Rattle.library_tests.proofs.ShiftTexts as lemma
+use Rattle.library_tests.proofs.ShiftLaws as lemma
 use Rattle.library_tests.proofs.shifts.shifts_are_read_back.Goals as goal
 
 pub returns : goal.returns

@@ -1,0 +1,88 @@
+-- The line of a letter behind a word, or of the word alone, is read and read back.
+use Rattle.std.proofs.Common.{◌≡◌, ◌&&◌, ◌<◌, ◌++◌, ◌∷◌, [], ℕ, Bool, true, false, List, Option, Some, None, IfSome, IsTrue, refl, sym, ap, ap₂, ◌∙◌, subst, codes}
+use Rattle.std.specs.List.{list_all}
+use Rattle.std.proofs.lemmas.Bool.{and_parts}
+use Rattle.std.proofs.lemmas.List.{append-nil}
+use Rattle.std.proofs.lemmas.Option.{cond_some, same_Some}
+use Rattle.word_core.specs.declared.letter.Letter.{Letter}
+use Rattle.quiver.specs.Declarations.{Declaration, letter_count, IsDeclared}
+use Rattle.block_text.specs.declared.fault.Flaw.{Flaw}
+use Rattle.block_text.specs.declared.fault.Flaw.TheVariants.{UnknownName}
+use Rattle.block_text.specs.Back.{is_named, is_inside}
+use Rattle.block_text.specs.Letters.{is_letter, letter_of}
+use Rattle.block_lines.specs.LineKinds.{letter_line, may_be_letter, letter_said, letter_behind}
+use Rattle.block_lines.specs.LineReadings.{letter_token, letter_read}
+use Rattle.block_text.specs.Lines.{Line, is, is_end}
+use Rattle.block_text.specs.Tokens.{tokens_of, is_skipped}
+use Rattle.block_text.specs.Written.{letter_text}
+use Rattle.block_text.proofs.ContentBack.{text_of_tokens}
+use Rattle.block_text.proofs.LetterNames.{letter_is_spelled}
+use Rattle.block_text.proofs.LetterRange.{letter_in_range}
+use Rattle.block_text.proofs.LineTrees.{is_word}
+use Rattle.block_text.proofs.PolynomialBounds.{is_same}
+use Rattle.block_text.proofs.Results.{option_map_some}
+use Rattle.block_lines.proofs.SectionBlocks.{IsLineWritten}
+use Rattle.block_lines.proofs.SectionReaders.{IsLineReader, said_reader}
+use Rattle.block_text.proofs.TextsBack.{are_low, line_text-append, literal, letter_written}
+use Rattle.block_text.proofs.TokensBack.{token_read}
+
+module _ (word : List ℕ) where
+  letter_is : (line : Line) (o : Option (List ℕ)) → letter_token word line ≡ Some o → (line ≡ letter_line word o) × IsTrue (may_be_letter o)
+  letter_is [] o read = absurd (cc)
+  letter_is (first ∷ []) o read =
+      let found = cond_some (is word first) None o read in
+      subst (λ (p : Option (List ℕ)). (first ∷ [] ≡ letter_line word p) × IsTrue (may_be_letter p)) found.1 (ap (λ w. w ∷ []) (is_word word first found.0), refl)
+  letter_is (first ∷ token ∷ []) o read =
+      let found = cond_some (is word first && is_letter token) (Some token) o read in
+      let parts = and_parts (is word first) (is_letter token) found.0 in
+      subst (λ (p : Option (List ℕ)). (first ∷ token ∷ [] ≡ letter_line word p) × IsTrue (may_be_letter p)) found.1 (ap (λ w. w ∷ token ∷ []) (is_word word first parts.0), parts.1)
+  letter_is (first ∷ token ∷ more ∷ tokens) o read = absurd (cc)
+
+  letter_there : (o : Option (List ℕ)) → IsTrue (may_be_letter o) → letter_token word (letter_line word o) ≡ Some o
+  letter_there None fits = rw (is_same word) refl
+  letter_there (Some token) fits = rw (is_same word, fits) refl
+
+  letter_goes_on : is (codes "end") word ≡ false → (o : Option (List ℕ)) → IsTrue (may_be_letter o) → is_end (letter_line word o) ≡ false
+  letter_goes_on other None fits = other
+  letter_goes_on other (Some token) fits = refl
+
+  pub letter_reader : {Bound : Type 0} (flaw_of : Bound → Flaw) (bounds : List Bound) (bound : Bound) (ds : List Declaration) → flaw_of bound ≡ UnknownName → is (codes "end") word ≡ false
+      → IsLineReader flaw_of bounds (letter_behind bound ds word) (letter_read ds word)
+  letter_reader flaw_of bounds bound ds told other =
+      said_reader flaw_of bounds bound UnknownName (letter_line word) (λ o. IsTrue (may_be_letter o)) (letter_token word) (letter_said ds) told letter_is letter_there (letter_goes_on other) None refl None refl
+
+-- the letter is one of the quiver
+pub letter_known : (ds : List Declaration) (o : Option (List ℕ)) (a : Option Letter) → letter_said ds o ≡ Some a → IfSome a (λ b. b.0 < letter_count ds)
+letter_known ds None a read = subst (λ b. IfSome b (λ c. c.0 < letter_count ds)) (same_Some None a read) tt
+letter_known ds (Some token) a read =
+    option_map_some (λ b. Some (record { 0 = b })) (letter_of ds token) a read
+    (λ b found same. subst (λ c. IfSome c (λ d. d.0 < letter_count ds)) same (letter_in_range ds token b found))
+
+-- a line that is written, by the word
+module _ {Bound : Type 0} (bound : Bound) (ds : List Declaration) (word : List ℕ) (low : are_low word ≡ true) (inside : list_all is_inside word ≡ true) where
+  pub word_written : tokens_of word ≡ word ∷ [] → is_skipped (word ∷ []) ≡ false → IsLineWritten (letter_behind bound ds word) (word ++ codes "\n") None
+  word_written alone stands = record {
+    tokens = None;
+    text_is = text_of_tokens word (letter_line word None) (literal word low inside) alone stands;
+    is = refl;
+    keeps = λ b same. (None, refl);
+    says = refl;
+  }
+
+  -- and a letter behind it
+  pub letter_behind_written : (a : Letter) → IsDeclared ds → IsTrue (list_all is_named ds) → a.0 < letter_count ds → ((token : List ℕ) → tokens_of ((word ++ codes " ") ++ token) ≡ word ∷ tokens_of token)
+      → ((token : List ℕ) → is_skipped (word ∷ token ∷ []) ≡ false) → IsLineWritten (letter_behind bound ds word) (((word ++ codes " ") ++ letter_text ds a.0) ++ codes "\n") (Some a)
+  letter_behind_written a declared known below split stands =
+      let token = letter_text ds a.0 in
+      let written = letter_written ds a.0 (letter_is_spelled ds a.0 declared known below) in
+      let tokens : tokens_of ((word ++ codes " ") ++ token) ≡ letter_line word (Some token) =
+      split token ∙ ap (λ ts. word ∷ ts) (ap tokens_of (sym (append-nil token)) ∙ token_read token [] written.token refl) in
+      let said : letter_said ds (Some token) ≡ Some (Some a) = rw written.read refl in
+      record {
+        tokens = Some token;
+        text_is = text_of_tokens ((word ++ codes " ") ++ token) (letter_line word (Some token))
+            (line_text-append (word ++ codes " ") token (line_text-append word (codes " ") (literal word low inside) (literal (codes " ") refl refl)) written.text.line) tokens (stands token);
+        is = written.letter;
+        keeps = λ b same. (Some a, said);
+        says = said;
+      }

@@ -1,0 +1,4 @@
+pub mod SectionReaders
+pub mod SectionBlocks
+pub mod PolynomialReader
+pub mod LetterReader

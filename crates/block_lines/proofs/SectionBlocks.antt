@@ -1,0 +1,188 @@
+-- A block by its lines is read and read back.
+use Rattle.std.proofs.Common.{arith, ◌≡◌, ◌≤◌, ◌<◌, ◌^◌, ◌++◌, ◌∷◌, [], ℕ, suc, Bool, true, false, List, Option, Some, None, Result, Ok, Err, refl, sym, ap, ap₂, ◌∙◌, subst, length, map, append_assoc, codes, IsTrue}
+use Rattle.std.specs.Prelude.{decimal}
+use Rattle.std.specs.Bool.{⊤}
+use Rattle.std.specs.List.{All, AllZip, flat_map, list_all}
+use Rattle.std.specs.Option.{option_map}
+use Rattle.std.specs.Str.Parse.{digits_value}
+use Rattle.std.proofs.lemmas.List.Elements.{All-nil, All-cons, All-head, All-tail}
+use Rattle.block_text.specs.declared.fault.Flaw.{Flaw}
+use Rattle.block_text.specs.declared.fault.Flaw.TheVariants.{BadLine, NumberTooLarge, TooMany}
+use Rattle.block_text.specs.Fault.{◌>>=◌, asked}
+use Rattle.block_text.specs.Back.{is_inside}
+use Rattle.block_text.specs.Blocks.{is_other_head}
+use Rattle.block_text.specs.Kind.{Kind}
+use Rattle.block_text.specs.Letters.{is_number, number_within}
+use Rattle.block_text.specs.Lines.{Line, block_limit, is_end, is_pair, end_line, number_behind, number_of}
+use Rattle.block_text.specs.Steps.{Steps}
+use Rattle.block_text.specs.Tokens.{tokens_of, is_skipped, begins_comment}
+use Rattle.block_text.proofs.Bounds.{bound_of, before}
+use Rattle.block_text.proofs.ContentBack.{IsTextOf, no_text, text-append, text_of_tokens}
+use Rattle.block_text.proofs.LineTrees.{number_is}
+use Rattle.block_text.proofs.Meets.{Meets, reads, then_meets}
+use Rattle.block_text.proofs.NumberLines.{text_of_number, end_is_text}
+use Rattle.block_text.proofs.NumbersBack.{decimal_text, decimal_number, decimal_within}
+use Rattle.block_text.proofs.Owed as owed
+use Rattle.block_text.proofs.Owed.{Begins, IsWhole, IsStopped, misfit, IsReader, reader_by_head, read_inside}
+use Rattle.block_text.proofs.PartsBack.{IsWritten}
+use Rattle.block_text.proofs.PolynomialBounds.{is_same}
+use Rattle.block_text.proofs.Results.{option_map_some}
+use Rattle.block_text.proofs.SaidLines.{number_found}
+use Rattle.block_text.proofs.TextsBack.{literal, are_low}
+use Rattle.block_lines.specs.LineKinds.{LineKind, number_line}
+use Rattle.block_lines.specs.Sections.{Section, no_lines, line_then, lines_then, block_kind}
+use Rattle.block_lines.specs.SectionSteps.{SectionSteps, block_steps}
+use Rattle.block_lines.proofs.SectionReaders.{read_from, asked-map, kind_by, IsLineReader, IsSectionReader, said_reader}
+
+module _ {Bound : Type 0} (flaw_of : Bound → Flaw) (bounds : List Bound) where
+  -- a word and a number
+  pub number_read : (bound : Bound) (word : List ℕ) (most : ℕ) → flaw_of bound ≡ NumberTooLarge → IsLineReader flaw_of bounds (number_line bound word most) (number_of word most)
+  number_read bound word most told =
+      let zero = number_found most (codes "0") (omega arith) in
+      said_reader flaw_of bounds bound NumberTooLarge (λ digits. word ∷ digits ∷ []) (λ digits. IsTrue (is_number digits)) (number_behind word) (number_within most) told
+      (number_is word) (λ digits number. rw (is_same word, number) refl) (λ digits number. refl) (codes "0") refl zero.0 zero.1
+
+  -- a block
+  module _ {V W B : Type 0} (first second : List ℕ) (others : List (List ℕ)) {section : Section Bound V} {steps : SectionSteps B V} (value : V → W) (lines : IsSectionReader flaw_of bounds section steps) where
+    abbrev Blocks : Kind W
+    Blocks = block_kind first second others bounds flaw_of section value
+
+    abbrev Reading : Steps B W
+    Reading = block_steps first second others steps value
+
+    abbrev head : Line
+    head = first ∷ second ∷ []
+
+    record IsOpen (b : B) (front : List Line) : Type 0 where
+      behind : List Line
+      are : front ≡ head ∷ behind
+      is_open : lines.IsOpen b behind
+
+    begins_headed : (within : List Bound) (ls : List Line) → Begins (kind_by flaw_of bounds section) within ls → Begins Blocks within (head ∷ ls)
+    begins_headed within ls begins = record { tree = begins.tree; more = begins.more; are = ap (λ xs. head ∷ xs) begins.are; is_tree = begins.is_tree; keeps = begins.keeps }
+
+    goes : (b c : B) (front : List Line) (line : Line) → IsOpen b front → is_end line ≡ false → steps.next b line ≡ Ok c → IsOpen c (front ++ line ∷ [])
+    goes b c front line here more read = record { behind = here.behind ++ line ∷ []; are = ap (λ ls. ls ++ line ∷ []) here.are; is_open = lines.goes b c here.behind line here.is_open read }
+
+    ends : (b : B) (front : List Line) (w : W) → IsOpen b front → Reading.finish b ≡ Some w → IsWhole Blocks front w
+    ends b front w here read =
+        option_map_some value (steps.finish b) w read (λ v v_is same.
+        let found = lines.ends b here.behind v here.is_open v_is in
+        record { tree = found.tree; are = here.are ∙ ap (λ ls. head ∷ ls) found.are; is_tree = found.is_tree; keeps = found.keeps; says = (v, found.says, sym same) })
+
+    stops : (b : B) (front : List Line) (line : Line) (f : Flaw) → IsOpen b front → is_end line ≡ false → steps.next b line ≡ Err f → IsStopped Blocks f (front ++ line ∷ [])
+    stops b front line f here more read = by_cases (lines.stops b here.behind line f here.is_open read)
+      where
+        by_cases : IsStopped (kind_by flaw_of bounds section) f (here.behind ++ line ∷ []) → IsStopped Blocks f (front ++ line ∷ [])
+        by_cases (misfit bad) = misfit bad
+        by_cases (owed.passes bound told begins) =
+            owed.passes bound told (subst (Begins Blocks (before flaw_of bounds bound)) (sym (ap (λ ls. ls ++ line ∷ []) here.are)) (begins_headed (before flaw_of bounds bound) (here.behind ++ line ∷ []) begins))
+
+    -- a block of lines of which none is `end`
+    inside_read : (b : B) (ls : List Line) → All (λ line. is_end line ≡ false) ls → read_inside Reading b ls ≡ (read_from steps b ls >>= λ v. Ok (value v))
+    inside_read b [] none = asked-map value (steps.finish b)
+    inside_read b (line ∷ ls) none = rw (All-head (λ l. is_end l ≡ false) line ls none) (by_next (steps.next b line) (λ c. inside_read c ls (All-tail (λ l. is_end l ≡ false) line ls none)))
+      where
+        by_next : (r : Result B Flaw) → ((c : B) → read_inside Reading c ls ≡ (read_from steps c ls >>= λ v. Ok (value v)))
+            → (r >>= λ c. read_inside Reading c ls) ≡ ((r >>= λ c. read_from steps c ls) >>= λ v. Ok (value v))
+        by_next (Ok c) rest = rest c
+        by_next (Err e) rest = refl
+
+    pub block_read : ((bound : Bound) → bound_of flaw_of bounds (flaw_of bound) ≡ Some bound) → (bound_of flaw_of bounds BadLine ≡ None) × (bound_of flaw_of bounds (TooMany block_limit) ≡ None)
+        → All (λ word. begins_comment word ≡ false) others → is_other_head others head ≡ false → IsReader Blocks Reading
+    block_read told none_told words none =
+        reader_by_head Blocks Reading IsOpen told none_told refl words first second steps.start (λ line. refl) none (record { behind = []; are = refl; is_open = lines.starts })
+        goes (λ b front here. subst (Begins Blocks bounds) (sym here.are) (begins_headed bounds here.behind (lines.goes_on b here.behind here.is_open))) ends stops
+        (λ K t is keeps. rw (is_same first, is_same second, inside_read steps.start (section.lines_of t) (lines.unended t is))
+        (then_meets (λ v. Ok (value v)) (lines.reads K t is keeps) (λ v _ says. reads (value v) refl (v, says, refl))))
+        (λ t v w one two. one.2 ∙ ap value (lines.unique t one.0 two.0 one.1 two.1) ∙ sym two.2)
+
+-- what is read of a text that is written
+pub record IsLineWritten {Bound V : Type 0} (line : LineKind Bound V) (text : List ℕ) (v : V) : Type 0 where
+  pub tokens : line.Tokens
+  pub text_is : IsTextOf text (line.line_of tokens ∷ [])
+  pub is : line.IsLine tokens
+  pub keeps : (bound : Bound) → line.Keeps bound tokens
+  pub says : line.Says tokens v
+
+-- lines and the line `end` behind them
+pub record AreLinesWritten {Bound V : Type 0} (section : Section Bound V) (text : List ℕ) (v : V) : Type 0 where
+  pub tree : section.Tree
+  pub text_is : IsTextOf text (section.lines_of tree ++ end_line ∷ [])
+  pub is_tree : section.IsTree tree
+  pub keeps : (bound : Bound) → section.Keeps bound tree
+  pub says : section.Says tree v
+
+-- a word and a number, by the word with a blank
+pub number_written : {Bound : Type 0} (bound : Bound) (word front : List ℕ) (most n : ℕ) → are_low front ≡ true → list_all is_inside front ≡ true → tokens_of (front ++ decimal n) ≡ word ∷ tokens_of (decimal n)
+    → is_skipped (word ∷ decimal n ∷ []) ≡ false → n ≤ most → most < 10 ^ 64 → IsLineWritten (number_line bound word most) ((front ++ decimal n) ++ codes "\n") n
+number_written bound word front most n low inside split stands within small =
+    let below : n < 10 ^ 64 = omega (arith, within, small) in
+    let value : number_within most (decimal n) ≡ Some n = decimal_within most n within below in
+    record {
+      tokens = decimal n;
+      text_is = text_of_number front (word ∷ []) (decimal n) (literal front low inside) (decimal_text n below) split stands;
+      is = decimal_number n below;
+      keeps = λ b same. (n, value);
+      says = value;
+    }
+
+pub none_written : {Bound : Type 0} → AreLinesWritten (no_lines {Bound = Bound}) (codes "end\n") tt
+none_written = record { tree = tt; text_is = end_is_text; is_tree = tt; keeps = λ bound. tt; says = tt }
+
+module _ {Bound V : Type 0} (line : LineKind Bound V) where
+  -- several lines, by the text of each
+  record AreAllWritten (text : List ℕ) (vs : List V) : Type 0 where
+    each : List line.Tokens
+    text_is : IsTextOf text (map line.line_of each)
+    are : All line.IsLine each
+    keep : (bound : Bound) → All (line.Keeps bound) each
+    count : length each ≡ length vs
+    say : AllZip line.Says each vs
+
+  all_written : {X : Type 0} (text_of : X → List ℕ) (value : X → V) (IsGood : X → Type 0) → ((x : X) → IsGood x → IsLineWritten line (text_of x) (value x)) → (xs : List X) → All IsGood xs → AreAllWritten (flat_map text_of xs) (map value xs)
+  all_written text_of value IsGood written [] good = record { each = []; text_is = no_text; are = All-nil line.IsLine; keep = λ bound. All-nil (line.Keeps bound); count = refl; say = tt }
+  all_written text_of value IsGood written (x ∷ xs) good =
+      let one = written x (All-head IsGood x xs good) in
+      let more = all_written text_of value IsGood written xs (All-tail IsGood x xs good) in
+      record {
+        each = one.tokens ∷ more.each;
+        text_is = text-append _ _ _ _ one.text_is more.text_is;
+        are = All-cons line.IsLine one.tokens more.each one.is more.are;
+        keep = λ bound. All-cons (line.Keeps bound) one.tokens more.each (one.keeps bound) (more.keep bound);
+        count = ap (λ n. suc n) more.count;
+        say = (one.says, more.say);
+      }
+
+module _ {Bound V W : Type 0} {line : LineKind Bound V} {rest : Section Bound W} where
+  pub line_written : {text texts : List ℕ} {v : V} {w : W} → IsLineWritten line text v → AreLinesWritten rest texts w → AreLinesWritten (line_then line rest) (text ++ texts) (v, w)
+  line_written one more = record {
+    tree = (one.tokens, more.tree);
+    text_is = text-append _ _ _ _ one.text_is more.text_is;
+    is_tree = (one.is, more.is_tree);
+    keeps = λ bound. (one.keeps bound, more.keeps bound);
+    says = (one.says, more.says);
+  }
+
+  pub lines_written : {X : Type 0} (count : Bound) (limit : ℕ) (text_of : X → List ℕ) (value : X → V) (IsGood : X → Type 0) → ((x : X) → IsGood x → IsLineWritten line (text_of x) (value x))
+      → (xs : List X) → All IsGood xs → length (map value xs) ≤ limit → {texts : List ℕ} {w : W} → AreLinesWritten rest texts w → AreLinesWritten (lines_then line rest count limit) (flat_map text_of xs ++ texts) (map value xs, w)
+  lines_written count limit text_of value IsGood written xs good few {texts} {w} more =
+      let all = all_written line text_of value IsGood written xs good in
+      record {
+        tree = (all.each, more.tree);
+        text_is = subst (IsTextOf (flat_map text_of xs ++ texts)) (sym (append_assoc (map line.line_of all.each) (rest.lines_of more.tree) (end_line ∷ []))) (text-append _ _ _ _ all.text_is more.text_is);
+        is_tree = (all.are, more.is_tree);
+        keeps = λ bound. (all.keep bound, λ _. omega (arith, all.count, few), more.keeps bound);
+        says = (all.say, more.says);
+      }
+
+pub block_written : {Bound V W : Type 0} (first second front : List ℕ) (others : List (List ℕ)) (bounds : List Bound) (flaw_of : Bound → Flaw) (section : Section Bound V) (value : V → W) → are_low front ≡ true → list_all is_inside front ≡ true
+    → tokens_of front ≡ first ∷ second ∷ [] → is_skipped (first ∷ second ∷ []) ≡ false → {text : List ℕ} {v : V} → AreLinesWritten section text v
+    → IsWritten (block_kind first second others bounds flaw_of section value) ((front ++ codes "\n") ++ text) (value v)
+block_written first second front others bounds flaw_of section value low inside split stands {v = v} lines = record {
+  tree = lines.tree;
+  text_is = text-append _ _ _ _ (text_of_tokens front (first ∷ second ∷ []) (literal front low inside) split stands) lines.text_is;
+  is_tree = lines.is_tree;
+  keeps = lines.keeps;
+  says = (v, lines.says, refl);
+}

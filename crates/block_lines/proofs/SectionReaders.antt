@@ -1,0 +1,508 @@
+-- What a reader of a line and one of lines owe, and that lines one behind another are read where each is.
+use Rattle.std.proofs.Common.{arith, ◌≡◌, ◌≤◌, ◌<◌, ◌+◌, ◌&&◌, ◌⊎◌, ◌++◌, ◌∷◌, [], ℕ, Bool, true, false, not, List, Option, Some, None, Result, Ok, Err, refl, sym, ap, ap₂, ◌∙◌, subst, length, length-append, map, nat_le, append_assoc, append-nil, inl, inr}
+use Rattle.std.specs.Bool.{⊤}
+use Rattle.std.specs.List.{All, AllZip, list_all}
+use Rattle.std.specs.Option.{option_map}
+use Rattle.std.proofs.lemmas.Bool.{and_parts}
+use Rattle.std.proofs.lemmas.Bool.Decides.{nat_tests}
+use Rattle.std.proofs.lemmas.List.{map-append}
+use Rattle.std.proofs.lemmas.List.Elements.{All-nil, All-cons, All-head, All-tail, All-push, All-append, All-map, All-weaker}
+use Rattle.std.proofs.lemmas.Option.{same_Some}
+use Rattle.block_text.specs.declared.fault.Flaw.{Flaw}
+use Rattle.block_text.specs.declared.fault.Flaw.TheVariants as flaw
+use Rattle.block_text.specs.declared.fault.Flaw.TheVariants.{BadLine, TooMany}
+use Rattle.block_text.specs.Fault.{◌>>=◌, asked}
+use Rattle.block_text.specs.Lines.{Line, begins, is_end, said}
+use Rattle.block_text.specs.Kind.{Kind}
+use Rattle.block_text.proofs.Bounds.{until, same_flaw, before}
+use Rattle.block_text.proofs.Meets.{Meets, reads, passes, then_meets, meets-weaker}
+use Rattle.block_text.proofs.Owed as owed
+use Rattle.block_text.proofs.Owed.{Begins, IsWhole, IsStopped, misfit, stopped_by}
+use Rattle.block_text.proofs.PolynomialBounds.{all_with}
+use Rattle.block_text.proofs.Results.{bind_ok, bind_err, by_test, else_ok, ok_has, option_map_some}
+use Rattle.block_text.proofs.SaidLines.{said_ok, said_err, said_meets}
+use Rattle.block_text.proofs.Standing.{everywhere}
+use Rattle.block_text.proofs.Zips.{AllZip-unique, zip_length, zip_push}
+use Rattle.block_lines.specs.declared.section.LinePlace.{LinePlace}
+use Rattle.block_lines.specs.declared.section.LinePlace.TheVariants as at
+use Rattle.block_lines.specs.declared.section.LinesPlace.{LinesPlace}
+use Rattle.block_lines.specs.LineKinds.{LineKind, said_line}
+use Rattle.block_lines.specs.LineReadings.{Reading}
+use Rattle.block_lines.specs.Sections.{Section, no_lines, line_then, lines_then}
+use Rattle.block_lines.specs.SectionSteps.{SectionSteps, no_steps, grown, lines_place, line_next, line_steps, lines_next, lines_steps}
+
+-- lines from a place on, to the end
+abbrev pub read_from : {B V : Type 0} → SectionSteps B V → B → List Line → Result V Flaw
+read_from steps b [] = asked BadLine (steps.finish b)
+read_from steps b (line ∷ lines) = steps.next b line >>= λ c. read_from steps c lines
+
+-- what is made of a value that is asked for
+pub asked-map : {V W : Type 0} (f : V → W) (o : Option V) → asked BadLine (option_map f o) ≡ (asked BadLine o >>= λ v. Ok (f v))
+asked-map f (Some v) = refl
+asked-map f None = refl
+
+pub bind_through : {A B C D F : Type 0} (r : Result A F) (f : A → B) (g : B → Result C F) (h : A → Result D F) (k : D → Result C F) → ((a : A) → g (f a) ≡ (h a >>= k))
+    → ((r >>= λ a. Ok (f a)) >>= g) ≡ ((r >>= h) >>= k)
+bind_through (Ok a) f g h k same = same a
+bind_through (Err e) f g h k same = refl
+
+-- whether the first line, where there is one, begins with the word
+abbrev pub heads : List ℕ → List Line → Bool
+heads word [] = false
+heads word (line ∷ lines) = begins word line
+
+-- bounds in front of one
+until_fails : {A : Type 0} (p : A → Bool) (xs : List A) → All (λ x. p x ≡ false) (until p xs)
+until_fails p [] = All-nil (λ x. p x ≡ false)
+until_fails p (x ∷ xs) = by_first (p x) refl (until_fails p xs)
+  where
+    by_first : (b : Bool) → p x ≡ b → All (λ y. p y ≡ false) (until p xs) → All (λ y. p y ≡ false) (until p (x ∷ xs))
+    by_first true is rest = rw is (All-nil (λ y. p y ≡ false))
+    by_first false is rest = rw is (All-cons (λ y. p y ≡ false) x (until p xs) is rest)
+
+same_flaw-refl : (f : Flaw) → same_flaw f f ≡ true
+same_flaw-refl flaw.BadLine = refl
+same_flaw-refl flaw.UnknownName = refl
+same_flaw-refl flaw.NotAsWritten = refl
+same_flaw-refl flaw.NumberTooLarge = refl
+same_flaw-refl (flaw.TooMany limit) = grind (arith, nat_tests)
+
+-- by what a line is told for that passes a bound, and the bounds in the order in which they count
+module _ {Bound : Type 0} (flaw_of : Bound → Flaw) (bounds : List Bound) where
+  pub apart_before : (bound : Bound) → All (λ b. b ≡ bound → ⊥) (before flaw_of bounds bound)
+  apart_before bound =
+      All-weaker (λ b. same_flaw (flaw_of bound) (flaw_of b) ≡ false) (λ b. b ≡ bound → ⊥)
+      (λ b fails same.
+      let found : same_flaw (flaw_of bound) (flaw_of bound) ≡ false = subst (λ c. same_flaw (flaw_of bound) (flaw_of c) ≡ false) same fails in
+      let known = same_flaw-refl (flaw_of bound) in absurd (cc))
+      (before flaw_of bounds bound) (until_fails (λ b. same_flaw (flaw_of bound) (flaw_of b)) bounds)
+
+  -- the lines by themselves, as a kind of block
+  abbrev pub kind_by : {V : Type 0} → Section Bound V → Kind V
+  kind_by section = record {
+    Tree = section.Tree;
+    lines_of = section.lines_of;
+    IsTree = section.IsTree;
+    others = [];
+    Bound = Bound;
+    bounds = bounds;
+    flaw_of = flaw_of;
+    Keeps = section.Keeps;
+    Says = section.Says;
+  }
+
+  module _ {V : Type 0} (line : LineKind Bound V) where
+    -- the line is one within all bounds, and says the value
+    pub record IsLineRead (l : Line) (v : V) : Type 0 where
+      pub tokens : line.Tokens
+      pub are : l ≡ line.line_of tokens
+      pub is : line.IsLine tokens
+      pub keeps : (bound : Bound) → line.Keeps bound tokens
+      pub says : line.Says tokens v
+
+    -- the line is one that keeps the bounds before one
+    pub record IsLinePassed (l : Line) (told_for : Flaw) : Type 0 where
+      pub tokens : line.Tokens
+      pub are : l ≡ line.line_of tokens
+      pub is : line.IsLine tokens
+      pub bound : Bound
+      pub told : told_for ≡ flaw_of bound
+      pub keeps : All (λ b. line.Keeps b tokens) (before flaw_of bounds bound)
+
+    pub record IsLineReader (read : Reading V) : Type 1 where
+      -- a line within all bounds
+      pub example : line.Tokens
+      pub is_example : line.IsLine example
+      pub example_keeps : (bound : Bound) → line.Keeps bound example
+      pub unended : (t : line.Tokens) → line.IsLine t → is_end (line.line_of t) ≡ false
+      pub unique : (t : line.Tokens) (v w : V) → line.Says t v → line.Says t w → v ≡ w
+      pub is_read : (l : Line) (v : V) → read l ≡ Ok v → IsLineRead l v
+      pub stops : (l : Line) (f : Flaw) → read l ≡ Err f → (f ≡ BadLine) ⊎ IsLinePassed l f
+      pub reads : (K : Bound → Type 0) (t : line.Tokens) → line.IsLine t → ((bound : Bound) → K bound → line.Keeps bound t) → Meets flaw_of K (line.Says t) (read (line.line_of t))
+
+  pub record IsSectionReader {V B : Type 0} (section : Section Bound V) (steps : SectionSteps B V) : Type 1 where
+    pub example : section.Tree
+    pub is_example : section.IsTree example
+    pub example_keeps : (bound : Bound) → section.Keeps bound example
+    pub unended : (t : section.Tree) → section.IsTree t → All (λ line. is_end line ≡ false) (section.lines_of t)
+    pub unique : (t : section.Tree) (v w : V) → section.Says t v → section.Says t w → v ≡ w
+    -- the first lines, by what was made of them
+    pub IsOpen : B → List Line → Type 0
+    pub starts : IsOpen steps.start []
+    pub goes : (b c : B) (front : List Line) (line : Line) → IsOpen b front → steps.next b line ≡ Ok c → IsOpen c (front ++ line ∷ [])
+    pub goes_on : (b : B) (front : List Line) → IsOpen b front → Begins (kind_by section) bounds front
+    pub ends : (b : B) (front : List Line) (v : V) → IsOpen b front → steps.finish b ≡ Some v → IsWhole (kind_by section) front v
+    pub stops : (b : B) (front : List Line) (line : Line) (f : Flaw) → IsOpen b front → steps.next b line ≡ Err f → IsStopped (kind_by section) f (front ++ line ∷ [])
+    pub reads : (K : Bound → Type 0) (t : section.Tree) → section.IsTree t → ((bound : Bound) → K bound → section.Keeps bound t)
+        → Meets flaw_of K (section.Says t) (read_from steps steps.start (section.lines_of t))
+
+  -- a line whose tokens have a value where they keep this bound
+  pub said_reader : {T V : Type 0} (bound : Bound) (f : Flaw) (line_of : T → Line) (IsLine : T → Type 0) (tokens : Line → Option T) (value : T → Option V) → flaw_of bound ≡ f
+      → ((l : Line) (t : T) → tokens l ≡ Some t → (l ≡ line_of t) × IsLine t) → ((t : T) → IsLine t → tokens (line_of t) ≡ Some t)
+      → ((t : T) → IsLine t → is_end (line_of t) ≡ false) → (example : T) → IsLine example → (v : V) → value example ≡ Some v
+      → IsLineReader (said_line bound line_of IsLine value) (said tokens value f)
+  said_reader {T} {V} bound f line_of IsLine tokens value told is there unended example is_example v valued = record {
+    example = example;
+    is_example = is_example;
+    example_keeps = λ b same. (v, valued);
+    unended = unended;
+    unique = λ t x y one two. same_Some x y (sym one ∙ two);
+    is_read = λ l x read.
+        let found = said_ok tokens value f l x read in
+        let known = is l found.0 found.1 in
+        record { tokens = found.0; are = known.0; is = known.1; keeps = λ b same. (x, found.2); says = found.2 };
+    stops = λ l e read. passed_by l e (said_err tokens value f l e read);
+    reads = λ K t is_line keeps.
+        subst (λ e. Meets flaw_of K (λ x. value t ≡ Some x) (said tokens value e (line_of t))) told
+        (said_meets tokens value K bound (line_of t) t (there t is_line) (λ kept. keeps bound kept refl));
+  }
+    where
+      passed_by : (l : Line) (e : Flaw) → (e ≡ BadLine) ⊎ ((t : T) × (tokens l ≡ Some t) × (e ≡ f)) → (e ≡ BadLine) ⊎ IsLinePassed (said_line bound line_of IsLine value) l e
+      passed_by l e (inl bad) = inl bad
+      passed_by l e (inr found) =
+          let known = is l found.0 found.1 in
+          inr (record {
+            tokens = found.0;
+            are = known.0;
+            is = known.1;
+            bound = bound;
+            told = found.2 ∙ sym told;
+            keeps = All-weaker (λ b. b ≡ bound → ⊥) (λ b. b ≡ bound → (x : V) × (value found.0 ≡ Some x)) (λ b apart same. absurd (apart same)) (before flaw_of bounds bound) (apart_before bound);
+          })
+
+  -- no line more
+  pub none_read : IsSectionReader (no_lines {Bound = Bound}) no_steps
+  none_read = record {
+    example = tt;
+    is_example = tt;
+    example_keeps = λ bound. tt;
+    unended = λ t is. All-nil (λ line. is_end line ≡ false);
+    unique = λ t v w one two. refl;
+    IsOpen = λ b front. front ≡ [];
+    starts = refl;
+    goes = λ b c front line here read. absurd (cc);
+    goes_on = λ b front here. record { tree = tt; more = []; are = sym (append-nil front ∙ here); is_tree = tt; keeps = everywhere (λ bound. ⊤) (λ bound. tt) bounds };
+    ends = λ b front v here read. record { tree = tt; are = here; is_tree = tt; keeps = λ bound. tt; says = tt };
+    stops = λ b front line f here read. misfit (cc);
+    reads = λ K t is keeps. reads tt refl tt;
+  }
+
+  module _ {V W B : Type 0} {line : LineKind Bound V} {read : Reading V} {rest : Section Bound W} {steps : SectionSteps B W} (one : IsLineReader line read) (more : IsSectionReader rest steps) where
+    -- a line, and others behind it
+    module _ where
+      abbrev Whole : Section Bound (V × W)
+      Whole = line_then line rest
+
+      record IsBehind (v : V) (r : B) (front : List Line) : Type 0 where
+        first : Line
+        known : IsLineRead line first v
+        behind : List Line
+        are : front ≡ first ∷ behind
+        is_open : more.IsOpen r behind
+
+      abbrev IsOpen : LinePlace V B → List Line → Type 0
+      IsOpen at.Before front = front ≡ []
+      IsOpen (at.Behind v r) front = IsBehind v r front
+
+      line_goes : (b c : LinePlace V B) (front : List Line) (l : Line) → IsOpen b front → line_next read steps b l ≡ Ok c → IsOpen c (front ++ l ∷ [])
+      line_goes at.Before c front l here made =
+          bind_ok (read l) _ c made (λ v v_is made_of.
+          ok_has (λ q. IsOpen q (front ++ l ∷ [])) (at.Behind v steps.start) c made_of
+          (record { first = l; known = one.is_read l v v_is; behind = []; are = ap (λ ls. ls ++ l ∷ []) here; is_open = more.starts }))
+      line_goes (at.Behind v r) c front l here made =
+          bind_ok (steps.next r l) _ c made (λ q q_is made_of.
+          ok_has (λ p. IsOpen p (front ++ l ∷ [])) (at.Behind v q) c made_of
+          (record { first = here.first; known = here.known; behind = here.behind ++ l ∷ []; are = ap (λ ls. ls ++ l ∷ []) here.are; is_open = more.goes r q here.behind l here.is_open q_is }))
+
+      begins_behind : (within : List Bound) (l : Line) (v : V) (ls : List Line) → IsLineRead line l v → Begins (kind_by rest) within ls → Begins (kind_by Whole) within (l ∷ ls)
+      begins_behind within l v ls known begins = record {
+        tree = (known.tokens, begins.tree);
+        more = begins.more;
+        are = ap₂ (λ x xs. x ∷ xs) (sym known.are) begins.are;
+        is_tree = (known.is, begins.is_tree);
+        keeps = All-weaker (λ b. rest.Keeps b begins.tree) (λ b. line.Keeps b known.tokens × rest.Keeps b begins.tree) (λ b kept. (known.keeps b, kept)) within begins.keeps;
+      }
+
+      line_goes_on : (b : LinePlace V B) (front : List Line) → IsOpen b front → Begins (kind_by Whole) bounds front
+      line_goes_on at.Before front here =
+          subst (Begins (kind_by Whole) bounds) (sym here) (record {
+            tree = (one.example, more.example);
+            more = line.line_of one.example ∷ rest.lines_of more.example;
+            are = refl;
+            is_tree = (one.is_example, more.is_example);
+            keeps = everywhere (λ b. line.Keeps b one.example × rest.Keeps b more.example) (λ b. (one.example_keeps b, more.example_keeps b)) bounds;
+          })
+      line_goes_on (at.Behind v r) front here =
+          subst (Begins (kind_by Whole) bounds) (sym here.are) (begins_behind bounds here.first v here.behind here.known (more.goes_on r here.behind here.is_open))
+
+      line_ends : (b : LinePlace V B) (front : List Line) (value : V × W) → IsOpen b front → (line_steps read steps).finish b ≡ Some value → IsWhole (kind_by Whole) front value
+      line_ends at.Before front value here made = absurd (cc)
+      line_ends (at.Behind v r) front value here made =
+          option_map_some (λ w. (v, w)) (steps.finish r) value made (λ w w_is same.
+          let found = more.ends r here.behind w here.is_open w_is in
+          subst (IsWhole (kind_by Whole) front) same (record {
+            tree = (here.known.tokens, found.tree);
+            are = here.are ∙ ap₂ (λ x xs. x ∷ xs) here.known.are found.are;
+            is_tree = (here.known.is, found.is_tree);
+            keeps = λ b. (here.known.keeps b, found.keeps b);
+            says = (here.known.says, found.says);
+          }))
+
+      line_stops : (b : LinePlace V B) (front : List Line) (l : Line) (f : Flaw) → IsOpen b front → line_next read steps b l ≡ Err f → IsStopped (kind_by Whole) f (front ++ l ∷ [])
+      line_stops at.Before front l f here made =
+          bind_err (read l) _ f made (λ e. stopped_by (kind_by Whole) f (front ++ l ∷ []) (one.stops l f e) (λ passed.
+          owed.passes passed.bound passed.told (record {
+            tree = (passed.tokens, more.example);
+            more = rest.lines_of more.example;
+            are = sym (ap₂ (λ ls x. (ls ++ x ∷ []) ++ rest.lines_of more.example) here passed.are);
+            is_tree = (passed.is, more.is_example);
+            keeps = All-weaker (λ b. line.Keeps b passed.tokens) (λ b. line.Keeps b passed.tokens × rest.Keeps b more.example) (λ b kept. (kept, more.example_keeps b)) (before flaw_of bounds passed.bound) passed.keeps;
+          }))) (λ v v_is none. absurd (cc))
+      line_stops (at.Behind v r) front l f here made =
+          bind_err (steps.next r l) _ f made (λ e. lifted (more.stops r here.behind l f here.is_open e)) (λ q q_is none. absurd (cc))
+        where
+          lifted : IsStopped (kind_by rest) f (here.behind ++ l ∷ []) → IsStopped (kind_by Whole) f (front ++ l ∷ [])
+          lifted (misfit bad) = misfit bad
+          lifted (owed.passes bound told begins) =
+              owed.passes bound told (subst (Begins (kind_by Whole) (before flaw_of bounds bound)) (sym (ap (λ ls. ls ++ l ∷ []) here.are)) (begins_behind (before flaw_of bounds bound) here.first v (here.behind ++ l ∷ []) here.known begins))
+
+      behind_reads : (v : V) (r : B) (ls : List Line) → read_from (line_steps read steps) (at.Behind v r) ls ≡ (read_from steps r ls >>= λ w. Ok (v, w))
+      behind_reads v r [] = asked-map (λ w. (v, w)) (steps.finish r)
+      behind_reads v r (l ∷ ls) = bind_through (steps.next r l) (at.Behind v) (λ c. read_from (line_steps read steps) c ls) (λ q. read_from steps q ls) (λ w. Ok (v, w)) (λ q. behind_reads v q ls)
+
+      line_reads : (K : Bound → Type 0) (t : line.Tokens × rest.Tree) → line.IsLine t.0 × rest.IsTree t.1 → ((b : Bound) → K b → line.Keeps b t.0 × rest.Keeps b t.1)
+          → Meets flaw_of K (λ v. line.Says t.0 v.0 × rest.Says t.1 v.1) (read_from (line_steps read steps) at.Before (line.line_of t.0 ∷ rest.lines_of t.1))
+      line_reads K t is keeps =
+          then_meets (λ c. read_from (line_steps read steps) c (rest.lines_of t.1))
+          (then_meets {P = line.Says t.0} {Q = λ c. (v : V) × line.Says t.0 v × (c ≡ at.Behind v steps.start)} (λ v. Ok (at.Behind v steps.start)) (one.reads K t.0 is.0 (λ b kept. (keeps b kept).0)) (λ v _ says. reads (at.Behind v steps.start) refl (v, says, refl)))
+          (λ c _ found.
+          rw (found.2, behind_reads found.0 steps.start (rest.lines_of t.1))
+          (then_meets (λ w. Ok (found.0, w)) (more.reads K t.1 is.1 (λ b kept. (keeps b kept).1)) (λ w _ says. reads (found.0, w) refl (found.1, says))))
+
+      pub line_read : IsSectionReader Whole (line_steps read steps)
+      line_read = record {
+        example = (one.example, more.example);
+        is_example = (one.is_example, more.is_example);
+        example_keeps = λ b. (one.example_keeps b, more.example_keeps b);
+        unended = λ t is. All-cons (λ l. is_end l ≡ false) (line.line_of t.0) (rest.lines_of t.1) (one.unended t.0 is.0) (more.unended t.1 is.1);
+        unique = λ t v w left right. ap₂ (λ x y. (x, y)) (one.unique t.0 v.0 w.0 left.0 right.0) (more.unique t.1 v.1 w.1 left.1 right.1);
+        IsOpen = IsOpen;
+        starts = refl;
+        goes = line_goes;
+        goes_on = line_goes_on;
+        ends = line_ends;
+        stops = line_stops;
+        reads = line_reads;
+      }
+
+    -- lines that begin with a word, at most so many, and others behind them; the bound on their number counts before no other
+    module _ (word : List ℕ) (limit : ℕ) (count : Bound) (told : flaw_of count ≡ TooMany limit) (last : (bound : Bound) → list_all (λ b. not (same_flaw (flaw_of count) (flaw_of b))) (before flaw_of bounds bound) ≡ true)
+        (begin : (t : line.Tokens) → line.IsLine t → begins word (line.line_of t) ≡ true) (others : (t : rest.Tree) → rest.IsTree t → heads word (rest.lines_of t) ≡ false) where
+      abbrev All_Lines : Section Bound (List V × W)
+      All_Lines = lines_then line rest count limit
+
+      abbrev Steps : SectionSteps (LinesPlace V B) (List V × W)
+      Steps = lines_steps word limit read steps
+
+      abbrev IsFew : Bound → List line.Tokens → Type 0
+      IsFew bound ts = bound ≡ count → length ts ≤ limit
+
+      -- lines within all bounds, and what they say
+      record AreLines (ts : List line.Tokens) (vs : List V) : Type 0 where
+        each : All line.IsLine ts
+        keep : (bound : Bound) → All (line.Keeps bound) ts
+        few : length ts ≤ limit
+        say : AllZip line.Says ts vs
+
+      record IsAmong (p : LinesPlace V B) (front : List Line) : Type 0 where
+        ts : List line.Tokens
+        lines : AreLines ts p.values
+        behind : List Line
+        are : front ≡ map line.line_of ts ++ behind
+        is_open : more.IsOpen p.rest behind
+        first : p.more ≡ true → (behind ≡ []) × (p.rest ≡ steps.start)
+
+      module _ (p : LinesPlace V B) (front : List Line) (here : IsAmong p front) where
+        front_with : (t : line.Tokens) → p.more ≡ true → front ++ line.line_of t ∷ [] ≡ map line.line_of (here.ts ++ t ∷ [])
+        front_with t first =
+            ap (λ ls. ls ++ line.line_of t ∷ []) (here.are ∙ ap (λ ls. map line.line_of here.ts ++ ls) (here.first first).0 ∙ append-nil (map line.line_of here.ts))
+            ∙ sym (map-append line.line_of here.ts (t ∷ []))
+
+        front_behind : (l : Line) → front ++ l ∷ [] ≡ map line.line_of here.ts ++ (here.behind ++ l ∷ [])
+        front_behind l = ap (λ ls. ls ++ l ∷ []) here.are ∙ append_assoc (map line.line_of here.ts) here.behind (l ∷ [])
+
+        count_with : (t : line.Tokens) → length (here.ts ++ t ∷ []) ≡ length p.values + 1
+        count_with t = length-append here.ts (t ∷ []) ∙ ap (λ n. n + 1) (zip_length line.Says here.ts p.values here.lines.say)
+
+        with_line : (v : V) (l : Line) → p.more ≡ true → length p.values < limit → (known : IsLineRead line l v) → IsAmong (lines_place (p.values ++ v ∷ []) p.rest p.more) (front ++ l ∷ [])
+        with_line v l first room known = record {
+          ts = here.ts ++ known.tokens ∷ [];
+          lines = record {
+            each = All-push line.IsLine here.ts known.tokens here.lines.each known.is;
+            keep = λ b. All-push (line.Keeps b) here.ts known.tokens (here.lines.keep b) (known.keeps b);
+            few = omega (arith, count_with known.tokens, room);
+            say = zip_push line.Says here.ts p.values known.tokens v here.lines.say known.says;
+          };
+          behind = [];
+          are = ap (λ x. front ++ x ∷ []) known.are ∙ front_with known.tokens first ∙ sym (append-nil (map line.line_of (here.ts ++ known.tokens ∷ [])));
+          is_open = subst (λ r. more.IsOpen r []) (sym (here.first first).1) more.starts;
+          first = λ _. (refl, (here.first first).1);
+        }
+
+        begins_lines : (within : List Bound) (ls : List Line) → Begins (kind_by rest) within ls → Begins (kind_by All_Lines) within (map line.line_of here.ts ++ ls)
+        begins_lines within ls begins = record {
+          tree = (here.ts, begins.tree);
+          more = begins.more;
+          are = ap (λ x. map line.line_of here.ts ++ x) begins.are ∙ sym (append_assoc (map line.line_of here.ts) ls begins.more);
+          is_tree = (here.lines.each, begins.is_tree);
+          keeps = All-weaker (λ b. rest.Keeps b begins.tree) (λ b. All (line.Keeps b) here.ts × IsFew b here.ts × rest.Keeps b begins.tree) (λ b kept. (here.lines.keep b, λ _. here.lines.few, kept)) within begins.keeps;
+        }
+
+        -- with a line more, where the bound on their number is not asked for
+        begins_more : (within : List Bound) (l : Line) (t : line.Tokens) → p.more ≡ true → l ≡ line.line_of t → line.IsLine t → All (λ b. line.Keeps b t) within → All (λ b. b ≡ count → ⊥) within
+            → Begins (kind_by All_Lines) within (front ++ l ∷ [])
+        begins_more within l t first are is keeps apart = record {
+          tree = (here.ts ++ t ∷ [], more.example);
+          more = rest.lines_of more.example;
+          are = ap (λ ls. ls ++ rest.lines_of more.example) (sym (ap (λ x. front ++ x ∷ []) are ∙ front_with t first));
+          is_tree = (All-push line.IsLine here.ts t here.lines.each is, more.is_example);
+          keeps = all_with (λ b. line.Keeps b t) (λ b. b ≡ count → ⊥) (λ b. All (line.Keeps b) (here.ts ++ t ∷ []) × IsFew b (here.ts ++ t ∷ []) × rest.Keeps b more.example)
+              (λ b kept other. (All-push (line.Keeps b) here.ts t (here.lines.keep b) kept, λ same. absurd (other same), more.example_keeps b)) within keeps apart;
+        }
+
+        lines_go : (c : LinesPlace V B) (l : Line) → lines_next word limit read steps p l ≡ Ok c → IsAmong c (front ++ l ∷ [])
+        lines_go c l made =
+            by_test (p.more && begins word l) _ _ (Ok c) made
+            (λ takes read_on.
+            let first = (and_parts p.more (begins word l) takes).0 in
+            bind_ok (read l) _ c read_on (λ v v_is grown_is.
+            bind_ok (grown limit p.values v) _ c grown_is (λ vs vs_is made_of.
+            else_ok (nat_le limit (length p.values)) (TooMany limit) _ vs vs_is (λ room same.
+            ok_has (λ q. IsAmong q (front ++ l ∷ [])) (lines_place vs p.rest p.more) c made_of
+            (ok_has (λ ws. IsAmong (lines_place ws p.rest p.more) (front ++ l ∷ [])) (p.values ++ v ∷ []) vs same
+            (let known = one.is_read l v v_is in with_line v l first (grind (arith, nat_tests, room)) known))))))
+            (λ other read_on.
+            bind_ok (steps.next p.rest l) _ c read_on (λ r r_is made_of.
+            ok_has (λ q. IsAmong q (front ++ l ∷ [])) (lines_place p.values r false) c made_of (record {
+              ts = here.ts;
+              lines = here.lines;
+              behind = here.behind ++ l ∷ [];
+              are = front_behind l;
+              is_open = more.goes p.rest r here.behind l here.is_open r_is;
+              first = λ e. absurd (cc);
+            })))
+
+        lines_go_on : Begins (kind_by All_Lines) bounds front
+        lines_go_on = subst (Begins (kind_by All_Lines) bounds) (sym here.are) (begins_lines bounds here.behind (more.goes_on p.rest here.behind here.is_open))
+
+        lines_end : (value : List V × W) → Steps.finish p ≡ Some value → IsWhole (kind_by All_Lines) front value
+        lines_end value made =
+            option_map_some (λ w. (p.values, w)) (steps.finish p.rest) value made (λ w w_is same.
+            let found = more.ends p.rest here.behind w here.is_open w_is in
+            subst (IsWhole (kind_by All_Lines) front) same (record {
+              tree = (here.ts, found.tree);
+              are = here.are ∙ ap (λ ls. map line.line_of here.ts ++ ls) found.are;
+              is_tree = (here.lines.each, found.is_tree);
+              keeps = λ b. (here.lines.keep b, λ _. here.lines.few, found.keeps b);
+              says = (here.lines.say, found.says);
+            }))
+
+        -- what a line is told for
+        passed_more : (l : Line) (f : Flaw) → p.more ≡ true → IsLinePassed line l f → IsStopped (kind_by All_Lines) f (front ++ l ∷ [])
+        passed_more l f first passed =
+            owed.passes passed.bound passed.told
+            (begins_more (before flaw_of bounds passed.bound) l passed.tokens first passed.are passed.is passed.keeps (apart_last (before flaw_of bounds passed.bound) (last passed.bound)))
+          where
+            apart_last : (bs : List Bound) → list_all (λ b. not (same_flaw (flaw_of count) (flaw_of b))) bs ≡ true → All (λ b. b ≡ count → ⊥) bs
+            apart_last [] all = All-nil (λ b. b ≡ count → ⊥)
+            apart_last (b ∷ bs) all =
+                let parts = and_parts _ _ all in
+                All-cons (λ c. c ≡ count → ⊥) b bs (λ same.
+                let known : not (same_flaw (flaw_of count) (flaw_of count)) ≡ true = subst (λ c. not (same_flaw (flaw_of count) (flaw_of c)) ≡ true) same parts.0 in
+                let equal = same_flaw-refl (flaw_of count) in absurd (cc)) (apart_last bs parts.1)
+
+        too_many : (l : Line) (v : V) (f : Flaw) → p.more ≡ true → IsLineRead line l v → f ≡ TooMany limit → IsStopped (kind_by All_Lines) f (front ++ l ∷ [])
+        too_many l v f first known is =
+            owed.passes count (is ∙ sym told)
+            (begins_more (before flaw_of bounds count) l known.tokens first known.are known.is (everywhere (λ b. line.Keeps b known.tokens) known.keeps (before flaw_of bounds count)) (apart_before count))
+
+        lifted : (l : Line) (f : Flaw) → IsStopped (kind_by rest) f (here.behind ++ l ∷ []) → IsStopped (kind_by All_Lines) f (front ++ l ∷ [])
+        lifted l f (misfit bad) = misfit bad
+        lifted l f (owed.passes bound is begins) =
+            owed.passes bound is (subst (Begins (kind_by All_Lines) (before flaw_of bounds bound)) (sym (front_behind l)) (begins_lines (before flaw_of bounds bound) (here.behind ++ l ∷ []) begins))
+
+        lines_stop : (l : Line) (f : Flaw) → lines_next word limit read steps p l ≡ Err f → IsStopped (kind_by All_Lines) f (front ++ l ∷ [])
+        lines_stop l f made =
+            by_test (p.more && begins word l) _ _ (Err f) made
+            (λ takes read_on.
+            let first = (and_parts p.more (begins word l) takes).0 in
+            bind_err (read l) _ f read_on (λ e. stopped_by (kind_by All_Lines) f (front ++ l ∷ []) (one.stops l f e) (passed_more l f first)) (λ v v_is grown_is.
+            bind_err (grown limit p.values v) _ f grown_is (λ full.
+            by_test (nat_le limit (length p.values)) _ _ (Err f) full (λ over e. too_many l v f first (one.is_read l v v_is) (cc)) (λ room e. absurd (cc))) (λ vs vs_is none. absurd (cc))))
+            (λ other read_on. bind_err (steps.next p.rest l) _ f read_on (λ e. lifted l f (more.stops p.rest here.behind l f here.is_open e)) (λ r r_is none. absurd (cc)))
+
+      lines_behind : (vs : List V) (r : B) (ls : List Line) → read_from Steps (lines_place vs r false) ls ≡ (read_from steps r ls >>= λ w. Ok (vs, w))
+      lines_behind vs r [] = asked-map (λ w. (vs, w)) (steps.finish r)
+      lines_behind vs r (l ∷ ls) = bind_through (steps.next r l) (λ q. lines_place vs q false) (λ c. read_from Steps c ls) (λ q. read_from steps q ls) (λ w. Ok (vs, w)) (λ q. lines_behind vs q ls)
+
+      others_read : (vs : List V) (ls : List Line) → heads word ls ≡ false → read_from Steps (lines_place vs steps.start true) ls ≡ (read_from steps steps.start ls >>= λ w. Ok (vs, w))
+      others_read vs [] other = asked-map (λ w. (vs, w)) (steps.finish steps.start)
+      others_read vs (l ∷ ls) other =
+          rw other (bind_through (steps.next steps.start l) (λ q. lines_place vs q false) (λ c. read_from Steps c ls) (λ q. read_from steps q ls) (λ w. Ok (vs, w)) (λ q. lines_behind vs q ls))
+
+      module _ (K : Bound → Type 0) where
+        grown_meets : (vs : List V) (v : V) → (K count → length vs < limit) → Meets flaw_of K (λ ws. ws ≡ vs ++ v ∷ []) (grown limit vs v)
+        grown_meets vs v few = by_room (nat_le limit (length vs)) refl
+          where
+            by_room : (b : Bool) → nat_le limit (length vs) ≡ b → Meets flaw_of K (λ ws. ws ≡ vs ++ v ∷ []) (grown limit vs v)
+            by_room true is = passes count (rw is (ap Err (sym told))) (λ kept. let room = few kept in absurd (grind (arith, nat_tests, room, is)))
+            by_room false is = reads (vs ++ v ∷ []) (rw is refl) refl
+
+        record AreRead (vs : List V) (ts : List line.Tokens) (t : rest.Tree) (value : List V × W) : Type 0 where
+          us : List V
+          w : W
+          each : AllZip line.Says ts us
+          says : rest.Says t w
+          is : value ≡ (vs ++ us, w)
+
+        lines_meet : (vs : List V) (ts : List line.Tokens) (t : rest.Tree) → All line.IsLine ts → rest.IsTree t → ((b : Bound) → K b → All (line.Keeps b) ts) → ((b : Bound) → K b → rest.Keeps b t) → (K count → length vs + length ts ≤ limit)
+            → Meets flaw_of K (AreRead vs ts t) (read_from Steps (lines_place vs steps.start true) (map line.line_of ts ++ rest.lines_of t))
+        lines_meet vs [] t each is keep keeps few =
+            rw (others_read vs (rest.lines_of t) (others t is))
+            (then_meets (λ w. Ok (vs, w)) (more.reads K t is keeps) (λ w _ says. reads (vs, w) refl (record { us = []; w = w; each = tt; says = says; is = ap (λ xs. (xs, w)) (sym (append-nil vs)) })))
+        lines_meet vs (u ∷ us) t each is keep keeps few =
+            rw (begin u (All-head line.IsLine u us each))
+            (then_meets (λ c. read_from Steps c (map line.line_of us ++ rest.lines_of t))
+            (then_meets {P = line.Says u} {Q = λ c. (v : V) × line.Says u v × (c ≡ lines_place (vs ++ v ∷ []) steps.start true)} (λ v. grown limit vs v >>= λ ws. Ok (lines_place ws steps.start true))
+            (one.reads K u (All-head line.IsLine u us each) (λ b kept. All-head (line.Keeps b) u us (keep b kept)))
+            (λ v _ says. then_meets (λ ws. Ok (lines_place ws steps.start true)) (grown_meets vs v (λ kept. omega (arith, few kept))) (λ ws _ same. reads (lines_place ws steps.start true) refl (v, says, ap (λ xs. lines_place xs steps.start true) same))))
+            (λ c _ found.
+            rw found.2
+            (meets-weaker
+            (lines_meet (vs ++ found.0 ∷ []) us t (All-tail line.IsLine u us each) is (λ b kept. All-tail (line.Keeps b) u us (keep b kept)) keeps (λ kept. omega (arith, few kept, length-append vs (found.0 ∷ []))))
+            (λ value _ known. record {
+              us = found.0 ∷ known.us;
+              w = known.w;
+              each = (found.1, known.each);
+              says = known.says;
+              is = known.is ∙ ap (λ xs. (xs, known.w)) (append_assoc vs (found.0 ∷ []) known.us);
+            }))))
+
+      pub lines_read : IsSectionReader All_Lines Steps
+      lines_read = record {
+        example = ([], more.example);
+        is_example = (All-nil line.IsLine, more.is_example);
+        example_keeps = λ b. (All-nil (line.Keeps b), λ _. omega arith, more.example_keeps b);
+        unended = λ t is. All-append (λ l. is_end l ≡ false) (map line.line_of t.0) (rest.lines_of t.1)
+            (All-map (λ l. is_end l ≡ false) line.line_of t.0 (All-weaker line.IsLine (λ u. is_end (line.line_of u) ≡ false) one.unended t.0 is.0)) (more.unended t.1 is.1);
+        unique = λ t v w left right. ap₂ (λ x y. (x, y)) (AllZip-unique line.Says one.unique t.0 v.0 w.0 left.0 right.0) (more.unique t.1 v.1 w.1 left.1 right.1);
+        IsOpen = IsAmong;
+        starts = record { ts = []; lines = record { each = All-nil line.IsLine; keep = λ b. All-nil (line.Keeps b); few = omega arith; say = tt }; behind = []; are = refl; is_open = more.starts; first = λ _. (refl, refl) };
+        goes = λ b c front l here. lines_go b front here c l;
+        goes_on = lines_go_on;
+        ends = λ b front v here. lines_end b front here v;
+        stops = λ b front l f here. lines_stop b front here l f;
+        reads = λ K t is keeps.
+            meets-weaker (lines_meet K [] t.0 t.1 is.0 is.1 (λ b kept. (keeps b kept).0) (λ b kept. (keeps b kept).2) (λ kept. omega (arith, (keeps count kept).1 refl)))
+            (λ v _ known. subst (λ u. AllZip line.Says t.0 u.0 × rest.Says t.1 u.1) (sym known.is) (known.each, known.says));
+      }

@@ -1,0 +1,4 @@
+pub mod LineKinds
+pub mod LineReadings
+pub mod Sections
+pub mod SectionSteps

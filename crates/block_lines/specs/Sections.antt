@@ -1,0 +1,54 @@
+-- Lines of a block one behind another, and the blocks that begin with two words and go on with such lines.
+use Rattle.std.specs.Prelude.{◌≡◌, ◌≤◌, ⊤, ℕ, List, [], ◌∷◌, ◌++◌, length, map}
+use Rattle.std.specs.List.{All, AllZip}
+use Rattle.block_text.specs.declared.fault.Flaw.{Flaw}
+use Rattle.block_text.specs.Lines.{Line}
+use Rattle.block_text.specs.Kind.{Kind}
+use Rattle.block_lines.specs.LineKinds.{LineKind}
+
+-- Lines of a block: which trees of tokens they have, which bounds those keep, and what they say.
+pub record Section (Bound Value : Type 0) : Type 1 where
+  pub Tree : Type 0
+  pub lines_of : Tree → List Line
+  pub IsTree : Tree → Type 0
+  pub Keeps : Bound → Tree → Type 0
+  pub Says : Tree → Value → Type 0
+
+-- no line more
+abbrev pub no_lines : {Bound : Type 0} → Section Bound ⊤
+no_lines = record { Tree = ⊤; lines_of = λ t. []; IsTree = λ t. ⊤; Keeps = λ bound t. ⊤; Says = λ t v. ⊤ }
+
+module _ {Bound V W : Type 0} (line : LineKind Bound V) (rest : Section Bound W) where
+  -- a line, and others behind it
+  abbrev pub line_then : Section Bound (V × W)
+  line_then = record {
+    Tree = line.Tokens × rest.Tree;
+    lines_of = λ t. line.line_of t.0 ∷ rest.lines_of t.1;
+    IsTree = λ t. line.IsLine t.0 × rest.IsTree t.1;
+    Keeps = λ bound t. line.Keeps bound t.0 × rest.Keeps bound t.1;
+    Says = λ t v. line.Says t.0 v.0 × rest.Says t.1 v.1;
+  }
+
+  -- lines of the kind, by the bound on their number and what that is at most, and others behind them
+  abbrev pub lines_then : Bound → ℕ → Section Bound (List V × W)
+  lines_then count limit = record {
+    Tree = List line.Tokens × rest.Tree;
+    lines_of = λ t. map line.line_of t.0 ++ rest.lines_of t.1;
+    IsTree = λ t. All line.IsLine t.0 × rest.IsTree t.1;
+    Keeps = λ bound t. All (line.Keeps bound) t.0 × (bound ≡ count → length t.0 ≤ limit) × rest.Keeps bound t.1;
+    Says = λ t v. AllZip line.Says t.0 v.0 × rest.Says t.1 v.1;
+  }
+
+-- Blocks that begin with two words and go on with these lines, and say what is made of what those say.
+abbrev pub block_kind : {Bound V W : Type 0} → List ℕ → List ℕ → List (List ℕ) → List Bound → (Bound → Flaw) → Section Bound V → (V → W) → Kind W
+block_kind {Bound} {V} {W} first second others bounds flaw_of section value = record {
+  Tree = section.Tree;
+  lines_of = λ t. (first ∷ second ∷ []) ∷ section.lines_of t;
+  IsTree = section.IsTree;
+  others = others;
+  Bound = Bound;
+  bounds = bounds;
+  flaw_of = flaw_of;
+  Keeps = section.Keeps;
+  Says = λ t w. (v : V) × section.Says t v × (w ≡ value v);
+}

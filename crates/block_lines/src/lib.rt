@@ -1,0 +1,8 @@
+//! Kinds of blocks of evidence text by their lines: what a line may be, and which stand one behind another.
+#![tactic(auto)]
+
+mod line_kind;
+mod section;
+
+pub use line_kind::{LetterLine, LineKind, NumberLine, PolynomialLine};
+pub use section::{LinePlace, LineThen, LinesPlace, LinesThen, NoLines, Section};

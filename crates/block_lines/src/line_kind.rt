@@ -1,0 +1,106 @@
+//! Kinds of lines of a block.
+
+ghost use Rattle.std.specs.Prelude.{◌≡◌};
+ghost use Rattle.std.specs.Option.{option_copied, option_map};
+ghost use Rattle.block_text.specs.Fault.{Reads};
+ghost use Rattle.block_lines.specs.LineReadings.{Reading, letter_token, letter_read, polynomial_read};
+ghost use Rattle.block_text.specs.Lines.{number_of};
+ghost use Rattle.block_text.specs.Tokens.{tokens_of};
+
+use block_text::{
+    Flaw, LineFault, first_token, is, is_letter, letter_of, number_of, read_polynomial,
+};
+use lists::Listing;
+use quiver::Quiver;
+use std::alloc::Global;
+use word_core::{Letter, Word};
+
+/// A kind of line, and what is made of one.
+pub trait LineKind {
+    /// What a line says.
+    type Value: Drop;
+
+    ghost reading: { Self → Reading Self.Value };
+
+    /// What the line says, or what is wrong with it.
+    fn read(&self, alloc: Global, line: &[u8]) -> Result<Self::Value, LineFault>
+        ensures { Reads (λ v. v) result (reading self.now (tokens_of line.now)) };
+}
+
+/// A word and a number that is at most the limit.
+#[derive(Clone, Copy)]
+pub struct NumberLine {
+    pub word: &'static str,
+    pub most: u32,
+}
+
+impl LineKind for NumberLine {
+    type Value = u32;
+
+    ghost reading = { λ line. number_of line.word.now line.most };
+
+    fn read(&self, _alloc: Global, line: &[u8]) -> Result<u32, LineFault> {
+        Ok(number_of(self.word, self.most, line)?)
+    }
+}
+
+/// A word and a letter of a quiver, or the word alone.
+#[derive(Clone, Copy)]
+pub struct LetterLine<'q> {
+    pub word: &'static str,
+    pub quiver: &'q Quiver,
+}
+
+// The token behind the word, none where it stands alone.
+fn letter_token<'a>(word: &str, line: &'a [u8]) -> Option<Option<&'a [u8]>>
+    ensures { option_map option_copied result ≡ letter_token word.now (tokens_of line.now) }
+{
+    let (first, rest) = first_token(line)?;
+    if !is(word, first) {
+        return None;
+    }
+    match first_token(rest) {
+        None => Some(None),
+        Some((token, end)) if is_letter(token) && first_token(end).is_none() => Some(Some(token)),
+        _ => None,
+    }
+}
+
+impl<'q> LineKind for LetterLine<'q> {
+    type Value = Option<Letter>;
+
+    ghost reading = { λ line. letter_read line.quiver.now line.word.now };
+
+    fn read(&self, _alloc: Global, line: &[u8]) -> Result<Option<Letter>, LineFault> {
+        match letter_token(self.word, line) {
+            Some(None) => Ok(None),
+            Some(Some(token)) => match letter_of(self.quiver, token) {
+                Some(letter) => Ok(Some(letter)),
+                None => Err(LineFault::Flaw(Flaw::UnknownName)),
+            },
+            None => Err(LineFault::Flaw(Flaw::BadLine)),
+        }
+    }
+}
+
+/// A word and a polynomial in the letters of a quiver.
+#[derive(Clone, Copy)]
+pub struct PolynomialLine<'q> {
+    pub word: &'static str,
+    pub quiver: &'q Quiver,
+}
+
+impl<'q> LineKind for PolynomialLine<'q> {
+    type Value = Listing<(i128, Word)>;
+
+    ghost reading = { λ line. polynomial_read line.quiver.now line.word.now };
+
+    fn read(&self, alloc: Global, line: &[u8]) -> Result<Listing<(i128, Word)>, LineFault> {
+        match first_token(line) {
+            Some((word, behind)) if is(self.word, word) => {
+                Ok(read_polynomial(alloc, self.quiver, behind)?.terms)
+            }
+            _ => Err(LineFault::Flaw(Flaw::BadLine)),
+        }
+    }
+}
