@@ -4,9 +4,10 @@
 usage: trusted.py [--write]
 
 A clause of a public function cites words that its file imports from `specs/`; a file of definitions stands on those that it imports. The
-table has each such file of the repository with its lines, and the files of code in which the types stand that definitions speak of. With
---write it is put into the document, between the lines that begin and end it; else it is printed. The status is 1 where the document has
-another one.
+first table has what each promise stands on: its page, all files that this imports one after another, and the files of code in which the
+types stand that they speak of, with the lines of both. The others have each file of definitions that some clause stands on, and the files
+of types. A definition that wants a proof imports its file, which counts with all that it imports. With --write they are put into the
+document, between the lines that begin and end them; else they are printed. The status is 1 where the document has others.
 """
 from __future__ import annotations
 
@@ -20,6 +21,8 @@ CRATES, DOCUMENT = TOP / "crates", TOP / "docs" / "DEFINITIONS.md"
 # The public functions whose clauses are the main theorem and the laws for users.
 STARTS = ("command_runs/src/whole_run.rt", "*_command/src/laws.rt", "evidence_commands/src/laws.rt", "command_runs/src/laws.rt")
 BEGINS, ENDS = "<!-- dev/trusted.py begins -->", "<!-- dev/trusted.py ends -->"
+PAGES = CRATES / "command_runs" / "specs" / "Promises"
+LEMMA = re.compile(r"^\s*(?:pub )?use Rattle\.(\w+)\.proofs\.([\w.]+?)(?:\.\{[^}]*\}| as .*|\s*)?$", re.M)
 IMPORT = re.compile(r"^\s*(?:ghost |pub )?use Rattle\.(\w+)\.specs\.([\w.]+?)(?:\.\{([^}]*)\}| as .*|\s*)?;?\s*$", re.M)
 # A clause ends before the next one, a remark, the body or an empty line.
 CLAUSES = re.compile(r"^\s*(?:ensures|requires)\b.*(?:\n(?!\s*(?:ensures|requires|[{}/]|$)).*)*", re.M)
@@ -33,6 +36,7 @@ class Import(NamedTuple):
 
 class Trusted(NamedTuple):
     definitions: Set[Path]
+    proofs: Set[Path]
     types: Set[Path]
     foreign: Set[str]
 
@@ -72,22 +76,51 @@ def declaring(it: Import) -> Path:
     return CRATES / it.crate / "src" / "lib.rt"
 
 
-def trusted() -> Trusted:
-    found = Trusted(set(), set(), set())
-    paths = sorted(path for pattern in STARTS for path in CRATES.glob(pattern))
-    work = [it for path in paths for it in cited(path)]
-    while work:
+def lemmas(text: str) -> Iterator[Path]:
+    """The files of proofs of the repository that the text imports."""
+    for crate, module in LEMMA.findall(text):
+        if (CRATES / crate).is_dir():
+            yield CRATES / crate / "proofs" / (module.replace(".", "/") + ".antt")
+
+
+def reached(work: List[Import], pages: Set[Path]) -> Trusted:
+    """What these imports and pages stand on."""
+    found = Trusted(set(), set(), set(), set())
+    files = list(pages)
+    while work or files:
+        if files:
+            path = files.pop()
+            kind = found.proofs if path.parts[len(CRATES.parts) + 1] == "proofs" else found.definitions
+            if path not in kind:
+                kind.add(path)
+                text = path.read_text(encoding="utf-8")
+                work.extend(imports(text))
+                files.extend(lemmas(text))
+            continue
         it = work.pop()
         if not (CRATES / it.crate).is_dir():
             found.foreign.add(it.crate)
         elif it.module[0] == "declared":
             found.types.add(declaring(it))
         else:
-            path = home(it)
-            if path not in found.definitions:
-                found.definitions.add(path)
-                work.extend(imports(path.read_text(encoding="utf-8")))
+            files.append(home(it))
     return found
+
+
+def trusted() -> Trusted:
+    paths = sorted(path for pattern in STARTS for path in CRATES.glob(pattern))
+    return reached([it for path in paths for it in cited(path)], set())
+
+
+def promises() -> List[str]:
+    """A row for each page, and one for all of them with what says when they hold."""
+    pages = [page for page in sorted(PAGES.glob("*.antt")) if page.stem != "Lines"]
+    rows = []
+    for title, page in [*((f"`{page.stem}`", page) for page in pages), ("all, by `Promises`", PAGES.with_suffix(".antt"))]:
+        found = reached([], {page})
+        counts = (sum(map(lines, files)) for files in (found.definitions, found.proofs, found.types))
+        rows.append(f"| {title} | {len(found.definitions)} | " + " | ".join(f"{count:,}" for count in counts) + " |")
+    return rows
 
 
 def lines(path: Path) -> int:
@@ -108,8 +141,10 @@ def table() -> str:
     total = sum(map(lines, found.definitions))
     foreign = ", ".join(f"`{name}`" for name in sorted(found.foreign - {"std"}))
     return "\n".join([
+        "| Promise | Files of `specs/` | Their lines | Lines of files of proofs | Lines of files of types |", "|---|---|---|---|---|", *promises(), "",
         f"{len(found.definitions)} files of `specs/` with {total:,} lines, with the lines of each:", "",
         "| Crate | Files of `specs/` |", "|---|---|", *by_crate(found.definitions, True), "",
+        f"By one file, `normal_forms/specs/Descents`, they import proofs: {len(found.proofs)} files with {sum(map(lines, found.proofs)):,} lines, as the making of a normal form ends by one.", "",
         f"The types that they speak of are declared in {len(found.types)} files of `src/`, and they cite stated contracts of {foreign} and of `std`:", "",
         "| Crate | Files of `src/` |", "|---|---|", *by_crate(found.types, False),
     ])  # fmt: skip

@@ -58,7 +58,8 @@ use Rattle.evidence_commands.proofs.Cancellations.{cancellations_are_judged}
 use Rattle.command_runs.specs.Promises.Lines.{HasLineBefore, HasLine, claim_line, block_line, number_limit}
 use Rattle.command_runs.specs.Promises.Proved.{IsProved, SaysExplained, ProvedIsMeant}
 use Rattle.command_runs.specs.Promises.Accepted.{ProvesClaimWith, SaysAccepted, AcceptedIsMeant}
-use Rattle.command_runs.specs.Promises.Refuted.{IsBlock, SaysConfirmed, RefutedIsMeant}
+use Rattle.command_runs.specs.Promises.Refuted.{RefutedIsMeant}
+use Rattle.command_runs.specs.Promises.Confirmed.{IsBlock, SaysConfirmed, ConfirmedIsMeant}
 use Rattle.command_runs.specs.Promises.NotDerivable.{SaysClosed, NotDerivableIsMeant}
 use Rattle.command_runs.specs.Promises.Sharp.{IsSharp, SharpIsMeant}
 use Rattle.command_runs.specs.Promises.Undecided.{UndecidedIsMeant}
@@ -91,12 +92,11 @@ module _ {Object Arrow : Type 0} (s : Structure Object Arrow) (bytes evidence pu
   nothing_accepted : second ≢ 99 → AcceptedIsMeant s bytes put
   nothing_accepted apart = record { accepted = λ block text has. absurd (other block (codes "accepted " ++ text) has.0 has.1 (λ e. omega (arith, e)) (λ e. apart (sym e))) }
 
-  refuted_by : ((block : ℕ) (text after : List ℕ) → block < number_limit → HasLineBefore put (block_line block (codes "confirmed " ++ text)) after → SaysConfirmed bytes evidence block text)
-      → RefutedIsMeant bytes evidence put
-  refuted_by confirmed = record { refuted = λ number after below has. absurd (none number (codes "refuted") after has); confirmed = confirmed }
+  nothing_refuted : RefutedIsMeant bytes put
+  nothing_refuted = record { refuted = λ number after below has. absurd (none number (codes "refuted") after has) }
 
-  nothing_confirmed : second ≢ 111 → RefutedIsMeant bytes evidence put
-  nothing_confirmed apart = refuted_by (λ block text after below has. absurd (other block (codes "confirmed " ++ text) after has (λ e. omega (arith, e)) (λ e. apart (sym e))))
+  nothing_confirmed : second ≢ 111 → ConfirmedIsMeant bytes evidence put
+  nothing_confirmed apart = record { confirmed = λ block text after below has. absurd (other block (codes "confirmed " ++ text) after has (λ e. omega (arith, e)) (λ e. apart (sym e))) }
 
   not_derivable_by : ((block : ℕ) (text : List ℕ) → HasLine put (block_line block (codes "closed " ++ text)) → SaysClosed bytes text) → NotDerivableIsMeant bytes put
   not_derivable_by closed = record { not_derivable = λ number text below has. absurd (none number (codes "not derivable " ++ text) has.0 has.1); closed = closed }
@@ -170,7 +170,8 @@ module _ {Object Arrow : Type 0} {s : Structure Object Arrow} (laws : Preadditiv
               has.1 (λ e. omega (arith, e)) in
               accepted_by text at.found at.holds at.means at.says;
         };
-        refuted = nothing_confirmed s bytes evidence ending.report 99 none other (λ e. omega (arith, e));
+        refuted = nothing_refuted s bytes evidence ending.report 99 none other;
+        confirmed = nothing_confirmed s bytes evidence ending.report 99 none other (λ e. omega (arith, e));
         not_derivable = nothing_closed s bytes evidence ending.report 99 none other (λ e. omega (arith, e));
         sharp = nothing_sharp s bytes evidence ending.report 99 none other (λ e. omega (arith, e));
         undecided = nothing_undecided s bytes evidence ending.report 99 none other budget;
@@ -324,14 +325,15 @@ module _ {Object Arrow : Type 0} {s : Structure Object Arrow} (laws : Preadditiv
       record {
         proved = nothing_explained s bytes evidence ending.report 111 none other (λ e. omega (arith, e));
         accepted = nothing_accepted s bytes evidence ending.report 111 none other (λ e. omega (arith, e));
-        refuted = refuted_by s bytes evidence ending.report 111 none other (λ block text after below has.
+        refuted = nothing_refuted s bytes evidence ending.report 111 none other;
+        confirmed = record { confirmed = λ block text after below has.
             let at = found models models_are_judged laws sound with_lemmas cancelling bytes problem is evidence model_told causes 111 (λ m holds. refl) ending ends block (codes "confirmed " ++ text) after has
             (λ e. omega (arith, e)) in
             let few = few_models at.blocks at.read in
             let small : at.place < length at.blocks = inside at.blocks at.place at.found at.at in
             let counted : block ≡ 1 + at.place = decimal_injective block (1 + at.place) below (omega (arith, few, small)) at.numbered in
             let numbered : block ≡ suc at.place = omega (arith, counted) in
-            confirmed_by block text at.blocks at.place at.found at.read at.at numbered at.holds at.means at.says);
+            confirmed_by block text at.blocks at.place at.found at.read at.at numbered at.holds at.means at.says };
         not_derivable = nothing_closed s bytes evidence ending.report 111 none other (λ e. omega (arith, e));
         sharp = nothing_sharp s bytes evidence ending.report 111 none other (λ e. omega (arith, e));
         undecided = nothing_undecided s bytes evidence ending.report 111 none other budget;
@@ -345,7 +347,8 @@ module _ {Object Arrow : Type 0} {s : Structure Object Arrow} (laws : Preadditiv
       record {
         proved = nothing_explained s bytes evidence ending.report 108 none other (λ e. omega (arith, e));
         accepted = nothing_accepted s bytes evidence ending.report 108 none other (λ e. omega (arith, e));
-        refuted = nothing_confirmed s bytes evidence ending.report 108 none other (λ e. omega (arith, e));
+        refuted = nothing_refuted s bytes evidence ending.report 108 none other;
+        confirmed = nothing_confirmed s bytes evidence ending.report 108 none other (λ e. omega (arith, e));
         not_derivable = not_derivable_by s bytes evidence ending.report 108 none other (λ block text has.
             let at = found bases bases_are_judged laws sound with_lemmas cancelling bytes problem is evidence basis_told causes 108 (λ b holds. refl) ending ends block (codes "closed " ++ text) has.0 has.1
             (λ e. omega (arith, e)) in
@@ -371,7 +374,8 @@ module _ {Object Arrow : Type 0} {s : Structure Object Arrow} (laws : Preadditiv
             has.1 (λ e. omega (arith, e)) in
             explained_by text at.found at.holds at.means at.says);
         accepted = nothing_accepted s bytes evidence ending.report 120 none other (λ e. omega (arith, e));
-        refuted = nothing_confirmed s bytes evidence ending.report 120 none other (λ e. omega (arith, e));
+        refuted = nothing_refuted s bytes evidence ending.report 120 none other;
+        confirmed = nothing_confirmed s bytes evidence ending.report 120 none other (λ e. omega (arith, e));
         not_derivable = nothing_closed s bytes evidence ending.report 120 none other (λ e. omega (arith, e));
         sharp = nothing_sharp s bytes evidence ending.report 120 none other (λ e. omega (arith, e));
         undecided = nothing_undecided s bytes evidence ending.report 120 none other budget;
@@ -390,7 +394,8 @@ module _ {Object Arrow : Type 0} {s : Structure Object Arrow} (laws : Preadditiv
               has.0 has.1 (λ e. omega (arith, e)) in
               cancelled_by text at.found at.holds at.means at.says;
         };
-        refuted = nothing_confirmed s bytes evidence ending.report 99 none other (λ e. omega (arith, e));
+        refuted = nothing_refuted s bytes evidence ending.report 99 none other;
+        confirmed = nothing_confirmed s bytes evidence ending.report 99 none other (λ e. omega (arith, e));
         not_derivable = nothing_closed s bytes evidence ending.report 99 none other (λ e. omega (arith, e));
         sharp = nothing_sharp s bytes evidence ending.report 99 none other (λ e. omega (arith, e));
         undecided = nothing_undecided s bytes evidence ending.report 99 none other budget;

@@ -164,8 +164,8 @@ module _ {Object Arrow : Type 0} {s : Structure Object Arrow} (equations : SaysE
       accepted = record { accepted = λ block text has. absurd (no_block block (codes "accepted " ++ text) has.0 has.1) };
       refuted = record {
         refuted = λ number after below has. let is = found number (codes "refuted") after below has in refuted_by number after is.rest is.verdict is.holds is.least is.most is.then is.says;
-        confirmed = λ block text after below has. absurd (no_block block (codes "confirmed " ++ text) after has);
       };
+      confirmed = record { confirmed = λ block text after below has. absurd (no_block block (codes "confirmed " ++ text) after has) };
       not_derivable = record {
         not_derivable = λ number text below has.
             let is = found number (codes "not derivable " ++ text) has.0 below has.1 in not_derivable_by number text is.verdict is.holds is.least is.most is.says;

@@ -3,6 +3,7 @@ pub mod Lines
 pub mod Proved
 pub mod Accepted
 pub mod Refuted
+pub mod Confirmed
 pub mod NotDerivable
 pub mod Sharp
 pub mod Undecided
@@ -18,6 +19,7 @@ use Rattle.command_runs.specs.Seen.{Run}
 use Rattle.command_runs.specs.Promises.Proved.{ProvedIsMeant}
 use Rattle.command_runs.specs.Promises.Accepted.{AcceptedIsMeant}
 use Rattle.command_runs.specs.Promises.Refuted.{RefutedIsMeant}
+use Rattle.command_runs.specs.Promises.Confirmed.{ConfirmedIsMeant}
 use Rattle.command_runs.specs.Promises.NotDerivable.{NotDerivableIsMeant}
 use Rattle.command_runs.specs.Promises.Sharp.{SharpIsMeant}
 use Rattle.command_runs.specs.Promises.Undecided.{budget_of, UndecidedIsMeant}
@@ -26,7 +28,8 @@ use Rattle.command_runs.specs.Promises.Undecided.{budget_of, UndecidedIsMeant}
 pub record LinesAreMeant {Object Arrow : Type 0} (s : Structure Object Arrow) (budget : Budget) (statement evidence put : List ℕ) : Type 0 where
   pub proved : ProvedIsMeant s statement put
   pub accepted : AcceptedIsMeant s statement put
-  pub refuted : RefutedIsMeant statement evidence put
+  pub refuted : RefutedIsMeant statement put
+  pub confirmed : ConfirmedIsMeant statement evidence put
   pub not_derivable : NotDerivableIsMeant statement put
   pub sharp : SharpIsMeant statement put
   pub undecided : UndecidedIsMeant budget statement put

@@ -16,7 +16,8 @@ use Rattle.block_text.specs.Fault.{ReadsText}
 use Rattle.block_text.specs.Letters.{is_name, is_number}
 use Rattle.model_text.specs.ModelBlocks.{EntryTokens, side, matrix, ModelTokens, is_row, is_row_of, is_entry, IsModelBlock}
 use Rattle.matrix_models.specs.Limits.{side_limit}
-use Rattle.model_text.specs.ModelBounds.{Bound, names, numbers, sizes, value_of, is_map_named, is_object_named, side_of, matrix_value, matrix_of, model_value, HasName, IsBelow, IsSmall, KeepsOne}
+use Rattle.model_text.specs.ModelBounds.{Bound, names, numbers, sizes, value_of, is_object_named, side_of, matrix_value, matrix_of, model_value, HasName, IsBelow, IsSmall, KeepsOne}
+use Rattle.model_text.specs.Written.{is_map_named}
 use Rattle.model_text.specs.Models.{model_kind, HasMap, IsPlaced, IsModel, IsModels}
 use Rattle.block_text.specs.Steps.{all_values}
 use Rattle.model_text.specs.Reading.{model_steps}

@@ -11,22 +11,18 @@ use Rattle.matrix_models.specs.declared.model.Model.{Model}
 use Rattle.block_text.specs.declared.fault.Flaw.{Flaw}
 use Rattle.block_text.specs.declared.fault.Flaw.TheVariants.{UnknownName, NumberTooLarge, TooMany}
 use Rattle.block_text.specs.Lines.{number_limit}
+use Rattle.model_text.specs.Written.{is_map_named}
 use Rattle.model_text.specs.ModelBlocks.{EntryTokens, side, matrix, ModelTokens}
 
 -- the value of decimal digits
 abbrev pub value_of : List ℕ → ℕ
 value_of digits = digits_value 10 digits
 
--- whether the name is that of the object, or of the map, with this number
+-- whether the name is that of the object with this number
 abbrev pub is_object_named : ℕ → Option Named → Bool
 is_object_named v (Some (Object w)) = nat_eq w.0 v
 is_object_named v (Some (Map b)) = false
 is_object_named v None = false
-
-abbrev pub is_map_named : ℕ → Option Named → Bool
-is_map_named a (Some (Map b)) = nat_eq b.0 a
-is_map_named a (Some (Object w)) = false
-is_map_named a None = false
 
 -- the side of an object, 1 where no line says one
 abbrev pub side_of : List Declaration → List EntryTokens → ℕ → ℕ

@@ -1,10 +1,17 @@
 -- How models are written.
-use Rattle.std.specs.Prelude.{◌≡◌, ℕ, ◌==◌, List, [], ◌++◌, length, get_or, decimal, Option, Some, None, Bool, if◌then◌else◌, codes}
+use Rattle.std.specs.Prelude.{◌≡◌, ℕ, ◌==◌, nat_eq, false, List, [], ◌++◌, length, get_or, decimal, Option, Some, None, Bool, if◌then◌else◌, codes}
 use Rattle.std.specs.List.{flat_map, range_with_len}
+use Rattle.quiver.specs.declared.named.Named.{Named}
+use Rattle.quiver.specs.declared.named.Named.TheVariants.{Object, Map}
 use Rattle.quiver.specs.Declarations.{Declaration, object_count, letter_count, named_in, object_name, letter_name}
 use Rattle.matrix_models.specs.Matrix.{Matrix, entry_at}
 use Rattle.matrix_models.specs.declared.model.Model.{Model}
-use Rattle.model_text.specs.ModelBounds.{is_map_named}
+
+-- whether the name is that of the map with this number
+abbrev pub is_map_named : ℕ → Option Named → Bool
+is_map_named a (Some (Map b)) = nat_eq b.0 a
+is_map_named a (Some (Object w)) = false
+is_map_named a None = false
 
 -- what stands in front of the part at a place: nothing in front of the first one
 abbrev pub between : List ℕ → ℕ → List ℕ

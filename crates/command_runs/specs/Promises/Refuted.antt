@@ -1,16 +1,15 @@
--- `refuted` and `confirmed`: in the matrices of a model all assumptions of the file hold, and the claim doesn't.
-use Rattle.std.specs.Prelude.{◌≡◌, ◌<◌, ℕ, suc, List, ◌++◌, codes, decimal, slice_get, Some}
+-- `refuted`: in the matrices of the model that is printed next all assumptions of the file hold, and the claim doesn't.
+use Rattle.std.specs.Prelude.{◌≡◌, ◌<◌, ℕ, List, ◌++◌, codes}
 use Rattle.quiver.specs.Declarations.{Declaration}
 use Rattle.matrix_models.specs.declared.model.Model.{Model}
 use Rattle.model_text.specs.Written.{model_text}
-use Rattle.model_text.specs.Models.{IsModels}
 use Rattle.statement_syntax.specs.declared.tree.Statement.{Statement}
 use Rattle.statement_syntax.specs.Fault.{IsTreeOf}
 use Rattle.statement_names.specs.Numbered.{declarations_of}
 use Rattle.abbreviations.specs.declared.written.Equation.{Equation}
 use Rattle.statement_meaning.specs.Claims.{IsClaim}
 use Rattle.statement_meaning.specs.Counterexamples.{RefutesClaim}
-use Rattle.command_runs.specs.Promises.Lines.{HasLineBefore, claim_line, block_line, number_limit}
+use Rattle.command_runs.specs.Promises.Lines.{HasLineBefore, claim_line, number_limit}
 
 -- The bytes are a file with a claim of this number, and a model that is shown, by the names that the file declares, refutes it.
 pub record IsRefuted (bytes : List ℕ) (number : ℕ) (IsShown : List Declaration → Model → Type 0) : Type 0 where
@@ -26,22 +25,6 @@ pub record IsRefuted (bytes : List ℕ) (number : ℕ) (IsShown : List Declarati
 abbrev pub IsNext : List ℕ → List Declaration → Model → Type 0
 IsNext after ds m = (rest : List ℕ) × (after ≡ model_text ds m ++ rest)
 
--- the model is the block of the evidence with this number, counted from 1
-pub record IsBlock (evidence : List ℕ) (block : ℕ) (ds : List Declaration) (m : Model) : Type 0 where
-  pub models : List Model
-  pub read : IsModels ds evidence models
-  pub place : ℕ
-  pub counted : block ≡ suc place
-  pub at : slice_get models place ≡ Some m
-
--- claim N
-pub record SaysConfirmed (bytes evidence : List ℕ) (block : ℕ) (text : List ℕ) : Type 0 where
-  pub number : ℕ
-  pub says : text ≡ codes "claim " ++ decimal number
-  pub refuted : IsRefuted bytes number (IsBlock evidence block)
-
 -- The promise.
-pub record RefutedIsMeant (bytes evidence put : List ℕ) : Type 0 where
+pub record RefutedIsMeant (bytes put : List ℕ) : Type 0 where
   pub refuted : (number : ℕ) (after : List ℕ) → number < number_limit → HasLineBefore put (claim_line number (codes "refuted")) after → IsRefuted bytes number (IsNext after)
-  pub confirmed : (block : ℕ) (text after : List ℕ) → block < number_limit → HasLineBefore put (block_line block (codes "confirmed " ++ text)) after
-      → SaysConfirmed bytes evidence block text
