@@ -1,5 +1,5 @@
 -- Shifts are read, and read back where they are written.
-use Rattle.std.proofs.Common.{arith, ◌≡◌, ◌<◌, ◌^◌, ◌∷◌, [], ℕ, false, List, Option, Some, None, Result, IfSome, IfOk, IsTrue, refl, sym, subst, codes}
+use Rattle.std.proofs.Common.{arith, ◌≡◌, ◌<◌, ℕ, false, List, Option, Some, None, Result, IfSome, IfOk, IsTrue, refl, sym, subst, codes}
 use Rattle.std.specs.List.{All, list_all}
 use Rattle.std.proofs.lemmas.List.Elements.{All-from_recursion}
 use Rattle.word_core.specs.declared.letter.Letter.{Letter}
