@@ -10,8 +10,9 @@ use Rattle.rule_reduce.specs.declared.rule.Rule.{Rule}
 use Rattle.ambiguities.specs.declared.ambiguity.Ambiguity.{Ambiguity}
 use Rattle.ambiguities.specs.Ambiguities.{overlap_word_of}
 use Rattle.ambiguities.specs.Listed.{IsBefore}
-use Rattle.traced_completion.specs.declared.pending.waiting.Waiting.{Waiting}
-use Rattle.traced_completion.specs.Pending.{IsBeforeInStore, AreAllPending, ambiguities_of}
+use Rattle.ambiguities.specs.declared.waiting.Waiting.{Waiting}
+use Rattle.ambiguities.specs.Order.{IsWaitingBefore}
+use Rattle.traced_completion.specs.Pending.{AreAllPending, ambiguities_of}
 use Rattle.traced_completion.specs.PlainRun.{Setting, RunState, IsRunState, taken_count}
 use Rattle.outcome_laws.proofs.Listed.{none_listed, value_of}
 use Rattle.outcome_laws.proofs.TreatedRounds.{took_first, zero_treats_none}
@@ -46,18 +47,18 @@ module _ (letters : ℕ) (compare : Compare) (rank : List ℕ → List ℕ) (law
   not_before_itself a (inr (_, inr (_, inr (_, less)))) = omega (arith, less)
 
   -- one that waits before another one, both with their overlap words, is another ambiguity
-  before_apart : (rules : List Rule) (v w : Waiting) → v.word ≡ overlap_word_of rules v.which → w.word ≡ overlap_word_of rules w.which → IsBeforeInStore compare v w → v.which ≢ w.which
+  before_apart : (rules : List Rule) (v w : Waiting) → v.word ≡ overlap_word_of rules v.which → w.word ≡ overlap_word_of rules w.which → IsWaitingBefore compare v w → v.which ≢ w.which
   before_apart rules v w one other before same = go before
     where
       words : v.word ≡ w.word
       words = one ∙ ap (overlap_word_of rules) same ∙ sym other
 
-      go : IsBeforeInStore compare v w → ⊥
+      go : IsWaitingBefore compare v w → ⊥
       go (inl less) = never_below w.word (subst (λ u. compare u w.word ≡ Less) words less)
       go (inr (_, later)) = not_before_itself w.which (subst (λ a. IsBefore a w.which) same later)
 
   -- of a list of such, each before all later ones
-  firsts_apart : (rules : List Rule) (n : ℕ) (ws : List Waiting) → ((w : Waiting) → Contains ws w → w.word ≡ overlap_word_of rules w.which) → AllPairs (IsBeforeInStore compare) ws
+  firsts_apart : (rules : List Rule) (n : ℕ) (ws : List Waiting) → ((w : Waiting) → Contains ws w → w.word ≡ overlap_word_of rules w.which) → AllPairs (IsWaitingBefore compare) ws
       → AllPairs (λ (a b : Ambiguity). a ≢ b) (map (λ (w : Waiting). w.which) (take n ws))
   firsts_apart rules zero ws words pairs = λ i j d before inside. absurd (omega (arith, inside))
   firsts_apart rules (suc n) [] words pairs = λ i j d before inside. absurd (omega (arith, inside))
@@ -66,9 +67,9 @@ module _ (letters : ℕ) (compare : Compare) (rank : List ℕ → List ℕ) (law
       (All-map (λ a. w.which ≢ a) (λ (v : Waiting). v.which) (take n ws)
       (All-take (λ (v : Waiting). w.which ≢ v.which) n ws
       (All-weaker (Contains ws) (λ (v : Waiting). w.which ≢ v.which)
-      (λ v at. before_apart rules w v (words w (0, omega arith, λ n. w)) (words v (suc at.0, omega (arith, at.1), at.2)) (first_of_pairs (IsBeforeInStore compare) w ws pairs v at))
+      (λ v at. before_apart rules w v (words w (0, omega arith, λ n. w)) (words v (suc at.0, omega (arith, at.1), at.2)) (first_of_pairs (IsWaitingBefore compare) w ws pairs v at))
       ws (All-contains_itself ws))))
-      (firsts_apart rules n ws (λ v at. words v (suc at.0, omega (arith, at.1), at.2)) (pairs_rest (IsBeforeInStore compare) w ws pairs))
+      (firsts_apart rules n ws (λ v at. words v (suc at.0, omega (arith, at.1), at.2)) (pairs_rest (IsWaitingBefore compare) w ws pairs))
 
   in_whole : (n : ℕ) (ws : List Waiting) (w : Waiting) → Contains (take n ws) w → Contains ws w
   in_whole zero ws w at = absurd (none_listed w at)

@@ -23,7 +23,7 @@ use Rattle.adjoint_rules.specs.Problem.{polynomials}
 use Rattle.completion_laws.proofs.ShapeLaws.{normal_forms_are_shaped, s_polynomials_are_shaped}
 use Rattle.rule_making.specs.Making.{Recorded, Rest, rest_with, Adds}
 use Rattle.traced_completion.specs.declared.budget.Budget.{Budget}
-use Rattle.traced_completion.specs.declared.pending.waiting.Waiting.{Waiting}
+use Rattle.ambiguities.specs.declared.waiting.Waiting.{Waiting}
 use Rattle.traced_completion.specs.Results.{each_in_turn}
 use Rattle.traced_completion.specs.Works.{First, first_of, generator_rows, generator_work, second_rows, second_rest, second_reduction, second_work, InTurn, InTwoPasses}
 use Rattle.traced_completion.specs.Pending.{AreAllPending, ambiguities_of}

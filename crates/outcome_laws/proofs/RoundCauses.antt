@@ -34,7 +34,7 @@ use Rattle.completion_laws.proofs.Inside.{rules_are_inside}
 use Rattle.completion_laws.proofs.ShapeLaws.{s_polynomials_are_shaped}
 use Rattle.rule_making.specs.Making.{Recorded, negated_row, negated_rows}
 use Rattle.traced_completion.specs.declared.budget.Budget.{Budget}
-use Rattle.traced_completion.specs.declared.pending.waiting.Waiting.{Waiting}
+use Rattle.ambiguities.specs.declared.waiting.Waiting.{Waiting}
 use Rattle.traced_completion.specs.Results.{each_in_turn}
 use Rattle.traced_completion.specs.Works.{First, first_of, first_rows, rows_operations, InTurn, InTwoPasses, generator_work}
 use Rattle.traced_completion.specs.Pending.{AreAllPending, ambiguities_of}
