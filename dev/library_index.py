@@ -13,6 +13,7 @@ import subprocess
 import sys
 import tempfile
 import time
+from concurrent.futures import ProcessPoolExecutor
 from pathlib import Path
 from typing import Dict, List, NamedTuple, Tuple
 
@@ -170,6 +171,11 @@ def row(path: Path, found: List[Proved]) -> Dict[str, str]:
     return dict(zip(COLUMNS, cells))
 
 
+def fresh_row(path: Path) -> Dict[str, str]:
+    """The row of a file, which is proved now."""
+    return row(path, asked(path))
+
+
 def table(rows: List[Dict[str, str]]) -> str:
     """The index, a line for each row with tabs between its cells."""
     return "".join("\t".join(cells) + "\n" for cells in [COLUMNS, *([one[name] for name in COLUMNS] for one in rows)])
@@ -180,10 +186,16 @@ def stored() -> Dict[str, Dict[str, str]]:
     return {f"{chapter}/{name}": found for (chapter, name), found in table_of(LIBRARY).items()}
 
 
-def different(rows: List[Dict[str, str]]) -> List[str]:
-    """The files whose rows aren't those that are stored, but for the seconds."""
-    known, found = stored(), {f"{one['chapter']}/{one['name']}": {**one, "seconds": ""} for one in rows}
-    return [name for name, one in found.items() if {**known.get(name, {}), "seconds": ""} != one]
+def different(rows: List[Dict[str, str]], may_be_shorter: bool = False) -> List[str]:
+    """The files whose rows aren't those that are stored, but for the seconds, and where that is said for chains that are shorter."""
+    known, names = stored(), []
+    for one in rows:
+        name = f"{one['chapter']}/{one['name']}"
+        before = {**known.get(name, {}), "seconds": one["seconds"]}
+        if may_be_shorter and int(one["steps"] or 0) <= int(before.get("steps") or 0):
+            before["steps"] = one["steps"]
+        names += [name] if before != one else []
+    return names
 
 
 INTRODUCTION = """# The library
@@ -224,7 +236,8 @@ def main(words: List[str]) -> int:
         print("usage: library_index.py [page | --check]")
         return 2
     readme, text = LIBRARY / "README.md", page([named(path) for path in paths()])
-    rows = [] if words == ["page"] else [row(path, asked(path)) for path in paths()]
+    with ProcessPoolExecutor() as pool:
+        rows = [] if words == ["page"] else list(pool.map(fresh_row, paths()))
     if words == ["--check"]:
         others = [*different(rows), *(["README.md"] if readme.read_text("utf-8") != text else [])]
         print(f"{len(rows)} files are as the index has them" if not others else f"not as stored: {', '.join(others)}")

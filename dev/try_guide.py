@@ -113,8 +113,7 @@ def built(folder: Path) -> str:
 
 def tutorials(folder: Path) -> str:
     """Each of the tutorials, which asks the program."""
-    if not os.access(PROGRAM, os.X_OK):
-        raise Skipped("opprove is not built, and the tutorials are not followed")
+    built_program()
     counts = [followed(folder, lambda *_: True, page) for page in TUTORIALS]
     need(len(counts) == 3 and min(counts) >= 9, counts)
     return f"{sum(counts)} commands of {len(counts)} tutorials print what stands there"

@@ -5,7 +5,6 @@ its box; a paper of each chapter, set by pdflatex; and the theorems of a chapter
 """
 from __future__ import annotations
 
-import os
 import re
 import sys
 import tempfile
@@ -16,7 +15,7 @@ from urllib.parse import unquote
 
 from browser import Browser, Links
 from opprove.page.pages import entries_of, titles_of
-from trying import LIBRARY, PROGRAM, TESTS, Skipped, installed, need, run, tool
+from trying import LIBRARY, TESTS, Skipped, built, installed, need, run, tool
 
 OF_COQ = "linear_equations"  # the chapter whose theorems Coq checks
 POINTS = 4  # by which a line of a paper may be too wide
@@ -29,14 +28,9 @@ FOUND = (  # what is typed into the box, and theorems that are to be found
 )  # fmt: skip
 
 
-def need_program() -> None:
-    if not os.access(PROGRAM, os.X_OK):
-        raise Skipped("opprove is not built, and the library is not tried")
-
-
 def verdicts(folder: Path) -> str:
     """Each verdict is that of its header; the lines that say how many there are of each go on."""
-    need_program()
+    built()
     answer = run(sys.executable, TESTS / "test_library.py", "all", seconds=3000)
     need(answer.status == 0, answer.out + answer.error)
     return "the library, of which\n" + "\n".join(f"    {line[4:]}" for line in answer.out.splitlines())
@@ -47,7 +41,7 @@ def verdicts(folder: Path) -> str:
 
 def site(folder: Path) -> str:
     """It is made with no fault, each link leads to a page and a place that is there, and each page checks itself."""
-    need_program()
+    built()
     out = folder / "site"
     answer = run(*tool("pages"), LIBRARY, out, seconds=1800)
     need(answer.status == 0 and not answer.error, answer.error)
@@ -104,7 +98,7 @@ def searches(browser: Browser, index: Path) -> None:
 
 def papers(folder: Path) -> str:
     """A paper of each chapter is set by pdflatex, with no line that is too wide."""
-    need_program()
+    built()
     program, pages = installed("pdflatex"), 0
     for chapter in titles_of(LIBRARY):
         answer = run(*tool("chapter"), LIBRARY / chapter, seconds=1800)
@@ -120,14 +114,14 @@ def papers(folder: Path) -> str:
 
 def coq(folder: Path) -> str:
     """Coq accepts each theorem of a chapter, and no axiom is used."""
-    need_program()
+    built()
     coqc, count = installed("coqc"), 0
     answer = run(*tool("coq"), "--library", folder / "coq", seconds=1800)
     need(answer.status == 0, answer)
     for entry in entries_of(LIBRARY / OF_COQ):
         for one in entry.statements:
             (folder / "statement.op").write_text(one.text, "utf-8")
-            report = run(PROGRAM, "prove", folder / "statement.op", "--no-models", seconds=600).out
+            report = run(built(), "prove", folder / "statement.op", "--no-models", seconds=600).out
             (folder / "report").write_text(report, "utf-8")
             more = [folder / "report"] * bool(re.search("^(certificate|basis) ", report, re.MULTILINE))
             export = run(*tool("coq"), folder / "statement.op", *one.evidence, *more)

@@ -15,8 +15,9 @@ from opprove.checkers.check import Certificate, Poly, Problem, Row, Word, judge
 from opprove.translations.chain import Reader, length
 from opprove.translations.least_sum import Effort, least
 from test_chains import Maker
-from trying import main, need
+from trying import EXAMPLES, LIBRARY, PROGRAM, Answer, main, need, run, tool
 
+TOOL = tool("shortest")
 Edge = Tuple[int, int, int]  # from, to and length
 
 
@@ -99,7 +100,28 @@ def planted(folder: Path, count: int = 60) -> str:
     return f"{count} proofs with {rows} rows too many have {steps} steps, {shorter} of them fewer than they were made with"
 
 
-CHECKS: List[Callable[[Path], str]] = [least_sums, planted]
+def searched(folder: Path) -> str:
+    """What `shortest` finds, says and refuses."""
+    statement, report, found = EXAMPLES / "pasted_squares.op", folder / "long.cert", folder / "found.cert"
+    rows = [line for line in (EXAMPLES / "pasted_squares.cert").read_text().split("\n") if line.startswith("row ")]
+    report.write_text("\n".join(["certificate 1", "claim 1", "denominator 1", *rows, *rows, "end", ""]))
+    answer = run(*TOOL, statement, report)
+    need(answer == Answer(7, "", answer.error) and answer.error.startswith("# block 1 refused C6 "), answer)
+    report.write_text("\n".join(["certificate 1", "claim 1", "denominator 2", *rows, *rows, "end", ""]))
+    answer = run(*TOOL, statement, report, "--steps", 2, "--seconds", 60)
+    need(answer.status == 0 and "\n#   2 steps, and 2 before\ncertificate 1\nclaim 1\ndenominator 1\n" in answer.out, answer)
+    found.write_text(answer.out)
+    answer = run(PROGRAM, "check", statement, found)
+    need(answer == Answer(0, "# block 1 accepted claim 1 denominator 1\n", ""), answer)
+    answer = run(*TOOL, LIBRARY / "false" / "one_sided_inverse.op", "--seconds", 2)
+    need(answer == Answer(12, "# claim 1: no proof was found\n", ""), answer)
+    for words in ([], [statement, "--steps", "0"], [statement, report, report]):
+        answer = run(*TOOL, *words)
+        need(answer.status == 2 and not answer.out and answer.error.startswith("usage: opprove shortest "), (words, answer))
+    return "shortest finds the least denominator and few steps, and refuses what is wrong"
+
+
+CHECKS: List[Callable[[Path], str]] = [least_sums, planted, searched]
 
 if __name__ == "__main__":
     sys.exit(main(CHECKS))

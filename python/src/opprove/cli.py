@@ -48,6 +48,7 @@ TOOLS: List[Tool] = [
     Tool("exists", "search.exists", "solutions k of u = v k, read off a proof", asks=True),
     Tool("needed", "search.needed", "the least sets of assumptions from which a claim follows", asks=True),
     Tool("denominator", "search.denominator", "certificates with smaller denominators, or why there are none", asks=True),
+    Tool("shortest", "search.shortest", "certificates with shorter chains", asks=True),
     Tool("conjecture", "search.conjecture", "equations between short words that follow from the assumptions"),
     Tool("prove-all", "search.prove_all", "the statements of a folder proved side by side, here or by a cluster", asks=True),
     Tool("join", "search.join", "one certificate from evidence for lemmas and evidence that assumes them"),

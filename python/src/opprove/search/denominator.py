@@ -14,11 +14,11 @@ import argparse
 import time
 from math import gcd
 from pathlib import Path
-from typing import Dict, Iterator, List, NamedTuple, Optional, Tuple
+from typing import Dict, List, NamedTuple, Optional, Tuple
 
 from opprove import program as programs
-from opprove.checkers.check import Certificate, Evidence, Problem, Refusal, Row, Share
-from opprove.search import join, variants
+from opprove.checkers.check import Certificate, Evidence, Refusal, Row, Share
+from opprove.search import by_variants, join
 from opprove.search.findings import Answer, Finding, answered, first_word, is_accepted, keep, sections, words_of
 from opprove.search.running import Program, Progress
 from opprove.search.variants import Statement
@@ -90,8 +90,8 @@ def bezout(one: int, other: int) -> Tuple[int, int, int]:
 class Smaller:
     """A search for one claim."""
 
-    def __init__(self, program: Program, folder: Path, statement: Statement, claim: int, until: float) -> None:
-        self.program, self.folder, self.statement, self.claim, self.until = program, folder, statement, claim, until
+    def __init__(self, asker: by_variants.Asker, claim: int, until: float) -> None:
+        self.asker, self.claim, self.until = asker, claim, until
         self.progress = Progress("denominator")
         self.best: Optional[Known] = None
         self.shortest: Dict[int, Certificate] = {}  # as it was found, by its denominator
@@ -105,45 +105,14 @@ class Smaller:
         return (self.best is not None and self.best.denominator == 1) or time.monotonic() > self.until
 
     def run(self) -> None:
-        for count, (text, names) in enumerate(self.texts(), 1):
+        for count, variant in enumerate(by_variants.texts(self.asker.statement, self.claim), 1):
             if self.is_done():
                 return
             best = self.best.denominator if self.best else "none"
             self.progress.tell(f"claim {self.claim}: denominator {best}, run {count}")
-            self.ask(text, names)
-
-    def texts(self) -> Iterator[Tuple[str, Dict[str, str]]]:
-        """Variants of the statement by their orders."""
-        goal = self.statement.claims[self.claim - 1]
-        chosen = self.statement.assumptions
-        asked = [(chosen, ordering) for ordering in variants.ORDERS]
-        asked += [([one for one in chosen if one is not left_out], variants.ORDERS[0]) for left_out in chosen]
-        for selection in variants.FEWER:
-            smaller = [fewer for _, fewer in selection(chosen, goal) if len(fewer) < len(chosen)]
-            asked += [(fewer, ordering) for fewer in smaller for ordering in variants.ORDERS[:1]]
-        for fewer, ordering in asked:
-            order = ordering(self.statement, fewer, goal)
-            if order:
-                yield variants.text_of(self.statement, fewer, [goal], order), variants.letter_names(self.statement, order)
-
-    def ask(self, text: str, names: Dict[str, str]) -> None:
-        path = self.folder / "ordered.op"
-        path.write_bytes(text.encode())
-        seconds = max(1, int(self.until - time.monotonic()))
-        _, report = self.program.report(["prove", str(path), "--no-models", "--workers", "1", "--pairs", PAIRS], seconds)
-        for _, head, block in sections(report.decode("utf-8", "replace")):
-            if not head.startswith("proved"):
-                continue
-            problem = Problem(text.encode())
-            certificates = [one._replace(claim=1) for one in Evidence(problem, ("\n".join(block) + "\n").encode()).certificates]
-            whole = join.Join(self.statement.problem)
-            try:
-                whole.add(join.Piece(problem, certificates, names))
-            except Refusal:
-                continue
-            made = whole.certificate(self.claim)
-            if made:
-                self.take(made)
+            found = self.asker.certificate(self.claim, variant, ["--pairs", PAIRS], max(1, int(self.until - time.monotonic())))
+            if found:
+                self.take(found)
 
     def block(self) -> List[str]:
         """The lines of the certificate: as it was found, or else the rows of the combination."""
@@ -151,18 +120,18 @@ class Smaller:
         certificate = self.shortest.get(self.best.denominator)
         if certificate is None:
             certificate = Certificate(self.claim, self.best.denominator, [Share(self.best.denominator, self.best.rows)])
-        return join.written(self.statement.problem, certificate._replace(claim=self.claim))[1:]
+        return join.written(self.asker.statement.problem, certificate._replace(claim=self.claim))[1:]
 
     def model(self, prime: int) -> List[str]:
         """The block of a model modulo the prime that breaks the claim, where one is found."""
-        lines = [line for line in self.statement.text.split("\n") if first_word(line) != "model"]
-        shapes = [f"model {prime} " + " ".join(f"{name} {side}" for name in self.statement.objects) for side in SIDES]
-        path = self.folder / "modulo.op"
+        lines = [line for line in self.asker.statement.text.split("\n") if first_word(line) != "model"]
+        shapes = [f"model {prime} " + " ".join(f"{name} {side}" for name in self.asker.statement.objects) for side in SIDES]
+        path = self.asker.folder / "modulo.op"
         path.write_bytes("\n".join([*lines, *shapes, ""]).encode())
         for seed in SEEDS if prime in PRIMES else ():
             if time.monotonic() > self.until:
                 break
-            _, report = self.program.report(["refute", str(path), "--workers", "1", "--seed", str(seed)], 20)
+            _, report = self.asker.program.report(["refute", str(path), "--workers", "1", "--seed", str(seed)], 20)
             for number, head, block in sections(report.decode("utf-8", "replace")):
                 if number == self.claim and head.startswith("refuted"):
                     return block
@@ -190,14 +159,14 @@ def answer(words: List[str], folder: Path) -> Answer:
     options = options_of(words)
     statement = Statement(options.statement)
     certificates = Evidence(statement.problem, options.report).certificates
-    program = Program(Path(programs.path()))
+    asker = by_variants.Asker(Program(Path(programs.path())), folder, statement)
     until = time.monotonic() + options.seconds
     lines: List[str] = []
     is_known = True
     for claim in sorted({one.claim for one in certificates}):
-        search = Smaller(program, folder, statement, claim, until)
+        search = Smaller(asker, claim, until)
         mine = [one for one in certificates if one.claim == claim]
-        if not is_accepted(program, folder, statement.text, join.written(statement.problem, mine[0])[1:]):
+        if not is_accepted(asker.program, folder, statement.text, join.written(statement.problem, mine[0])[1:]):
             raise Refusal(f"# the certificate of claim {claim} is refused by `check`")
         for one in mine:
             search.take(one)
@@ -216,15 +185,15 @@ def answer_of(search: Smaller, options: argparse.Namespace, before: int) -> Tupl
     lines = [f"# claim {search.claim} denominator {after}" + (f", and {before} before" if after < before else "")]
     if after < before:
         block = search.block()
-        if is_accepted(search.program, search.folder, search.statement.text, block):
+        if is_accepted(search.asker.program, search.asker.folder, search.asker.statement.text, block):
             lines += block
-            keep(options.keep, Finding("", block, search.statement.text, f"claim_{search.claim}_denominator"))
+            keep(options.keep, Finding("", block, search.asker.statement.text, f"claim_{search.claim}_denominator"))
     is_least = True
     for prime in primes_of(after):
         model = search.model(prime)
-        if model and is_accepted(search.program, search.folder, search.statement.text, model):
+        if model and is_accepted(search.asker.program, search.asker.folder, search.asker.statement.text, model):
             lines.append(f"#   {prime} has to divide it: matrices modulo {prime} make the assumptions zero and not the claim")
-            keep(options.keep, Finding("", model, search.statement.text, f"claim_{search.claim}_modulo_{prime}"))
+            keep(options.keep, Finding("", model, search.asker.statement.text, f"claim_{search.claim}_modulo_{prime}"))
         else:
             lines.append(f"#   whether {prime} has to divide it isn't known: no matrices modulo {prime} were found")
             is_least = False
