@@ -3,11 +3,11 @@
 
 usage: trusted.py [--write]
 
-A clause of a public function cites words that its file imports from `specs/`; a file of definitions stands on those that it imports. The
-first table has what each promise stands on: its page, all files that this imports one after another, and the files of code in which the
-types stand that they speak of, with the lines of both. The others have each file of definitions that some clause stands on, and the files
-of types. A definition that wants a proof imports its file, which counts with all that it imports. With --write they are put into the
-document, between the lines that begin and end them; else they are printed. The status is 1 where the document has others.
+A clause of a public function cites words that its file imports from `specs/`; a file of definitions stands on those that it imports, and
+one that wants a proof on the file of that too. The first table has what each promise stands on: its page, all files that this imports one
+after another, and the files of code in which the types stand that they speak of, with the lines of both. The other has each file that
+some clause stands on. With --write they are put into the document, between the lines that begin and end them; else they are printed. The
+status is 1 where the document has others.
 """
 from __future__ import annotations
 
@@ -127,26 +127,31 @@ def lines(path: Path) -> int:
     return len(path.read_text(encoding="utf-8").splitlines())
 
 
-def by_crate(paths: Set[Path], with_lines: bool) -> List[str]:
+def by_crate(paths: Set[Path], with_lines: bool) -> Dict[str, str]:
+    """The files of each crate, by their paths in its folder."""
     crates: Dict[str, List[str]] = {}
     for path in sorted(paths):
         name, _, *inner = path.relative_to(CRATES).parts
         stem = "/".join(inner).rpartition(".")[0]
         crates.setdefault(name, []).append(f"`{stem}` {lines(path)}" if with_lines else f"`{stem}`")
-    return [f"| `{name}` | {', '.join(files)} |" for name, files in sorted(crates.items())]
+    return {name: ", ".join(files) for name, files in crates.items()}
 
 
 def table() -> str:
     found = trusted()
     total = sum(map(lines, found.definitions))
     foreign = ", ".join(f"`{name}`" for name in sorted(found.foreign - {"std"}))
+    definitions, types = by_crate(found.definitions, True), by_crate(found.types, False)
     return "\n".join([
-        "| Promise | Files of `specs/` | Their lines | Lines of files of proofs | Lines of files of types |", "|---|---|---|---|---|", *promises(), "",
-        f"{len(found.definitions)} files of `specs/` with {total:,} lines, with the lines of each:", "",
-        "| Crate | Files of `specs/` |", "|---|---|", *by_crate(found.definitions, True), "",
-        f"By one file, `normal_forms/specs/Descents`, they import proofs: {len(found.proofs)} files with {sum(map(lines, found.proofs)):,} lines, as the making of a normal form ends by one.", "",
-        f"The types that they speak of are declared in {len(found.types)} files of `src/`, and they cite stated contracts of {foreign} and of `std`:", "",
-        "| Crate | Files of `src/` |", "|---|---|", *by_crate(found.types, False),
+        "| Promise | Files of `specs/` | Their lines | Lines of files of proofs | Lines of files of types |", "|---|---|---|---|---|",
+        *promises(), "",
+        f"All clauses: {len(found.definitions)} files of `specs/` with {total:,} lines, with the lines of each, and {len(found.types)} files of"
+        " `src/` that declare the types that they speak of.",
+        f"They cite stated contracts of {foreign} and of `std`.",
+        f"One of them, `normal_forms/specs/Descents`, imports proofs: {len(found.proofs)} files with {sum(map(lines, found.proofs)):,} lines,"
+        " as the making of a normal form ends by one.", "",
+        "| Crate | Files of `specs/` | Files of `src/` |", "|---|---|---|",
+        *(f"| `{name}` | {definitions.get(name, '')} | {types.get(name, '')} |" for name in sorted({*definitions, *types})),
     ])  # fmt: skip
 
 
