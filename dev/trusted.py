@@ -145,11 +145,11 @@ def table() -> str:
     return "\n".join([
         "| Promise | Files of `specs/` | Their lines | Lines of files of proofs | Lines of files of types |", "|---|---|---|---|---|",
         *promises(), "",
-        f"All clauses: {len(found.definitions)} files of `specs/` with {total:,} lines, with the lines of each, and {len(found.types)} files of"
-        " `src/` that declare the types that they speak of.",
+        f"All clauses: {len(found.definitions)} files of `specs/` with {total:,} lines, with the lines of each, and"
+        f" {len(found.types)} files of `src/` that declare the types that they speak of.",
         f"They cite stated contracts of {foreign} and of `std`.",
-        f"One of them, `normal_forms/specs/Descents`, imports proofs: {len(found.proofs)} files with {sum(map(lines, found.proofs)):,} lines,"
-        " as the making of a normal form ends by one.", "",
+        f"One of them, `normal_forms/specs/Descents`, imports proofs: {len(found.proofs)} files with"
+        f" {sum(map(lines, found.proofs)):,} lines, as the making of a normal form ends by one.", "",
         "| Crate | Files of `specs/` | Files of `src/` |", "|---|---|---|",
         *(f"| `{name}` | {definitions.get(name, '')} | {types.get(name, '')} |" for name in sorted({*definitions, *types})),
     ])  # fmt: skip
