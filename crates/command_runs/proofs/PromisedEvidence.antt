@@ -326,14 +326,16 @@ module _ {Object Arrow : Type 0} {s : Structure Object Arrow} (laws : Preadditiv
         proved = nothing_explained s bytes evidence ending.report 111 none other (λ e. omega (arith, e));
         accepted = nothing_accepted s bytes evidence ending.report 111 none other (λ e. omega (arith, e));
         refuted = nothing_refuted s bytes evidence ending.report 111 none other;
-        confirmed = record { confirmed = λ block text after below has.
-            let at = found models models_are_judged laws sound with_lemmas cancelling bytes problem is evidence model_told causes 111 (λ m holds. refl) ending ends block (codes "confirmed " ++ text) after has
-            (λ e. omega (arith, e)) in
-            let few = few_models at.blocks at.read in
-            let small : at.place < length at.blocks = inside at.blocks at.place at.found at.at in
-            let counted : block ≡ 1 + at.place = decimal_injective block (1 + at.place) below (omega (arith, few, small)) at.numbered in
-            let numbered : block ≡ suc at.place = omega (arith, counted) in
-            confirmed_by block text at.blocks at.place at.found at.read at.at numbered at.holds at.means at.says };
+        confirmed = record {
+          confirmed = λ block text after below has.
+              let at = found models models_are_judged laws sound with_lemmas cancelling bytes problem is evidence model_told causes 111 (λ m holds. refl) ending ends block (codes "confirmed " ++ text) after has
+              (λ e. omega (arith, e)) in
+              let few = few_models at.blocks at.read in
+              let small : at.place < length at.blocks = inside at.blocks at.place at.found at.at in
+              let counted : block ≡ 1 + at.place = decimal_injective block (1 + at.place) below (omega (arith, few, small)) at.numbered in
+              let numbered : block ≡ suc at.place = omega (arith, counted) in
+              confirmed_by block text at.blocks at.place at.found at.read at.at numbered at.holds at.means at.says;
+        };
         not_derivable = nothing_closed s bytes evidence ending.report 111 none other (λ e. omega (arith, e));
         sharp = nothing_sharp s bytes evidence ending.report 111 none other (λ e. omega (arith, e));
         undecided = nothing_undecided s bytes evidence ending.report 111 none other budget;

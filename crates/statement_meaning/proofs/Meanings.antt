@@ -66,15 +66,15 @@ pub proved_claims_hold : {Object Arrow : Type 0} {s : Structure Object Arrow} �
 proved_claims_hold {Object} {Arrow} {s} laws statements problem number d stated means =
     let same : problem.parts.quiver ≡ declarations_of statements = stated.parts.quiver in
     let held_in : (involution : Arrow → Arrow) (f : Representation Object Arrow) → IsRead s involution f statements problem
-        → (AllByRecursion (HasValueZero s (quiver_of problem.parts.quiver) f) (polynomials problem.parts.assumptions) → HasValueZero s (quiver_of problem.parts.quiver) f (claim_at problem number))
-        → AssumptionsHold (reading s involution (declarations_of statements) f) statements → ClaimHolds (reading s involution (declarations_of statements) f) statements number =
+    → (AllByRecursion (HasValueZero s (quiver_of problem.parts.quiver) f) (polynomials problem.parts.assumptions) → HasValueZero s (quiver_of problem.parts.quiver) f (claim_at problem number))
+    → AssumptionsHold (reading s involution (declarations_of statements) f) statements → ClaimHolds (reading s involution (declarations_of statements) f) statements number =
     λ involution f read zero held.
-        let claimed : AssumptionsHold (reading s involution problem.parts.quiver f) statements → ClaimHolds (reading s involution problem.parts.quiver f) statements number =
-        λ assumed. record {
-          at = λ e is. (claim_is_read s involution problem.parts.quiver f statements problem read.claims number e is).0
-              (zero (zeros_from_held s involution problem.parts.quiver f problem.parts.assumptions (assumptions_of problem.parts.quiver statements) read.assumptions assumed));
-        } in
-        subst (λ ds. AssumptionsHold (reading s involution ds f) statements → ClaimHolds (reading s involution ds f) statements number) same claimed held in
+    let claimed : AssumptionsHold (reading s involution problem.parts.quiver f) statements → ClaimHolds (reading s involution problem.parts.quiver f) statements number =
+    λ assumed. record {
+      at = λ e is. (claim_is_read s involution problem.parts.quiver f statements problem read.claims number e is).0
+          (zero (zeros_from_held s involution problem.parts.quiver f problem.parts.assumptions (assumptions_of problem.parts.quiver statements) read.assumptions assumed));
+    } in
+    subst (λ ds. AssumptionsHold (reading s involution ds f) statements → ClaimHolds (reading s involution ds f) statements number) same claimed held in
     record {
       by_star = λ involution star_laws f rep cancels.
           let represents = subst (λ ds. StarRepresents s involution (quiver_of ds) f) (sym same) rep in
@@ -90,14 +90,14 @@ refuted_claims_fail statements problem number m stated means =
     let s = matrices m.modulus in
     let star = transpose m.modulus in
     let refutes : (ds : List Declaration) → problem.parts.quiver ≡ ds → RefutesBy ds statements number m = λ ds same. subst (λ ds. RefutesBy ds statements number m) same
-        (let ds = problem.parts.quiver in
-        let f = representation_of (quiver_of ds) m in
-        let read = starred_statements_are_read (matrices_laws m.modulus) star (transpose_laws m.modulus) statements problem f stated means.represents in
-        record {
-          represents = means.represents;
-          assumptions = held_from_zeros s star ds f problem.parts.assumptions (assumptions_of ds statements) read.assumptions means.assumptions;
-          claim = λ e is held. means.claim.other
-              (((claim_is_read s star ds f statements problem read.claims number e is).1 held).at means.claim.source means.claim.target means.claim.source_is_object means.claim.target_is_object means.claim.typed);
-        }) in
+    (let ds = problem.parts.quiver in
+    let f = representation_of (quiver_of ds) m in
+    let read = starred_statements_are_read (matrices_laws m.modulus) star (transpose_laws m.modulus) statements problem f stated means.represents in
+    record {
+      represents = means.represents;
+      assumptions = held_from_zeros s star ds f problem.parts.assumptions (assumptions_of ds statements) read.assumptions means.assumptions;
+      claim = λ e is held. means.claim.other
+          (((claim_is_read s star ds f statements problem read.claims number e is).1 held).at means.claim.source means.claim.target means.claim.source_is_object means.claim.target_is_object means.claim.typed);
+    }) in
     let r = refutes (declarations_of statements) stated.parts.quiver in
     record { represents = r.represents; assumptions = r.assumptions; claim = r.claim }
