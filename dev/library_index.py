@@ -15,7 +15,7 @@ import tempfile
 import time
 from concurrent.futures import ProcessPoolExecutor
 from pathlib import Path
-from typing import Dict, List, NamedTuple, Tuple
+from typing import Dict, List, NamedTuple, Sequence, Tuple
 
 from opprove.notation.expansion import HEAD, Expansion
 from opprove.page.pages import ordered, table_of, titles_of
@@ -186,16 +186,11 @@ def stored() -> Dict[str, Dict[str, str]]:
     return {f"{chapter}/{name}": found for (chapter, name), found in table_of(LIBRARY).items()}
 
 
-def different(rows: List[Dict[str, str]], may_be_shorter: bool = False) -> List[str]:
-    """The files whose rows aren't those that are stored, but for the seconds, and where that is said for chains that are shorter."""
-    known, names = stored(), []
-    for one in rows:
-        name = f"{one['chapter']}/{one['name']}"
-        before = {**known.get(name, {}), "seconds": one["seconds"]}
-        if may_be_shorter and int(one["steps"] or 0) <= int(before.get("steps") or 0):
-            before["steps"] = one["steps"]
-        names += [name] if before != one else []
-    return names
+def different(rows: List[Dict[str, str]], but_for: Sequence[str] = ("seconds",)) -> List[str]:
+    """The files whose rows aren't those that are stored, but for these columns."""
+    known, left_out = stored(), dict.fromkeys(but_for, "")
+    found = {f"{one['chapter']}/{one['name']}": {**one, **left_out} for one in rows}
+    return [name for name, one in found.items() if {**known.get(name, {}), **left_out} != one]
 
 
 INTRODUCTION = """# The library

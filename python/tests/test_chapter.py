@@ -90,7 +90,8 @@ class Papers(unittest.TestCase):
         answer = self.paper(*FILES)
         self.assertEqual((answer.status, answer.error), (0, ""))
         for part in (
-            r"\begin{statement}\label{shift}", r"\begin{proof}[Counterexample]", r"$a = \begin{pmatrix} 1 & 0 \end{pmatrix}$", "modulo 2",
+            r"\begin{statement}\label{shift}", r"\noindent The claim is", r"\begin{proof}[Counterexample]",
+            r"$a = \begin{pmatrix} 1 & 0 \end{pmatrix}$", "modulo 2",
             r"\begin{proof}[Not derivable]", r"f \, h \, g & \to g", r"\begin{proof}[Proof, where $f$ is monic]",
             "by Lemma 1, since $f$ is monic.",
             r"Let $a\colon V \to V$.", "Assume that $x$ is the Moore--Penrose inverse of $a$.", r"\item[(i)] $a$ is Hermitian",

@@ -2,7 +2,7 @@
 
 Of a fixed sample of 40 files, or of all, the verdict that the header states is compared with what the program and the second checkers
 say: certificates go through `check` and check.py, bases through `confirm`, and what lies beside a file through the programs that read it;
-and the row of the file with that which the index has. Lines say how many there are of each verdict.
+and the row of the file with that which the index has, of all with the steps of chains. Lines say how many there are of each verdict.
 """
 from __future__ import annotations
 
@@ -115,7 +115,7 @@ def kind_of(verdict: str) -> str:
 
 
 def tried(path: Path, is_exact: bool) -> str:
-    """The verdict of a file, which is compared; and its row of the index, where chains may be shorter if this isn't to be exact."""
+    """The verdict of a file, which is compared; and its row of the index, but for the steps of chains where this isn't to be exact."""
     verdict = index.header(path)["VERDICT"]
     found = index.asked(path)
     with tempfile.TemporaryDirectory() as folder:
@@ -125,7 +125,8 @@ def tried(path: Path, is_exact: bool) -> str:
     texts = [beside(path, suffix) for suffix in (".cert", ".model", ".star") if path.with_suffix(suffix).exists()]
     shown = {int(number) for text in texts for number in re.findall("^claim ([0-9]+)$", text, re.MULTILINE)}
     need(shown == claims, f"{path}: claims {shown} have evidence, and not {claims}")
-    need(not index.different([index.row(path, found)], not is_exact), f"{path}: another row in the index, which dev/library_index.py writes")
+    others = index.different([index.row(path, found)], ["seconds"] if is_exact else ["seconds", "steps"])
+    need(not others, f"{path}: another row in the index, which dev/library_index.py writes")
     return verdict
 
 

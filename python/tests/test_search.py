@@ -20,6 +20,7 @@ NILPOTENT = "object V\nmap a : V -> V\nassume a a' = a' a\nassume a a = 0\nclaim
 SUM = "object U V\nmap a b : V -> V\nassume a a' + b b' = 0\nclaim a = 0\nclaim b a = 0\n"
 SHEAR = "object V\nmap a x : V -> V\npinv a x\nassume a x = x a\nclaim a a' = a' a\n"
 DIVIDED = "object U V W\nmap x y : U -> V\nmap a : V -> W\nassume a x = a y\nclaim x = y\n"
+UNIT = "object V\nmap a b : V -> V\nassume a b - b a = [V]\nclaim a = 0\n"  # of no rational matrices, by their traces
 OPEN = "object V\nmap a b : V -> V\nassume a b a = b a b\nclaim a b = b a\n"
 
 
@@ -61,6 +62,13 @@ class Search(unittest.TestCase):
         answer = tool("search", self.file(statement), "--monic", "a", "--seconds", 20, "--jobs", 2)
         self.assertEqual((answer.status, answer.heads), (11, ["# claim 1 refuted over q monic a"]), answer.out)
 
+    def test_modulo_a_prime_alone(self) -> None:
+        """What the matrices say nothing of is told."""
+        answer = tool("search", self.file(UNIT), "--only", "models", "--seconds", 30, "--jobs", 2)
+        self.assertEqual((answer.status, answer.heads), (11, ["# claim 1 refuted"]), answer.out)
+        self.assertEqual([accepted(UNIT, block) for block in answer.blocks], [True])
+        self.assertIn("\n# matrices modulo a prime say nothing of complex ones: --over q looks for rational ones\n", answer.out)
+
     def test_stars(self) -> None:
         for statement, granted in ((NILPOTENT, ["proper"]), (SUM, ["positive", "positive"])):
             path = self.file(statement)
@@ -88,6 +96,11 @@ class Search(unittest.TestCase):
         self.assertEqual(answer.status, 12)
         left = "claim 1 is undecided, and no proof, model or step that cancels was found"
         self.assertEqual(answer.last, f"# ended: the 3 s are over; {left}")
+
+    def test_stars_that_nobody_asked_for(self) -> None:
+        answer = tool("search", self.file(NILPOTENT), "--only", "given,written", "--seconds", 20, "--jobs", 2)
+        said = "claim 1 is not derivable, and no proof, model or step that cancels was found"
+        self.assertEqual(answer.last, f"# ended: nothing is left to try; {said}; --complex takes stars off too, as is right for complex matrices")
 
     def test_silent_in_a_pipe(self) -> None:
         answer = tool("search", self.file(NILPOTENT), "--complex", "--seconds", 20, "--jobs", 2)

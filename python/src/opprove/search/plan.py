@@ -15,16 +15,16 @@ PAIRS, STEPS, LIMIT = 1000, 40_000, 1_000_000  # of level 0; each level has twic
 FEWER, OTHER, BOTH, ALONE, AGAIN, MODELS, AS_WRITTEN, NAMED, ANY, RATIONAL = range(10)
 AS_IT_IS = "the statement as it is"
 WORKER = {NAMED: "cancellations", ANY: "any cancellations", RATIONAL: "rational matrices"}  # what is run in Python
-WORKER_SECONDS = {NAMED: 4, ANY: 4, RATIONAL: 1}  # of level 0; each level has twice as many
+WORKER_SECONDS = {NAMED: 4, ANY: 2, RATIONAL: 1}  # of level 0; each level has twice as many
 # A batch has its turn by the logarithm, to the base 2, of the seconds that it is thought to take, so that each kind gets about as
 # much time as any other, and the statement as it is four times as much. Sixteen thousand pairs take a second or two, twice as many
 # four times as long, and the least run 1/64. NUMBERS are the logarithms of how many runs of `prove` a batch has.
 NUMBERS = {FEWER: 3, OTHER: 3, BOTH: 6, ALONE: 4, AS_WRITTEN: -2}
 A_SECOND, LEAST = 4, -6  # the level of a run of a second, and the logarithm of the seconds of the least one
-TURNS = {AGAIN: -20, MODELS: -6, NAMED: 0, ANY: 1, RATIONAL: -1}  # of level 0 of the other kinds
+TURNS = {AGAIN: -20, MODELS: -6, NAMED: 0, ANY: -1, RATIONAL: -1}  # of level 0 of the other kinds
 EARLY = {NAMED: -9, RATIONAL: -7}  # of level 0 where that comes earlier: what was asked for, and what tells the most of a false claim
 GROWING = ("undecided pairs", "undecided steps")  # what a run may say that a larger budget changes
-TRIED, SETTLED_SECONDS = 0, 2  # the level to which letters are tried for a claim that is refuted, and the seconds
+TRIED = 0  # the level to which letters are tried for a claim that is refuted
 
 
 class Goal:
@@ -37,6 +37,7 @@ class Goal:
         self.lines: List[str] = []
         self.found_by: List[str] = []
         self.more: List[str] = []  # a proof that takes for granted what nobody named
+        self.granted = ""  # what that takes, in words
         self.is_tried = False  # whether such a one was looked for
         self.has_rows = False  # whether it has a proof by rows alone, and so may be a lemma
 
@@ -184,8 +185,6 @@ class Plan:
         options = self.options
         goals = [goal for goal in self.claims if goal.wants(kind)]
         seconds = WORKER_SECONDS[kind] << level
-        if kind == ANY and all(goal.verdict == "refuted" for goal in goals):
-            seconds = SETTLED_SECONDS  # the answer is known, and this is one more thing to tell
         words = ["worker", "rational" if kind == RATIONAL else "cancel", str(seconds)]
         words.append(",".join(str(goal.number) for goal in goals))
         words += ["*", ""] if kind == ANY else [",".join(options.monic), ",".join(options.epic)]

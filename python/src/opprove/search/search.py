@@ -35,7 +35,7 @@ from opprove.search import variants
 from opprove.program import path as path_of_program
 from opprove.checkers.check import Evidence, Poly, Problem, Refusal, judge
 from opprove.search import cluster, findings
-from opprove.search.plan import ANY, AS_IT_IS, GROWING, TRIED, WORKER, Goal, Job, Plan
+from opprove.search.plan import ANY, AS_IT_IS, GROWING, MODELS, TRIED, WORKER, Goal, Job, Plan
 from opprove.search.running import Interrupts, Program, Progress, Runs, Unusable
 from opprove.search.variants import Statement
 from opprove.text import sections
@@ -192,8 +192,9 @@ class Search:
         lines += self.for_matrices(goal, found["statement"], found["certificate"]) if "statement" in found else []
         if job.kind == ANY and takes:
             self.keep_block(goal, block)
-            goal.more = [f"# claim {goal.number} follows where {in_words(takes)}", *(f"#   {line}" for line in block)]
-            self.progress.tell(f"claim {goal.number} follows where {in_words(takes)}", is_news=True)
+            goal.granted = f"follows where {in_words(takes)}"
+            goal.more = [f"# claim {goal.number} {goal.granted}", *(f"#   {line}" for line in block)]
+            self.progress.tell(f"claim {goal.number} {goal.granted}", is_news=True)
         else:
             self.settle(job, goal, "proved", lines)
 
@@ -232,6 +233,9 @@ class Search:
         if job.kind in WORKER:
             goal.found_by = [f"# found by {job.name}" + ", and the claim isn't derivable by rows" * (before != "" and verdict == "proved")]
         elif job.name != AS_IT_IS:
+            if job.kind == MODELS:
+                also = ", and --complex for proofs" if self.statement.problem.is_starred else ""
+                goal.found_by.append(f"# matrices modulo a prime say nothing of complex ones: --over q looks for rational ones{also}")
             goal.found_by += ["# the variant:"] + [f"#   {line}" for line in job.text.rstrip("\n").split("\n")]
         if verdict == "not derivable" and job.order.lines:
             goal.found_by.append("# the basis is of another order than the statement's: " + job.order.lines[-1])
@@ -254,9 +258,7 @@ class Search:
 
     def why_ended(self) -> str:
         """The last line: why the search ended, and what it leaves."""
-        claims = self.plan.claims
-        open_claims = [goal for goal in claims if goal.verdict in ("", "not derivable") and not goal.more]
-        left = [f"claim {goal.number} is {goal.verdict or 'undecided'}" for goal in open_claims]
+        left = [goal for goal in self.plan.claims if goal.verdict in ("", "not derivable")]
         if not left:
             return "# ended: each claim is settled"
         why = "nothing is left to try"
@@ -264,7 +266,11 @@ class Search:
             why = f"interrupted after {self.progress.seconds():.0f} s"
         elif self.progress.seconds() >= self.options.seconds:
             why = f"the {self.options.seconds} s are over"
-        return f"# ended: {why}; {', '.join(left)}, and no proof, model or step that cancels was found"
+        said = [f"claim {goal.number} is {goal.verdict or 'undecided'}" + (f" and {goal.granted}" if goal.more else "") for goal in left]
+        found = "no other proof and no model" if any(goal.more for goal in left) else "no proof, model or step that cancels"
+        is_special = self.options.complex or self.options.over or not self.statement.problem.is_starred
+        more = "" if is_special else "; --complex takes stars off too, as is right for complex matrices"
+        return f"# ended: {why}; {', '.join(said)}, and {found} was found{more}"
 
 
 def in_words(takes: str) -> str:

@@ -33,6 +33,7 @@ from opprove.translations.latex import lines_of, width_of
 
 WIDTH = 355  # of sums, in points
 SHORT = 100  # of the first sum of a chain, where the second one stands beside it
+PROOFS = ("check", "cancel", "star")  # what reads them
 MOST_RULES = 20  # of a closed set that is shown
 HEAD = r"""\documentclass[10pt]{article}
 \usepackage{amsmath,amsthm,amssymb}
@@ -178,7 +179,8 @@ class StatementWriter:
         yield rf"\par\smallskip\noindent\upshape Let {self.maps()}."
         numbers = range(1, len(self.reader.assumptions) + 1)
         yield from ["Assume", *self.assumptions(numbers)] if numbers else []
-        yield r"\noindent Then"
+        is_proved = all(piece.command in PROOFS for piece in self.found.pieces)
+        yield r"\noindent Then" if is_proved else r"\noindent The claim is" if len(self.reader.claims) == 1 else r"\noindent The claims are"
         yield from self.claims()
 
     # ---- Proofs
@@ -369,7 +371,7 @@ def made(job: Job, table: str, is_alone: bool) -> Made:
         names = {name: text for name, text in chain_latex.table(table).items() if name in found.reader.problem.numbers}
         writer = StatementWriter(found, job.statement.text, job.fields["THEOREM"], names, is_alone)
         fault = missing or another(found, job.fields["VERDICT"])
-        verdicts = [piece.command in ("check", "cancel", "star") for piece in found.pieces]
+        verdicts = [piece.command in PROOFS for piece in found.pieces]
         proofs = list(writer.proofs(is_alone, step_of(job.statement.name)))
         given = writer.given() if is_alone else []
         maps = {name.strip("[']") for name in found.reader.problem.names}
