@@ -49,7 +49,7 @@ use Rattle.evidence_commands.specs.Explain as explain
 use Rattle.evidence_commands.specs.Explain.{head_text, explained_text, IsExplained}
 use Rattle.evidence_commands.specs.Cancel as cancelling
 use Rattle.evidence_commands.specs.Cancel.{accepted_text}
-use Rattle.evidence_commands.specs.CalledLetters.{name_text, names_text, called_text, letters_text}
+use Rattle.evidence_commands.specs.CalledLetters.{names_text, called_text}
 use Rattle.command_runs.proofs.QuietTexts.{lacks}
 use Rattle.command_runs.proofs.QuietBlocks.{lacks-append, number_is_part, integer_is_part, name_is_part, letter_is_part, word_is_part, poly_is_part, chain_is_quiet}
 use Rattle.command_runs.proofs.ReportLines.{cause_is_part, IsTold}

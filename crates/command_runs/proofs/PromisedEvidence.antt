@@ -1,5 +1,5 @@
 -- What each command of evidence puts means what it says.
-use Rattle.std.proofs.Common.{◌≡◌, ◌≢◌, ◌⊎◌, inl, inr, ◌<◌, ◌≤◌, ◌+◌, ◌==◌, ℕ, zero, suc, ℤ, Bool, true, false, not, List, [], ◌∷◌, ◌++◌, Some, arith, refl, sym, ap, subst, ◌∙◌, length, map, drop, get_or, slice_get, codes, IsTrue}
+use Rattle.std.proofs.Common.{◌≡◌, ◌≢◌, ◌⊎◌, inl, inr, ◌<◌, ◌<ℤ◌, ◌≤◌, ◌+◌, ◌==◌, ℕ, pos, zero, suc, ℤ, Bool, true, false, not, List, [], ◌∷◌, ◌++◌, Some, arith, refl, sym, ap, subst, ◌∙◌, length, map, drop, get_or, slice_get, codes, IsTrue}
 use Rattle.std.specs.Prelude.{decimal}
 use Rattle.std.specs.Fmt.{signed_decimal}
 use Rattle.std.specs.List.{All, AllByRecursion, list_all}
@@ -70,7 +70,7 @@ use Rattle.command_runs.proofs.QuietBlocks.{decimal_lacks}
 use Rattle.command_runs.proofs.ReportLines.{IsTold, line_is_told}
 use Rattle.command_runs.proofs.BlockCauses.{told_is_part, cause_of_check, cause_of_model, cause_of_confirm, cause_of_explain, cause_of_cancel, named_is_part, confirmed_is_part, closed_is_part, accepted_is_part, explained_is_told, explained_second, explained_says}
 use Rattle.command_runs.proofs.PromisedBlocks.{found, absent, nothing_proved}
-use Rattle.command_runs.proofs.PromisedVerdicts.{is_refuted}
+use Rattle.command_runs.proofs.PromisedVerdicts.{positive_denominator, is_refuted}
 use Rattle.command_runs.proofs.Promised.{known}
 
 -- a number, a text and an integer, in one order and in another
@@ -106,7 +106,10 @@ module _ {Object Arrow : Type 0} (s : Structure Object Arrow) (bytes evidence pu
 
   nothing_sharp : second ≢ 108 → SharpIsMeant bytes put
   nothing_sharp apart =
-      record { sharp = λ block number below has. absurd (other block (codes "closed claim " ++ decimal number ++ codes " sharp") has.0 has.1 (λ e. omega (arith, e)) (λ e. apart (sym e))) }
+      record {
+        not_derivable = λ number text below has. absurd (none number (codes "not derivable " ++ text) has.0 has.1);
+        sharp = λ block number below has. absurd (other block (codes "closed claim " ++ decimal number ++ codes " sharp") has.0 has.1 (λ e. omega (arith, e)) (λ e. apart (sym e)));
+      }
 
   nothing_undecided : (budget : Budget) → UndecidedIsMeant budget bytes put
   nothing_undecided budget = record { undecided = λ number text below has. absurd (none number (codes "undecided " ++ text) has.0 has.1) }
@@ -129,10 +132,17 @@ module _ {Object Arrow : Type 0} {s : Structure Object Arrow} (laws : Preadditiv
       let count : length (polynomials problem.parts.claims) ≡ length problem.parts.claims = length-map problem.parts.claims (λ (x : Poly). x.terms) in
       (is_one.least, subst (λ (n : ℕ). claim_number e ≤ n) count is_one.most)
 
-  proves : (number : ℕ) (d : ℤ) → There number → MeansZero s problem d (claim_at problem number) → IsProved s bytes number d
-  proves number d there means =
+  proves : (number : ℕ) (d : ℤ) → There number → pos 0 <ℤ d → MeansZero s problem d (claim_at problem number) → IsProved s bytes number d
+  proves number d there positive means =
       let claim = claim_there is.statements problem number is.elaborated there.0 there.1 in
-      record { statements = is.statements; file = is.tree; claim = claim.0; is_claim = claim.1; proves = equations.proved is.statements problem number d is.elaborated means }
+      record {
+        statements = is.statements;
+        file = is.tree;
+        claim = claim.0;
+        is_claim = claim.1;
+        positive = positive;
+        proves = equations.proved is.statements problem number d is.elaborated means;
+      }
 
   -- check
   abbrev certificate_told : (e : Evidence) → certificates.Passes problem e → IsTold (named_text e)
@@ -140,7 +150,7 @@ module _ {Object Arrow : Type 0} {s : Structure Object Arrow} (laws : Preadditiv
 
   accepted_by : (text : List ℕ) (e : Evidence) → certificates.Passes problem e → certificates.Means Object Arrow s problem e → codes "accepted " ++ text ≡ named_text e → SaysAccepted s bytes text
   accepted_by text e holds means says =
-      let proved = proves (claim_number e) (denominator_of e) (named e holds) means.means in
+      let proved = proves (claim_number e) (denominator_of e) (named e holds) (positive_denominator problem (claim_number e) e means.sum) means.means in
       record {
         statements = proved.statements;
         file = proved.file;
@@ -151,6 +161,7 @@ module _ {Object Arrow : Type 0} {s : Structure Object Arrow} (laws : Preadditiv
         says = ap (drop 9) says ∙ moved (decimal (claim_number e)) (signed_decimal (denominator_of e)) ∙ sym (append-nil _);
         claim = proved.claim;
         is_claim = proved.is_claim;
+        positive = proved.positive;
         proves = record {
           by_star = λ involution star_laws f rep allows. proved.proves.by_star involution star_laws f rep allows.cancels;
           plain = λ unstarred involution f rep allows. proved.proves.plain unstarred involution f rep allows.cancels;
@@ -242,7 +253,7 @@ module _ {Object Arrow : Type 0} {s : Structure Object Arrow} (laws : Preadditiv
         d = c.denominator;
         steps = length (steps_of problem c);
         says = ap (drop 10) (says ∙ explained_says problem names_known c holds) ∙ stepped (decimal c.claim) (signed_decimal c.denominator) steps;
-        proved = proves c.claim c.denominator (named (Plain c) holds.accepted) means.means;
+        proved = proves c.claim c.denominator (named (Plain c) holds.accepted) means.sum.positive means.means;
       }
   explained_by text (Lemmas c) holds means says = absurd holds
 
@@ -298,6 +309,7 @@ module _ {Object Arrow : Type 0} {s : Structure Object Arrow} (laws : Preadditiv
             ∙ ap (λ (d : List Declaration). codes "claim " ++ decimal p.claim ++ codes " denominator " ++ signed_decimal p.denominator ++ letters_text d p.monic p.epic) is.elaborated.parts.quiver;
         claim = claim.0;
         is_claim = claim.1;
+        positive = means.shows.positive;
         proves = cancels_by p means;
       }
 
@@ -356,6 +368,7 @@ module _ {Object Arrow : Type 0} {s : Structure Object Arrow} (laws : Preadditiv
             (λ e. omega (arith, e)) in
             closed_by text at.found at.holds at.means at.says);
         sharp = record {
+          not_derivable = λ number text below has. absurd (none number (codes "not derivable " ++ text) has.0 has.1);
           sharp = λ block number below has.
               let at = found bases bases_are_judged laws sound with_lemmas cancelling bytes problem is evidence basis_told causes 108 (λ b holds. refl) ending ends block
               (codes "closed claim " ++ decimal number ++ codes " sharp") has.0 has.1 (λ e. omega (arith, e)) in

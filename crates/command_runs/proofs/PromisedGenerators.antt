@@ -1,8 +1,8 @@
 -- The generators of a problem have the rational ideal of the polynomials of its file.
-use Rattle.std.proofs.Common.{◌≡◌, ◌≤◌, ◌<◌, ℕ, zero, suc, List, [], ◌∷◌, ◌++◌, Option, Some, Result, Ok, Err, arith, refl, sym, ap, subst, ◌∙◌, length, slice_get}
+use Rattle.std.proofs.Common.{◌≡◌, ◌≤◌, ℕ, zero, suc, List, [], ◌∷◌, ◌++◌, Option, Some, Result, Ok, Err, arith, refl, sym, ap, subst, ◌∙◌, length, slice_get}
 use Rattle.std.specs.List.{AllZip}
 use Rattle.std.proofs.lemmas.List.{append-nil}
-use Rattle.definitions.specs.Poly.{Poly, Term, coefficient_of, poly_between, SamePolynomial}
+use Rattle.definitions.specs.Poly.{Poly, coefficient_of, poly_between, SamePolynomial}
 use Rattle.definitions.specs.Combination.{InRationalIdeal, generator_at}
 use Rattle.definitions.specs.Generators.{generators_of}
 use Rattle.quiver.specs.Declarations.{Declaration, quiver_of}

@@ -1,5 +1,5 @@
 -- What is put of verdicts means what it says.
-use Rattle.std.proofs.Common.{◌≡◌, ◌<◌, ◌≤◌, ◌+◌, ◌≢◌, ℕ, true, List, ◌∷◌, ◌++◌, arith, refl, sym, ap, subst, ◌∙◌, length, drop, get_or, codes, IsTrue}
+use Rattle.std.proofs.Common.{◌≡◌, ◌<◌, ◌<ℤ◌, ◌≤◌, ◌+◌, ◌≢◌, ℕ, pos, true, List, ◌∷◌, ◌++◌, arith, refl, sym, ap, subst, ◌∙◌, length, drop, get_or, codes, IsTrue}
 use Rattle.std.specs.Prelude.{decimal}
 use Rattle.std.specs.Fmt.{signed_decimal}
 use Rattle.std.specs.List.{list_all}
@@ -8,13 +8,15 @@ use Rattle.std.proofs.lemmas.List.{append_assoc}
 use Rattle.definitions.specs.Category.{Structure}
 use Rattle.traced_rows.specs.LemmaRows.{denominator_of}
 use Rattle.traced_rows.specs.declared.evidence.Evidence.{Evidence}
+use Rattle.traced_rows.specs.declared.evidence.Evidence.TheVariants as evidence
+use Rattle.nc_polynomial.specs.declared.poly.Poly.{Poly}
 use Rattle.quiver.specs.Declarations.{Declaration}
 use Rattle.adjoint_rules.specs.declared.problem.Problem.{Problem}
 use Rattle.traced_completion.specs.declared.budget.Budget.{Budget}
 use Rattle.matrix_models.specs.declared.model.Model.{Model}
 use Rattle.model_text.specs.Written.{model_text}
 use Rattle.block_text.specs.Back.{is_named}
-use Rattle.cofactor_checker.specs.ProvedMeans.{ProvedMeans}
+use Rattle.cofactor_checker.specs.ProvedMeans.{EvidenceAddsUp, ProvedMeans}
 use Rattle.model_checker.specs.RefutedMeans.{RefutedMeans}
 use Rattle.statement_meaning.specs.Meanings.{SaysEquations}
 use Rattle.statement_meaning.proofs.Claims.{claim_there}
@@ -27,6 +29,7 @@ use Rattle.command_runs.specs.Promises.Lines.{HasLineBefore, claim_line, block_l
 use Rattle.command_runs.specs.Promises.Proved.{IsProved, SaysProved}
 use Rattle.command_runs.specs.Promises.Refuted.{IsRefuted, IsNext}
 use Rattle.command_runs.specs.Promises.NotDerivable.{IsNotDerivable}
+use Rattle.command_runs.specs.Promises.Sharp.{IsSharp}
 use Rattle.command_runs.specs.Promises.Undecided.{IsUndecided}
 use Rattle.command_runs.specs.Promises.{LinesAreMeant}
 use Rattle.command_runs.proofs.PromisedGenerators.{is_not_derivable}
@@ -48,6 +51,11 @@ said_is ds rules (verdict.NotRefuted candidates) = refl
 differ : (place m n : ℕ) (one other : List ℕ) → one ≡ other → get_or one place 0 ≡ m → get_or other place 0 ≡ n → m ≢ n → ⊥
 differ place m n one other same first second apart = apart (sym first ∙ ap (λ (t : List ℕ). get_or t place 0) same ∙ second)
 
+-- the denominator of evidence that adds up
+pub positive_denominator : (problem : Problem) (number : ℕ) (e : Evidence) → EvidenceAddsUp problem number e → pos 0 <ℤ denominator_of e
+positive_denominator problem number (evidence.Plain c) sum = sum.combination.positive
+positive_denominator problem number (evidence.Lemmas c) sum = sum.evidence.positive
+
 module _ {Object Arrow : Type 0} {s : Structure Object Arrow} (equations : SaysEquations s) (budget : Budget) (bytes : List ℕ) (problem : Problem) (stated : IsStated bytes problem) where
   -- a claim that is proved by this denominator, and one that a model refutes
   pub is_proved : (number : ℕ) (e : Evidence) → 1 ≤ number → number ≤ length problem.parts.claims → ProvedMeans s problem number e → IsProved s bytes number (denominator_of e)
@@ -58,6 +66,7 @@ module _ {Object Arrow : Type 0} {s : Structure Object Arrow} (equations : SaysE
         file = stated.tree;
         claim = there.0;
         is_claim = there.1;
+        positive = positive_denominator problem number e means.sum;
         proves = equations.proved stated.statements problem number (denominator_of e) stated.elaborated means.means;
       }
 
@@ -75,7 +84,8 @@ module _ {Object Arrow : Type 0} {s : Structure Object Arrow} (equations : SaysE
         refutes = equations.refuted stated.statements problem number m stated.elaborated means;
       }
 
-  module _ (P : ℕ → Verdict → Type 0) (means : (claim : ℕ) (v : Verdict) → P claim v → VerdictMeans s problem budget claim v) (shown : ℕ → Verdict → List ℕ)
+  module _ (P : ℕ → Verdict → Type 0) (means : (claim : ℕ) (v : Verdict) → P claim v → VerdictMeans s problem budget claim v)
+      (sharp : (claim : ℕ) (rest : Poly) → P claim (verdict.NotDerivable rest) → IsSharp bytes claim) (shown : ℕ → Verdict → List ℕ)
       (models : (claim : ℕ) (m : Model) → P claim (verdict.Refuted m) → shown claim (verdict.Refuted m) ≡ model_text problem.parts.quiver m)
       (known : IsTrue (list_all is_named problem.parts.quiver)) (rules : ℕ) (put : List ℕ)
       (find : (l after : List ℕ) → lacks 10 (35 ∷ l) ≡ true → LineAt true put (35 ∷ l) after
@@ -131,14 +141,21 @@ module _ {Object Arrow : Type 0} {s : Structure Object Arrow} (equations : SaysE
     refuted_by number after rest (verdict.NotRefuted candidates) holds least most then says = absurd (differ 0 114 110 _ _ says refl refl (λ e. omega (arith, e)))
 
     -- not derivable
+    rest_of : (text : List ℕ) (v : Verdict) → codes "not derivable " ++ text ≡ told_of problem.parts.quiver rules v → (rest : Poly) × (v ≡ verdict.NotDerivable rest)
+    rest_of text (verdict.Proved e) says = absurd (differ 0 110 112 _ _ says refl refl (λ e. omega (arith, e)))
+    rest_of text (verdict.NotDerivable rest) says = (rest, refl)
+    rest_of text (verdict.Refuted m) says = absurd (differ 0 110 114 _ _ says refl refl (λ e. omega (arith, e)))
+    rest_of text (verdict.Undecided h) says = absurd (differ 0 110 117 _ _ says refl refl (λ e. omega (arith, e)))
+    rest_of text (verdict.NotRefuted candidates) says = absurd (differ 4 100 114 _ _ says refl refl (λ e. omega (arith, e)))
+
     not_derivable_by : (number : ℕ) (text : List ℕ) (v : Verdict) → P number v → 1 ≤ number → number ≤ length problem.parts.claims
         → codes "not derivable " ++ text ≡ told_of problem.parts.quiver rules v → IsNotDerivable bytes number
-    not_derivable_by number text (verdict.Proved e) holds least most says = absurd (differ 0 110 112 _ _ says refl refl (λ e. omega (arith, e)))
-    not_derivable_by number text (verdict.NotDerivable rest) holds least most says =
-        is_not_derivable bytes problem stated number least most (means number (verdict.NotDerivable rest) holds)
-    not_derivable_by number text (verdict.Refuted m) holds least most says = absurd (differ 0 110 114 _ _ says refl refl (λ e. omega (arith, e)))
-    not_derivable_by number text (verdict.Undecided h) holds least most says = absurd (differ 0 110 117 _ _ says refl refl (λ e. omega (arith, e)))
-    not_derivable_by number text (verdict.NotRefuted candidates) holds least most says = absurd (differ 4 100 114 _ _ says refl refl (λ e. omega (arith, e)))
+    not_derivable_by number text v holds least most says =
+        let rest = rest_of text v says in
+        is_not_derivable bytes problem stated number least most (means number (verdict.NotDerivable rest.0) (subst (P number) rest.1 holds))
+
+    sharp_by : (number : ℕ) (text : List ℕ) (v : Verdict) → P number v → codes "not derivable " ++ text ≡ told_of problem.parts.quiver rules v → IsSharp bytes number
+    sharp_by number text v holds says = let rest = rest_of text v says in sharp number rest.0 (subst (P number) rest.1 holds)
 
     -- undecided
     undecided_by : (number : ℕ) (text : List ℕ) (v : Verdict) → P number v → codes "undecided " ++ text ≡ told_of problem.parts.quiver rules v → IsUndecided budget bytes number text
@@ -171,7 +188,10 @@ module _ {Object Arrow : Type 0} {s : Structure Object Arrow} (equations : SaysE
             let is = found number (codes "not derivable " ++ text) has.0 below has.1 in not_derivable_by number text is.verdict is.holds is.least is.most is.says;
         closed = λ block text has. absurd (no_block block (codes "closed " ++ text) has.0 has.1);
       };
-      sharp = record { sharp = λ block number below has. absurd (no_block block (codes "closed claim " ++ decimal number ++ codes " sharp") has.0 has.1) };
+      sharp = record {
+        not_derivable = λ number text below has. let is = found number (codes "not derivable " ++ text) has.0 below has.1 in sharp_by number text is.verdict is.holds is.says;
+        sharp = λ block number below has. absurd (no_block block (codes "closed claim " ++ decimal number ++ codes " sharp") has.0 has.1);
+      };
       undecided = record {
         undecided = λ number text below has. let is = found number (codes "undecided " ++ text) has.0 below has.1 in undecided_by number text is.verdict is.holds is.says;
       };

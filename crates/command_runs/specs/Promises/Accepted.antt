@@ -1,6 +1,6 @@
 -- `accepted`: wherever the denominator cancels, the letters that the line calls monic and epic have such arrows, and all assumptions of the file
 -- hold, the claim holds.
-use Rattle.std.specs.Prelude.{◌≡◌, ℕ, ℤ, false, List, ◌++◌, codes, decimal}
+use Rattle.std.specs.Prelude.{◌≡◌, ◌<ℤ◌, ℕ, ℤ, pos, false, List, ◌++◌, codes, decimal}
 use Rattle.std.specs.Fmt.{signed_decimal}
 use Rattle.std.specs.List.{All}
 use Rattle.definitions.specs.Category.{Structure, InvolutionLaws}
@@ -43,6 +43,7 @@ pub record SaysAccepted {Object Arrow : Type 0} (s : Structure Object Arrow) (by
   pub says : text ≡ codes "claim " ++ decimal number ++ codes " denominator " ++ signed_decimal d ++ letters_text (declarations_of statements) monic epic
   pub claim : Equation
   pub is_claim : IsClaim statements number claim
+  pub positive : pos 0 <ℤ d
   pub proves : ProvesClaimWith s statements number d monic epic
 
 -- The promise.

@@ -26,6 +26,7 @@ claim_line number said = codes "# claim " ++ decimal number ++ codes " " ++ said
 abbrev pub block_line : ℕ → List ℕ → List ℕ
 block_line block said = codes "# block " ++ decimal block ++ codes " " ++ said
 
--- The pages speak of claims and blocks with numbers below this one. No other number is put there.
+-- Where a page is given the number of a line's claim or block, it speaks of numbers below this one. No statement has so many claims, and no text of
+-- evidence so many blocks.
 abbrev pub number_limit : ℕ
 number_limit = 2 ^ 64
