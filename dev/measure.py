@@ -233,7 +233,6 @@ CASES = STATEMENTS + EVIDENCE + POWERS
 
 
 def row(case: Case, plain: str, folder: Path) -> str:
-    """A line of the table."""
     statement, evidence, out = folder / "statement.op", folder / "evidence.cert", folder / "out"
     size = write(statement, case.statement()) + write(evidence, case.evidence() if case.evidence else iter(()))
     files = [str(statement)] + ([str(evidence)] if case.evidence else [])

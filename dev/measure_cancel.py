@@ -95,7 +95,6 @@ NAMES = ["bytes", "`cancel` s", "MB", "`check` s", "MB", "plain s", "MB", "by `c
 
 
 def cells(case: Case, plain: str, folder: Path) -> Tuple[List[str], float]:
-    """Those of a row of the table, and the seconds of `cancel`."""
     own, other = both("cancel", iter([case.statement()]), case.proof(), plain, folder)
     size, beside = (folder / "evidence.cert").stat().st_size, (" | ", "")
     if case.beside:

@@ -23,7 +23,6 @@ CLOSED = "# block 1 closed claim 1 sharp\n"
 
 
 def bench(size: int) -> str:
-    """The statement of `bench`."""
     steps = range(1, size + 1)
     maps = "".join(f"map a{n} : O{n} -> O{n - 1}\nmap r{n} : O{n - 1} -> O{n}\n" for n in steps)
     assumptions = "".join(f"assume a{n} r{n} = [O{n - 1}]\n" for n in steps)
@@ -80,7 +79,6 @@ NAMES = ["bytes", "`confirm` s", "MB", "beside it s", "MB", "quotient"]
 
 
 def cells(size: int, own: Usage, other: Usage) -> Tuple[List[str], float]:
-    """Those of a row of the table, and the seconds of `confirm`."""
     return [f"{size:,}", told(own), told(other), quotient_text(own, other)], own.seconds
 
 

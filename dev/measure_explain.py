@@ -69,7 +69,6 @@ NAMES = ["bytes", "`explain` s", "MB", "`check` s", "MB", "plain s", "MB", "by p
 
 
 def cells(case: Case, plain: str, folder: Path) -> Tuple[List[str], float]:
-    """Those of a row of the table, and the seconds of `explain`."""
     own, other = both("explain", iter([case.statement]), case.evidence(), plain, folder)
     size, beside = (folder / "want").stat().st_size, checked(folder)
     above = "" if NO_MEMORY in (own.status, beside.status) else f"{1e6 * (own.megabytes - beside.megabytes) / size:.2f}"

@@ -93,7 +93,6 @@ def rows(words: List[str], folder: Path) -> Text:
 
 
 def counted(words: List[str], folder: Path) -> int:
-    """The instructions of a run."""
     answer = run(installed("valgrind"), "--tool=callgrind", f"--callgrind-out-file={folder / 'counts'}", *words, seconds=3600)
     found = re.search("refs: +([0-9,]+)", answer.error)
     need(answer.status in ENDED and found is not None, (words, answer))

@@ -85,7 +85,6 @@ SEARCHES: Dict[str, Callable[[], str]] = {
 
 
 def row(name: str, plain: str, folder: Path) -> str:
-    """A line of the table."""
     statement, out = folder / "statement.op", folder / "out"
     write(statement, iter([SEARCHES[name]()]))
     other = least([plain, str(write_tree(statement))], out, lambda status, text: status == NOT_REFUTED)

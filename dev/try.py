@@ -62,14 +62,13 @@ def shell(name: str, folder: Path) -> str:
 
 
 COMPLETED = {  # of words, the last of which is begun, what is offered
-    "pro": {"prove", "prove-all"}, "--ver": {"--version"}, "he": {"help"}, "help cha": {"chain"}, "prove --fo": {"--format"}, "prove --format ": {"1", "2"},
-    "chain --la": {"--latex"}, "completions f": {"fish"}, "check ": {"s.op", "s.opn", "s.report", "s.cert", "folder"}, "check s.op s.c": {"s.cert"},
+    "pro": {"prove", "prove-all"}, "--ver": {"--version"}, "he": {"help"}, "help chai": {"chain"}, "prove --fo": {"--format"},
+    "prove --format ": {"1", "2"}, "chain --la": {"--latex"}, "completions f": {"fish"}, "check ": {"s.op", "s.opn", "s.report", "s.cert", "folder"}, "check s.op s.c": {"s.cert"},
     "prove --pairs ": set(),
 }  # fmt: skip
 
 
 def offered_by_fish(folder: Path) -> str:
-    """What fish offers."""
     for name in ("s.op", "s.opn"):
         (folder / name).touch()
     (folder / "words.fish").write_text(run(*tool("completions"), "fish").out)
@@ -80,7 +79,6 @@ def offered_by_fish(folder: Path) -> str:
 
 
 def offered(folder: Path) -> str:
-    """What bash offers."""
     for name in ("s.op", "s.opn", "s.report", "s.cert", "s.txt"):
         (folder / name).touch()
     (folder / "folder").mkdir()
@@ -188,7 +186,8 @@ def costly_files() -> str:
 
 
 def devices() -> str:
-    answer = run(sys.executable, TOP / "dev" / "try_devices.py", built())
+    built()
+    answer = run(sys.executable, TOP / "dev" / "try_devices.py")
     need(answer.status == 0 and not answer.error, answer)
     lines = answer.out.splitlines()
     return f"{sum(': skipped, ' not in line for line in lines)} of {len(lines)} trials of devices are as they should be"
@@ -202,7 +201,7 @@ def groups(folder: Path) -> Dict[str, List[Callable[[], str]]]:
             word: [functools.partial(check, folder) for check in checks]
             for word, checks in (
                 ("opprove", try_opprove.CHECKS), ("guide", try_guide.CHECKS), ("plain", try_plain.CHECKS),
-                ("release", [try_release.release]), ("library", try_library.CHECKS),
+                ("release", try_release.CHECKS), ("library", try_library.CHECKS),
             )
         },
         "editors": [
@@ -214,12 +213,10 @@ def groups(folder: Path) -> Dict[str, List[Callable[[], str]]]:
 
 
 def tested(words: List[str]) -> int:
-    """Runs the tests of the package, and gives their status."""
     return subprocess.call([sys.executable, str(TESTS / "run.py"), *words])
 
 
 def main(words: List[str]) -> int:
-    """Tries what the words name, or all."""
     tests = [path.stem[5:] for path in sorted(TESTS.glob("test_*.py"))]
     with tempfile.TemporaryDirectory() as name:
         checks = groups(Path(name))

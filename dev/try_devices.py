@@ -1,7 +1,7 @@
 #!/usr/bin/env -S PYTHONPATH=python/src:python/tests python3 -B
-"""Tries the program from outside, over devices that fail: try_devices.py [--long] [PROGRAM]
+"""Tries the program from outside, over devices that fail: try_devices.py [--long]
 
-Gives PROGRAM, or the one that the variable OPPROVE names, or the one that is built, files that can't be read or change while they
+Gives the program that is built, or the one that the variable OPPROVE names, files that can't be read or change while they
 are read, outputs that are closed, full or not read, signals, and too little memory, and compares its status and what it wrote with
 the tables below. It prints a line for each trial; what a trial wants and isn't there (Linux, cc, strace, root) is skipped with a
 line. The status is 1 where an answer differs. With --long it refuses allocations of runs that decide and search too, on 1 and 4
@@ -24,7 +24,7 @@ import time
 from pathlib import Path
 from typing import IO, Any, Callable, Dict, Iterator, List, NamedTuple, Optional, Sequence, Tuple
 
-from trying import PROGRAM, Failed, Skipped, installed, need, usage_line
+from trying import Failed, Skipped, built, installed, need, usage_line
 
 USAGE, FAULTY, NOT_LOADED, SINK_FAILED, NO_MEMORY, REFUSED, LOADER_FAILED = 2, 3, 4, 5, 6, 7, 127
 PATIENCE = 120  # seconds
@@ -493,19 +493,15 @@ def try_all(place: Place) -> bool:
 
 def main() -> int:
     parser = argparse.ArgumentParser(description="Tries the program from outside, over devices that fail")
-    parser.add_argument("program", nargs="?", type=Path, default=Path(os.environ.get("OPPROVE", PROGRAM)))
     parser.add_argument("--long", action="store_true", help="more allocations and address spaces, in some minutes")
     words = parser.parse_args()
     if not sys.platform.startswith("linux"):
         print("skipped: these trials want Linux")
         return 0
-    if not os.access(words.program, os.X_OK) or words.program.is_dir():
-        print(f"try_devices.py: {words.program}: there is no program", file=sys.stderr)
-        return 1
     with tempfile.TemporaryDirectory() as folder:
         try:
-            furnish(Path(folder), words.program)
-        except OSError as fault:
+            furnish(Path(folder), built())
+        except (OSError, Skipped) as fault:
             print(f"try_devices.py: {fault}", file=sys.stderr)
             return 1
         return 0 if try_all(Place(Path(folder), words.long)) else 1

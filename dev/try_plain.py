@@ -1,8 +1,8 @@
 #!/usr/bin/env -S PYTHONPATH=python/src:python/tests python3 -B
-"""Tries the plain programs plain_run.rs and plain_models.rs: try_plain.py [COUNT]
+"""Tries the plain programs plain_run.rs and plain_models.rs.
 
 Compares plain_models.rs with candidates.py, byte for byte, on the searches of test_models.py, on the examples and on
-COUNT random statements (500) of both languages: full and drawn, over all moduli, with self maps, adjoints, powers,
+500 random statements of both languages: full and drawn, over all moduli, with self maps, adjoints, powers,
 abbreviations, maps that are solved for, several claims and shapes, and three seeds. Of searches that would try
 thousands of candidates in Python to the end one in five is made. Compares plain_run.rs with itself, where it looks for
 overlaps in two ways, and with head lines that documents show. Where opprove is built, or the variable OPPROVE names a
@@ -10,26 +10,25 @@ program, both are compared with that too. It wants rustc.
 """
 from __future__ import annotations
 
-import functools
 import itertools
 import random
 import re
 import sys
-import tempfile
 from pathlib import Path
 from typing import Callable, Dict, Iterator, List, NamedTuple, Tuple
 
 from opprove.checkers import candidates
+from opprove.notation import expand
 import presentations
 import try_guide
 import test_models
 import test_words
 from opprove.checkers.check import MODULI, Problem, Refusal
 from measuring import OPPROVE, build, write_tree
-from trying import EXAMPLES, GALLERY, LIBRARY, TOP, Answer, checker, is_built, need, run, run_checks
+from trying import EXAMPLES, GALLERY, LIBRARY, TOP, Answer, checker, is_built, main, need, run
 
 SEEDS = [1, 7, 2**64 - 1]
-COUNT = 500
+COUNT = 500  # random statements
 MANY = 3000  # candidates that candidates.py tries soon
 EXAMPLE_FILES = sorted([*EXAMPLES.glob("*.op"), *GALLERY.values()])
 
@@ -151,22 +150,22 @@ def refusal(statement: Path) -> str:
         return str(line)
 
 
-def texts(count: int) -> Iterator[Tuple[str, int]]:
+def texts() -> Iterator[Tuple[str, int]]:
     """Statements, each with a seed."""
     yield from ((text, seed) for text, seeds in test_models.SEARCHED for seed in seeds)
     yield from ((path.read_text(encoding="utf-8"), 1) for path in EXAMPLE_FILES)
     maker = Maker(1)
-    yield from ((maker.statement(), SEEDS[number % 3]) for number in range(count))
+    yield from ((maker.statement(), SEEDS[number % 3]) for number in range(COUNT))
 
 
 def by_whom(tool: str) -> str:
     return f"{tool} and opprove" if is_built() else tool
 
 
-def searches(folder: Path, count: int = COUNT) -> str:
+def searches(folder: Path) -> str:
     plain, statement = build("plain_models", folder), folder / "statement.op"
     long_ones, made, asked = itertools.count(1), 0, 0
-    for text, seed in texts(count):
+    for text, seed in texts():
         statement.write_text(text, encoding="utf-8")
         line = refusal(statement)
         if line:
@@ -222,7 +221,6 @@ SECOND: List[Tuple[str, str, List[str]]] = [
 
 
 def by_hand(folder: Path) -> str:
-    """The tables of head lines."""
     plain, statement = build("plain_run", folder), folder / "statement.op"
     gallery = [(GALLERY[name].read_text(encoding="utf-8"), words, want) for name, words, want in SECOND]
     for text, words, want in HEADS + gallery:
@@ -246,17 +244,17 @@ def words_kept(line: str) -> List[str]:
 
 
 def told_runs() -> Iterator[Told]:
-    """Those of examples/words.txt and of the guide, with the files that stand there."""
+    """Those of examples/words.txt and of the guide, with the files that stand there; of files of the notation what they stand for."""
     for case in test_words.cases():
         if case.words[:1] == ["prove"] and "s.op" in case.files and case.name not in test_words.NOT_RUN:
             yield Told(test_words.expanded(case.files["s.op"]), words_kept(" ".join(case.words)), case.report)
     guide = try_guide.read(try_guide.GUIDE.read_text(encoding="utf-8"))
     for command in guide.commands:
-        name = re.match(r"\./opprove prove (\S+\.op)", command.line)
+        name = re.match(r"\./opprove prove ([^ ;]+\.opn?)\b", command.line)
         path = TOP / (name[1] if name else "")
         if name and (name[1] in guide.files or path.exists()):
             text = guide.files[name[1]].encode() if name[1] in guide.files else path.read_bytes()
-            yield Told(text, words_kept(command.line), command.shown)
+            yield Told(expand.as_statement(text), words_kept(command.line), command.shown)
 
 
 def documents(folder: Path) -> str:
@@ -292,11 +290,11 @@ def same_run(statement: Path, plain: str) -> None:
             need(heads(other.out) == heads(answer.out), (statement.read_text(encoding="utf-8"), answer.out, other.out))
 
 
-def runs(folder: Path, count: int = COUNT) -> str:
+def runs(folder: Path) -> str:
     plain, statement = build("plain_run", folder), folder / "statement.op"
     maker, made = Maker(2), 0
     examples = [path.read_text(encoding="utf-8") for path in [*EXAMPLE_FILES, *sorted(LIBRARY.glob("harder/*.op"))]]
-    for text in [*examples, *(make(*numbers) for make, numbers in RUN), *(maker.statement() for _ in range(count))]:
+    for text in [*examples, *(make(*numbers) for make, numbers in RUN), *(maker.statement() for _ in range(COUNT))]:
         statement.write_text(text, encoding="utf-8")
         if not refusal(statement):
             same_run(statement, plain)
@@ -318,13 +316,5 @@ def words(folder: Path) -> str:
 CHECKS: List[Callable[[Path], str]] = [words, by_hand, documents, runs, searches]
 
 
-def main(arguments: List[str]) -> int:
-    count = int(arguments[0]) if len(arguments) == 1 and arguments[0].isdecimal() else COUNT
-    with tempfile.TemporaryDirectory() as name:
-        folder = Path(name)
-        counted = {runs: functools.partial(runs, count=count), searches: functools.partial(searches, count=count)}
-        return run_checks("try", (functools.partial(counted.get(check, check), folder) for check in CHECKS))
-
-
 if __name__ == "__main__":
-    sys.exit(main(sys.argv[1:]))
+    sys.exit(main(CHECKS))

@@ -7,18 +7,18 @@ should be. What isn't installed is skipped with a line. The status is 0 where no
 """
 from __future__ import annotations
 
+import functools
 import os
 import re
 import shutil
 import subprocess
 import sys
-import tempfile
 from hashlib import sha256
 from pathlib import Path
 from typing import Callable, Dict, List, Tuple
 
 from opprove.cli import TOOLS
-from trying import STATEMENTS, TOP, Answer, Skipped, installed, need, run, run_checks
+from trying import STATEMENTS, TOP, Answer, Skipped, installed, main, need, run
 
 STAND_IN = r"""
 #include <stdio.h>
@@ -371,25 +371,16 @@ def citation(checkout: Checkout) -> str:
     return f"CITATION.cff is YAML with fields of format 1.2.0; {said}"
 
 
-CHECKS: List[Callable[[Checkout], str]] = [same_bytes, archive, answers, tools, manual, record, control, citation, refusals, owners]
-
-
-def release(folder: Path) -> str:
-    """Writes a line for each check, and gives one that tells what was released."""
-    checkout = Checkout(folder)
-    for check in CHECKS:
-        try:
-            print(f"release: {check(checkout)}", flush=True)
-        except Skipped as what:
-            print(f"release: skipped, {what}", flush=True)
+def released(checkout: Checkout) -> str:
     what = "the program that is built here" if checkout.is_real else "a stand-in, as the program of these sources is not built,"
     return f"{what} is released"
 
 
-def main() -> int:
-    with tempfile.TemporaryDirectory() as name:
-        return run_checks("release", [lambda: release(Path(name))])
-
+checkout_in = functools.lru_cache(maxsize=None)(Checkout)
+OF_CHECKOUT: List[Callable[[Checkout], str]] = [
+    same_bytes, archive, answers, tools, manual, record, control, citation, refusals, owners, released,
+]  # fmt: skip
+CHECKS = [lambda folder, check=check: check(checkout_in(folder)) for check in OF_CHECKOUT]
 
 if __name__ == "__main__":
-    sys.exit(main())
+    sys.exit(main(CHECKS))

@@ -38,7 +38,6 @@ def passed_on(root: Path) -> Set[str]:
 
 
 def calls() -> Iterator[Call]:
-    """The public functions of all libraries."""
     for root in sorted(CRATES.glob("*/src/lib.rt")):
         crate = root.parents[1].name
         if crate in TESTS:

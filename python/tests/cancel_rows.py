@@ -7,8 +7,6 @@ from confirm_rows import M, M1, lines
 
 
 class Run(NamedTuple):
-    """Its name, the statement, the text of proofs and the report."""
-
     name: str
     statement: str
     proof: str
@@ -173,7 +171,6 @@ def cases_that_add_up() -> List[Case]:
 
 
 def cases_of_letters() -> List[Case]:
-    """Those of X1 to X4."""
     return [
         ("13", F, edited(ROW10, "row -1 () 4 (g) =>"), (), "X4 item 3"),
         ("14", F, edited(ROW10, "epic g =>"), (), "X2 item 3"),
@@ -206,7 +203,6 @@ def cases_of_letters() -> List[Case]:
 
 
 def cases_of_sums() -> List[Case]:
-    """Those of C1 to C10."""
     return [
         ("25", K, edited(ROW24, "epic h' =>", "monic h => monic h / monic h'"), (), "K2 line 5"),
         ("25", K, "monic u' / monic u / goal scale 1 / row 0 () 1 ()", (), "C6 word u want 1 got 0"),
@@ -264,7 +260,6 @@ def cases_of_limits() -> List[Case]:
 
 
 def cases_of_lines() -> List[Case]:
-    """Those of K2 to K5 in one block."""
     second = [("MISSPELT", "K2 line 8"), ("left 1 1", "K2 line 8"), ("left -1", "K2 line 8"), ("left 4294967296", "K4 line 8")]
     names = [("[P]", "K2"), ("P", "K3"), ("z", "K3"), ("k''", "K2"), ("m", "K2")]
     third = [("[P] left 2", "K2"), ("P left 2", "K3"), ("z left 4294967296", "K3")]

@@ -16,7 +16,6 @@ def u(count: int) -> str:
 
 
 def block(rows: Sequence[str], claim: int = 1, denominator: int = 1) -> str:
-    """A certificate with these rows."""
     return text_of("certificate 1", f"claim {claim}", f"denominator {denominator}", *(f"row {row}" for row in rows), "end")
 
 

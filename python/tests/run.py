@@ -12,7 +12,9 @@ import os
 import subprocess
 import sys
 import time
+import unittest
 from concurrent.futures import ThreadPoolExecutor
+from importlib import import_module
 from pathlib import Path
 from typing import List
 
@@ -25,15 +27,26 @@ def run(name: str) -> bool:
     the developers' folder has."""
     places = [TESTS.parent / "src", TESTS, TESTS.parents[1] / "dev"]
     environment = {**os.environ, "PYTHONPATH": ":".join(map(str, places)), "PYTHONDONTWRITEBYTECODE": "1"}
-    start, command = time.monotonic(), [sys.executable, str(TESTS / f"test_{name}.py")]
+    start, command = time.monotonic(), [sys.executable, __file__, "--here", name]
     done = subprocess.run(command, env=environment, stdin=subprocess.DEVNULL, stdout=subprocess.PIPE, stderr=subprocess.STDOUT)
     said, passed = done.stdout.decode(errors="replace"), done.returncode == 0
     print(f"---- {name}: {'passed' if passed else 'FAILED'} in {time.monotonic() - start:.0f} s\n{said}", end="", flush=True)
     return passed
 
 
+def here(name: str) -> int:
+    """Runs a test in this process: the checks that it lists, or what unittest finds in it."""
+    module = import_module(f"test_{name}")
+    if hasattr(module, "CHECKS"):
+        status: int = import_module("trying").main(module.CHECKS)
+        return status
+    return int(not unittest.main(module, argv=[name], exit=False).result.wasSuccessful())
+
+
 def main(words: List[str]) -> int:
     """Runs the tests that are named, side by side, and gives the status."""
+    if words[:1] == ["--here"]:
+        return here(words[1])
     names = [path.stem[5:] for path in sorted(TESTS.glob("test_*.py"))]
     parser = argparse.ArgumentParser(description=(__doc__ or "").partition("\n")[2], formatter_class=argparse.RawDescriptionHelpFormatter)
     parser.add_argument("--quick", action="store_true", help="those that the gate names")

@@ -5,11 +5,10 @@ of models are in the table of test_models.py.
 """
 from __future__ import annotations
 
-import sys
 from pathlib import Path
 from typing import Callable, Iterator, List, NamedTuple, Optional, Tuple
 
-from trying import PROGRAM, by_whom, checker, is_built, main, need, run
+from trying import PROGRAM, by_whom, checker, is_built, need, run
 
 MOST = 2**127 - 1  # of coefficients
 ACCEPTED = "# block 1 accepted claim 1 denominator 1"
@@ -224,6 +223,3 @@ def bounds(folder: Path) -> str:
 
 
 CHECKS: List[Callable[[Path], str]] = [bounds]
-
-if __name__ == "__main__":
-    sys.exit(main(CHECKS))

@@ -8,7 +8,6 @@ from __future__ import annotations
 
 import itertools
 import re
-import sys
 from pathlib import Path
 from random import Random
 from typing import Callable, Dict, Iterator, List, Tuple
@@ -18,7 +17,7 @@ import cancel_rows
 import test_chains
 from opprove.checkers.check import Problem
 from opprove.checkers.check import DONE, REFUSED
-from trying import GALLERY, LETTER, NUMBER, Answer, checker, lowered, main, need, replaced, run, tool, with_line
+from trying import GALLERY, LETTER, NUMBER, Answer, checker, lowered, need, replaced, run, tool, with_line
 from trying_second import Files, Second, files_in
 
 COUNT = 60  # random proofs
@@ -36,13 +35,7 @@ def cancelled(files: Files) -> Answer:
 
 
 def rows(folder: Path) -> str:
-    """The reports that were worked out by hand."""
-    files, found = files_in(folder), cancel_rows.runs()
-    for row in found:
-        files.write(row.statement, row.proof)
-        answer = cancelled(files)
-        need(answer.out == row.report, (row.name, row.proof[:1000], answer.out[:3000], row.report[:3000]))
-    return f"{len(found)} reports that were worked out by hand are those of {SECOND.by_whom()}"
+    return SECOND.rows(folder, cancel_rows.runs())
 
 
 def told(files: Files) -> int:
@@ -64,7 +57,6 @@ def gallery_proofs() -> List[Path]:
 
 
 def chains(folder: Path) -> str:
-    """What `opprove chain` makes of the rows and the gallery."""
     files, count = Files(folder, None), 0
     cases = [(row.statement, row.proof) for row in cancel_rows.runs() if " refused " not in row.report and len(row.proof) < LARGE]
     for evidence in gallery_proofs():
@@ -118,7 +110,6 @@ def others(folder: Path) -> str:
 
 
 def gallery(folder: Path) -> str:
-    """The proofs of the gallery."""
     files, claims = files_in(folder), 0
     for evidence in gallery_proofs():
         files.write(evidence.with_suffix(".op").read_text("utf-8"), evidence.read_text("utf-8"))
@@ -252,7 +243,3 @@ def random_proofs(folder: Path, count: int = COUNT) -> str:
 
 
 CHECKS: List[Callable[[Path], str]] = [calls, others, gallery, rows, chains, changes, random_proofs]
-
-
-if __name__ == "__main__":
-    sys.exit(main(CHECKS))

@@ -3,7 +3,6 @@ from __future__ import annotations
 
 import os
 import re
-import sys
 from pathlib import Path
 from typing import Callable, Iterator, List, Tuple
 
@@ -12,7 +11,7 @@ import trying_node
 from opprove.checkers import check
 from opprove.checkers.check import status_of
 from test_translations import TRANSLATIONS
-from trying import LETTER, NUMBER, STATEMENTS, Answer, built, checker, decided, main, need, replaced, run, stored, tool, with_line
+from trying import LETTER, NUMBER, STATEMENTS, Answer, built, checker, decided, need, replaced, run, stored, tool, with_line
 from trying_second import Second
 
 SECOND = Second(check)
@@ -45,7 +44,6 @@ def examples(folder: Path) -> str:
 
 
 def reports(folder: Path) -> str:
-    """The reports of prove on the gallery."""
     program, count = built(), 0
     for statement in decided():
         for number in (1, 2):
@@ -159,6 +157,3 @@ def bad_input(folder: Path) -> str:
 
 
 CHECKS: List[Callable[[Path], str]] = [examples, reports, changes, bad_input, trying_node.count]
-
-if __name__ == "__main__":
-    sys.exit(main(CHECKS))

@@ -9,7 +9,6 @@ where rustc is.
 from __future__ import annotations
 
 import re
-import sys
 from pathlib import Path
 from random import Random
 from typing import Callable, Iterator, List, Tuple
@@ -22,7 +21,7 @@ from opprove.checkers.check import Certificate, Evidence, Poly, Problem, Refusal
 from opprove.checkers.chain_text import Texts
 from opprove.checkers.check import DONE, FAULTY, REFUSED, status_of
 from explain_rows import Run
-from trying import NUMBER, PROGRAM, Answer, built, is_built, main, need, replaced, run, stored, tool, typeset, with_line
+from trying import NUMBER, PROGRAM, Answer, built, is_built, need, replaced, run, stored, tool, typeset, with_line
 from trying_second import UNREAD, Files, Second, files_in
 
 COUNT = 60  # random certificates
@@ -103,7 +102,6 @@ def evidence_of(row: Run, files: Files) -> str:
 
 
 def rows(folder: Path) -> str:
-    """The reports that were worked out by hand."""
     files, chains, found = files_in(folder), 0, explain_rows.runs()
     for row in found:
         files.write(row.statement, row.evidence)
@@ -208,7 +206,6 @@ FAULTS: List[Tuple[str, str, str]] = [  # what is put in the place of what in a 
 
 
 def faults(folder: Path) -> str:
-    """Chains that something is wrong with."""
     files, chain = Files(folder, None), folder / "faulty.chain"
     files.write(explain_rows.MULTIPLES, "")
     for old, new, line in FAULTS:
@@ -275,7 +272,6 @@ def examples(folder: Path) -> str:
 
 
 def proofs(folder: Path) -> str:
-    """The proofs of the examples in format 1."""
     program, files, chains, lines = built(), files_in(folder), 0, 0
     for statement in test_chains.decided():
         report = run(program, "prove", statement, "--pairs", 2000, "--format", 1).out
@@ -354,7 +350,3 @@ def latex(folder: Path) -> str:
 
 
 CHECKS: List[Callable[[Path], str]] = [rows, calls, texts, faults, examples, proofs, random_certificates, latex]
-
-
-if __name__ == "__main__":
-    sys.exit(main(CHECKS))

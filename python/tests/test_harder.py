@@ -170,16 +170,10 @@ def summed(generators: List[Poly], rows: List[Row]) -> Poly:
     return total
 
 
-def problem_of(folder: Path, text: str) -> Problem:
-    path = folder / "drawn.op"
-    path.write_text(text)
-    return Problem(str(path))
-
-
-def drawn_pair(draws: random.Random, folder: Path) -> Optional[Pair]:
+def drawn_pair(draws: random.Random) -> Optional[Pair]:
     """The lemma is a sum of rows, divided by its scale; its adjoint, its negative or a double may be what is assumed."""
     sums = [drawn_sum(draws) for _ in range(draws.randint(1, 4))]
-    first = problem_of(folder, text_with(sums, "a"))
+    first = Problem(text_with(sums, "a").encode())
     scale = draws.choice([1, 1, 2, 3])
     rows = drawn_rows(draws, first.generators(), [2])
     total = summed(first.generators(), rows)
@@ -189,7 +183,7 @@ def drawn_pair(draws: random.Random, folder: Path) -> Optional[Pair]:
     one = evidence(first, Certificate(1, scale, [Share(scale, rows)]))
     assumed = add({}, draws.choice([1, -1, 2]), draws.choice([lemma, first.star(lemma)]))
     others = draws.sample(sums, draws.randint(0, len(sums)))
-    second = problem_of(folder, text_with([text_of(assumed, first.names), *others], "a"))
+    second = Problem(text_with([text_of(assumed, first.names), *others], "a").encode())
     steps = drawn_rows(draws, second.generators(), [2])
     claim = summed(second.generators(), steps)
     two = evidence(second, Certificate(1, 1, [Share(1, steps)]))
@@ -246,7 +240,7 @@ def compositions(folder: Path, count: int = COUNT) -> str:
     """Pairs lemma by lemma, each accepted for its whole, and refused where a piece that is used was changed."""
     draws, done, by_join = random.Random(3), 0, 0
     while done < count:
-        pair = drawn_pair(draws, folder)
+        pair = drawn_pair(draws)
         text = joined(pair, folder) if pair else ""
         if pair and "lemma" in text:
             need(is_accepted(folder, text), (pair, text))

@@ -6,13 +6,12 @@ from __future__ import annotations
 
 import random
 import re
-import sys
 from pathlib import Path
 from typing import Callable, Iterator, List, NamedTuple, Optional
 
 import test_words
 from opprove.checkers.check import Problem, Refusal
-from trying import EXAMPLES, GALLERY, PROGRAM, STATEMENTS, Answer, built, by_whom, checker, is_built, is_second, main, need, run
+from trying import EXAMPLES, GALLERY, PROGRAM, STATEMENTS, Answer, built, by_whom, checker, is_built, is_second, need, run
 
 ZERO = "certificate 2 / claim 1 / denominator 1 / goal scale 1 / end"
 ACCEPTED = "# block 1 accepted claim 1 denominator 1"
@@ -219,7 +218,6 @@ TABLES = [
 
 
 def rows(folder: Path) -> str:
-    """All rows of all tables."""
     for command, table in TABLES:
         for row in table:
             tried(row, command, folder)
@@ -286,6 +284,3 @@ def reports_in_front(folder: Path) -> str:
 
 
 CHECKS: List[Callable[[Path], str]] = [rows, in_front, reports_in_front]
-
-if __name__ == "__main__":
-    sys.exit(main(CHECKS))

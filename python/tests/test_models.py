@@ -3,7 +3,6 @@ from __future__ import annotations
 
 import itertools
 import re
-import sys
 from pathlib import Path
 from typing import Callable, Dict, Iterator, List, Optional, Tuple
 
@@ -11,7 +10,7 @@ import trying_node
 from opprove.checkers import candidates
 from opprove.checkers import check_model
 from opprove.checkers.check import Problem, Refusal
-from trying import GALLERY, PROGRAM, Answer, built, by_whom, checker, decided, is_built, main, need, run, with_line
+from trying import GALLERY, PROGRAM, Answer, built, by_whom, checker, decided, is_built, need, run, with_line
 from trying_second import Second
 
 SECOND = Second(check_model)
@@ -162,7 +161,6 @@ GREEDY: List[str] = [
 
 
 def models(folder: Path) -> str:
-    """The table of models."""
     statement, text = folder / "statement.op", folder / "models"
     for words, evidence, want in MODELS:
         statement.write_bytes(words)
@@ -186,7 +184,6 @@ def changed(text: str) -> Iterator[str]:
 
 
 def changed_models(folder: Path) -> str:
-    """Models of the table that are confirmed, with changes."""
     statement, text = folder / "statement.op", folder / "models"
     count = 0
     for words, evidence, want in MODELS:
@@ -235,7 +232,6 @@ def searched(statement: Path, seed: int, folder: Path) -> None:
 
 
 def searches(folder: Path) -> str:
-    """The table of searches."""
     statement, count = folder / "statement.op", 0
     for text, seeds in SEARCHED:
         statement.write_text(text, encoding="utf-8")
@@ -292,6 +288,3 @@ def greedy_solutions(folder: Path) -> str:
 
 
 CHECKS: List[Callable[[Path], str]] = [models, changed_models, searches, greedy_solutions, trying_node.count]
-
-if __name__ == "__main__":
-    sys.exit(main(CHECKS))

@@ -1,13 +1,12 @@
-"""Tries the package of Python: test_package.py [PYTHON ..]
+"""Tries the package of Python.
 
-The package is installed by pip, without network, into a fresh venv of this Python, and of each other one that is named, and
-what stands below is tried there. The program is that of OPPROVE or the built one; what needs one is skipped where there is none.
+The package is installed by pip, without network, into a fresh venv, and what stands below is tried there too. The program is that of
+OPPROVE or the built one; what needs one is skipped where there is none.
 Each check gives a line, and raises Failed where the package doesn't do what it should. The status is 0 where nothing failed.
 """
 from __future__ import annotations
 
 import dataclasses
-import functools
 import os
 import re
 import shutil
@@ -24,9 +23,8 @@ from opprove import program as programs
 from opprove import text
 from opprove.checkers import check
 from opprove.text import StatementText
-import trying
 from opprove import Equation, Expression, NotTyped, Object, Refused, Report, Statement, Verdict, from_sympy
-from trying import EXAMPLES, GALLERY, STATEMENTS, TESTS, TOP, Failed, Skipped, built, decided, need, run, tool, typeset, usage_line
+from trying import EXAMPLES, GALLERY, STATEMENTS, TESTS, TOP, Failed, Skipped, built, decided, main, need, run, tool, typeset, usage_line
 
 
 def program() -> str:
@@ -124,10 +122,8 @@ def polys(problem: check.Problem) -> Tuple[object, ...]:
     return problem.names, problem.ends, problem.is_starred, problem.assumptions, problem.claims
 
 
-def problem_of(folder: Path, text: str) -> check.Problem:
-    path = folder / "statement.op"
-    path.write_text(text, encoding="utf-8")
-    return check.Problem(str(path))
+def problem_of(text: str) -> check.Problem:
+    return check.Problem(text.encode())
 
 
 def gallery(folder: Path) -> str:
@@ -135,20 +131,15 @@ def gallery(folder: Path) -> str:
     for build in WRITTEN:
         build(made := Statement())
         path = GALLERY[build.__name__]
-        need(polys(problem_of(folder, str(made))) == polys(check.Problem(str(path))), (path, str(made)))
+        need(polys(problem_of(str(made))) == polys(check.Problem(str(path))), (path, str(made)))
     for path in STATEMENTS:
         made, read, problem = Builder(path).statement, Statement.read(path), check.Problem(str(path))
-        need(polys(problem_of(folder, str(made))) == polys(problem), (path, str(made)))
-        need(str(read) == path.read_text() and str(Statement.read(problem_file(folder, str(read)))) == str(read), path)
+        need(polys(problem_of(str(made))) == polys(problem), (path, str(made)))
+        need(str(read) == path.read_text() and str(Statement.parse(str(read))) == str(read), path)
         need(len(read.claims) == len(problem.claims) == len(made.claims), path)
         lines = [[token.text for token in check.tokens_of(line, 1)] for line in str(made).split("\n")]
         need({token for line in lines for token in line} >= {*made.names} and {*made.names} == {*read.names}, path)
     return f"{len(STATEMENTS)} statements are built from objects, {len(WRITTEN)} of them by hand, and read and written"
-
-
-def problem_file(folder: Path, text: str) -> Path:
-    problem_of(folder, text)
-    return folder / "statement.op"
 
 
 def heads(folder: Path) -> str:
@@ -322,7 +313,7 @@ def times(left: Poly, right: Poly) -> Poly:
 def expressions(folder: Path) -> str:
     """The written text of random expressions has, by check.py, the polynomial that they were multiplied out to."""
     samples = Samples(7)
-    problem = problem_of(folder, str(samples.statement))
+    problem = problem_of(str(samples.statement))
     for number in range(1000):
         source, target = (samples.random.choice(samples.objects) for _ in range(2))
         one = samples.sample(source, target, samples.random.randint(1, 5))
@@ -388,7 +379,7 @@ def sympy(folder: Path) -> str:
     U, V = s.objects("U V")
     a, x = s.map("a", U, V), s.map("x", V, U)
     maps = {"a": a, X: x}
-    problem = problem_of(folder, f"{s}claim a = a\n")
+    problem = problem_of(f"{s}claim a = a\n")
     cases = [
         (A * X * A - 2 * A, a * x * a - 2 * a), (1 - A * X, 1 - a * x), (3 * (A * X) ** 2 + A * X - 5, 3 * (a * x) ** 2 + a * x - 5),
         (sympy.adjoint(A * X), (a * x).H), (sympy.adjoint(A) * A, a.H * a), (A * (1 - X * A) * X, a * (1 - x * a) * x),
@@ -508,8 +499,6 @@ def in_words(folder: Path) -> str:
     return "options by their names, a refusal in words, and claims as text"
 
 
-CHECKS: List[Callable[[Path], str]] = [gallery, expressions, refusals, stored, statuses, sympy, notebook, real_statuses, heads, in_words]
-
 # ---- In a fresh venv
 
 ALONE = """
@@ -527,11 +516,11 @@ def builder() -> str:
     raise Skipped("no Python has setuptools and wheel")
 
 
-def in_venv(folder: Path, python: str = "") -> str:
+def in_venv(folder: Path) -> str:
     """Installs the package, and tries it there."""
     room = folder / "venv"
     own = room / "bin" / "python"
-    patiently(python or builder(), "-m", "venv", "--system-site-packages", room)
+    patiently(builder(), "-m", "venv", "--system-site-packages", room)
     source = shutil.copytree(TOP / "python", folder / "source", ignore=shutil.ignore_patterns("tests", "build", "*.egg-info"))
     patiently(own, "-m", "pip", "install", "--no-index", "--no-build-isolation", "--quiet", "--disable-pip-version-check", source)
     answer = run(own, "-I", "-c", ALONE, folder=folder)
@@ -549,11 +538,9 @@ def patiently(*words: object, **more: str) -> None:
     need(done.returncode == 0, words)
 
 
-def main(words: List[str]) -> int:
-    """Tries the package as it is found, and installed: for Python with setuptools, or for those that are named."""
-    there = [functools.partial(in_venv, python=python) for python in words] or [in_venv]
-    return trying.main(CHECKS if words == ["here"] else [*(CHECKS if not words else []), *there])
-
+CHECKS: List[Callable[[Path], str]] = [
+    gallery, expressions, refusals, stored, statuses, sympy, notebook, real_statuses, heads, in_words, in_venv,
+]  # fmt: skip
 
 if __name__ == "__main__":
-    sys.exit(main(sys.argv[1:]))
+    sys.exit(main(CHECKS[:-1] if sys.argv[1:] == ["here"] else CHECKS))

@@ -2,7 +2,6 @@
 from __future__ import annotations
 
 import re
-import sys
 import time
 import xml.etree.ElementTree
 from math import gcd
@@ -12,7 +11,7 @@ from typing import Callable, List
 
 from opprove.translations import picture
 from opprove.checkers.check import Problem
-from trying import EXAMPLES, STATEMENTS, Answer, Skipped, installed, main, need, run, tool, typeset
+from trying import EXAMPLES, STATEMENTS, Answer, Skipped, installed, need, run, tool, typeset
 
 
 # Statements whose pictures are hard: names beyond ASCII and long ones, many maps with the same ends, objects with no map,
@@ -115,6 +114,3 @@ def tikz(folder: Path) -> str:
 
 
 CHECKS: List[Callable[[Path], str]] = [drawn, lambda folder: known(), lambda folder: twelve(), graphviz, tikz]
-
-if __name__ == "__main__":
-    sys.exit(main(CHECKS))

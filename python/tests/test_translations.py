@@ -6,7 +6,7 @@ import sys
 from pathlib import Path
 from typing import Callable, List
 
-from trying import EXAMPLES, Answer, Skipped, installed, main, need, run, stored, tool, typeset
+from trying import EXAMPLES, Answer, Skipped, installed, need, run, stored, tool, typeset
 
 TRANSLATIONS = {"singular": ".sing", "sympy": "_sympy.py", "latex": ".tex", "coq": ".v"}
 
@@ -56,6 +56,3 @@ def latex(folder: Path) -> str:
 
 
 CHECKS: List[Callable[[Path], str]] = [translations, singular, sympy, cofactors, latex]
-
-if __name__ == "__main__":
-    sys.exit(main(CHECKS))

@@ -1,11 +1,10 @@
 """Tries the types of the package: mypy --strict has nothing to say."""
 from __future__ import annotations
 
-import sys
 from pathlib import Path
 from typing import Callable, List
 
-from trying import SOURCE, TOP, installed, main, need, run
+from trying import SOURCE, TOP, installed, need, run
 
 
 def types(folder: Path) -> str:
@@ -15,6 +14,3 @@ def types(folder: Path) -> str:
 
 
 CHECKS: List[Callable[[Path], str]] = [types]
-
-if __name__ == "__main__":
-    sys.exit(main(CHECKS))

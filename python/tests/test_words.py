@@ -115,7 +115,6 @@ def is_run(case: Case) -> bool:
 
 
 def write(folder: Path) -> None:
-    """Writes all cases anew."""
     texts = []
     for case in cases():
         with inside(folder, case):

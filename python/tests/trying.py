@@ -17,18 +17,11 @@ TOP = Path(__file__).resolve().parents[2]
 EXAMPLES, LIBRARY, SOURCE, TESTS = TOP / "examples", TOP / "library", TOP / "python" / "src", TOP / "python" / "tests"
 # The statements of the library that the gate's tables have too, by name.
 GALLERY = {
-    name: LIBRARY / chapter / f"{name}.op"
-    for chapter, names in (
-        ("block_matrices", "pseudoinverse_of_row woodbury"),
-        ("diagrams", "short_five_lemma"),
-        ("false", "braid_relation one_sided_inverse two_sided_equation_condition"),
-        ("linear_equations", "common_solution normal_equations two_sided_equation"),
-        ("moore_penrose", "adjoint_of_pseudoinverse moore_penrose_unique"),
-        ("other_inverses", "drazin_commutes full_rank_factorization"),
-        ("reverse_order_laws", "reverse_order_inverse"),
-        ("rings", "commutator_square evaluation_idempotent jacobson_lemma left_and_right_inverse push_through resolvent"),
-    )
-    for name in names.split()
+    name: next(path for path in LIBRARY.glob(f"*/{name}.op") if path.parent.name != "harder")
+    for name in "adjoint_of_pseudoinverse braid_relation common_solution commutator_square drazin_commutes evaluation_idempotent"
+    " full_rank_factorization jacobson_lemma left_and_right_inverse moore_penrose_unique normal_equations one_sided_inverse"
+    " pseudoinverse_of_row push_through resolvent reverse_order_inverse short_five_lemma two_sided_equation"
+    " two_sided_equation_condition woodbury".split()
 }  # fmt: skip
 STATEMENTS = sorted([*EXAMPLES.glob("**/*.op"), *GALLERY.values(), *LIBRARY.glob("harder/*.op")])  # that tools are tried on
 os.environ["PYTHONPATH"] = f"{SOURCE}:{TESTS}"  # for the scripts that are run

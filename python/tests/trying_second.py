@@ -6,7 +6,7 @@ import re
 import subprocess
 from pathlib import Path
 from types import ModuleType
-from typing import List, NamedTuple, Optional, Sequence
+from typing import List, NamedTuple, Optional, Sequence, Tuple
 
 import trying_node
 from opprove import tool
@@ -73,6 +73,16 @@ class Second:
 
     def answered(self, files: Files) -> Answer:
         return self.agreed(files.statement, files.evidence, files.plain if self.is_plain(files) else None)
+
+    def rows(self, folder: Path, rows: Sequence[Tuple[str, str, str, str]]) -> str:
+        """Those that were worked out by hand: of each its name, the statement, the evidence and the report."""
+        files = files_in(folder)
+        for name, statement, evidence, report in rows:
+            files.write(statement, evidence)
+            answer = self.answered(files)
+            status = check.FAULTY if report.startswith("# refused S") else check.REFUSED if " refused " in report[-200:] else check.DONE
+            need(answer == Answer(status, report, ""), (name, evidence[:1000], answer.status, answer.out[:SHOWN], report[:SHOWN]))
+        return f"{len(rows)} reports that were worked out by hand are those of {self.by_whom()}"
 
     def is_plain(self, files: Files) -> bool:
         """Whether plain.rs reads both files."""

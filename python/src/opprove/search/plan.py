@@ -106,7 +106,7 @@ class Plan:
         self.closed: Set[str] = set()  # texts that no larger budget helps
         self.names = {"lemmas written"}  # of variants that proved something, or that are cheap where there is a lemma
         self.batches: List[Batch] = []
-        self.pending: Set[Batch] = set()  # those that are among the batches
+        self.pending: Set[Tuple[int, int, int]] = set()  # those that are among the batches, without their turns
         self.jobs: List[Job] = []
         self.begin()
         for place, goal in enumerate(self.goals, 1):
@@ -124,10 +124,10 @@ class Plan:
 
     def push(self, kind: int, place: int, level: int) -> None:
         others = sum(goal is not self.goals[place - 1] and not goal.verdict for goal in self.goals) if place else 0
-        batch = (turn(kind, level) + others.bit_length(), place, kind, level)  # a claim among many has its share
-        if batch not in self.pending:
-            self.pending.add(batch)
-            heappush(self.batches, batch)
+        if (place, kind, level) not in self.pending:
+            self.pending.add((place, kind, level))
+            # a claim among many has its share
+            heappush(self.batches, (turn(kind, level) + others.bit_length(), place, kind, level))
 
     def begin(self, job: Optional[Job] = None) -> None:
         """Begins with all goals again where a job has made a new lemma. What was tried isn't tried again."""
@@ -159,9 +159,8 @@ class Plan:
 
     def expand(self) -> None:
         """Makes the jobs of the next batch, and puts the batch with a larger budget behind the others."""
-        batch = heappop(self.batches)
-        self.pending.remove(batch)
-        _, place, kind, level = batch
+        _, place, kind, level = heappop(self.batches)
+        self.pending.remove((place, kind, level))
         goals = [self.goals[place - 1]] if place else self.goals
         found = [job for job in self.batch(goals, kind, level) if job.goals and job.is_open() and job.text not in self.closed]
         self.jobs = found[::-1]

@@ -13,6 +13,8 @@ from random import Random
 from typing import Callable, Dict, List, NamedTuple, Tuple
 
 from opprove.checkers.check import Problem, loaded
+from opprove.checkers.check_model import declared_maps
+from opprove.checkers.tree import objects_of
 from opprove.tool import ended, parser
 from opprove.translations.latex import name_in_latex
 
@@ -184,14 +186,8 @@ def picture(objects: List[str], maps: List[Tuple[str, str, str]]) -> Picture:
 
 
 def picture_of(problem: Problem) -> Picture:
-    names, count = problem.names, sum(name[0] == "[" for name in problem.names)
-    objects = [name[1:-1] for name in names[:count]]
-    maps = [
-        (names[letter], objects[problem.ends[letter][0]], objects[problem.ends[letter][1]])
-        for letter in range(count, len(names))
-        if problem.stars[letter] >= letter
-    ]
-    return picture(objects, maps)
+    objects, ends = objects_of(problem), {letter: problem.ends[letter] for letter in declared_maps(problem)}
+    return picture(objects, [(problem.names[letter], objects[source], objects[target]) for letter, (source, target) in ends.items()])
 
 
 # ---- Texts

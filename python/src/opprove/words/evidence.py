@@ -9,7 +9,7 @@ from typing import Iterator, List, NamedTuple, Optional, Tuple
 from opprove.checkers import cancel
 from opprove.checkers import check_model
 from opprove.checkers import confirm
-from opprove.checkers.chain_text import Lines
+from opprove.checkers.chain_text import BOUNDS, Lines
 from opprove.checkers.check import Evidence, Poly, Problem, add, greatness, is_letter, sum_text
 from opprove.checkers.confirm import is_number
 from opprove.words import calls
@@ -153,12 +153,6 @@ class Fault(NamedTuple):
     def told(self, sentence: str, entry: Entry, place: int = -1, more: Tuple[str, ...] = ()) -> Told:
         return Told(sentence, self.text.quote(entry.line, place), more)
 
-    def noun(self) -> str:
-        return self.text.kind
-
-    def nouns(self) -> str:
-        return "bases" if self.text.kind == "basis" else f"{self.text.kind}s"
-
 
 # ---- K1 to K7: the text
 
@@ -278,25 +272,17 @@ def undeclared(fault: Fault) -> Told:
 
 def bound(fault: Fault) -> Told:
     entry = fault.entry()
-    words, most = entry.words, 2**32 - 1
-    if words[0] in ("denominator", "lemma", "goal"):
-        places, most = [len(words) - 1], LIMIT_OF_NUMBERS
-        if words[0] == "lemma" and int(words[1]) > 2**32 - 1:
-            places, most = [1], 2**32 - 1
-    elif words[0] == "row" and abs(int(words[1])) > LIMIT_OF_NUMBERS:
-        places, most = [1], LIMIT_OF_NUMBERS
-    elif words[0] == "modulus":
-        places, most = [1], 2**31 - 1
-    elif words[0] == "map":
+    words = entry.words
+    if words[0] == "map":
         modulus = int(fault.text.of_block(entry.block, "modulus")[0].words[1])
         place = next(place for place, word in enumerate(words) if place > 2 and word.isdigit() and int(word) >= modulus)
         told = f"the numbers of a matrix are below the modulus {modulus}, and here stands {short(words[place], 40)}"
         return fault.told(told, entry, place)
-    else:
-        most = LIMIT_OF_NUMBERS if words[0] in ("rule", "rest") else most
-        places = [place for place, word in enumerate(words) if place and word.isdigit() and int(word) > most]
+    places = [place for place, word in enumerate(words) if re.fullmatch("-?[0-9]+", word)]
+    bounds = BOUNDS.get(words[0]) or [2**31 - 1 if words[0] == "modulus" else LIMIT_OF_NUMBERS] * len(places)
+    place, most = next((place, most) for place, most in zip(places, bounds) if abs(int(words[place])) > most)
     size = f"this number is at most {'2^127 - 1' if most > 2**32 else f'{most:,}'}"
-    return fault.told(f"{size}, and {short(words[places[0]], 60)} stands here", entry, places[0])
+    return fault.told(f"{size}, and {short(words[place], 60)} stands here", entry, place)
 
 
 def limit(fault: Fault) -> Told:
@@ -309,7 +295,8 @@ def limit(fault: Fault) -> Told:
     if most == 64:
         return fault.told("sides, and the rows and columns of a matrix, are at most 64", entry)
     if most == 100:
-        return fault.told(f"a text has at most 100 {fault.nouns()}, and here begins the 101st", entry)
+        nouns = "bases" if fault.text.kind == "basis" else f"{fault.text.kind}s"
+        return fault.told(f"a text has at most 100 {nouns}, and here begins the 101st", entry)
     counted_items = "items" if fault.text.kind == "cancellation" else "lemmas"
     what = "letters in the words of its rows" if most == 1000000 else counted_items if entry.words[0] in ITEMS else "rows"
     return fault.told(f"a block has at most {most:,} {what}, and with this line it has more", entry)
@@ -332,10 +319,10 @@ def unended(fault: Fault) -> Told:
 def none_there(fault: Fault) -> Told:
     kinds = [entry.words[0] for entry in fault.text.entries if entry.line == entry.begins]
     found = [counted(kinds.count(kind), f"`{kind}` block") for kind in (*OTHERS,) if kind in kinds]
-    other = next((command for command, kind in READS.items() if kinds[:1] == [kind] and kind != fault.noun()), "")
+    other = next((command for command, kind in READS.items() if kinds[:1] == [kind] and kind != fault.text.kind), "")
     more = f", which `./opprove {other}` reads" if other else ""
     size = "it is empty" if not fault.text.data.strip() else "it has no block"
-    return Told(f"there is no {fault.noun()} in {fault.text.path}: {'it has ' + few(found) if found else size}{more}")
+    return Told(f"there is no {fault.text.kind} in {fault.text.path}: {'it has ' + few(found) if found else size}{more}")
 
 
 # ---- C1 to C11: certificates
@@ -356,7 +343,7 @@ def letters(problem: Problem, text: str) -> Tuple[int, ...]:
 
 def claim_number(fault: Fault) -> Told:
     entry, claims = fault.first("claim"), len(fault.problem().claims)
-    return fault.told(f"the {fault.noun()} names claim {entry.words[1]}, and the statement has {counted(claims, 'claim')}", entry, 1)
+    return fault.told(f"the {fault.text.kind} names claim {entry.words[1]}, and the statement has {counted(claims, 'claim')}", entry, 1)
 
 
 def generator(fault: Fault) -> Told:
@@ -391,27 +378,11 @@ def both_sums(fault: Fault, word: str, times: str) -> Tuple[str, ...]:
     """Both sides, where the evidence isn't large."""
     if len(fault.text.data) > LARGE:
         return ()
-    problem = fault.problem()
-    if fault.text.kind == "cancellation":
-        proof = proof_of(fault)
-        goal, total = proof.items[-1], sums_of(fault).sum(proof.items[-1])
-        want = add({}, goal.scale, problem.claims[proof.claim - 1])
-    else:
-        total, want = sums_of_certificate(problem, fault)
+    problem, proof = fault.problem(), proof_of(fault)
+    goal, total = proof.items[-1], sums_of(fault).sum(proof.items[-1])
+    want = add({}, goal.scale, problem.claims[proof.claim - 1])
     least = letters(problem, word)
     return f"  {'the rows:'.ljust(len(times) + 1)} {shown(problem, total, least)}", f"  {times}: {shown(problem, want, least)}"
-
-
-def sums_of_certificate(problem: Problem, fault: Fault) -> Tuple[Poly, Poly]:
-    certificate = Evidence(problem, fault.text.path).certificates[fault.block - 1]
-    generators = problem.generators()
-    lemmas: List[Poly] = []
-    for share in certificate.shares:
-        total: Poly = {}
-        for row in share.rows:
-            add(total, row.coefficient, (lemmas if row.is_lemma else generators)[row.number - 1], row.left, row.right)
-        lemmas.append({it: total[it] // share.scale for it in total})
-    return total, add({}, certificate.shares[-1].scale, problem.claims[certificate.claim - 1])
 
 
 def lemma_number(fault: Fault) -> Told:
@@ -588,7 +559,11 @@ def basis_stops(fault: Fault) -> Told:
 
 
 def proof_of(fault: Fault) -> cancel.Cancellation:
-    return cancel.Cancellations(fault.problem(), fault.text.path).proofs[fault.block - 1]
+    """The proof of a block; a certificate is one that takes no letters off."""
+    if fault.text.kind == "cancellation":
+        return cancel.Cancellations(fault.problem(), fault.text.path).proofs[fault.block - 1]
+    claim, denominator, shares = Evidence(fault.problem(), fault.text.path).certificates[fault.block - 1]
+    return cancel.Cancellation(claim, denominator, [], [], [*shares])
 
 
 def sums_of(fault: Fault, count: int = 0) -> cancel.Items:

@@ -8,7 +8,7 @@ import subprocess
 from typing import Callable, Dict, Iterator, List, NamedTuple, Optional, Tuple
 
 from opprove.checkers import check_model
-from opprove.checkers.check import Line, Problem, add
+from opprove.checkers.check import Line, Problem
 from opprove.program import files, path
 from opprove.text import sections
 from opprove.translations import chain
@@ -61,13 +61,8 @@ class Asked(NamedTuple):
 
 def sources(problem: Problem) -> List[Tuple[int, str]]:
     """For each generator the line of the statement that it stems from, and what it is of that line; 0 for a relation of identities."""
-    lines = [line for line in problem.lines for _ in (problem.equations(line) if line.tokens[0].text != "claim" else [])]
-    found = [(line.tokens[0].line, "") for line in lines]
-    if problem.is_starred:
-        for poly, line in zip(problem.assumptions, lines):
-            star = problem.star(poly)
-            if star not in (poly, add({}, -1, poly)):
-                found.append((line.tokens[0].line, "adjoint"))
+    reader = chain.Reader(problem)
+    found = [(reader.assumptions[number - 1].line[0].line, "adjoint" * is_adjoint) for number, is_adjoint in reader.sources]
     return found + [(0, "")] * (len(problem.generators()) - len(found))
 
 
