@@ -202,6 +202,7 @@ assumed besides, what is left out, and the verdict,
 which `dev/try.py library` compares with what the program and the second checkers say.
 What `prove` doesn't find by its defaults has its evidence beside it: `.cert` for `check`, `cancel` or, with rational matrices,
 `check_model.py`; `.model` for `model`; `.star` for `star.py`. The verdict of the others is that of `./opprove prove FILE`.
+A `.report` has shorter proofs than `prove` prints, by `./opprove shortest`.
 
 [index.tsv](index.tsv) has a row for each file, with the denominators, the rows of all claims, the steps of the longest chain, the seconds
 of `prove`, and the sections of the documents where it is used; `dev/library_index.py` writes it and this page.
