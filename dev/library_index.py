@@ -26,7 +26,8 @@ INDEX = LIBRARY / "index.tsv"
 FIELDS = ("THEOREM", "SOURCE", "ASSUMES", "LEAVES OUT", "VERDICT")
 COLUMNS = ("chapter", "name", "verdict", "denominators", "rows", "steps", "seconds", "used in", "theorem", "source")
 BESIDE = re.compile("proved by (cancelling|search)|proved for complex|refuted")  # what evidence beside the file says alone
-DOCUMENTS = ("README.md", "docs/GUIDE.md", "docs/TOOLS.md", "docs/COMMANDS.md")  # in whose sections theorems are used
+DOCUMENTS = [TOP / "README.md", *(TOP / "docs" / f"{name}.md" for name in ("GUIDE", "TOOLS", "COMMANDS"))]  # where theorems are used
+DOCUMENTS += sorted((TOP / "docs" / "tutorials").glob("*.md"))
 
 
 class Fault(Exception):
@@ -147,9 +148,10 @@ def steps(statement: str, report: str) -> int:
 def used_in(path: Path) -> str:
     """The sections of the documents in which a file is used."""
     found: Dict[str, None] = {}
-    for name in DOCUMENTS:
-        title, section = Path(name).stem, ""
-        for line in (TOP / name).read_text("utf-8").split("\n"):
+    for document in DOCUMENTS:
+        title, section = document.stem, ""
+        for line in document.read_text("utf-8").split("\n"):
+            title = line[len("# Tutorial: ") :] if line.startswith("# Tutorial: ") else title
             section = line.lstrip("# ") if line.startswith("## ") else section
             if f"{path.parent.name}/{path.name}" in line:
                 found[f"{title}, {section}" if section else title] = None
@@ -197,9 +199,10 @@ INTRODUCTION = """# The library
 
 Theorems on matrices and operators, a file each, in chapters. A file opens with its theorem, its source where that is certain, what is
 assumed besides, what is left out, and the verdict,
-which `python/tests/test_library.py all` compares with what the program and the second checkers say.
+which `dev/try.py library` compares with what the program and the second checkers say.
 What `prove` doesn't find by its defaults has its evidence beside it: `.cert` for `check`, `cancel` or, with rational matrices,
 `check_model.py`; `.model` for `model`; `.star` for `star.py`. The verdict of the others is that of `./opprove prove FILE`.
+A `.report` has shorter proofs than `prove` prints, by `./opprove shortest`.
 
 [index.tsv](index.tsv) has a row for each file, with the denominators, the rows of all claims, the steps of the longest chain, the seconds
 of `prove`, and the sections of the documents where it is used; `dev/library_index.py` writes it and this page.

@@ -49,7 +49,6 @@ def copied() -> Text:
 
 
 def large_statement() -> str:
-    """That of row 53, with its assumption as a second claim."""
     text = cancel_rows.large()
     assumption = next(line for line in text.split("\n") if line.startswith("assume "))
     return text + assumption.replace("assume ", "claim ", 1) + "\n"

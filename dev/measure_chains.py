@@ -11,6 +11,8 @@ from __future__ import annotations
 import re
 import subprocess
 import sys
+from concurrent.futures import ProcessPoolExecutor
+from itertools import repeat
 from pathlib import Path
 from statistics import median
 from typing import Dict, Iterator, List, NamedTuple, Sequence, Tuple
@@ -21,7 +23,7 @@ from opprove.program import Refused, run
 from opprove.translations.chain import EFFORT, Reader, proofs_of
 
 LONG, SECONDS = 60, 120
-EVIDENCE = (".cert", ".star")
+EVIDENCE = (".report", ".cert", ".star")
 
 
 class Length(NamedTuple):
@@ -70,12 +72,15 @@ def main(words: List[str]) -> int:
         print("usage: measure_chains.py FOLDER [EFFORT]")
         return 2
     effort = int(words[1]) if words[1:] else EFFORT
+    pairs = [(entry, statement) for entry in entries_of(Path(words[0])) for statement in entry.statements]
     found: List[Tuple[str, Length]] = []
-    for entry in entries_of(Path(words[0])):
-        for statement in entry.statements:
-            of_claims = lengths(statement, words_of(entry.fields["VERDICT"]), effort)
+    with ProcessPoolExecutor() as pool:
+        options = [words_of(entry.fields["VERDICT"]) for entry, _ in pairs]
+        of_statements = pool.map(lengths, [statement for _, statement in pairs], options, repeat(effort))
+        for (entry, statement), of_claims in zip(pairs, of_statements):
             found += [(f"{entry.chapter}/{statement.name} {claim}", one) for claim, one in sorted(of_claims.items())]
-    print("\n".join(f"{name}\t{one.steps}\t{one.longest}" for name, one in found))
+            for name, one in found[len(found) - len(of_claims) :]:
+                print(f"{name}\t{one.steps}\t{one.longest}", flush=True)
     print("\n".join(table(found)))
     return 0
 

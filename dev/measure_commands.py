@@ -32,7 +32,6 @@ def many_maps(claimed: str) -> Callable[[], Text]:
 
 
 def many_models() -> Text:
-    """A hundred models, in which all maps are 1."""
     maps = "".join(f"map k{number} = 1\n" for number in range(1, 1001))
     return itertools.repeat(f"model 1\nclaim 1\nmodulus 2\nside U 1\n{maps}end\n", 100)
 
@@ -60,7 +59,6 @@ COMMANDS = [
 
 
 def row(command: Command, folder: Path) -> str:
-    """A line of the table. The same report is asked of the statement beside it."""
     paths, out = [folder / "statement.op", folder / "evidence.cert"], folder / "out"
     size = write(paths[0], command.statement())
     size += write(paths[1], command.evidence()) if command.evidence else 0

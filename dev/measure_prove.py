@@ -50,14 +50,12 @@ def prove_words(statement: Path, pairs: int, workers: int) -> List[str]:
 
 
 def calls(text: str, pairs: int, plain: str, folder: Path) -> Tuple[List[str], List[str]]:
-    """The calls of both programs on a statement."""
     statement = folder / "statement.op"
     write(statement, iter([text]))
     return prove_words(statement, pairs, 1), [plain, str(write_tree(statement)), "--pairs", str(pairs), "--format", "1"]
 
 
 def both(text: str, pairs: int, plain: str, folder: Path) -> Tuple[Usage, Usage]:
-    """The runs of both programs on a statement."""
     out = folder / "out"
     own_words, words = calls(text, pairs, plain, folder)
     other = least(words, out, lambda status, text: status == 0)

@@ -6,7 +6,6 @@ its box; a paper of each chapter, set by pdflatex; and the theorems of a chapter
 from __future__ import annotations
 
 import re
-import sys
 import tempfile
 from pathlib import Path
 from typing import Callable, Dict, List
@@ -15,7 +14,8 @@ from urllib.parse import unquote
 
 from browser import Browser, Links
 from opprove.page.pages import entries_of, titles_of
-from trying import LIBRARY, TESTS, Skipped, built, installed, need, run, tool
+from test_library import page, whole
+from trying import LIBRARY, Skipped, built, installed, need, run, tool
 
 OF_COQ = "linear_equations"  # the chapter whose theorems Coq checks
 POINTS = 4  # by which a line of a paper may be too wide
@@ -26,14 +26,6 @@ FOUND = (  # what is typed into the box, and theorems that are to be found
     ("a b a = b a b", ["garside", "braid relation"]), ("(a b)+ = b+ a+", ["greville one condition"]),
     ("x : U -> V, y : V -> U, x y x = x", ["moore penrose unique"]), ("reverse order, 1966", ["greville-i-ii"]),
 )  # fmt: skip
-
-
-def verdicts(folder: Path) -> str:
-    """Each verdict is that of its header; the lines that say how many there are of each go on."""
-    built()
-    answer = run(sys.executable, TESTS / "test_library.py", "all", seconds=3000)
-    need(answer.status == 0, answer.out + answer.error)
-    return "the library, of which\n" + "\n".join(f"    {line[4:]}" for line in answer.out.splitlines())
 
 
 # ---- The site
@@ -134,7 +126,7 @@ def coq(folder: Path) -> str:
     return f"{count} theorems of {OF_COQ} are accepted by coqc"
 
 
-CHECKS: List[Callable[[Path], str]] = [verdicts, site, papers, coq]
+CHECKS: List[Callable[[Path], str]] = [whole, page, site, papers, coq]
 
 if __name__ == "__main__":
     with tempfile.TemporaryDirectory() as name:

@@ -25,7 +25,7 @@ import test_models
 import test_words
 from opprove.checkers.check import MODULI, Problem, Refusal
 from measuring import OPPROVE, build, write_tree
-from trying import EXAMPLES, GALLERY, LIBRARY, TOP, Answer, checker, is_built, main, need, run
+from trying import EXAMPLES, GALLERY, LIBRARY, TOP, Answer, by_whom, checker, is_built, main, need, run
 
 SEEDS = [1, 7, 2**64 - 1]
 COUNT = 500  # random statements
@@ -158,10 +158,6 @@ def texts() -> Iterator[Tuple[str, int]]:
     yield from ((maker.statement(), SEEDS[number % 3]) for number in range(COUNT))
 
 
-def by_whom(tool: str) -> str:
-    return f"{tool} and opprove" if is_built() else tool
-
-
 def searches(folder: Path) -> str:
     plain, statement = build("plain_models", folder), folder / "statement.op"
     long_ones, made, asked = itertools.count(1), 0, 0
@@ -174,7 +170,7 @@ def searches(folder: Path) -> str:
             continue
         made += 1
         asked += searched(statement, seed, plain, lambda: next(long_ones) % 5 > 0)
-    return f"{made} searches are answered by plain_models.rs as by {by_whom('candidates.py')}, which was asked {asked} times"
+    return f"{made} searches are answered by plain_models.rs as {by_whom('candidates.py')}, which was asked {asked} times"
 
 
 # ---- Runs
@@ -299,7 +295,7 @@ def runs(folder: Path) -> str:
         if not refusal(statement):
             same_run(statement, plain)
             made += 1
-    return f"{made} runs in both formats have the head lines of {by_whom('plain_run.rs --pairwise')}"
+    return f"{made} runs in both formats have the same head lines {by_whom('plain_run.rs --pairwise')}"
 
 
 def words(folder: Path) -> str:

@@ -13,7 +13,7 @@ from __future__ import annotations
 import re
 import sys
 from pathlib import Path
-from typing import Iterator, List, NamedTuple, Sequence, Set
+from typing import Iterator, List, NamedTuple, Set
 
 TOP = Path(__file__).resolve().parents[1]
 CRATES, DOCUMENT = TOP / "crates", TOP / "docs" / "PROOF_MAP.md"
@@ -64,15 +64,7 @@ def unmapped() -> Iterator[Call]:
     return (call for call in calls() if not any({call.name, call.type or call.crate} <= words for words in found))
 
 
-def main(words: Sequence[str]) -> int:
-    if words:
-        print("usage: unmapped.py", file=sys.stderr)
-        return 2
-    missing = [str(call) for call in unmapped()]
-    for line in missing:
-        print(line)
-    return int(bool(missing))
-
-
 if __name__ == "__main__":
-    sys.exit(main(sys.argv[1:]))
+    missing = [f"{call}\n" for call in unmapped()]
+    sys.stdout.writelines(missing)
+    sys.exit(int(bool(missing)))

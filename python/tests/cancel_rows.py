@@ -123,7 +123,6 @@ def off(letter: str, count: int, first: int = 2) -> str:
 
 
 def stripped(count: int) -> str:
-    """The proof of a claim by taking h off so often."""
     return f"monic h / lemma 1 scale 1 / row 1 () 1 () / {off('h', count)} / goal scale 1 / row 1 () lemma {count + 1} ()"
 
 

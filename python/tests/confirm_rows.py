@@ -30,7 +30,6 @@ def times(count: int, letter: str = "t") -> str:
 
 
 def block(claim: int, rules: str, rest: str) -> str:
-    """A basis with these rules, between which ` / ` stands."""
     return lines(" / ".join(["basis 1", f"claim {claim}", *(f"rule {rule}" for rule in rules.split(" / ") if rule), f"rest {rest}", "end"]))
 
 

@@ -20,7 +20,6 @@ def block(rows: Sequence[str], claim: int = 1, denominator: int = 1) -> str:
 
 
 def told(steps: Sequence[str], lines: Sequence[str], claim: int = 1, denominator: int = 1, number: int = 1) -> str:
-    """The report on a block with these steps and lines."""
     head = f"# block {number} explained claim {claim} denominator {denominator} steps {len(steps)}"
     pairs = chain.from_iterable((f"use {step}", f"line {line}") for step, line in zip(steps, lines[1:]))
     return text_of(head, "chain 1", f"claim {claim}", f"denominator {denominator}", f"line {lines[0]}", *pairs, "end")

@@ -35,12 +35,13 @@ def run(name: str) -> bool:
 
 
 def here(name: str) -> int:
-    """Runs a test in this process: the checks that it lists, or what unittest finds in it."""
+    """Runs a test in this process: the checks that it lists, its `main`, or what unittest finds in it, which has to be something."""
     module = import_module(f"test_{name}")
-    if hasattr(module, "CHECKS"):
-        status: int = import_module("trying").main(module.CHECKS)
+    if hasattr(module, "CHECKS") or hasattr(module, "main"):
+        status: int = import_module("trying").main(module.CHECKS) if hasattr(module, "CHECKS") else module.main([])
         return status
-    return int(not unittest.main(module, argv=[name], exit=False).result.wasSuccessful())
+    result = unittest.main(module, argv=[name], exit=False).result
+    return int(not result.wasSuccessful() or not (result.testsRun or result.skipped))
 
 
 def main(words: List[str]) -> int:

@@ -137,7 +137,6 @@ def changed(text: str, letters: List[str]) -> Iterator[str]:
 
 
 def changes(folder: Path) -> str:
-    """Changed proofs of the rows that are accepted."""
     files, count, accepted = files_in(folder), 0, 0
     for row in [row for row in cancel_rows.runs() if " refused " not in row.report and len(row.proof) < 400][::3]:
         files.write(row.statement, row.proof)
@@ -164,7 +163,6 @@ class Maker:
         self.is_starred = random.random() < 0.3
 
     def letters(self) -> List[Tuple[str, str, str]]:
-        """Names, sources and targets."""
         stars = [(f"{name}'", target, source) for name, source, target in self.maps] if self.is_starred else []
         return [*self.maps, *stars]
 

@@ -5,7 +5,6 @@ step has to be the assumption, the adjoint or the lemma that it names, at one pl
 """
 from __future__ import annotations
 
-import os
 import re
 import sys
 from pathlib import Path
@@ -15,7 +14,7 @@ from typing import Callable, Dict, Iterator, List, NamedTuple, Optional, Set, Tu
 from opprove.translations import chain as to_chain
 from opprove.checkers.check import Certificate, Evidence, Line, Poly, Problem, Row, Share, Signature, Value, Word, add, judge, loaded, tokens_of
 import trying
-from trying import EXAMPLES, GALLERY, PROGRAM, Answer, Skipped, decided, installed, main, need, run, tool
+from trying import EXAMPLES, GALLERY, PROGRAM, Answer, Skipped, decided, installed, is_built, main, need, run, tool
 
 TOOL = tool("chain")
 STORED = {"pseudoinverses": EXAMPLES / "pseudoinverses.cert", "halved": EXAMPLES / "tools" / "halved.cert"}
@@ -173,10 +172,6 @@ def groups_of(lines: List[str]) -> Iterator[List[List[str]]]:
 def written(statement: Path, evidence: Path, form: str = "text") -> List[str]:
     """What the tool writes, in this process."""
     return list(to_chain.written(*loaded([str(statement), str(evidence)]), form=form))
-
-
-def is_built() -> bool:
-    return os.access(PROGRAM, os.X_OK)
 
 
 def tried(statement: Path, evidence: Path, folder: Path) -> Tuple[int, int]:

@@ -79,7 +79,6 @@ def changes(folder: Path) -> str:
 
 
 def reports(folder: Path) -> str:
-    """Those of `prove` on the examples, and changed ones."""
     program, files, bases, count = built(), files_in(folder), 0, 0
     for statement in decided():
         report = run(program, "prove", statement, "--pairs", 2000, "--no-models", seconds=600).out

@@ -34,7 +34,6 @@ explained, by_whom = SECOND.answered, SECOND.by_whom
 
 
 def set_text(statement: Path, chain: Path, *options: str) -> Answer:
-    """What `opprove chain` answers, in this process."""
     try:
         lines = test_chains.written(statement, chain, options[0][2:] if options else "text")
     except Refusal as refusal:

@@ -1,23 +1,22 @@
-"""Proves the library: test_library.py [all]
+"""Proves the library.
 
-Of a fixed sample of 40 files, or of all, the verdict that the header states is compared with what the program and the second checkers
-say: certificates go through `check` and check.py, bases through `confirm`, and what lies beside a file through the programs that read it;
-and the row of the file with that which the index has, of all with the steps of chains. Lines say how many there are of each verdict.
+Of a fixed sample of 40 files, or for `dev/try.py library` of all, the verdict that the header states is compared with what the program and
+the second checkers say: certificates go through `check` and check.py, bases through `confirm`, and what lies beside a file through the
+programs that read it; and the row of the file with that which the index has, of all with the steps of chains and the documents.
 """
 from __future__ import annotations
 
 import collections
 import functools
 import re
-import sys
 import tempfile
 from pathlib import Path
-from typing import Counter, List, Set
+from typing import Callable, Counter, List, Set
 
 import library_index as index
 from library_index import Part, Proved, paths
 from opprove.checkers.check import Evidence, Problem, Refusal, judge
-from trying import PROGRAM, Failed, checker, is_built, need, run
+from trying import LIBRARY, PROGRAM, Failed, built, checker, need, run
 
 SAMPLE = 40
 # What reads evidence beside a file, by the word of its first block: a command of the program, and a second checker.
@@ -115,7 +114,7 @@ def kind_of(verdict: str) -> str:
 
 
 def tried(path: Path, is_exact: bool) -> str:
-    """The verdict of a file, which is compared; and its row of the index, but for the steps of chains where this isn't to be exact."""
+    """The verdict of a file, which is compared; and its row of the index, but for steps and documents where this isn't to be exact."""
     verdict = index.header(path)["VERDICT"]
     found = index.asked(path)
     with tempfile.TemporaryDirectory() as folder:
@@ -125,28 +124,40 @@ def tried(path: Path, is_exact: bool) -> str:
     texts = [beside(path, suffix) for suffix in (".cert", ".model", ".star") if path.with_suffix(suffix).exists()]
     shown = {int(number) for text in texts for number in re.findall("^claim ([0-9]+)$", text, re.MULTILINE)}
     need(shown == claims, f"{path}: claims {shown} have evidence, and not {claims}")
-    others = index.different([index.row(path, found)], ["seconds"] if is_exact else ["seconds", "steps"])
+    others = index.different([index.row(path, found)], ["seconds"] if is_exact else ["seconds", "steps", "used in"])
     need(not others, f"{path}: another row in the index, which dev/library_index.py writes")
     return verdict
 
 
-def main(words: List[str]) -> int:
-    """Compares the verdicts, and says how many there are of each."""
-    if not is_built():
-        print("skipped: opprove is not built")
-        return 0
+def counted(chosen: List[Path], is_exact: bool) -> str:
+    """How many of these files have each verdict; all that differ are named."""
+    built()
     counts: Counter[str] = collections.Counter()
-    is_whole = words == ["all"]
-    chosen = paths() if is_whole else sample(paths())
+    failed = []
     for path in chosen:
         try:
-            counts[kind_of(tried(path, is_whole))] += 1
+            counts[kind_of(tried(path, is_exact))] += 1
         except (Failed, Refusal, index.Fault, OSError) as what:
-            print(f"failed: {path.parent.name}/{path.name}: {what}", flush=True)
-    for kind, count in counts.most_common():
-        print(f"ok: {count} files: {kind}", flush=True)
-    return 0 if sum(counts.values()) == len(chosen) else 1
+            failed.append(f"{path.parent.name}/{path.name}: {what}")
+    need(not failed, "\n".join(failed))
+    return f"{len(chosen)} files of the library: " + ", ".join(f"{count} {kind}" for kind, count in counts.most_common())
 
 
-if __name__ == "__main__":
-    sys.exit(main(sys.argv[1:]))
+def some(folder: Path) -> str:
+    """The sample."""
+    return counted(sample(paths()), False)
+
+
+def whole(folder: Path) -> str:
+    """All files, which dev/try.py asks for."""
+    return counted(paths(), True)
+
+
+def page(folder: Path) -> str:
+    """The page has all files."""
+    same = (LIBRARY / "README.md").read_text("utf-8") == index.page(list(map(index.named, paths())))
+    need(same, "library/README.md is another page than dev/library_index.py writes")
+    return f"the page has {len(paths())} files"
+
+
+CHECKS: List[Callable[[Path], str]] = [some, page]

@@ -1,17 +1,19 @@
-"""Tries shorter chains: the least sums that are taken, detours that are planted, and the chains of the library.
+"""Tries shorter chains: the least sums that are taken, detours that are planted, `shortest`, and its reports in the library.
 
 Least sums are compared with shortest paths. Rows that add up to nothing are put into random certificates, whose chains have to be as short
 as without them, and of no chain are there more steps than its rows give as they are read.
 """
 from __future__ import annotations
 
+import re
 import sys
 from heapq import heappop, heappush
 from pathlib import Path
 from random import Random
-from typing import Callable, Dict, Iterator, List, Tuple
+from typing import Callable, Iterator, List, Tuple
 
-from opprove.checkers.check import Certificate, Poly, Problem, Row, Word, judge
+from opprove.checkers.check import Certificate, Evidence, Problem, Row, Word, judge
+from opprove.page.pages import entries_of
 from opprove.translations.chain import Reader, length
 from opprove.translations.least_sum import Effort, least
 from test_chains import Maker
@@ -121,7 +123,24 @@ def searched(folder: Path) -> str:
     return "shortest finds the least denominator and few steps, and refuses what is wrong"
 
 
-CHECKS: List[Callable[[Path], str]] = [least_sums, planted, searched]
+def stored(folder: Path) -> str:
+    """The reports of `shortest` that lie in the library: they are right, and their chains have no more steps than they say."""
+    proofs = steps = 0
+    for statement in (one for entry in entries_of(LIBRARY) for one in entry.statements):
+        for report in (path for path in statement.evidence if path.suffix == ".report"):
+            problem, text = Problem(statement.text.encode()), report.read_text()
+            certificates = Evidence(problem, text.encode()).certificates
+            told = [int(number) for number in re.findall("^#   ([0-9]+) steps, and [0-9]+ before$", text, re.MULTILINE)]
+            need(len(told) == len(certificates), report)
+            for certificate, count in zip(certificates, told):
+                judge(problem, certificate, str(report))
+                need(length(Reader(problem, 0).proof(certificate).chains) <= count, (report, certificate.claim))
+            proofs, steps = proofs + len(told), steps + sum(told)
+    need(proofs > 2, proofs)
+    return f"{proofs} proofs of the library are as short as they say, with {steps} steps"
+
+
+CHECKS: List[Callable[[Path], str]] = [least_sums, planted, searched, stored]
 
 if __name__ == "__main__":
     sys.exit(main(CHECKS))

@@ -4,7 +4,7 @@ from __future__ import annotations
 import re
 from dataclasses import dataclass
 from html import escape
-from typing import Dict, Iterable, Iterator, List, Optional
+from typing import Dict, Iterator, List, Optional
 
 from opprove import second_check
 from opprove.checkers import check
@@ -166,9 +166,6 @@ class Proof:
 
 class Report(List[Verdict]):
     """The verdicts on all claims, in their order."""
-
-    def __init__(self, found: Iterable[Verdict] = ()) -> None:
-        super().__init__(found)
 
     def __repr__(self) -> str:
         return "\n".join(f"{verdict.number}. {verdict!r}" for verdict in self)

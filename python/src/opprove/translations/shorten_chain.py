@@ -8,7 +8,7 @@ left out where the rest is shorter without it. What is found is added up, and it
 from __future__ import annotations
 
 from collections import Counter
-from typing import Dict, Iterable, Iterator, List, Mapping, NamedTuple, Optional, Sequence, Set, Tuple
+from typing import Callable, Dict, Iterable, Iterator, List, Mapping, NamedTuple, Optional, Sequence, Set, Tuple
 
 from opprove.checkers.check import Poly, Row, Signature, Word
 from opprove.translations.least_sum import Effort, least
@@ -110,8 +110,8 @@ class Equations:
 
 
 # How many words more are looked at in a round, and how many steps these may be away.
-ROUNDS = [(0, 0), (100, 1), (300, 1), (200, 2)]
-WINDOW, WINDOW_ROUNDS = 24, [(0, 0), (60, 1)]  # steps of a piece of a long chain
+FIRST, LATER = [(0, 0), (100, 1)], [(300, 1), (200, 2)]
+WINDOW, OF_WINDOWS = 24, [(0, 0), (60, 1)]  # steps of a piece of a long chain
 LETTERS, TIMES = 500, 100  # of a word of evidence; that count for one that is known to be taken several times
 FAR, NEAR = 2, 2  # letters more than the longest known word has; by how many times more words are looked through
 GAIN = 1e-6
@@ -194,12 +194,17 @@ class Search:
         while self.effort.left > 0 and len(steps) < length and len(steps) > WINDOW:
             length = len(steps)
             for start in range(0, length, WINDOW // 2):
-                steps[start : start + WINDOW] = self.shorter(together(steps[start : start + WINDOW]), WINDOW_ROUNDS).items()
+                steps[start : start + WINDOW] = self.shorter(together(steps[start : start + WINDOW]), OF_WINDOWS).items()
             steps = list(together(steps).items())
         return dict(steps)
 
-    def shortest(self, known: Steps) -> Steps:
-        return self.shorter(self.by_pieces(known), ROUNDS)
+    def first(self, known: Steps) -> Steps:
+        """What is found at once."""
+        return self.shorter(self.by_pieces(known), FIRST)
+
+    def later(self, known: Steps) -> Steps:
+        """What is found farther away."""
+        return self.shorter(known, LATER) if len(known) > 2 else known
 
 
 class Item(NamedTuple):
@@ -222,20 +227,25 @@ class Shortener:
         self.kept = set(kept)  # items on which something else than steps stands
 
     def shortened(self) -> List[Item]:
-        last = len(self.items) - 1
-        for number in range(last, -1, -1):
-            self.items[number] = self.shorter(number, self.items[number].steps)
-        for lemma in range(last - 1, -1, -1):
+        numbers = range(len(self.items) - 1, -1, -1)
+        for number in numbers:
+            self.take(number, self.search(number).first)
+        for lemma in numbers[1:]:
             self.leave_out(lemma)
+        for number in numbers:
+            self.take(number, self.search(number).later)
         return self.items
 
-    def shorter(self, number: int, steps: Optional[Steps], without: int = -1) -> Item:
-        """An item with fewer steps than these, by generators and the lemmas before it that are used."""
+    def take(self, number: int, made: Callable[[Steps], Steps], steps: Optional[Steps] = None) -> None:
+        """Takes for an item what is made of its steps, or of these."""
+        steps = self.items[number].steps if steps is None else steps
+        self.items[number] = self.items[number]._replace(steps=made(steps) if steps else steps)
+
+    def search(self, number: int, without: int = -1) -> Search:
+        """For an item, by generators and the lemmas before it that are used."""
         lemmas = [lemma for lemma in range(number) if lemma != without and (lemma in self.kept or self.users(lemma))]
         numbers = {*range(self.generators), *(self.generators + lemma for lemma in lemmas)}
-        item = self.items[number]
-        search = Search(self.equations, numbers, item.ends, self.effort)
-        return item._replace(steps=search.shortest(steps) if steps else steps)
+        return Search(self.equations, numbers, self.items[number].ends, self.effort)
 
     def users(self, lemma: int) -> List[int]:
         """The items that use a lemma."""
@@ -249,7 +259,8 @@ class Shortener:
             return
         for number in users:
             inner = self.written_out(self.items[number].steps or {}, lemma)
-            self.items[number] = self.shorter(number, inner, lemma) if inner is not None else self.items[number]
+            if inner is not None:
+                self.take(number, self.search(number, lemma).first, inner)
         if self.users(lemma) or steps_in(self.items, users) > steps_in(before, [lemma, *users]):
             self.items = before
 

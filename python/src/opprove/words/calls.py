@@ -4,7 +4,7 @@ from __future__ import annotations
 import os
 import re
 import shlex
-from typing import Dict, List, NamedTuple, Optional, Tuple
+from typing import Dict, List, NamedTuple, Tuple
 
 from opprove.words.parts import Told, counted, did_you_mean, is_are, listed, near, quoted
 
@@ -227,14 +227,14 @@ def near_file(name: str, names: List[str]) -> List[str]:
     return sorted(same)[:3] or near(name, names)[:3]
 
 
-def not_put(call: Optional[Call] = None) -> List[Told]:
-    more = "It was full, say, or its reader has closed it: run the same words again, with standard output where there is room."
-    return [Told("status 5: standard output failed, and what was written is a beginning of the report", None, (more,))]
-
-
-def no_memory(call: Optional[Call] = None) -> List[Told]:
-    more = (
-        "More memory may do, or fewer runs side by side, or a higher `ulimit -v` where one is set. A short file can ask for much,"
-        " since its expressions are multiplied out: docs/COMMANDS.md, \"What a statement can cost\", has what they take."
-    )
-    return [Told("status 6: there was no memory, and nothing was written", None, (more,))]
+TOLD = {  # of statuses that say nothing of the files
+    5: Told(
+        "status 5: standard output failed, and what was written is a beginning of the report", None,
+        ("It was full, say, or its reader has closed it: run the same words again, with standard output where there is room.",),
+    ),
+    6: Told(
+        "status 6: there was no memory, and nothing was written", None,
+        ("More memory may do, or fewer runs side by side, or a higher `ulimit -v` where one is set. A short file can ask for much,"
+         " since its expressions are multiplied out: docs/COMMANDS.md, \"What a statement can cost\", has what they take.",),
+    ),
+}  # fmt: skip

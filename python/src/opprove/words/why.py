@@ -58,8 +58,8 @@ def explanation(words: List[str], answer: Answer, briefly: bool = False, is_wait
         return calls.words(call)
     if status == 4:
         return calls.not_loaded(report or "")
-    if status in (5, 6):
-        return calls.not_put() if status == 5 else calls.no_memory()
+    if status in calls.TOLD:
+        return [calls.TOLD[status]]
     told = told_of_report(call, report, briefly, is_waited_for) if report is not None else []
     return told or ([Told(STATUSES[status])] if status in STATUSES else [])
 
