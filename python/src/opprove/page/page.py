@@ -25,7 +25,7 @@ from opprove.page.proofs import ProofWriter, StarWriter
 from opprove.page.refutations import BasisWriter, ModelWriter
 from opprove.text import EvidenceText
 from opprove.tool import ended, parser
-from opprove.translations.chain import Proof, Reader, place_of
+from opprove.translations.chain import EFFORT, Proof, Reader, place_of
 from opprove.translations.picture import STYLE, picture_of, svg
 from opprove.words.outcomes import outcomes
 
@@ -267,11 +267,12 @@ class Found(NamedTuple):
         return [verdicts_of(self.of_claim(number)) for number in range(1, len(self.reader.claims) + 1)]
 
 
-def found_in(statement: Path, reports: Sequence[Path]) -> Found:
-    """Reads and checks a statement and its reports. A Refusal is raised for what is wrong with the files."""
+def found_in(statement: Path, reports: Sequence[Path], effort: int = EFFORT) -> Found:
+    """Reads and checks a statement and its reports, with this effort for short chains. A Refusal is raised for what is wrong with the
+    files."""
     paths = [statement, *reports]
     contents = loaded(list(map(str, paths)), [*MOST_BYTES[:1], *MOST_BYTES[1:] * len(reports)])
-    reader = Reader(Problem(contents[0]))
+    reader = Reader(Problem(contents[0]), effort)
     pieces = [piece for number, report in enumerate(contents[1:]) for piece in pieces_of(reader, number, report)]
     return Found(paths, contents, reader, pieces)
 

@@ -46,6 +46,7 @@ COLUMNS = {  # of the table of a library, those that the index shows
     "denominators": "denominator {}", "rows": "{} rows", "steps": "chains of up to {} steps", "seconds": "{} s", "used in": "used in {}",
 }  # fmt: skip
 NO_VERDICT = 12
+EFFORT = 50_000  # for short chains, some twentieth of a second each
 
 
 class Statement(NamedTuple):
@@ -193,7 +194,7 @@ def found_for(job: Job, folder: Path) -> Tuple[Found, str]:
     """What is known of a statement, and why the program said nothing of claims that the evidence beside it leaves."""
     statement = folder / f"{job.statement.name}.op"
     statement.write_bytes(job.statement.text.encode("utf-8", "surrogateescape"))
-    found = found_in(statement, job.statement.evidence)
+    found = found_in(statement, job.statement.evidence, EFFORT)
     shown = {piece.claim for piece in found.pieces}
     if len(shown) == len(found.reader.claims):
         return found, ""
@@ -202,7 +203,7 @@ def found_for(job: Job, folder: Path) -> Tuple[Found, str]:
         report.write_text(proved(job), encoding="utf-8")
     except Refused as refused:
         return found, refused.line
-    found = found_in(statement, [*job.statement.evidence, report])
+    found = found_in(statement, [*job.statement.evidence, report], EFFORT)
     last = len(job.statement.evidence)  # of claims that the evidence beside the statement shows, the report says nothing here
     kept = [piece for piece in found.pieces if piece.claim not in shown or (piece.command and piece.report < last)]
     return found._replace(pieces=kept), ""
