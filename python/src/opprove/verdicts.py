@@ -91,7 +91,7 @@ class Verdict:
         if self.kind != "proved":
             raise ValueError(f"claim {self.number} is {self.kind}, and has no chain")
         try:
-            reader = chain.Reader(check.Problem(self.statement.encode()))
+            reader = chain.Reader(check.Problem(self.statement.encode()), chain.QUICK_EFFORT)
             return Proof(reader, chain.proofs_of(reader, self.block.encode())[0])
         except check.Refusal as refusal:
             raise Refused(check.REFUSED, str(refusal)) from None

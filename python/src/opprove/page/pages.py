@@ -37,6 +37,7 @@ from opprove.search.findings import positive
 from opprove.search.prove_all import WORDS, told
 from opprove.text import StatementText, spelled
 from opprove.tool import parser, say
+from opprove.translations.chain import QUICK_EFFORT
 
 EVIDENCE = (".cert", ".star", ".model", ".report")  # the names of files of evidence end so
 FIELDS = ("THEOREM", "SOURCE", "ASSUMES", "LEAVES OUT", "VERDICT")
@@ -46,7 +47,6 @@ COLUMNS = {  # of the table of a library, those that the index shows
     "denominators": "denominator {}", "rows": "{} rows", "steps": "chains of up to {} steps", "seconds": "{} s", "used in": "used in {}",
 }  # fmt: skip
 NO_VERDICT = 12
-EFFORT = 50_000  # for short chains, some twentieth of a second each
 
 
 class Statement(NamedTuple):
@@ -194,7 +194,7 @@ def found_for(job: Job, folder: Path) -> Tuple[Found, str]:
     """What is known of a statement, and why the program said nothing of claims that the evidence beside it leaves."""
     statement = folder / f"{job.statement.name}.op"
     statement.write_bytes(job.statement.text.encode("utf-8", "surrogateescape"))
-    found = found_in(statement, job.statement.evidence, EFFORT)
+    found = found_in(statement, job.statement.evidence, QUICK_EFFORT)
     shown = {piece.claim for piece in found.pieces}
     if len(shown) == len(found.reader.claims):
         return found, ""
@@ -203,7 +203,7 @@ def found_for(job: Job, folder: Path) -> Tuple[Found, str]:
         report.write_text(proved(job), encoding="utf-8")
     except Refused as refused:
         return found, refused.line
-    found = found_in(statement, [*job.statement.evidence, report], EFFORT)
+    found = found_in(statement, [*job.statement.evidence, report], QUICK_EFFORT)
     last = len(job.statement.evidence)  # of claims that the evidence beside the statement shows, the report says nothing here
     kept = [piece for piece in found.pieces if piece.claim not in shown or (piece.command and piece.report < last)]
     return found._replace(pieces=kept), ""

@@ -55,6 +55,7 @@ from opprove.translations.translation import explained, of_two_files
 LETTERS_IN_A_WORD, LETTERS, MOST = 500, 1000000, 2**127 - 1
 WIDTH = 96  # of a sum in text
 EFFORT = 2000000  # in the search for shorter chains: about a second
+QUICK_EFFORT = 50_000  # where many are shown: some twentieth of a second each
 
 
 class Equation(NamedTuple):
