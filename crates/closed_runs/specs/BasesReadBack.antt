@@ -7,7 +7,7 @@ use Rattle.traced_rows.specs.declared.evidence.Format.{Format}
 use Rattle.adjoint_rules.specs.declared.problem.Problem.{Problem}
 use Rattle.adjoint_rules.specs.Claims.{claim_numbers}
 use Rattle.statement_syntax.specs.declared.tree.Statement.{Statement}
-use Rattle.statement_syntax.specs.Fault.{IsTreeOf}
+use Rattle.statement_syntax.specs.Texts.{IsTreeOf}
 use Rattle.signature_typing.specs.Typing.{IsProblemOf}
 use Rattle.traced_completion.specs.declared.budget.Budget.{Budget}
 use Rattle.traced_completion.specs.PlainRun.{setting_of}

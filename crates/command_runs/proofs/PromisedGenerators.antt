@@ -17,7 +17,8 @@ use Rattle.adjoint_rules.specs.declared.problem.Problem.{Problem}
 use Rattle.adjoint_rules.specs.Problem.{polynomials, numbers, generators_in}
 use Rattle.adjoint_rules.specs.Claims.{claim_at}
 use Rattle.statement_names.specs.Numbered.{declarations_of}
-use Rattle.statement_names.specs.Marked.{is_starred, marked_of}
+use Rattle.statement_names.specs.Marked.{marked_of}
+use Rattle.statement_names.specs.Starred.{is_starred}
 use Rattle.signature_typing.specs.Fault.{told_polynomial}
 use Rattle.signature_typing.specs.Typing.{polynomial_in, value_in, polynomials_of}
 use Rattle.signature_typing.proofs.Values.{IsValue, AreValues, all_values}

@@ -8,14 +8,14 @@ use Rattle.statement_syntax.specs.declared.tree.Factor.{Factor}
 use Rattle.statement_syntax.specs.declared.tree.Term.{Term, Term', out-Term, outs-Term', Row_of-Factor, end_of-Factor, more_of-Factor, items-the_row-Factor, items_shown-the_row-Factor-1}
 use Rattle.statement_syntax.specs.declared.tree.Sum.{Sum, Sum', out-Sum, outs-Sum', Row_of-Term, end_of-Term, more_of-Term, items-the_row-Term, items_shown-the_row-Term-0}
 use Rattle.expression_names.specs.Names.{are_names, are_names_of_terms, are_names_of_term, are_names_of_factors, are_names_of_primary}
-use Rattle.expression_names.specs.Occurrences.{is_adjoint, has_mark, has_mark_in_terms, has_mark_in_term, has_mark_in_factors, has_mark_in_primary, has_identity, has_identity_in_terms, has_identity_in_term, has_identity_in_factors, has_identity_in_primary}
+use Rattle.expression_names.specs.Occurrences.{is_adjoint, has_quote, has_quote_in_terms, has_quote_in_term, has_quote_in_factors, has_quote_in_primary, has_identity, has_identity_in_terms, has_identity_in_term, has_identity_in_factors, has_identity_in_primary}
 
 -- one factor
 abbrev pub are_names_of_factor : List Declaration → Factor → Bool
 are_names_of_factor ds f = are_names_of_primary ds f.primary
 
-abbrev pub has_mark_in_factor : Factor → Bool
-has_mark_in_factor f = has_mark_in_primary f.primary || list_any is_adjoint f.marks
+abbrev pub has_quote_in_factor : Factor → Bool
+has_quote_in_factor f = has_quote_in_primary f.primary || list_any is_adjoint f.marks
 
 abbrev pub has_identity_in_factor : List Declaration → ℕ → Factor → Bool
 has_identity_in_factor ds v f = has_identity_in_primary ds v f.primary
@@ -59,19 +59,19 @@ names_of_the_factor ds t factors i f known items inside item =
     all_at (are_names_of_factor ds) factors i f (ap (list_all (are_names_of_factor ds)) items ∙ sym (names-term ds t) ∙ known) inside item
 
 -- marks
-mark-factors : (n : _) (k : Row_of-Factor n) → has_mark_in_factors k ≡ list_any has_mark_in_factor (items-the_row-Factor n k)
+mark-factors : (n : _) (k : Row_of-Factor n) → has_quote_in_factors k ≡ list_any has_quote_in_factor (items-the_row-Factor n k)
 mark-factors n end_of-Factor = refl
-mark-factors n (more_of-Factor at primary marks rest) = ap (λ b. (has_mark_in_primary primary || list_any is_adjoint marks) || b) (mark-factors _ rest)
+mark-factors n (more_of-Factor at primary marks rest) = ap (λ b. (has_quote_in_primary primary || list_any is_adjoint marks) || b) (mark-factors _ rest)
 
-mark-terms : (n : _) (k : Row_of-Term n) → has_mark_in_terms k ≡ list_any has_mark_in_term (items-the_row-Term n k)
+mark-terms : (n : _) (k : Row_of-Term n) → has_quote_in_terms k ≡ list_any has_quote_in_term (items-the_row-Term n k)
 mark-terms n end_of-Term = refl
-mark-terms n (more_of-Term t rest) = ap (λ b. has_mark_in_term t || b) (mark-terms _ rest)
+mark-terms n (more_of-Term t rest) = ap (λ b. has_quote_in_term t || b) (mark-terms _ rest)
 
-pub mark-term : (t : Term) → has_mark_in_term t ≡ list_any has_mark_in_factor (out-Term t).factors
-mark-term (Term' at negative literal shape factors) = mark-factors _ factors ∙ of_term (list_any has_mark_in_factor) at negative literal shape factors
+pub mark-term : (t : Term) → has_quote_in_term t ≡ list_any has_quote_in_factor (out-Term t).factors
+mark-term (Term' at negative literal shape factors) = mark-factors _ factors ∙ of_term (list_any has_quote_in_factor) at negative literal shape factors
 
-pub mark-sum : (s : Sum) → has_mark s ≡ list_any has_mark_in_term (out-Sum s).terms
-mark-sum (Sum' at shape terms) = mark-terms _ terms ∙ of_sum (list_any has_mark_in_term) at shape terms
+pub mark-sum : (s : Sum) → has_quote s ≡ list_any has_quote_in_term (out-Sum s).terms
+mark-sum (Sum' at shape terms) = mark-terms _ terms ∙ of_sum (list_any has_quote_in_term) at shape terms
 
 -- identities
 identity-factors : (ds : List Declaration) (v : ℕ) (n : _) (k : Row_of-Factor n) → has_identity_in_factors ds v k ≡ list_any (has_identity_in_factor ds v) (items-the_row-Factor n k)

@@ -16,24 +16,24 @@ is_adjoint (Power at exponent) = false
 
 -- whether a factor has a quote among its marks
 abbrev mutual
-  pub has_mark : Sum → Bool
-  has_mark (Sum' at shape terms) = has_mark_in_terms terms
+  pub has_quote : Sum → Bool
+  has_quote (Sum' at shape terms) = has_quote_in_terms terms
 
-  pub has_mark_in_terms : {m : _} → Row_of-Term m → Bool
-  has_mark_in_terms end_of-Term = false
-  has_mark_in_terms (more_of-Term t rest) = has_mark_in_term t || has_mark_in_terms rest
+  pub has_quote_in_terms : {m : _} → Row_of-Term m → Bool
+  has_quote_in_terms end_of-Term = false
+  has_quote_in_terms (more_of-Term t rest) = has_quote_in_term t || has_quote_in_terms rest
 
-  pub has_mark_in_term : Term → Bool
-  has_mark_in_term (Term' at negative literal shape factors) = has_mark_in_factors factors
+  pub has_quote_in_term : Term → Bool
+  has_quote_in_term (Term' at negative literal shape factors) = has_quote_in_factors factors
 
-  pub has_mark_in_factors : {m : _} → Row_of-Factor m → Bool
-  has_mark_in_factors end_of-Factor = false
-  has_mark_in_factors (more_of-Factor at primary marks rest) = (has_mark_in_primary primary || list_any is_adjoint marks) || has_mark_in_factors rest
+  pub has_quote_in_factors : {m : _} → Row_of-Factor m → Bool
+  has_quote_in_factors end_of-Factor = false
+  has_quote_in_factors (more_of-Factor at primary marks rest) = (has_quote_in_primary primary || list_any is_adjoint marks) || has_quote_in_factors rest
 
-  pub has_mark_in_primary : Primary → Bool
-  has_mark_in_primary (Letter n) = false
-  has_mark_in_primary (Identity n) = false
-  has_mark_in_primary (Bracket s) = has_mark s
+  pub has_quote_in_primary : Primary → Bool
+  has_quote_in_primary (Letter n) = false
+  has_quote_in_primary (Identity n) = false
+  has_quote_in_primary (Bracket s) = has_quote s
 
 abbrev pub is_the_object : ℕ → Option Named → Bool
 is_the_object v None = false

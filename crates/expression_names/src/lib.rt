@@ -5,4 +5,4 @@ mod names;
 mod occurrence;
 
 pub use names::{letter_of, object_of};
-pub use occurrence::has_mark;
+pub use occurrence::has_quote;

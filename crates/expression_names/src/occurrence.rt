@@ -1,17 +1,17 @@
 //! Whether an adjoint is taken in an expression.
 ghost use Rattle.std.specs.Prelude.{◌≡◌};
 ghost use Rattle.std.specs.List.{list_any};
-ghost use Rattle.expression_names.specs.Occurrences.{is_adjoint, has_mark, has_mark_in_term, has_mark_in_primary};
+ghost use Rattle.expression_names.specs.Occurrences.{is_adjoint, has_quote, has_quote_in_term, has_quote_in_primary};
 
 use statement_syntax::{Mark, Primary, Sum, Term};
 
 /// Whether a factor of the expression has a quote among its marks, and so an adjoint is taken.
 #[cycle(marks)]
-pub fn has_mark(sum: &Sum) -> bool
-    ensures { result ≡ has_mark sum.now }
+pub fn has_quote(sum: &Sum) -> bool
+    ensures { result ≡ has_quote sum.now }
 {
     for term in sum.terms.as_slice() {
-        if has_mark_in_term(term) {
+        if has_quote_in_term(term) {
             return true;
         }
     }
@@ -19,11 +19,11 @@ pub fn has_mark(sum: &Sum) -> bool
 }
 
 #[cycle(marks)]
-fn has_mark_in_term(term: &Term) -> bool
-    ensures { result ≡ has_mark_in_term term.now }
+fn has_quote_in_term(term: &Term) -> bool
+    ensures { result ≡ has_quote_in_term term.now }
 {
     for factor in term.factors.as_slice() {
-        if has_mark_in_primary(&factor.primary) || has_adjoint(factor.marks.as_slice()) {
+        if has_quote_in_primary(&factor.primary) || has_adjoint(factor.marks.as_slice()) {
             return true;
         }
     }
@@ -31,13 +31,13 @@ fn has_mark_in_term(term: &Term) -> bool
 }
 
 #[cycle(marks)]
-fn has_mark_in_primary(primary: &Primary) -> bool
-    ensures { result ≡ has_mark_in_primary primary.now }
+fn has_quote_in_primary(primary: &Primary) -> bool
+    ensures { result ≡ has_quote_in_primary primary.now }
 {
     match primary {
         Primary::Letter(_) => false,
         Primary::Identity(_) => false,
-        Primary::Bracket(sum) => has_mark(sum),
+        Primary::Bracket(sum) => has_quote(sum),
     }
 }
 

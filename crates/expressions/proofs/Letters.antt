@@ -20,7 +20,7 @@ use Rattle.statement_syntax.specs.declared.tree.Term.{Term, Term', Row_of-Factor
 use Rattle.statement_syntax.specs.declared.tree.Sum.{Sum, Sum', Row_of-Term, end_of-Term, more_of-Term}
 use Rattle.expressions.specs.Results.{◌>>=◌}
 use Rattle.expression_names.specs.Names.{is_map, is_object, letter_number, object_number, are_names, are_names_of_terms, are_names_of_term, are_names_of_factors, are_names_of_primary}
-use Rattle.expression_names.specs.Occurrences.{is_adjoint, has_mark, has_mark_in_terms, has_mark_in_term, has_mark_in_factors, has_mark_in_primary, is_the_object, has_identity, has_identity_in_terms, has_identity_in_term, has_identity_in_factors, has_identity_in_primary}
+use Rattle.expression_names.specs.Occurrences.{is_adjoint, has_quote, has_quote_in_terms, has_quote_in_term, has_quote_in_factors, has_quote_in_primary, is_the_object, has_identity, has_identity_in_terms, has_identity_in_term, has_identity_in_factors, has_identity_in_primary}
 use Rattle.expressions.specs.Polynomials.{letter_poly, power_poly, mark_poly, marked_poly, product_from, product_poly, scaled_by, Summand, signed, sum_step, sum_from, total, sum_poly, summands, term_poly, factor_polys, primary_poly}
 use Rattle.expressions.proofs.Sequences.{bound, same_value}
 use Rattle.expressions.proofs.Words.{Words, words-negated, words-sum, words-difference, words-multiple, words-collection, words-adjoint, words-product}
@@ -135,12 +135,12 @@ module _ (ds : List Declaration) (L : ℕ → Type 0) (maps : (name : List ℕ) 
 
   -- by induction on the expression
   mutual
-    pub over-sum : (s : Sum) → are_names ds s ≡ true → Identities (λ v. has_identity ds v s) → (has_mark s ≡ true → IsClosed) → (r : Poly) → sum_poly ds s ≡ Ok r → Words Over r
+    pub over-sum : (s : Sum) → are_names ds s ≡ true → Identities (λ v. has_identity ds v s) → (has_quote s ≡ true → IsClosed) → (r : Poly) → sum_poly ds s ≡ Ok r → Words Over r
     over-sum (Sum' at shape terms) known ids closed r e =
         let parts = bound (summands ds terms) total r e in
         words-total Over parts.value r (over-terms terms known ids closed parts.value parts.is) parts.then
 
-    over-terms : {m : _} (k : Row_of-Term m) → are_names_of_terms ds k ≡ true → Identities (λ v. has_identity_in_terms ds v k) → (has_mark_in_terms k ≡ true → IsClosed)
+    over-terms : {m : _} (k : Row_of-Term m) → are_names_of_terms ds k ≡ true → Identities (λ v. has_identity_in_terms ds v k) → (has_quote_in_terms k ≡ true → IsClosed)
         → (ss : List Summand) → summands ds k ≡ Ok ss → AllByRecursion (λ s. Words Over s.1) ss
     over-terms end_of-Term known ids closed ss e = subst (AllByRecursion (λ s. Words Over s.1)) (same_value [] ss e) tt
     over-terms (more_of-Term t rest) known ids closed ss e =
@@ -153,13 +153,13 @@ module _ (ds : List Declaration) (L : ℕ → Type 0) (maps : (name : List ℕ) 
         subst (AllByRecursion (λ s. Words Over s.1)) (same_value (first.value ∷ others.value) ss others.then)
         (subst (λ s. Words Over s.1) (same_value _ first.value poly.then) here, later)
 
-    over-term : (t : Term) → are_names_of_term ds t ≡ true → Identities (λ v. has_identity_in_term ds v t) → (has_mark_in_term t ≡ true → IsClosed) → (r : Poly) → term_poly ds t ≡ Ok r → Words Over r
+    over-term : (t : Term) → are_names_of_term ds t ≡ true → Identities (λ v. has_identity_in_term ds v t) → (has_quote_in_term t ≡ true → IsClosed) → (r : Poly) → term_poly ds t ≡ Ok r → Words Over r
     over-term (Term' at negative literal shape factors) known ids closed r e =
         let product = bound (factor_polys ds factors >>= product_poly) (scaled_by literal) r e in
         let parts = bound (factor_polys ds factors) product_poly product.value product.is in
         words-scaled_by Over literal product.value r (words-product_poly Over over-append parts.value product.value (over-factors factors known ids closed parts.value parts.is) parts.then) product.then
 
-    over-factors : {m : _} (k : Row_of-Factor m) → are_names_of_factors ds k ≡ true → Identities (λ v. has_identity_in_factors ds v k) → (has_mark_in_factors k ≡ true → IsClosed)
+    over-factors : {m : _} (k : Row_of-Factor m) → are_names_of_factors ds k ≡ true → Identities (λ v. has_identity_in_factors ds v k) → (has_quote_in_factors k ≡ true → IsClosed)
         → (ps : List Poly) → factor_polys ds k ≡ Ok ps → AllByRecursion (Words Over) ps
     over-factors end_of-Factor known ids closed ps e = subst (AllByRecursion (Words Over)) (same_value [] ps e) tt
     over-factors (more_of-Factor at primary marks rest) known ids closed ps e =
@@ -172,7 +172,7 @@ module _ (ds : List Declaration) (L : ℕ → Type 0) (maps : (name : List ℕ) 
         let later = over-factors rest names.1 (λ v below h. ids v below (right_of _ _ h)) (λ h. closed (right_of _ _ h)) others.value others.is in
         subst (AllByRecursion (Words Over)) (same_value (first.value ∷ others.value) ps others.then) (here, later)
 
-    pub over-primary : (x : Primary) → are_names_of_primary ds x ≡ true → Identities (λ v. has_identity_in_primary ds v x) → (has_mark_in_primary x ≡ true → IsClosed) → (r : Poly) → primary_poly ds x ≡ Ok r → Words Over r
+    pub over-primary : (x : Primary) → are_names_of_primary ds x ≡ true → Identities (λ v. has_identity_in_primary ds v x) → (has_quote_in_primary x ≡ true → IsClosed) → (r : Poly) → primary_poly ds x ≡ Ok r → Words Over r
     over-primary (letter n) known ids closed r e = subst (Words Over) (same_value _ r e) (over-letter (named_in ds n.text) n.text refl known)
     over-primary (Identity n) known ids closed r e = subst (Words Over) (same_value _ r e) (over-identity (named_in ds n.text) n.text refl known ids)
     over-primary (Bracket s) known ids closed r e = over-sum s known ids closed r e

@@ -13,7 +13,7 @@ use Rattle.quiver.proofs.Identities.{identity_in_range, identity_is, is_quiver}
 use Rattle.statement_syntax.specs.declared.tree.Sum.{Sum}
 use Rattle.expressions.specs.Results.{◌>>=◌}
 use Rattle.expression_names.specs.Names.{are_names}
-use Rattle.expression_names.specs.Occurrences.{has_mark, has_identity}
+use Rattle.expression_names.specs.Occurrences.{has_quote, has_identity}
 use Rattle.expressions.specs.Polynomials.{sum_poly, equation_poly}
 use Rattle.expressions.specs.Laws.{IsWritten, LettersAreWritten}
 use Rattle.expressions.proofs.Sequences.{bound}
@@ -43,7 +43,7 @@ module _ (ds : List Declaration) (declared : IsDeclared ds) (first : ObjectsFirs
         adjoint = λ less. absurd (omega (arith, less, own_adjoint v below));
       })
 
-  written_adjoint : (has_mark left || has_mark right) ≡ true → (a : ℕ) → IsWritten ds left right a → IsWritten ds left right (star (quiver_of ds) a)
+  written_adjoint : (has_quote left || has_quote right) ≡ true → (a : ℕ) → IsWritten ds left right a → IsWritten ds left right (star (quiver_of ds) a)
   written_adjoint occurs a h =
       let q = quiver_of ds in
       let in_quiver : a < letters q = subst (λ n. a < n) (sym (letters-quiver_of ds)) h.letter in

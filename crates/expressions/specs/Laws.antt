@@ -7,7 +7,7 @@ use Rattle.quiver.specs.declared.named.Sig.{Sig}
 use Rattle.quiver.specs.Declarations.{Declaration, object_count, letter_count, quiver_of, ObjectsFirst, IsDeclared}
 use Rattle.statement_syntax.specs.declared.tree.Sum.{Sum}
 use Rattle.expression_names.specs.Names.{AreNames}
-use Rattle.expression_names.specs.Occurrences.{has_mark, has_identity}
+use Rattle.expression_names.specs.Occurrences.{has_quote, has_identity}
 use Rattle.expressions.specs.Signatures.{equation_signature}
 use Rattle.expressions.specs.Polynomials.{equation_poly}
 
@@ -23,7 +23,7 @@ EquationsAreTyped = (ds : List Declaration) (left right : Sum) (s : Sig) (p : Po
 pub record IsWritten (ds : List Declaration) (left right : Sum) (a : ℕ) : Type 0 where
   pub letter : a < letter_count ds
   pub identity : a < object_count ds → IsTrue (has_identity ds a left || has_identity ds a right)
-  pub adjoint : star (quiver_of ds) a < a → IsTrue (has_mark left || has_mark right)
+  pub adjoint : star (quiver_of ds) a < a → IsTrue (has_quote left || has_quote right)
 
 abbrev pub LettersAreWritten : Type 0
 LettersAreWritten = (ds : List Declaration) (left right : Sum) (p : Poly)

@@ -5,7 +5,7 @@ ghost use Rattle.expression_names.specs.Names.{are_names, are_names_of_term, are
 
 use crate::expression_rows::{MARKS, OVERFLOWS, POLYNOMIALS, Row, SIGNATURES};
 use crate::texts::{Map, equal, poly_text, quiver_of, same, tree_of};
-use expression_names::{has_mark, letter_of, object_of};
+use expression_names::{has_quote, letter_of, object_of};
 use expressions::{
     SignatureFault, equation_poly, equation_signature, equations_are_typed, letters_are_written,
 };
@@ -269,7 +269,7 @@ fn large_polynomials_are_refused(rt: HostRuntime) -> Result<(), Fail> {
 fn is_marked(alloc: Global, claim: &str) -> Result<bool, Fail> {
     let tree = tree_of_claim(alloc, "", claim)?;
     let (left, _) = sides(&tree)?;
-    Ok(has_mark(left))
+    Ok(has_quote(left))
 }
 
 #[test]

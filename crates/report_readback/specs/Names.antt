@@ -7,7 +7,7 @@ use Rattle.statement_tokens.specs.declared.token.Token.{Token}
 use Rattle.statement_syntax.specs.declared.tree.Statement.{Statement}
 use Rattle.statement_tokens.specs.Tokens.{AreTokens}
 use Rattle.statement_syntax.specs.Grammar.{name_token}
-use Rattle.statement_syntax.specs.Fault.{IsTreeOf}
+use Rattle.statement_syntax.specs.Texts.{IsTreeOf}
 use Rattle.adjoint_rules.specs.declared.problem.Problem.{Problem}
 use Rattle.signature_typing.specs.Typing.{IsProblemOf}
 use Rattle.block_text.specs.Letters.{is_name}

@@ -17,7 +17,8 @@ use Rattle.statement_names.specs.Ready.{IsReady}
 use Rattle.statement_names.specs.Numbered.{declarations_of}
 use Rattle.abbreviations.specs.Written.{assumptions_of, claims_of}
 use Rattle.statement_names.specs.Ordered.{order_of}
-use Rattle.statement_names.specs.Marked.{is_starred, marked_of}
+use Rattle.statement_names.specs.Marked.{marked_of}
+use Rattle.statement_names.specs.Starred.{is_starred}
 use Rattle.statement_names.specs.Shapes.{shapes_of}
 use Rattle.statement_names.specs.Solved.{solved_of}
 use Rattle.statement_names.proofs.FileReady.{file_ready}

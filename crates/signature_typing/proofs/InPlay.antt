@@ -10,18 +10,19 @@ use Rattle.definitions.specs.Quiver.{star}
 use Rattle.quiver.specs.Declarations.{Declaration, object_count, letter_count, quiver_of}
 use Rattle.signature_typing.specs.Types.{Spot, Factor, Statement, StatementKind, statement, out-roll-Term, out-roll-Sum, Equation}
 use Rattle.statement_syntax.specs.Nodes.{term_of}
-use Rattle.statement_names.specs.Marked.{is_starred_in, is_starred, stated_by, all_equations, writes_identity, is_marked, an_object, marked_of}
+use Rattle.statement_names.specs.Marked.{stated_by, all_equations, writes_identity, is_marked, an_object, marked_of}
+use Rattle.statement_names.specs.Starred.{is_starred_in, is_starred}
 use Rattle.statement_names.specs.Solved.{numbers_that}
 use Rattle.abbreviations.specs.Written.{product_at, equation, equations_in, equations_of, assumptions_of, claims_in, claims_of}
-use Rattle.expression_names.specs.Occurrences.{has_mark, has_mark_in_term}
-use Rattle.expression_names.proofs.Trees.{has_mark_in_factor, mark-sum, mark-term}
+use Rattle.expression_names.specs.Occurrences.{has_quote, has_quote_in_term}
+use Rattle.expression_names.proofs.Trees.{has_quote_in_factor, mark-sum, mark-term}
 use Rattle.expressions.specs.Laws.{IsWritten}
 use Rattle.adjoint_rules.specs.Problem.{numbers, IsInPlay}
 use Rattle.statement_names.proofs.Each.{Each-append, Each-weaker}
 
 -- whether a side has a mark
 abbrev pub is_starred_equation : Equation → Bool
-is_starred_equation e = has_mark e.left || has_mark e.right
+is_starred_equation e = has_quote e.left || has_quote e.right
 
 -- The marks of the equation make the file starred, and the objects whose identities it writes are marked.
 pub record IsCounted (ds : List Declaration) (statements : List Statement) (e : Equation) : Type 0 where
@@ -29,17 +30,17 @@ pub record IsCounted (ds : List Declaration) (statements : List Statement) (e : 
   pub marked : (v : ℕ) → writes_identity ds v e ≡ true → is_marked ds statements v ≡ true
 
 -- a product has a mark where a factor has one
-product_mark : (at : Spot) (factors : List Factor) → has_mark (product_at at factors) ≡ list_any has_mark_in_factor factors
+product_mark : (at : Spot) (factors : List Factor) → has_quote (product_at at factors) ≡ list_any has_quote_in_factor factors
 product_mark at factors =
     let term = term_of at false None factors in
-    mark-sum (product_at at factors) ∙ ap (λ r. list_any has_mark_in_term r.terms) (out-roll-Sum (record { at = at; terms = term ∷ [] }))
-    ∙ or-false (has_mark_in_term term) ∙ mark-term term
-    ∙ ap (λ r. list_any has_mark_in_factor r.factors) (out-roll-Term (record { at = at; negative = false; literal = None; factors = factors }))
+    mark-sum (product_at at factors) ∙ ap (λ r. list_any has_quote_in_term r.terms) (out-roll-Sum (record { at = at; terms = term ∷ [] }))
+    ∙ or-false (has_quote_in_term term) ∙ mark-term term
+    ∙ ap (λ r. list_any has_quote_in_factor r.factors) (out-roll-Term (record { at = at; negative = false; literal = None; factors = factors }))
 
 -- two products without marks
-unmarked : (at : Spot) (factors others : List Factor) → list_any has_mark_in_factor factors ≡ false → list_any has_mark_in_factor others ≡ false → is_starred_equation (equation (product_at at factors) (product_at at others)) ≡ false
+unmarked : (at : Spot) (factors others : List Factor) → list_any has_quote_in_factor factors ≡ false → list_any has_quote_in_factor others ≡ false → is_starred_equation (equation (product_at at factors) (product_at at others)) ≡ false
 unmarked at factors others none no_other =
-    ap (λ b. b || has_mark (product_at at others)) (product_mark at factors ∙ none) ∙ product_mark at others ∙ no_other
+    ap (λ b. b || has_quote (product_at at others)) (product_mark at factors ∙ none) ∙ product_mark at others ∙ no_other
 
 never : (b : Bool) {P : Type 0} → b ≡ false → b ≡ true → P
 never b none is = absurd cc

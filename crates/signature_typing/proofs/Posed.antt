@@ -7,7 +7,8 @@ use Rattle.definitions.specs.Poly.{Poly}
 use Rattle.nc_polynomial.specs.declared.poly.Poly as made
 use Rattle.quiver.specs.Declarations.{Declaration}
 use Rattle.signature_typing.specs.Types.{Spot, Sum, Statement, Equation, Parts, StatementKind, statement}
-use Rattle.statement_names.specs.Marked.{is_starred, marked_of}
+use Rattle.statement_names.specs.Marked.{marked_of}
+use Rattle.statement_names.specs.Starred.{is_starred}
 use Rattle.statement_names.specs.Ready.{HasNames, IsReady}
 use Rattle.abbreviations.specs.Written as written
 use Rattle.abbreviations.specs.Written.{equations_of, assumptions_of, claims_in, claims_of, abbreviation_of}

@@ -9,7 +9,8 @@ use Rattle.statement_names.specs.Faults.{name_fault_of}
 use Rattle.statement_names.specs.Numbered.{declarations_of}
 use Rattle.abbreviations.specs.Written.{equations_of, assumptions_of, claims_in, claims_of}
 use Rattle.statement_names.specs.Ordered.{order_of}
-use Rattle.statement_names.specs.Marked.{is_starred, marked_of}
+use Rattle.statement_names.specs.Marked.{marked_of}
+use Rattle.statement_names.specs.Starred.{is_starred}
 use Rattle.statement_names.specs.Shapes.{shapes_of}
 use Rattle.statement_names.specs.Solved.{solved_of}
 use Rattle.expressions.specs.Signatures.{equation_signature}

@@ -19,7 +19,8 @@ use Rattle.statement_tokens.specs.declared.language.Language.{Language}
 use Rattle.statement_tokens.specs.Language.{language_of}
 use Rattle.statement_syntax.specs.Grammar.{StatedLine, IsFileOf, file_tokens, FileFits}
 use Rattle.statement_syntax.specs.Tree.{file_tree}
-use Rattle.statement_syntax.specs.Fault.{IsStatements, IsTreeOf, GoesOn, GoesOnWithin, IsMisfit, IsFirstFault}
+use Rattle.statement_syntax.specs.Fault.{GoesOn, GoesOnWithin, IsMisfit, IsFirstFault}
+use Rattle.statement_syntax.specs.Texts.{IsStatements, IsTreeOf}
 use Rattle.statement_syntax.proofs.Run.{Upto}
 use Rattle.statement_syntax.proofs.FirstLine.{Behind, Divided, file_language, divided}
 use Rattle.statement_syntax.proofs.FileReads.{in_file, lines_run}

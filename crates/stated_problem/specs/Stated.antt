@@ -1,7 +1,7 @@
 -- The problem that the bytes of a statement stand for.
 use Rattle.std.specs.Prelude.{ℕ, List}
 use Rattle.statement_syntax.specs.declared.tree.Statement.{Statement}
-use Rattle.statement_syntax.specs.Fault.{IsTreeOf}
+use Rattle.statement_syntax.specs.Texts.{IsTreeOf}
 use Rattle.adjoint_rules.specs.declared.problem.Problem.{Problem}
 use Rattle.signature_typing.specs.Typing.{IsProblemOf}
 

@@ -1,6 +1,6 @@
 //! The problem of a statement, or how a run ends that has none.
 ghost use Rattle.std.specs.Prelude.{◌≤◌, ℕ, List, IfOk, IfErr, length};
-ghost use Rattle.statement_syntax.specs.Fault.{IsTreeOf};
+ghost use Rattle.statement_syntax.specs.Texts.{IsTreeOf};
 ghost use Rattle.signature_typing.specs.Typing.{IsProblemOf};
 ghost use Rattle.command_shape.specs.FileWords.{statement_limit};
 ghost use Rattle.stated_problem.specs.Statement.{OverStatement};

@@ -15,7 +15,7 @@ use Rattle.quiver.specs.declared.named.Sig.{Sig}
 use Rattle.quiver.specs.Declarations.{Declaration, quiver_of}
 use Rattle.quiver.proofs.Identities.{is_quiver}
 use Rattle.statement_syntax.specs.declared.tree.Sum.{Sum}
-use Rattle.expression_names.specs.Occurrences.{has_mark}
+use Rattle.expression_names.specs.Occurrences.{has_quote}
 use Rattle.expressions.specs.declared.fault.SignatureFault.TheVariants.{SumMismatch}
 use Rattle.expressions.specs.Results.{◌>>=◌}
 use Rattle.expressions.specs.Signatures as signatures
@@ -133,14 +133,14 @@ module _ {Object Arrow : Type 0} {s : Structure Object Arrow} (laws : Preadditiv
   abbrev r : Reading Object Arrow
   r = reading s involution ds f
 
-  pub equation_is_read : ((has_mark left || has_mark right) ≡ true → AdjointsAre s involution q f) → HasValueZero s q f p ↔ Holds r left right
+  pub equation_is_read : ((has_quote left || has_quote right) ≡ true → AdjointsAre s involution q f) → HasValueZero s q f p ↔ Holds r left right
   equation_is_read adjoints =
       let first = bound (signatures.sum_signature ds left) (λ i. signatures.sum_signature ds right >>= λ j. sides_signature (sum_at left) (sum_at right) i j) e equation.signature in
       let second = bound (signatures.sum_signature ds right) (λ j. sides_signature (sum_at left) (sum_at right) first.value j) e first.then in
       let minuend = bound (polynomials.sum_poly ds left) (λ m. polynomials.sum_poly ds right >>= λ n. difference_result m n) p equation.polynomial in
       let subtrahend = bound (polynomials.sum_poly ds right) (λ n. difference_result minuend.value n) p minuend.then in
-      let on_left = denotes-sum r laws equation.declared equation.objects_first rep left equation.left_names (λ h. adjoints (left_of (has_mark left) (has_mark right) h)) first.value first.is minuend.value minuend.is in
-      let on_right = denotes-sum r laws equation.declared equation.objects_first rep right equation.right_names (λ h. adjoints (right_of (has_mark left) (has_mark right) h)) second.value second.is subtrahend.value subtrahend.is in
+      let on_left = denotes-sum r laws equation.declared equation.objects_first rep left equation.left_names (λ h. adjoints (left_of (has_quote left) (has_quote right) h)) first.value first.is minuend.value minuend.is in
+      let on_right = denotes-sum r laws equation.declared equation.objects_first rep right equation.right_names (λ h. adjoints (right_of (has_quote left) (has_quote right) h)) second.value second.is subtrahend.value subtrahend.is in
       go first.value second.value second.then minuend.value subtrahend.value on_left on_right subtrahend.then
     where
       typed : IsTyped q e.source.0 e.target.0 p

@@ -23,7 +23,7 @@ use Rattle.statement_syntax.specs.declared.tree.Primary.{Primary, Letter, Identi
 use Rattle.statement_syntax.specs.declared.tree.Term.{Term, Term', Row_of-Factor, end_of-Factor, more_of-Factor}
 use Rattle.statement_syntax.specs.declared.tree.Sum.{Sum, Sum', Row_of-Term, end_of-Term, more_of-Term}
 use Rattle.expression_names.specs.Names.{is_map, is_object, letter_number, object_number, letter_of, object_of, are_names, are_names_of_terms, are_names_of_term, are_names_of_factors, are_names_of_primary}
-use Rattle.expression_names.specs.Occurrences.{is_adjoint, has_mark, has_mark_in_terms, has_mark_in_term, has_mark_in_factors, has_mark_in_primary}
+use Rattle.expression_names.specs.Occurrences.{is_adjoint, has_quote, has_quote_in_terms, has_quote_in_term, has_quote_in_factors, has_quote_in_primary}
 use Rattle.expressions.specs.Results.{◌>>=◌}
 use Rattle.expressions.specs.Signatures as signatures
 use Rattle.expressions.specs.Signatures.{Part, from_to, letter_signature, marked_signature}
@@ -160,7 +160,7 @@ module _ {Object Arrow : Type 0} (r : Reading Object Arrow) (laws : PreadditiveL
 
   -- by induction on the expression; the involution counts only where there is a quote
   mutual
-    pub denotes-sum : (k : Sum) → are_names r.names k ≡ true → (has_mark k ≡ true → Adjoints) → (o : Option Sig) → signatures.sum_signature r.names k ≡ Ok o → (x : Poly) → polynomials.sum_poly r.names k ≡ Ok x
+    pub denotes-sum : (k : Sum) → are_names r.names k ≡ true → (has_quote k ≡ true → Adjoints) → (o : Option Sig) → signatures.sum_signature r.names k ≡ Ok o → (x : Poly) → polynomials.sum_poly r.names k ≡ Ok x
         → Denotes s q f o x (sum_value r k)
     denotes-sum (Sum' at shape terms) known adjoints o e x d =
         let parts = bound (signatures.terms_parts r.names terms) (signatures.sum_from (Ok None)) o e in
@@ -168,7 +168,7 @@ module _ {Object Arrow : Type 0} (r : Reading Object Arrow) (laws : PreadditiveL
         let whole = denotes-summed laws q f rep parts.value polys.value (values terms) o (denotes-terms terms known adjoints parts.value parts.is polys.value polys.is) parts.then in
         subst (Denotes s q f o x) (sym (values-total terms)) (denotes-total o polys.value x (total_value s (values terms)) (typed-sum r.names declared first (Sum' at shape terms) known o e x d) whole polys.then)
 
-    denotes-terms : {m : _} (k : Row_of-Term m) → are_names_of_terms r.names k ≡ true → (has_mark_in_terms k ≡ true → Adjoints) → (parts : List Part) → signatures.terms_parts r.names k ≡ Ok parts
+    denotes-terms : {m : _} (k : Row_of-Term m) → are_names_of_terms r.names k ≡ true → (has_quote_in_terms k ≡ true → Adjoints) → (parts : List Part) → signatures.terms_parts r.names k ≡ Ok parts
         → (ss : List Summand) → polynomials.summands r.names k ≡ Ok ss → AreTerms laws q f rep parts ss (values k)
     denotes-terms end_of-Term known adjoints parts e ss d =
         subst (λ i. AreTerms laws q f rep i ss []) (same_value [] parts e) (subst (λ i. AreTerms laws q f rep [] i []) (same_value [] ss d) tt)
@@ -180,15 +180,15 @@ module _ {Object Arrow : Type 0} (r : Reading Object Arrow) (laws : PreadditiveL
         let summand = bound _ (λ x. polynomials.summands r.names rest >>= λ xs. Ok (x ∷ xs)) ss d in
         let later_summands = bound (polynomials.summands r.names rest) (λ xs. Ok (summand.value ∷ xs)) ss summand.then in
         let poly = bound (polynomials.term_poly r.names t) _ summand.value summand.is in
-        let here = denotes-term t names.0 (λ h. adjoints (left_of (has_mark_in_term t) (has_mark_in_terms rest) h)) signature.value signature.is poly.value poly.is in
-        let later = denotes-terms rest names.1 (λ h. adjoints (right_of (has_mark_in_term t) (has_mark_in_terms rest) h)) later_parts.value later_parts.is later_summands.value later_summands.is in
+        let here = denotes-term t names.0 (λ h. adjoints (left_of (has_quote_in_term t) (has_quote_in_terms rest) h)) signature.value signature.is poly.value poly.is in
+        let later = denotes-terms rest names.1 (λ h. adjoints (right_of (has_quote_in_term t) (has_quote_in_terms rest) h)) later_parts.value later_parts.is later_summands.value later_summands.is in
         let placed : Denotes s q f part.value.1 (signed summand.value) (term_value r t) =
         subst (λ x. Denotes s q f x.1 (signed summand.value) (term_value r t)) (same_value _ part.value signature.then) (subst (λ y. Denotes s q f signature.value (signed y) (term_value r t)) (same_value _ summand.value poly.then) here) in
         subst (λ i. AreTerms laws q f rep i ss (term_value r t ∷ values rest)) (same_value _ parts later_parts.then)
         (subst (λ i. AreTerms laws q f rep (part.value ∷ later_parts.value) i (term_value r t ∷ values rest)) (same_value _ ss later_summands.then) (placed, later))
 
     -- a term, with its sign
-    denotes-term : (t : Term) → are_names_of_term r.names t ≡ true → (has_mark_in_term t ≡ true → Adjoints) → (o : Option Sig) → signatures.term_signature r.names t ≡ Ok o → (x : Poly) → polynomials.term_poly r.names t ≡ Ok x
+    denotes-term : (t : Term) → are_names_of_term r.names t ≡ true → (has_quote_in_term t ≡ true → Adjoints) → (o : Option Sig) → signatures.term_signature r.names t ≡ Ok o → (x : Poly) → polynomials.term_poly r.names t ≡ Ok x
         → Denotes s q f o (signed (polynomials.is_negative t, x)) (term_value r t)
     denotes-term (Term' at negative literal shape factors) known adjoints o e x d =
         let parts = bound (signatures.factors_parts r.names factors) signatures.product_signature o e in
@@ -198,13 +198,13 @@ module _ {Object Arrow : Type 0} (r : Reading Object Arrow) (laws : PreadditiveL
         let whole = denotes-product laws q f rep parts.value polys.value (factor_values r factors) o product.value each parts.then polys.then in
         denotes-signed o negative x (scaled_value s literal (composite s (factor_values r factors))) (denotes-scaled o literal product.value x (composite s (factor_values r factors)) whole product.then)
 
-    denotes-factors : {m : _} (k : Row_of-Factor m) → are_names_of_factors r.names k ≡ true → (has_mark_in_factors k ≡ true → Adjoints) → (parts : List Part) → signatures.factors_parts r.names k ≡ Ok parts
+    denotes-factors : {m : _} (k : Row_of-Factor m) → are_names_of_factors r.names k ≡ true → (has_quote_in_factors k ≡ true → Adjoints) → (parts : List Part) → signatures.factors_parts r.names k ≡ Ok parts
         → (ps : List Poly) → polynomials.factor_polys r.names k ≡ Ok ps → AreFactors laws q f rep parts ps (factor_values r k)
     denotes-factors end_of-Factor known adjoints parts e ps d =
         subst (λ i. AreFactors laws q f rep i ps []) (same_value [] parts e) (subst (λ i. AreFactors laws q f rep [] i []) (same_value [] ps d) tt)
     denotes-factors (more_of-Factor at primary marks rest) known adjoints parts e ps d =
         let names = and_parts (are_names_of_primary r.names primary) (are_names_of_factors r.names rest) known in
-        let here = has_mark_in_primary primary || list_any is_adjoint marks in
+        let here = has_quote_in_primary primary || list_any is_adjoint marks in
         let part = bound _ (λ x. signatures.factors_parts r.names rest >>= λ xs. Ok (x ∷ xs)) parts e in
         let later_parts = bound (signatures.factors_parts r.names rest) (λ xs. Ok (part.value ∷ xs)) parts part.then in
         let marked_part = bound (signatures.primary_signature r.names primary >>= marked_signature at marks) _ part.value part.is in
@@ -212,17 +212,17 @@ module _ {Object Arrow : Type 0} (r : Reading Object Arrow) (laws : PreadditiveL
         let poly = bound _ (λ x. polynomials.factor_polys r.names rest >>= λ xs. Ok (x ∷ xs)) ps d in
         let later_polys = bound (polynomials.factor_polys r.names rest) (λ xs. Ok (poly.value ∷ xs)) ps poly.then in
         let inner = bound (polynomials.primary_poly r.names primary) (marked_poly q marks) poly.value poly.is in
-        let in_front = λ (h : here ≡ true). adjoints (left_of here (has_mark_in_factors rest) h) in
-        let bare = denotes-primary primary names.0 (λ h. in_front (left_of (has_mark_in_primary primary) (list_any is_adjoint marks) h)) signature.value signature.is inner.value inner.is in
+        let in_front = λ (h : here ≡ true). adjoints (left_of here (has_quote_in_factors rest) h) in
+        let bare = denotes-primary primary names.0 (λ h. in_front (left_of (has_quote_in_primary primary) (list_any is_adjoint marks) h)) signature.value signature.is inner.value inner.is in
         let value = marks_value r marks (primary_value r primary) in
         let marked : Denotes s q f marked_part.value poly.value value =
-        denotes-marked r laws q quiver rep at marks (λ h. in_front (right_of (has_mark_in_primary primary) (list_any is_adjoint marks) h)) signature.value marked_part.value inner.value poly.value (primary_value r primary) bare signature.then inner.then in
+        denotes-marked r laws q quiver rep at marks (λ h. in_front (right_of (has_quote_in_primary primary) (list_any is_adjoint marks) h)) signature.value marked_part.value inner.value poly.value (primary_value r primary) bare signature.then inner.then in
         let placed : Denotes s q f part.value.1 poly.value value = subst (λ x. Denotes s q f x.1 poly.value value) (same_value _ part.value marked_part.then) marked in
-        let later = denotes-factors rest names.1 (λ h. adjoints (right_of here (has_mark_in_factors rest) h)) later_parts.value later_parts.is later_polys.value later_polys.is in
+        let later = denotes-factors rest names.1 (λ h. adjoints (right_of here (has_quote_in_factors rest) h)) later_parts.value later_parts.is later_polys.value later_polys.is in
         subst (λ i. AreFactors laws q f rep i ps (value ∷ factor_values r rest)) (same_value _ parts later_parts.then)
         (subst (λ i. AreFactors laws q f rep (part.value ∷ later_parts.value) i (value ∷ factor_values r rest)) (same_value _ ps later_polys.then) (placed, later))
 
-    denotes-primary : (k : Primary) → are_names_of_primary r.names k ≡ true → (has_mark_in_primary k ≡ true → Adjoints) → (o : Option Sig) → signatures.primary_signature r.names k ≡ Ok o
+    denotes-primary : (k : Primary) → are_names_of_primary r.names k ≡ true → (has_quote_in_primary k ≡ true → Adjoints) → (o : Option Sig) → signatures.primary_signature r.names k ≡ Ok o
         → (x : Poly) → polynomials.primary_poly r.names k ≡ Ok x → Denotes s q f o x (primary_value r k)
     denotes-primary (Letter n) known adjoints o e x d =
         let a = f.arrow (letter_of r.names n) in

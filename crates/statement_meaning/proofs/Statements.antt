@@ -19,7 +19,7 @@ use Rattle.adjoint_rules.specs.Problem.{polynomials}
 use Rattle.statement_names.specs.declared.fault.NameFault.{NameFault}
 use Rattle.statement_names.specs.Faults.{name_fault_of}
 use Rattle.statement_names.specs.Numbered.{declarations_of}
-use Rattle.statement_names.specs.Marked.{is_starred}
+use Rattle.statement_names.specs.Starred.{is_starred}
 use Rattle.statement_names.specs.Ready.{HasNames, IsReady}
 use Rattle.statement_names.proofs.FileReady.{file_ready}
 use Rattle.signature_typing.specs.First.{first_among}

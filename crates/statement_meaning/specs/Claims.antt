@@ -9,7 +9,7 @@ use Rattle.statement_syntax.specs.declared.tree.Statement.{Statement}
 use Rattle.abbreviations.specs.declared.written.Equation.{Equation}
 use Rattle.abbreviations.specs.Written.{assumptions_of, claims_of}
 use Rattle.statement_names.specs.Numbered.{declarations_of}
-use Rattle.statement_names.specs.Marked.{is_starred}
+use Rattle.statement_names.specs.Starred.{is_starred}
 use Rattle.statement_meaning.specs.Values.{Reading, Holds}
 
 -- the quiver of the objects and maps that the file declares

@@ -11,7 +11,7 @@ use Rattle.nc_polynomial.specs.declared.poly.Poly as made
 use Rattle.statement_syntax.specs.declared.tree.Statement.{Statement}
 use Rattle.statement_syntax.specs.declared.tree.Sum.{Sum}
 use Rattle.expression_names.specs.Names.{AreNames}
-use Rattle.expression_names.specs.Occurrences.{has_mark}
+use Rattle.expression_names.specs.Occurrences.{has_quote}
 use Rattle.abbreviations.specs.declared.written.Equation.{Equation}
 use Rattle.abbreviations.specs.Written.{assumptions_of, claims_of}
 use Rattle.expressions.specs.Signatures.{equation_signature}
@@ -35,7 +35,7 @@ reading s involution ds f = record { category = s; involution = involution; name
 -- In each representation the polynomial of an equation without adjoints has the value zero exactly where both sides have the same value.
 abbrev pub EquationsAreRead : {Object Arrow : Type 0} → Structure Object Arrow → Type 0
 EquationsAreRead {Object} {Arrow} s = (involution : Arrow → Arrow) (ds : List Declaration) (left right : Sum) (e : Sig) (p : Poly) (f : Representation Object Arrow)
-    → IsEquation ds left right e p → (has_mark left || has_mark right) ≡ false → Represents s (quiver_of ds) f
+    → IsEquation ds left right e p → (has_quote left || has_quote right) ≡ false → Represents s (quiver_of ds) f
     → HasValueZero s (quiver_of ds) f p ↔ Holds (reading s involution ds f) left right
 
 -- Whatever the involution, in each star representation the polynomial of an equation has the value zero exactly where both sides have the same value.

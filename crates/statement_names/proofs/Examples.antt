@@ -5,7 +5,7 @@ use Rattle.std.specs.List.{flat_map}
 use Rattle.statement_names.specs.Uses.{map_use}
 use Rattle.statement_names.specs.Faults.{kind_in, first_fault, name_fault_of}
 use Rattle.statement_names.specs.Limits.{map_limit_of}
-use Rattle.statement_names.specs.Marked.{is_starred}
+use Rattle.statement_names.specs.Starred.{is_starred}
 use Rattle.statement_names.specs.Numbered.{declarations_of}
 use Rattle.statement_names.specs.Occurrences.{Occurrence, uses, mark_occurrences}
 use Rattle.statement_names.specs.Ordered.{letter, order_of}

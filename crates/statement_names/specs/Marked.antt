@@ -1,24 +1,12 @@
--- Whether a file is starred, and which objects it marks.
-use Rattle.std.specs.Prelude.{ℕ, Bool, true, false, ◌||◌, List, ◌++◌, map}
+-- Which objects a file marks: those whose identity stands in one of its equations.
+use Rattle.std.specs.Prelude.{ℕ, Bool, ◌||◌, List, ◌++◌, map}
 use Rattle.std.specs.List.{flat_map, list_any}
 use Rattle.quiver.specs.Declarations.{Declaration, object_count}
-use Rattle.expression_names.specs.Occurrences.{has_mark, has_identity}
-use Rattle.statement_names.specs.Types.{Statement, StatementKind, statement, Equation}
+use Rattle.expression_names.specs.Occurrences.{has_identity}
+use Rattle.statement_names.specs.Types.{Statement, Equation}
 use Rattle.word_core.specs.declared.letter.Object.{Object}
 use Rattle.statement_names.specs.Solved.{numbers_that}
 use Rattle.abbreviations.specs.Written.{equations_of, claims_in}
-
--- whether a mark or the word `self` stands in a statement, abbreviations written out
-abbrev pub is_starred_in : StatementKind → Bool
-is_starred_in (statement.Maps names source target selfmade) = selfmade
-is_starred_in (statement.Assume left right) = has_mark left || has_mark right
-is_starred_in (statement.Claim left right) = has_mark left || has_mark right
-is_starred_in (statement.Pinv a x) = true
-is_starred_in (statement.Projection p) = true
-is_starred_in kind = false
-
-abbrev pub is_starred : List Statement → Bool
-is_starred statements = list_any (λ s. is_starred_in s.kind) statements
 
 -- the assumptions and claims of a statement, and of the file
 abbrev pub stated_by : List Declaration → Statement → List Equation

@@ -5,7 +5,8 @@ ghost use Rattle.statement_names.specs.Faults.{name_fault_of, Explains};
 ghost use Rattle.statement_names.specs.Numbered.{declarations_of};
 ghost use Rattle.statement_names.specs.Ordered.{order_of};
 ghost use Rattle.statement_names.specs.Solved.{solved_of};
-ghost use Rattle.statement_names.specs.Marked.{is_starred, marked_of};
+ghost use Rattle.statement_names.specs.Marked.{marked_of};
+ghost use Rattle.statement_names.specs.Starred.{is_starred};
 ghost use Rattle.statement_names.specs.Shapes.{shapes_of};
 ghost use Rattle.statement_names.specs.Ready.{IsReady};
 

@@ -1,12 +1,12 @@
 //! Whether a file speaks of adjoints.
 
 ghost use Rattle.std.specs.Prelude.{◌≡◌};
-ghost use Rattle.statement_names.specs.Marked.{is_starred, is_starred_in};
+ghost use Rattle.statement_names.specs.Starred.{is_starred, is_starred_in};
 
-use expression_names::has_mark;
+use expression_names::has_quote;
 use statement_syntax::{Statement, StatementKind};
 
-/// Whether a mark or the word `self` stands in a statement, abbreviations written out.
+/// Whether a quote or the word `self` stands in a statement, abbreviations written out.
 pub fn is_starred(statements: &[Statement]) -> bool
     ensures { result ≡ is_starred statements.now }
 {
@@ -21,7 +21,7 @@ fn is_starred_in(statement: &StatementKind) -> bool
     match statement {
         StatementKind::Maps { selfmade, .. } => *selfmade,
         StatementKind::Assume(left, right) | StatementKind::Claim(left, right) => {
-            has_mark(left) || has_mark(right)
+            has_quote(left) || has_quote(right)
         }
         StatementKind::Pinv(..) | StatementKind::Projection(_) => true,
         _ => false,

@@ -10,7 +10,8 @@ use Rattle.statement_tokens.specs.Language.{language_of}
 use Rattle.statement_tokens.specs.Tokens.{AreTokens}
 use Rattle.statement_tokens.specs.Laws.{HasTokensOrFault}
 use Rattle.statement_tokens.proofs.TokenLaws.{each_text_has_tokens_or_fault}
-use Rattle.statement_syntax.specs.Fault.{IsTreeOf, IsFirstFault, TellsFirstFault, fault_at, scan_fault, misfit_fault}
+use Rattle.statement_syntax.specs.Fault.{IsFirstFault, TellsFirstFault, fault_at, scan_fault, misfit_fault}
+use Rattle.statement_syntax.specs.Texts.{IsTreeOf}
 use Rattle.statement_syntax.specs.Stages.{begun, left, StoppedAt, AllRead}
 use Rattle.statement_syntax.specs.Laws.{EachTextIsRead}
 use Rattle.statement_syntax.proofs.Stopping.{Runs, goes_on, is_found, is_first, told_scanned}

@@ -12,7 +12,7 @@ use Rattle.statement_tokens.specs.Items.{item_in}
 use Rattle.statement_tokens.proofs.Reading.{◌>>=◌, tokens_from, tokens_of, with_front}
 use Rattle.statement_syntax.specs.Grammar.{Stated, listed, second_language, stated_tokens, StatedLine, NamesLanguage, IsFileOf, file_tokens, FileFits}
 use Rattle.statement_syntax.specs.Tree.{file_tree}
-use Rattle.statement_syntax.specs.Fault.{HasText}
+use Rattle.statement_syntax.specs.Texts.{HasText}
 use Rattle.statement_syntax.specs.Places.{bare_stated, bare_file, ReadsBackAs}
 use Rattle.statement_syntax.specs.Written.{tree_text}
 use Rattle.statement_tokens.proofs.Scanning.{spot}

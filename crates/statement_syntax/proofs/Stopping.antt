@@ -10,7 +10,8 @@ use Rattle.statement_tokens.specs.Tokens.{AreTokens, IsFirstScanFault}
 use Rattle.statement_syntax.specs.Grammar.{sign_token, StatedLine, IsFileOf, file_tokens, FileFits}
 use Rattle.statement_syntax.specs.Tree.{stated_tree, file_tree}
 use Rattle.statement_syntax.specs.Lines.{line_end, ended, file_step}
-use Rattle.statement_syntax.specs.Fault.{IsStatements, IsTreeOf, GoesOn, GoesOnWithin, IsMisfit, IsFirstFault, TellsFirstFault, IsWantOfMemory, fault_at, scan_fault, misfit_fault}
+use Rattle.statement_syntax.specs.Fault.{GoesOn, GoesOnWithin, IsMisfit, IsFirstFault, TellsFirstFault, IsWantOfMemory, fault_at, scan_fault, misfit_fault}
+use Rattle.statement_syntax.specs.Texts.{IsStatements, IsTreeOf}
 use Rattle.statement_syntax.specs.Stages.{first_statements, begun, left, StoppedAt, AllRead, Refused, IsRefusal}
 use Rattle.statement_tokens.proofs.TokenLaws.{read_are, tokens_are_unique, tokens_have_no_fault}
 use Rattle.statement_syntax.proofs.Run.{bind_ok, ok_is, run-append, run_front, one_step, upto_ok}

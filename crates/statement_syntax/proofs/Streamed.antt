@@ -10,7 +10,8 @@ use Rattle.statement_tokens.proofs.Pieces.{front_none}
 use Rattle.statement_tokens.proofs.TokenLaws.{fronts, leaves, leaves_unread, unread_is, handed}
 use Rattle.statement_syntax.specs.Steps.{run}
 use Rattle.statement_syntax.specs.Lines.{file_step}
-use Rattle.statement_syntax.specs.Fault.{IsStatements, IsTreeOf, TellsFirstFault, IsWantOfMemory, TellsScan}
+use Rattle.statement_syntax.specs.Fault.{TellsFirstFault, IsWantOfMemory, TellsScan}
+use Rattle.statement_syntax.specs.Texts.{IsStatements, IsTreeOf}
 use Rattle.std.specs.Result.{IsErrAnd, IfErr}
 use Rattle.std.specs.Str.{IsUtf8, chars}
 use Rattle.statement_syntax.specs.Grammar.{StatedLine}

@@ -1,29 +1,12 @@
--- Which bytes are which statements, and what is the first thing that is wrong with all others.
+-- What is the first thing that is wrong with bytes that are no statements.
 use Rattle.std.specs.Prelude.{◌≡◌, ℕ, List, [], ◌∷◌, ◌++◌}
 use Rattle.std.specs.Str.{IsUtf8, chars}
 use Rattle.std.specs.Str.Lossy.{utf8_valid_len}
-use Rattle.statement_syntax.specs.Types.{Spot, Token, Statement, ScanFault, ScanFault as scan, ScanError, ScanError as scan_error, Misfit, Misfit as misfit}
+use Rattle.statement_syntax.specs.Types.{Spot, Token, ScanFault, ScanFault as scan, ScanError, ScanError as scan_error, Misfit, Misfit as misfit}
 use Rattle.statement_syntax.specs.Types.{Fault, Fault as fault, SyntaxFault, SyntaxFault as refusal, Language}
 use Rattle.statement_tokens.specs.Language.{language_of}
 use Rattle.statement_tokens.specs.Tokens.{AreTokens, IsFirstScanFault}
 use Rattle.statement_syntax.specs.Grammar.{StatedLine, IsFileOf, file_tokens, FileFits}
-use Rattle.statement_syntax.specs.Tree.{file_tree}
-
--- the bytes are these statements, a line each, of one of the languages, with at most 64 round brackets in one another
-pub record IsStatements (bytes : List ℕ) (lines : List StatedLine) : Type 0 where
-  pub utf8 : IsUtf8 bytes
-  pub tokens : AreTokens (chars bytes) (file_tokens lines)
-  pub language : Language
-  pub speaks : IsFileOf language lines
-  pub fits : FileFits lines
-
--- the bytes are statements that have this tree
-abbrev pub IsTreeOf : List ℕ → List Statement → Type 0
-IsTreeOf bytes statements = (lines : List StatedLine) × IsStatements bytes lines × (statements ≡ file_tree lines)
-
--- they are the tree of some text
-abbrev pub HasText : List Statement → Type 0
-HasText statements = (bytes : List ℕ) × IsTreeOf bytes statements
 
 -- the number that is printed for a fault
 abbrev pub code_of : Fault → ℕ

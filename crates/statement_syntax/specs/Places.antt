@@ -5,7 +5,7 @@ use Rattle.statement_syntax.specs.Grammar.{Lead, no_sign, lead_plus, lead_minus,
 use Rattle.statement_syntax.specs.Grammar.{one, beside, Marked, plain, marked, raised, Prime, name, identity, bracket, Ending, no_word, self_word, Stated}
 use Rattle.statement_syntax.specs.Grammar.{listed, mapped, sides, paired, projected, by_degree, by_weight, modelled, second_language, StatedLine}
 use Rattle.statement_syntax.specs.Tree.{file_tree}
-use Rattle.statement_syntax.specs.Fault.{IsTreeOf}
+use Rattle.statement_syntax.specs.Texts.{IsTreeOf}
 
 abbrev pub somewhere : Spot
 somewhere = record { line = 1; column = 1 }

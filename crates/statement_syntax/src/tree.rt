@@ -1,6 +1,6 @@
 //! Trees: the statements of a text, with their names, literals and expressions.
 
-ghost use Rattle.statement_syntax.specs.Fault.{HasText};
+ghost use Rattle.statement_syntax.specs.Texts.{HasText};
 
 use lists::{Listing, Text};
 use statement_tokens::Spot;

@@ -8,10 +8,10 @@ use Rattle.definitions.specs.Representation.{Representation, Represents, StarRep
 use Rattle.word_core.specs.declared.letter.Letter.{Letter}
 use Rattle.representations.specs.Cancelling.{IsMonic, IsEpic}
 use Rattle.statement_syntax.specs.declared.tree.Statement.{Statement}
-use Rattle.statement_syntax.specs.Fault.{IsTreeOf}
+use Rattle.statement_syntax.specs.Texts.{IsTreeOf}
 use Rattle.abbreviations.specs.declared.written.Equation.{Equation}
 use Rattle.statement_names.specs.Numbered.{declarations_of}
-use Rattle.statement_names.specs.Marked.{is_starred}
+use Rattle.statement_names.specs.Starred.{is_starred}
 use Rattle.statement_meaning.specs.Claims.{quiver_in, read_in, AssumptionsHold, IsClaim, ClaimHolds}
 use Rattle.evidence_commands.specs.CalledLetters.{letters_text}
 use Rattle.command_runs.specs.Promises.Lines.{HasLine, block_line}

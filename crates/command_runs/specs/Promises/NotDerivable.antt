@@ -6,12 +6,13 @@ use Rattle.definitions.specs.Combination.{InRationalIdeal}
 use Rattle.definitions.specs.Generators.{generators_of}
 use Rattle.quiver.specs.Declarations.{Declaration}
 use Rattle.statement_syntax.specs.declared.tree.Statement.{Statement}
-use Rattle.statement_syntax.specs.Fault.{IsTreeOf}
+use Rattle.statement_syntax.specs.Texts.{IsTreeOf}
 use Rattle.abbreviations.specs.declared.written.Equation.{Equation}
 use Rattle.abbreviations.specs.Written.{assumptions_of}
 use Rattle.expressions.specs.Polynomials.{equation_poly}
 use Rattle.statement_names.specs.Numbered.{declarations_of}
-use Rattle.statement_names.specs.Marked.{is_starred, marked_of}
+use Rattle.statement_names.specs.Marked.{marked_of}
+use Rattle.statement_names.specs.Starred.{is_starred}
 use Rattle.statement_meaning.specs.Claims.{quiver_in, IsClaim}
 use Rattle.command_runs.specs.Promises.Lines.{HasLine, claim_line, block_line, number_limit}
 

@@ -4,7 +4,7 @@ use Rattle.std.specs.Prelude.{◌≡◌, ◌<◌, ◌<ℤ◌, ℕ, ℤ, pos, Lis
 use Rattle.std.specs.Fmt.{signed_decimal}
 use Rattle.definitions.specs.Category.{Structure}
 use Rattle.statement_syntax.specs.declared.tree.Statement.{Statement}
-use Rattle.statement_syntax.specs.Fault.{IsTreeOf}
+use Rattle.statement_syntax.specs.Texts.{IsTreeOf}
 use Rattle.abbreviations.specs.declared.written.Equation.{Equation}
 use Rattle.statement_meaning.specs.Claims.{IsClaim, ProvesClaim}
 use Rattle.command_runs.specs.Promises.Lines.{HasLine, claim_line, block_line, number_limit}

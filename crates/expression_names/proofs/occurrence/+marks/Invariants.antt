@@ -1,11 +1,11 @@
 use Rattle.std.proofs.Common.{◌≡◌, drop}
 use Rattle.std.specs.List.{list_any}
-use Rattle.expression_names.specs.Occurrences.{has_mark_in_term}
-use Rattle.expression_names.proofs.Trees.{has_mark_in_factor}
+use Rattle.expression_names.specs.Occurrences.{has_quote_in_term}
+use Rattle.expression_names.proofs.Trees.{has_quote_in_factor}
 use Rattle.expression_names.proofs.occurrence.+marks.Given as goal
 
-abbrev pub invariant-has_mark-loop-term : goal.invariant-has_mark-loop-term
-invariant-has_mark-loop-term l = list_any has_mark_in_term (drop l.term-index l.term-items) ≡ list_any has_mark_in_term l.term-items
+abbrev pub invariant-has_quote-loop-term : goal.invariant-has_quote-loop-term
+invariant-has_quote-loop-term l = list_any has_quote_in_term (drop l.term-index l.term-items) ≡ list_any has_quote_in_term l.term-items
 
-abbrev pub invariant-has_mark_in_term-loop-factor : goal.invariant-has_mark_in_term-loop-factor
-invariant-has_mark_in_term-loop-factor l = list_any has_mark_in_factor (drop l.factor-index l.factor-items) ≡ list_any has_mark_in_factor l.factor-items
+abbrev pub invariant-has_quote_in_term-loop-factor : goal.invariant-has_quote_in_term-loop-factor
+invariant-has_quote_in_term-loop-factor l = list_any has_quote_in_factor (drop l.factor-index l.factor-items) ≡ list_any has_quote_in_factor l.factor-items
