@@ -7,6 +7,7 @@ pub mod Survey
 pub mod Numbered
 pub mod Ordered
 pub mod Solved
+pub mod Starred
 pub mod Marked
 pub mod Shapes
 pub mod Marks

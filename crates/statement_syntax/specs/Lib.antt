@@ -6,6 +6,7 @@ pub mod Steps
 pub mod Tree
 pub mod Lines
 pub mod Fault
+pub mod Texts
 pub mod Stages
 pub mod Written
 pub mod Places
