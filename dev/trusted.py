@@ -4,9 +4,9 @@
 usage: trusted.py [--write]
 
 A clause of a public function cites words that its file imports from `specs/`; a file of definitions stands on those that it imports, and
-one that wants a proof on the file of that too. The first table has what each promise stands on: its page, all files that this imports one
-after another, and the files of code in which the types stand that they speak of, with the lines of both. The other has each file that
-some clause stands on. With --write they are put into the document, between the lines that begin and end them; else they are printed. The
+one that wants a proof on the file of that too. The first table has what each promise stands on: the lines that reading.py prints for it, and
+the lines of the whole files, those of its page, of all that this imports one after another, and of the code in which the types stand that
+they speak of. The other has each file that some clause stands on. With --write they are put into the document, between the lines that begin and end them; else they are printed. The
 status is 1 where the document has others.
 """
 from __future__ import annotations
@@ -14,24 +14,18 @@ from __future__ import annotations
 import re
 import sys
 from pathlib import Path
-from typing import Dict, Iterator, List, NamedTuple, Set, Tuple
+from typing import Dict, Iterator, List, NamedTuple, Set
 
-TOP = Path(__file__).resolve().parents[1]
-CRATES, DOCUMENT = TOP / "crates", TOP / "docs" / "DEFINITIONS.md"
+import reading
+from modules import CRATES, PAGES, TOP, Import, declaring, home, imports
+
+DOCUMENT = TOP / "docs" / "DEFINITIONS.md"
 # The public functions whose clauses are the main theorem and the laws for users.
 STARTS = ("command_runs/src/whole_run.rt", "*_command/src/laws.rt", "evidence_commands/src/laws.rt", "command_runs/src/laws.rt")
 BEGINS, ENDS = "<!-- dev/trusted.py begins -->", "<!-- dev/trusted.py ends -->"
-PAGES = CRATES / "command_runs" / "specs" / "Promises"
 LEMMA = re.compile(r"^\s*(?:pub )?use Rattle\.(\w+)\.proofs\.([\w.]+?)(?:\.\{[^}]*\}| as .*|\s*)?$", re.M)
-IMPORT = re.compile(r"^\s*(?:ghost |pub )?use Rattle\.(\w+)\.specs\.([\w.]+?)(?:\.\{([^}]*)\}| as .*|\s*)?;?\s*$", re.M)
 # A clause ends before the next one, a remark, the body or an empty line.
 CLAUSES = re.compile(r"^\s*(?:ensures|requires)\b.*(?:\n(?!\s*(?:ensures|requires|[{}/]|$)).*)*", re.M)
-
-
-class Import(NamedTuple):
-    crate: str
-    module: Tuple[str, ...]
-    names: str
 
 
 class Trusted(NamedTuple):
@@ -41,39 +35,12 @@ class Trusted(NamedTuple):
     foreign: Set[str]
 
 
-def imports(text: str) -> Iterator[Import]:
-    for crate, module, names in IMPORT.findall(text):
-        yield Import(crate, tuple(module.split(".")), names)
-
-
 def cited(path: Path) -> Iterator[Import]:
     """The imports of a file of code of which a clause of a public function holds a name."""
     text = path.read_text(encoding="utf-8")
     public = "\n".join(part for part in re.split(r"^(?=(?:pub )?fn )", text, flags=re.M) if part.startswith("pub fn"))
     words = set(re.findall(r"[\w◌-]+", "\n".join(CLAUSES.findall(public))))
     return (it for it in imports(text) if words & {name.split(" as ")[-1].strip() for name in it.names.split(",")})
-
-
-def home(it: Import) -> Path:
-    """The file of the module, which the file that lists a crate's modules may take from another crate."""
-    for count in range(len(it.module), 0, -1):
-        path = CRATES / it.crate / "specs" / ("/".join(it.module[:count]) + ".antt")
-        if path.exists():
-            return path
-    listing = (CRATES / it.crate / "specs" / "Lib.antt").read_text(encoding="utf-8")
-    passed_on = re.search(rf"^pub use Rattle\.(\w+)\.specs\.{it.module[0]}$", listing, re.M)
-    if not passed_on:
-        raise SystemExit(f"trusted.py: no file has the module {it.crate}.specs.{'.'.join(it.module)}")
-    return home(Import(passed_on[1], it.module, it.names))
-
-
-def declaring(it: Import) -> Path:
-    """The file of code that declares a type: all but the last word of the module's path are that of the file."""
-    for count in range(len(it.module), 1, -1):
-        path = CRATES / it.crate / "src" / ("/".join(it.module[1:count]) + ".rt")
-        if path.exists():
-            return path
-    return CRATES / it.crate / "src" / "lib.rt"
 
 
 def lemmas(text: str) -> Iterator[Path]:
@@ -118,8 +85,9 @@ def promises() -> List[str]:
     rows = []
     for title, page in [*((f"`{page.stem}`", page) for page in pages), ("all, by `Promises`", PAGES.with_suffix(".antt"))]:
         found = reached([], {page})
-        counts = (sum(map(lines, files)) for files in (found.definitions, found.proofs, found.types))
-        rows.append(f"| {title} | {len(found.definitions)} | " + " | ".join(f"{count:,}" for count in counts) + " |")
+        read = reading.lines(page)
+        counts = (read[".antt"], read[".rt"], *(sum(map(lines, files)) for files in (found.definitions, found.proofs, found.types)))
+        rows.append(f"| {title} | " + " | ".join(f"{count:,}" for count in counts) + f" | {len(found.definitions)} |")
     return rows
 
 
@@ -143,7 +111,7 @@ def table() -> str:
     foreign = ", ".join(f"`{name}`" for name in sorted(found.foreign - {"std"}))
     definitions, types = by_crate(found.definitions, True), by_crate(found.types, False)
     return "\n".join([
-        "| Promise | Files of `specs/` | Their lines | Lines of files of proofs | Lines of files of types |", "|---|---|---|---|---|",
+        "| Promise | Lines of definitions | Lines of types | Whole files of `specs/` | of proofs | of types | Files of `specs/` |", "|---|---|---|---|---|---|---|",
         *promises(), "",
         f"All clauses: {len(found.definitions)} files of `specs/` with {total:,} lines, with the lines of each, and"
         f" {len(found.types)} files of `src/` that declare the types that they speak of.",
