@@ -81,7 +81,7 @@ def trusted() -> Trusted:
 
 def promises() -> List[str]:
     """A row for each page, and one for all of them with what says when they hold."""
-    pages = [page for page in sorted(PAGES.glob("*.antt")) if page.stem != "Lines"]
+    pages = [page for page in sorted(PAGES.glob("*.antt")) if page.stem not in ("Faultless", "Lines")]
     rows = []
     for title, page in [*((f"`{page.stem}`", page) for page in pages), ("all, by `Promises`", PAGES.with_suffix(".antt"))]:
         found = reached([], {page})

@@ -6,6 +6,7 @@ pub mod Prefix
 mod QuietTexts
 mod QuietBlocks
 mod ReportLines
+mod PromisedFiles
 mod PromisedGenerators
 mod PromisedVerdicts
 mod BlockCauses

@@ -64,6 +64,7 @@ use Rattle.command_runs.specs.Promises.NotDerivable.{SaysClosed, NotDerivableIsM
 use Rattle.command_runs.specs.Promises.Sharp.{IsSharp, SharpIsMeant}
 use Rattle.command_runs.specs.Promises.Undecided.{UndecidedIsMeant}
 use Rattle.command_runs.specs.Promises.{LinesAreMeant}
+use Rattle.command_runs.proofs.PromisedFiles.{has_no_fault}
 use Rattle.command_runs.proofs.PromisedGenerators.{is_not_derivable}
 use Rattle.command_runs.proofs.QuietTexts.{lacks, cut}
 use Rattle.command_runs.proofs.QuietBlocks.{decimal_lacks}
@@ -137,7 +138,7 @@ module _ {Object Arrow : Type 0} {s : Structure Object Arrow} (laws : Preadditiv
       let claim = claim_there is.statements problem number is.elaborated there.0 there.1 in
       record {
         statements = is.statements;
-        file = is.tree;
+        file = has_no_fault bytes problem is;
         claim = claim.0;
         is_claim = claim.1;
         positive = positive;
@@ -300,7 +301,7 @@ module _ {Object Arrow : Type 0} {s : Structure Object Arrow} (laws : Preadditiv
       let claim = claim_there is.statements problem p.claim is.elaborated there.0 there.1 in
       record {
         statements = is.statements;
-        file = is.tree;
+        file = has_no_fault bytes problem is;
         number = p.claim;
         d = p.denominator;
         monic = p.monic;

@@ -27,6 +27,7 @@ use Rattle.statement_meaning.proofs.Claims.{claim_there}
 use Rattle.statement_meaning.proofs.Statements.{none_wrong}
 use Rattle.stated_problem.specs.Stated.{IsStated}
 use Rattle.command_runs.specs.Promises.NotDerivable.{IsPolynomialOf, IsNotDerivable}
+use Rattle.command_runs.proofs.PromisedFiles.{has_no_fault}
 
 -- polynomials with the same coefficients have one rational ideal
 between_nothing : (p : Poly) → poly_between [] p [] ≡ p
@@ -96,7 +97,7 @@ is_not_derivable bytes problem stated number least most outside =
     λ i. generators_of (quiver_of (parts.quiver i)) (parts.starred i) (numbers (marked i)) (assumed i) in
     record {
       statements = statements;
-      file = stated.tree;
+      file = has_no_fault bytes problem stated;
       assumptions = assumptions;
       assumed = polynomials_are ds (assumptions_of ds statements) fine.0;
       claim = there.0;

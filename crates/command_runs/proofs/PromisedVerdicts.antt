@@ -32,6 +32,7 @@ use Rattle.command_runs.specs.Promises.NotDerivable.{IsNotDerivable}
 use Rattle.command_runs.specs.Promises.Sharp.{IsSharp}
 use Rattle.command_runs.specs.Promises.Undecided.{IsUndecided}
 use Rattle.command_runs.specs.Promises.{LinesAreMeant}
+use Rattle.command_runs.proofs.PromisedFiles.{has_no_fault}
 use Rattle.command_runs.proofs.PromisedGenerators.{is_not_derivable}
 use Rattle.command_runs.proofs.QuietTexts.{lacks, LineAt}
 use Rattle.command_runs.proofs.ReportLines.{at_start, claim_said, IsOfVerdict}
@@ -63,7 +64,7 @@ module _ {Object Arrow : Type 0} {s : Structure Object Arrow} (equations : SaysE
       let there = claim_there stated.statements problem number stated.elaborated least most in
       record {
         statements = stated.statements;
-        file = stated.tree;
+        file = has_no_fault bytes problem stated;
         claim = there.0;
         is_claim = there.1;
         positive = positive_denominator problem number e means.sum;
@@ -76,7 +77,7 @@ module _ {Object Arrow : Type 0} {s : Structure Object Arrow} (equations : SaysE
       let there = claim_there stated.statements problem number stated.elaborated least most in
       record {
         statements = stated.statements;
-        file = stated.tree;
+        file = has_no_fault bytes problem stated;
         claim = there.0;
         is_claim = there.1;
         model = m;

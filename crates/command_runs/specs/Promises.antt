@@ -1,8 +1,9 @@
 -- The main theorem in short: each line that was put means what it says. Each promise has a page of its own.
 -- The category is the one that is handed in to `run`, whose bound `Preadditive` gives its laws; `run` is one body for all of them.
--- Files without a fault alone are spoken of, as a fault is answered by status 3. Over devices that tell nothing, as the machine's, `bytes` are some bytes:
+-- Each page says that the file has no fault, as a fault is answered by status 3. Over devices that tell nothing, as the machine's, `bytes` are some bytes:
 -- what is put is the same as over devices in memory, as `run` can't see which of them it has.
 pub mod Lines
+pub mod Faultless
 pub mod Proved
 pub mod Accepted
 pub mod Refuted

@@ -8,12 +8,12 @@ use Rattle.definitions.specs.Representation.{Representation, Represents, StarRep
 use Rattle.word_core.specs.declared.letter.Letter.{Letter}
 use Rattle.representations.specs.Cancelling.{IsMonic, IsEpic}
 use Rattle.statement_syntax.specs.declared.tree.Statement.{Statement}
-use Rattle.statement_syntax.specs.Texts.{IsTreeOf}
 use Rattle.abbreviations.specs.declared.written.Equation.{Equation}
 use Rattle.statement_names.specs.Numbered.{declarations_of}
 use Rattle.statement_names.specs.Starred.{is_starred}
 use Rattle.statement_meaning.specs.Claims.{quiver_in, read_in, AssumptionsHold, IsClaim, ClaimHolds}
 use Rattle.evidence_commands.specs.CalledLetters.{letters_text}
+use Rattle.command_runs.specs.Promises.Faultless.{IsFaultlessFile}
 use Rattle.command_runs.specs.Promises.Lines.{HasLine, block_line}
 
 -- in the representation d cancels, and these letters have monic and epic arrows
@@ -32,10 +32,10 @@ pub record ProvesClaimWith {Object Arrow : Type 0} (s : Structure Object Arrow) 
       → Represents s (quiver_in statements) f → Allows s f d monic epic
       → AssumptionsHold (read_in s involution statements f) statements → ClaimHolds (read_in s involution statements f) statements number
 
--- claim N denominator D, and then the letters that are called monic and epic, where there are any
+-- claim N denominator D, and then the letters that are called monic and epic, where there are any; the bytes are a file without a fault
 pub record SaysAccepted {Object Arrow : Type 0} (s : Structure Object Arrow) (bytes text : List ℕ) : Type 0 where
   pub statements : List Statement
-  pub file : IsTreeOf bytes statements
+  pub file : IsFaultlessFile bytes statements
   pub number : ℕ
   pub d : ℤ
   pub monic : List Letter

@@ -26,7 +26,7 @@ claim_line number said = codes "# claim " ++ decimal number ++ codes " " ++ said
 abbrev pub block_line : ℕ → List ℕ → List ℕ
 block_line block said = codes "# block " ++ decimal block ++ codes " " ++ said
 
--- Where a page is given the number of a line's claim or block, it speaks of numbers below this one. No statement has so many claims, and no text of
--- evidence so many blocks.
+-- Where a promise says which claim, or which block, the number in its line means, it speaks of numbers below this one: no statement has so many claims,
+-- and no text of evidence so many blocks. `accepted`, `explained`, `closed` and `sharp` take a block of any number, as they don't say which block it is.
 abbrev pub number_limit : ℕ
 number_limit = 2 ^ 64

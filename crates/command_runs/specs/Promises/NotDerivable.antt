@@ -6,7 +6,6 @@ use Rattle.definitions.specs.Combination.{InRationalIdeal}
 use Rattle.definitions.specs.Generators.{generators_of}
 use Rattle.quiver.specs.Declarations.{Declaration}
 use Rattle.statement_syntax.specs.declared.tree.Statement.{Statement}
-use Rattle.statement_syntax.specs.Texts.{IsTreeOf}
 use Rattle.abbreviations.specs.declared.written.Equation.{Equation}
 use Rattle.abbreviations.specs.Written.{assumptions_of}
 use Rattle.expressions.specs.Polynomials.{equation_poly}
@@ -14,17 +13,18 @@ use Rattle.statement_names.specs.Numbered.{declarations_of}
 use Rattle.statement_names.specs.Marked.{marked_of}
 use Rattle.statement_names.specs.Starred.{is_starred}
 use Rattle.statement_meaning.specs.Claims.{quiver_in, IsClaim}
+use Rattle.command_runs.specs.Promises.Faultless.{IsFaultlessFile}
 use Rattle.command_runs.specs.Promises.Lines.{HasLine, claim_line, block_line, number_limit}
 
 -- the polynomial of the equation: its left side minus its right side
 abbrev pub IsPolynomialOf : List Declaration → Equation → Poly → Type 0
 IsPolynomialOf ds e p = equation_poly ds e.left e.right ≡ Ok p
 
--- The bytes are a file with a claim of this number, of which no positive multiple is a combination of the generators: the assumptions, abbreviations
--- written out, where the file is starred their adjoints, and what it is for the identities that occur to be identities.
+-- The bytes are a file without a fault with a claim of this number, of which no positive multiple is a combination of the generators: the assumptions,
+-- abbreviations written out, where the file is starred their adjoints, and what it is for the identities that occur to be identities.
 pub record IsNotDerivable (bytes : List ℕ) (number : ℕ) : Type 0 where
   pub statements : List Statement
-  pub file : IsTreeOf bytes statements
+  pub file : IsFaultlessFile bytes statements
   pub assumptions : List Poly
   pub assumed : AllZip (IsPolynomialOf (declarations_of statements)) (assumptions_of (declarations_of statements) statements) assumptions
   pub claim : Equation

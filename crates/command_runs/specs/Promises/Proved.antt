@@ -1,18 +1,18 @@
 -- `proved` and `explained`: wherever the denominator cancels and all assumptions of the file hold, the claim holds. `bytes` is the statement, `put` what
--- was put. Of the numbers of rows and of steps nothing is said.
+-- was put. Of the numbers of rows and of steps nothing is said here: the clause `answered` of `run` says them.
 use Rattle.std.specs.Prelude.{◌≡◌, ◌<◌, ◌<ℤ◌, ℕ, ℤ, pos, List, ◌++◌, codes, decimal}
 use Rattle.std.specs.Fmt.{signed_decimal}
 use Rattle.definitions.specs.Category.{Structure}
 use Rattle.statement_syntax.specs.declared.tree.Statement.{Statement}
-use Rattle.statement_syntax.specs.Texts.{IsTreeOf}
 use Rattle.abbreviations.specs.declared.written.Equation.{Equation}
 use Rattle.statement_meaning.specs.Claims.{IsClaim, ProvesClaim}
+use Rattle.command_runs.specs.Promises.Faultless.{IsFaultlessFile}
 use Rattle.command_runs.specs.Promises.Lines.{HasLine, claim_line, block_line, number_limit}
 
--- The bytes are a file with a claim of this number, which is proved in this category with the denominator d, which is positive.
+-- The bytes are a file without a fault with a claim of this number, which is proved in this category with the denominator d, which is positive.
 pub record IsProved {Object Arrow : Type 0} (s : Structure Object Arrow) (bytes : List ℕ) (number : ℕ) (d : ℤ) : Type 0 where
   pub statements : List Statement
-  pub file : IsTreeOf bytes statements
+  pub file : IsFaultlessFile bytes statements
   pub claim : Equation
   pub is_claim : IsClaim statements number claim
   pub positive : pos 0 <ℤ d

@@ -16,7 +16,8 @@ abbrev pub budget_of : Call → Budget
 budget_of (Prove p) = record { pairs = p.pairs; steps = p.steps }
 budget_of other = record { pairs = default_pairs; steps = default_steps }
 
--- The bytes are a statement, and this says why its claim with this number is undecided: the cause, the place, and the least word.
+-- The bytes are a file without a fault, with this problem, and this says why its claim with this number is undecided: the cause, the place, and the
+-- least word.
 pub record IsUndecided (budget : Budget) (bytes : List ℕ) (number : ℕ) (text : List ℕ) : Type 0 where
   pub problem : Problem
   pub stated : IsStated bytes problem
