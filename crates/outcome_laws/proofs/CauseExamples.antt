@@ -66,7 +66,7 @@ product_no_sum a b c d same = clash (ap (λ (o : Overflow). o.product) same)
 no_sum : IsOfStep start (pos 2) large rule around (sum_of large (pos 2)) → ⊥
 no_sum (of_multiplier same) = product_no_sum large (pos 2) (pos 1) (pos 2) same
 no_sum (of_rest t listed same) = product_no_sum large (pos 2) t.0 (pos 2) same
-no_sum (of_taken c listed same) = product_no_sum large (pos 2) c (pos 2) same
+no_sum (of_taken row listed same) = product_no_sum large (pos 2) row.coef (pos 2) same
 no_sum (of_rule t listed same) = product_no_sum large (pos 2) large t.0 same
 no_sum (of_difference w same) = even (coefficient_of start.rest w) (ap (λ (o : Overflow). o.left) same)
 

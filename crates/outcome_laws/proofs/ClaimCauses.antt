@@ -24,8 +24,9 @@ use Rattle.outcome_laws.proofs.Derivations.{zero_traces}
 use Rattle.outcome_laws.proofs.OpenRuns.{order_laws, run_kept, claim_reduced}
 use Rattle.outcome_laws.proofs.ProblemPolynomials.{claim_is}
 use Rattle.outcome_laws.proofs.ReductionCauses.{reduction_means}
-use Rattle.outcome_laws.proofs.ReductionFaults.{normal_form_stops}
+use Rattle.outcome_laws.proofs.ReductionFaults.{normal_form_stops, normal_form_leaves}
 use Rattle.outcome_laws.proofs.RoundCauses.{state_rules}
+use Rattle.outcome_laws.proofs.StepMade.{reduced_of}
 
 module _ (problem : Problem) (budget : Budget) (number rounds : ℕ) (s : RunState) (run : IsRunState (setting_of problem budget) rounds s) (round : ℕ) where
   -- the reduction of the claim stops
@@ -43,9 +44,14 @@ module _ (problem : Problem) (budget : Budget) (number rounds : ℕ) (s : RunSta
     recorded_claim = record {
       rules = s.rules;
       are_rules = state_rules problem budget rounds s run;
-      made = s.made;
       recorded = (run_kept problem budget rounds s run).kept.recorded;
+      reduced = reduced_of left;
+      leaves = normal_form_leaves (letter_count problem.parts.quiver) (asked_cmp problem.parts.order) (asked_rank (letter_count problem.parts.quiver) problem.parts.order) s.rules (claim_at problem number) budget.steps left
+          (order_laws problem budget) (claim_is problem number).shaped ends;
+      nothing = none;
       claim = record_of left;
+      scale_is = refl;
+      rows_are = refl;
       traces = zero_traces (letter_count problem.parts.quiver) (asked_cmp problem.parts.order) (polynomials problem.generators) s.rules (claim_at problem number) left (claim_reduced problem budget number rounds s run left ends) none;
     }
 
