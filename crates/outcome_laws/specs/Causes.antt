@@ -115,6 +115,10 @@ pub record PairsAreSpent (problem : Problem) (budget : Budget) (at : Place) (lea
   pub word_is : least ≡ Some (overlap_word_of rules left)
   pub none_below : NothingPendingBelow (letter_count problem.parts.quiver) (asked_cmp problem.parts.order) rules treated (overlap_word_of rules left)
 
+-- a claim has the number
+abbrev pub IsClaim : Problem → ℕ → Type 0
+IsClaim problem number = (1 ≤ number) × (number ≤ length problem.parts.claims)
+
 -- What is reduced by the rules at the place, in the work on the claim with this number.
 pub data IsReducedAt (problem : Problem) (budget : Budget) (number : ℕ) (at : Place) (rules : List Rule) (p : List Term) : Type 0 where
   -- in round 0 a generator
@@ -125,7 +129,7 @@ pub data IsReducedAt (problem : Problem) (budget : Budget) (number : ℕ) (at : 
   of_first_rest : (round : ℕ) (now : Reduced) → at ≡ place.Round (suc round) → IsFirstReduction problem budget rules now → p ≡ now.rest
       → IsReducedAt problem budget number at rules p
   -- after a round the claim
-  of_claim : (round : ℕ) → at ≡ place.Claim round → p ≡ claim_at problem number → IsReducedAt problem budget number at rules p
+  of_claim : (round : ℕ) → at ≡ place.Claim round → IsClaim problem number → p ≡ claim_at problem number → IsReducedAt problem budget number at rules p
 
 -- A reduction at the place.
 pub record Reduction (problem : Problem) (budget : Budget) (number : ℕ) (at : Place) : Type 0 where
@@ -156,6 +160,7 @@ pub data IsOfRows (rows : List Row) (first second : Reduced) (o : Overflow) : Ty
 -- Nothing is left of the claim by rules. The record of the claim has the multiplier of this reduction and the rows that it took away, and
 -- each rule has the record with which it was made. The rows of each record add up to its scale times the rule, or times the claim.
 pub record ClaimRecord (problem : Problem) (budget : Budget) (number : ℕ) : Type 0 where
+  pub is_claim : IsClaim problem number
   pub rules : List Rule
   pub are_rules : AreRulesOf problem budget rules
   pub recorded : AreRecorded (polynomials problem.generators) rules are_rules.records
