@@ -1,18 +1,23 @@
 -- Causes that are accepted and refused, worked out by hand.
-use Rattle.std.proofs.Common.{◌≡◌, ℕ, ℤ, pos, negsuc, ◌*ℤ◌, true, false, List, [], ◌∷◌, Option, refl, ap, arith}
+use Rattle.std.proofs.Common.{◌≡◌, ℕ, ℤ, pos, negsuc, ◌*ℤ◌, zero, suc, true, false, List, [], ◌∷◌, Option, Some, refl, sym, ap, ◌∙◌, subst, arith}
 use Rattle.std.specs.List.{range_with_len}
 use Rattle.std.proofs.lemmas.Int.{ints}
 use Rattle.coef_int.specs.declared.Overflow.{Overflow}
 use Rattle.coef_int.specs.Range.{IsCoefficient}
 use Rattle.coef_int.specs.Operations.{product_of, sum_of, exact_value}
 use Rattle.definitions.specs.Poly.{Term, coefficient_of}
+use Rattle.word_orders.specs.Admissible.{Compare}
+use Rattle.word_orders.specs.Specified.{asked_cmp}
+use Rattle.rule_reduce.specs.declared.rule.Rule.{Rule}
+use Rattle.rule_reduce.specs.RuleLists.{rule_at}
 use Rattle.cofactor_trace.specs.declared.halt.Place.{Place}
 use Rattle.cofactor_trace.specs.declared.halt.Place.TheVariants as place
 use Rattle.adjoint_rules.specs.declared.problem.Problem.{Problem}
+use Rattle.adjoint_rules.specs.Claims.{claim_at}
 use Rattle.traced_completion.specs.declared.budget.Budget.{Budget}
 use Rattle.outcome_laws.specs.Certificates.{PassesLimit}
-use Rattle.outcome_laws.specs.ReductionSteps.{Reduced, IsOfStep, of_multiplier, of_rest, of_taken, of_rule, of_difference, IsTooLarge}
-use Rattle.outcome_laws.specs.Causes.{PairsAreSpent, StepsAreSpent}
+use Rattle.outcome_laws.specs.ReductionSteps.{Reduced, unreduced, Goes, IsOfStep, of_multiplier, of_rest, of_taken, of_rule, of_difference, IsTooLarge}
+use Rattle.outcome_laws.specs.Causes.{PairsAreSpent, StepsAreSpent, ClaimRecord}
 
 -- Of b a b = a b a with one pair: as many as the budget has, no fewer and no more, and between two rounds.
 abbrev one_pair : Budget
@@ -66,9 +71,24 @@ product_no_sum a b c d same = clash (ap (λ (o : Overflow). o.product) same)
 no_sum : IsOfStep start (pos 2) large rule around (sum_of large (pos 2)) → ⊥
 no_sum (of_multiplier same) = product_no_sum large (pos 2) (pos 1) (pos 2) same
 no_sum (of_rest t listed same) = product_no_sum large (pos 2) t.0 (pos 2) same
-no_sum (of_taken c listed same) = product_no_sum large (pos 2) c (pos 2) same
+no_sum (of_taken row listed same) = product_no_sum large (pos 2) row.coef (pos 2) same
 no_sum (of_rule t listed same) = product_no_sum large (pos 2) large t.0 same
 no_sum (of_difference w same) = even (coefficient_of start.rest w) (ap (λ (o : Overflow). o.left) same)
+
+-- By no rules nothing is taken away: neither rows that cancel one another nor 200,001 rows with the coefficient 0 are the record of a claim.
+no_rule : (k : ℕ) (g : Rule) → rule_at [] k ≡ Some g → ⊥
+no_rule zero g e = cc
+no_rule (suc k) g e = cc
+
+none_taken : (compare : Compare) (made : ℕ) (p : List Term) (now : Reduced) → Goes compare [] made (unreduced p) now → now.taken ≡ []
+none_taken compare zero p now goes = ap (λ (r : Reduced). r.taken) (sym goes)
+none_taken compare (suc n) p now goes = absurd (no_rule goes.step.next.choice.number goes.step.next.chosen.rule goes.step.next.chosen.numbered)
+
+no_rows : (problem : Problem) (number : ℕ) (r : ClaimRecord problem one_pair number) → r.rules ≡ [] → r.claim.rows ≡ []
+no_rows problem number r none =
+    r.rows_are
+    ∙ none_taken (asked_cmp problem.parts.order) r.leaves.made (claim_at problem number) r.reduced
+    (subst (λ (rules : List Rule). Goes (asked_cmp problem.parts.order) rules r.leaves.made (unreduced (claim_at problem number)) r.reduced) none r.leaves.goes)
 
 -- A word of 501 letters is too long; 200,001 rows are too many, and 200,000 rows or 1,000,000 letters are not.
 too_long : IsTooLarge true ((pos 1, range_with_len 0 501) ∷ [])

@@ -1,5 +1,7 @@
 -- What the cause of a halt in the work on a claim or on its certificate says.
-use Rattle.std.proofs.Common.{◌≡◌, ℕ, [], None, Ok, Err, refl, sym, subst}
+use Rattle.std.proofs.Common.{◌≡◌, ◌<◌, ◌≤◌, ◌⊎◌, inl, inr, ℕ, [], length, None, Ok, Err, refl, sym, ap, subst, arith}
+use Rattle.std.proofs.lemmas.List.{length-map}
+use Rattle.confluence.proofs.Ideals.{generator_decided}
 use Rattle.word_orders.specs.Specified.{asked_cmp}
 use Rattle.word_orders.proofs.AskedOrders.{asked_rank}
 use Rattle.quiver.specs.Declarations.{letter_count}
@@ -18,22 +20,31 @@ use Rattle.adjoint_rules.specs.Claims.{claim_at}
 use Rattle.traced_completion.specs.declared.budget.Budget.{Budget}
 use Rattle.traced_completion.specs.PlainRun.{RunState, IsRunState, IsCauseOf, setting_of}
 use Rattle.claim_decider.specs.Outcomes.{IsCauseOfExpansion, IsCauseOfGathering, record_of}
-use Rattle.outcome_laws.specs.Causes.{of_claim, ClaimRecord, in_making, in_certificate, CauseMeans}
+use Rattle.outcome_laws.specs.Causes.{IsClaim, of_claim, ClaimRecord, in_making, in_certificate, CauseMeans}
 use Rattle.outcome_laws.proofs.CertificateFaults.{ExpansionStops, expansion_overflows, row_too_long, too_many_rows, expansion_stops, GatheringStops, scale_overflows, too_many_lemma_rows, gathering_stops}
 use Rattle.outcome_laws.proofs.Derivations.{zero_traces}
 use Rattle.outcome_laws.proofs.OpenRuns.{order_laws, run_kept, claim_reduced}
 use Rattle.outcome_laws.proofs.ProblemPolynomials.{claim_is}
 use Rattle.outcome_laws.proofs.ReductionCauses.{reduction_means}
-use Rattle.outcome_laws.proofs.ReductionFaults.{normal_form_stops}
+use Rattle.outcome_laws.proofs.ReductionFaults.{normal_form_stops, normal_form_leaves}
 use Rattle.outcome_laws.proofs.RoundCauses.{state_rules}
+use Rattle.outcome_laws.proofs.StepMade.{reduced_of}
 
-module _ (problem : Problem) (budget : Budget) (number rounds : ℕ) (s : RunState) (run : IsRunState (setting_of problem budget) rounds s) (round : ℕ) where
+-- a number whose claim has terms is one of a claim
+pub claim_named : (problem : Problem) (number : ℕ) → 0 < length (claim_at problem number) → IsClaim problem number
+claim_named problem number some = go (generator_decided (polynomials problem.parts.claims) number)
+  where
+    go : ((1 ≤ number) × (number ≤ length (polynomials problem.parts.claims))) ⊎ (claim_at problem number ≡ []) → IsClaim problem number
+    go (inl is) = (is.0, omega (arith, is.1, length-map problem.parts.claims (λ p. p.terms)))
+    go (inr none) = absurd (omega (arith, some, ap length none))
+
+module _ (problem : Problem) (budget : Budget) (number rounds : ℕ) (s : RunState) (run : IsRunState (setting_of problem budget) rounds s) (round : ℕ) (is_claim : IsClaim problem number) where
   -- the reduction of the claim stops
   pub claim_stop_means : (e : ReduceFault) (c : Cause) → IsCauseOf e c → normal_form_of (asked_cmp problem.parts.order) s.rules (claim_at problem number) budget.steps ≡ Err e
       → CauseMeans problem budget number (place.Claim round) None c
   claim_stop_means e c why ends =
       reduction_means problem budget number (place.Claim round) None
-      (record { rules = s.rules; are_rules = state_rules problem budget rounds s run; polynomial = claim_at problem number; is = of_claim round refl refl }) e c
+      (record { rules = s.rules; are_rules = state_rules problem budget rounds s run; polynomial = claim_at problem number; is = of_claim round refl is_claim refl }) e c
       (normal_form_stops (letter_count problem.parts.quiver) (asked_cmp problem.parts.order) (asked_rank (letter_count problem.parts.quiver) problem.parts.order) s.rules (claim_at problem number) budget.steps e
       (order_laws problem budget) (claim_is problem number).shaped ends) why
 
@@ -41,11 +52,17 @@ module _ (problem : Problem) (budget : Budget) (number rounds : ℕ) (s : RunSta
   module _ (left : State) (ends : normal_form_of (asked_cmp problem.parts.order) s.rules (claim_at problem number) budget.steps ≡ Ok left) (none : left.rest ≡ []) where
     abbrev recorded_claim : ClaimRecord problem budget number
     recorded_claim = record {
+      is_claim = is_claim;
       rules = s.rules;
       are_rules = state_rules problem budget rounds s run;
-      made = s.made;
       recorded = (run_kept problem budget rounds s run).kept.recorded;
+      reduced = reduced_of left;
+      leaves = normal_form_leaves (letter_count problem.parts.quiver) (asked_cmp problem.parts.order) (asked_rank (letter_count problem.parts.quiver) problem.parts.order) s.rules (claim_at problem number) budget.steps left
+          (order_laws problem budget) (claim_is problem number).shaped ends;
+      nothing = none;
       claim = record_of left;
+      scale_is = refl;
+      rows_are = refl;
       traces = zero_traces (letter_count problem.parts.quiver) (asked_cmp problem.parts.order) (polynomials problem.generators) s.rules (claim_at problem number) left (claim_reduced problem budget number rounds s run left ends) none;
     }
 

@@ -1,5 +1,5 @@
--- The rules of each state of the run of a problem are made one after another.
-use Rattle.std.proofs.Common.{◌≡◌, ◌≤◌, ℕ, zero, suc, Bool, true, false, List, [], ◌∷◌, ◌++◌, map, length, take, nat_le, Option, Some, None, Result, Ok, Err, refl, sym, subst, arith, append-nil}
+-- The rules of each state of the run of a problem are made one after another, and its records are theirs.
+use Rattle.std.proofs.Common.{◌≡◌, ◌≤◌, ℕ, zero, suc, Bool, true, false, List, [], ◌∷◌, ◌++◌, map, length, take, nat_le, Option, Some, None, Result, Ok, Err, refl, sym, ap, subst, arith, append-nil}
 use Rattle.std.specs.List.{All, AllByRecursion}
 use Rattle.std.proofs.lemmas.List.{length-map}
 use Rattle.std.proofs.lemmas.List.Elements.{All-map, All-take, recursion_from_All}
@@ -11,12 +11,14 @@ use Rattle.word_orders.proofs.AskedOrders.{asked_rank}
 use Rattle.nc_polynomial.specs.Shape.{IsShaped}
 use Rattle.quiver.specs.Declarations.{letter_count, quiver_of}
 use Rattle.cofactor_trace.specs.declared.halt.Halt.{Halt}
+use Rattle.traced_rows.specs.declared.Row.{Row}
 use Rattle.rule_reduce.specs.declared.rule.Rule.{Rule}
 use Rattle.rule_reduce.specs.declared.state.State.{State}
 use Rattle.rule_reduce.specs.declared.fault.ReduceFault.{ReduceFault}
 use Rattle.rule_reduce.specs.NormalForms.{normal_form_of}
 use Rattle.ambiguities.specs.declared.ambiguity.Ambiguity.{Ambiguity}
 use Rattle.ambiguities.specs.Ambiguities.{IsAmbiguity}
+use Rattle.ambiguities.specs.SPolynomials.{s_rows_of}
 use Rattle.ambiguities.proofs.Balance.{s_polynomials_balance}
 use Rattle.adjoint_rules.specs.declared.problem.Problem.{Problem}
 use Rattle.adjoint_rules.specs.Problem.{polynomials}
@@ -30,7 +32,7 @@ use Rattle.traced_completion.specs.Pending.{AreAllPending, ambiguities_of}
 use Rattle.traced_completion.specs.PlainRun.{Setting, RunState, went, closed, stopped, recorded, taken_count, IsTreated, TreatsFirst, TreatsPending, IsRound, IsRunState, setting_of}
 use Rattle.traced_completion.proofs.StoreLemmas.{pending-all}
 use Rattle.outcome_laws.specs.ReductionSteps.{unreduced, Leaves}
-use Rattle.outcome_laws.specs.Causes.{IsFirstReduction, from_generator, from_ambiguity, AreMade, no_rule, one_more}
+use Rattle.outcome_laws.specs.Causes.{IsFirstReduction, rows_less, from_generator, from_ambiguity, AreMade, no_rule, one_more}
 use Rattle.outcome_laws.proofs.LaterRounds.{second_value, BeginsWith, begins_with}
 use Rattle.outcome_laws.proofs.MadeRules.{Added, nothing, a_rule, added, Grows, all_grow}
 use Rattle.outcome_laws.proofs.OpenRuns.{order_laws}
@@ -63,8 +65,8 @@ module _ (problem : Problem) (budget : Budget) where
   abbrev generators : List (List Term)
   generators = polynomials problem.generators
 
-  abbrev Made : List Rule → Type 0
-  Made = AreMade problem budget
+  abbrev Made : Recorded → Type 0
+  Made r = AreMade problem budget r.rules r.made
 
   -- what the work on a generator adds
   generator_grows : (n : ℕ) → 1 ≤ n → n ≤ length problem.generators → Grows compare Made (generator_work compare budget.steps generators n)
@@ -75,9 +77,11 @@ module _ (problem : Problem) (budget : Budget) where
       go s (normal_form_leaves letters compare rank before.rules (generator_at generators n) budget.steps s (order_laws problem budget) (generators_shaped problem n) one.given)
       (added compare s.rest rows before after (subst (λ r. Adds compare r before after) (sym (same_value (rest_with s.rest rows) rest one.rest)) adds))
     where
-      go : (s : State) → Leaves compare before.rules budget.steps (unreduced (generator_at generators n)) (reduced_of s) → Added s.rest before.rules after.rules → Made after.rules
+      go : (s : State) → Leaves compare before.rules budget.steps (unreduced (generator_at generators n)) (reduced_of s) → Added s.rest (generator_rows n s.multiplier s.rows) before after → Made after
       go s leaves (nothing same) = subst Made (sym same) held
-      go s leaves (a_rule g is appended) = subst Made (sym appended) (one_more before.rules s.rest g held (from_generator n (reduced_of s) least most leaves refl) is)
+      go s leaves (a_rule g m is appended) =
+          subst Made (sym appended)
+          (one_more before.rules before.made s.rest (generator_rows n s.multiplier s.rows) g m held (from_generator n (reduced_of s) least most leaves refl refl) is)
 
   pub generators_grow : (numbers : List ℕ) → AllByRecursion (λ k. (1 ≤ k) × (k ≤ length generators)) numbers → AllByRecursion (Grows compare Made) (map (generator_work compare budget.steps generators) numbers)
   generators_grow [] each = tt
@@ -110,24 +114,27 @@ module _ (problem : Problem) (budget : Budget) where
         }
 
     -- the rules so far of a round begin with those from before it, and are made
-    abbrev pub MadeFrom : List Rule → Type 0
-    MadeFrom rules = BeginsWith start rules × Made rules
+    abbrev pub MadeFrom : Recorded → Type 0
+    MadeFrom r = BeginsWith start r.rules × Made r
 
     second_grows : (a : Ambiguity) → IsAmbiguity start a → (f : First) → first_of compare budget.steps start a ≡ Ok f → Grows compare MadeFrom (second_work compare budget.steps f)
     second_grows a is f first_ends before after rest ends adds held = (begins_with start compare rest before after held.0 adds, by_rest f.reduced.rest refl ends)
       where
-        unchanged : ◌≡◌ {A = Option Rest} None rest → Made after.rules
-        unchanged none = subst (λ (r : Recorded). Made r.rules) (sym (subst (λ o. Adds compare o before after) (sym none) adds)) held.1
+        unchanged : ◌≡◌ {A = Option Rest} None rest → Made after
+        unchanged none = subst Made (sym (subst (λ o. Adds compare o before after) (sym none) adds)) held.1
 
-        go : (s : State) → normal_form_of compare before.rules f.reduced.rest budget.steps ≡ Ok s → Added s.rest before.rules after.rules → Made after.rules
+        rows_are : (s : State) → second_rows f s ≡ rows_less (rows_less (s_rows_of start a) (reduced_of f.reduced)) (reduced_of s)
+        rows_are s = ap (λ (rows : List Row). rows_less (rows_less rows (reduced_of f.reduced)) (reduced_of s)) (first_is_of a f first_ends).rows_are
+
+        go : (s : State) → normal_form_of compare before.rules f.reduced.rest budget.steps ≡ Ok s → Added s.rest (second_rows f s) before after → Made after
         go s went_to (nothing same) = subst Made (sym same) held.1
-        go s went_to (a_rule g made appended) =
+        go s went_to (a_rule g m made appended) =
             subst Made (sym appended)
-            (one_more before.rules s.rest g held.1
+            (one_more before.rules before.made s.rest (second_rows f s) g m held.1
             (from_ambiguity (reduced_of f.reduced) (reduced_of s) (first_reduction a is f first_ends before.rules held.0)
-            (normal_form_leaves letters compare rank before.rules f.reduced.rest budget.steps s (order_laws problem budget) (rest_shaped a f (first_is_of a f first_ends)) went_to) refl) made)
+            (normal_form_leaves letters compare rank before.rules f.reduced.rest budget.steps s (order_laws problem budget) (rest_shaped a f (first_is_of a f first_ends)) went_to) refl (rows_are s)) made)
 
-        by_rest : (p : List Term) → f.reduced.rest ≡ p → second_reduction compare budget.steps f before.rules p ≡ Ok rest → Made after.rules
+        by_rest : (p : List Term) → f.reduced.rest ≡ p → second_reduction compare budget.steps f before.rules p ≡ Ok rest → Made after
         by_rest [] none k = unchanged (same_value None rest k)
         by_rest (t ∷ p) some k =
             let one = went_on (normal_form_of compare before.rules (t ∷ p) budget.steps) (λ s. second_rest f s s.rest) rest k in
@@ -143,28 +150,28 @@ module _ (problem : Problem) (budget : Budget) where
     seconds_grow (a ∷ taken) [] are = absurd are
     seconds_grow (a ∷ taken) (f ∷ fs) are = (second_grows a are.0.0 f are.0.1, seconds_grow taken fs are.1)
 
-    passes_made : (made : Recorded) → made.rules ≡ start → Made start → (taken : List Ambiguity) → All (IsAmbiguity start) taken → (after : Recorded)
-        → InTwoPasses compare budget.steps (each_in_turn (first_of compare budget.steps start) taken) made (Ok after) → Made after.rules
+    passes_made : (before : Recorded) → before.rules ≡ start → Made before → (taken : List Ambiguity) → All (IsAmbiguity start) taken → (after : Recorded)
+        → InTwoPasses compare budget.steps (each_in_turn (first_of compare budget.steps start) taken) before (Ok after) → Made after
     passes_made before same held taken are after passes = go (each_in_turn (first_of compare budget.steps start) taken) refl passes
       where
-        go : (r : Result (List First) ReduceFault) → each_in_turn (first_of compare budget.steps start) taken ≡ r → InTwoPasses compare budget.steps r before (Ok after) → Made after.rules
+        go : (r : Result (List First) ReduceFault) → each_in_turn (first_of compare budget.steps start) taken ≡ r → InTwoPasses compare budget.steps r before (Ok after) → Made after
         go (Err e) ends two = absurd (no_value e after (sym two))
         go (Ok firsts) ends two =
             (all_grow compare MadeFrom (map (second_work compare budget.steps) firsts) before after
             (seconds_grow taken firsts
             (are_firsts (quiver_of problem.parts.quiver) any_letter letters compare rank (order_laws problem budget) generators (generators_are problem) budget.steps start taken firsts (recursion_from_All (IsAmbiguity start) taken are) ends))
-            (subst MadeFrom (sym same) (record { more = []; is = sym (append-nil start) }, held)) two).1
+            (subst (BeginsWith start) (sym same) (record { more = []; is = sym (append-nil start) }), held) two).1
 
   -- rounds
-  zero_made : (before s : RunState) → IsRound setting 0 before (went s) → Made before.rules → Made s.rules
+  zero_made : (before s : RunState) → IsRound setting 0 before (went s) → Made (recorded before) → Made (recorded s)
   zero_made before s round held =
       let end = ended 0 None before.treated round.result s round.ends in
-      subst (λ (t : RunState). Made t.rules) (sym end.state)
+      subst (λ (t : RunState). Made (recorded t)) (sym end.state)
       (all_grow compare Made (map (generator_work compare budget.steps generators) setting.in_turn) (recorded before) end.value
       (generators_grow setting.in_turn (recursion_from_All (λ k. (1 ≤ k) × (k ≤ length generators)) setting.in_turn (turns_in_range problem))) held
       (subst (InTurn compare (map (generator_work compare budget.steps generators) setting.in_turn) (recorded before)) end.given round.generators))
 
-  later_made : (n : ℕ) (before s : RunState) → IsRound setting (suc n) before (went s) → Made before.rules → Made s.rules
+  later_made : (n : ℕ) (before s : RunState) → IsRound setting (suc n) before (went s) → Made (recorded before) → Made (recorded s)
   later_made n before s round held = go round.pending round.all_pending round.treats
     where
       not_closed : went s ≡ closed → ⊥
@@ -173,24 +180,24 @@ module _ (problem : Problem) (budget : Budget) where
       not_stopped : {h : Halt} → went s ≡ stopped h → ⊥
       not_stopped e = cc
 
-      treated : (least : List ℕ) (taken : List Ambiguity) → All (IsAmbiguity before.rules) taken → IsTreated setting (suc n) before least taken (went s) → Made s.rules
+      treated : (least : List ℕ) (taken : List Ambiguity) → All (IsAmbiguity before.rules) taken → IsTreated setting (suc n) before least taken (went s) → Made (recorded s)
       treated least taken are done =
           let end = ended (suc n) (Some least) (before.treated ++ taken) done.result s done.ends in
-          subst (λ (t : RunState). Made t.rules) (sym end.state)
+          subst (λ (t : RunState). Made (recorded t)) (sym end.state)
           (passes_made before.rules (recorded before) refl held taken are end.value
           (subst (InTwoPasses compare budget.steps (each_in_turn (first_of compare budget.steps before.rules) taken) (recorded before)) end.given done.passes))
 
-      by_pairs : (w : Waiting) (ws : List Waiting) → AreAllPending compare before.rules before.treated (w ∷ ws) → (b : Bool) → TreatsFirst setting (suc n) before w.word (w ∷ ws) b (went s) → Made s.rules
+      by_pairs : (w : Waiting) (ws : List Waiting) → AreAllPending compare before.rules before.treated (w ∷ ws) → (b : Bool) → TreatsFirst setting (suc n) before w.word (w ∷ ws) b (went s) → Made (recorded s)
       by_pairs w ws all true treats = absurd (not_stopped treats)
       by_pairs w ws all false treats =
           let count = taken_count budget before (w ∷ ws) in
           treated w.word (ambiguities_of (take count (w ∷ ws))) (taken_are compare before.rules before.treated (w ∷ ws) count all) treats
 
-      go : (ws : List Waiting) → AreAllPending compare before.rules before.treated ws → TreatsPending setting (suc n) before ws (went s) → Made s.rules
+      go : (ws : List Waiting) → AreAllPending compare before.rules before.treated ws → TreatsPending setting (suc n) before ws (went s) → Made (recorded s)
       go [] all treats = absurd (not_closed treats)
       go (w ∷ ws) all treats = by_pairs w ws all (nat_le budget.pairs (length before.treated)) treats
 
-  pub states_made : (n : ℕ) (s : RunState) → IsRunState setting n s → AreMade problem budget s.rules
-  states_made zero s is = subst (λ (x : RunState). AreMade problem budget x.rules) (sym is) no_rule
+  pub states_made : (n : ℕ) (s : RunState) → IsRunState setting n s → AreMade problem budget s.rules s.made
+  states_made zero s is = subst (λ (x : RunState). AreMade problem budget x.rules x.made) (sym is) no_rule
   states_made (suc zero) s is = zero_made is.before s is.round (states_made zero is.before is.is_before)
   states_made (suc (suc n)) s is = later_made n is.before s is.round (states_made (suc n) is.before is.is_before)

@@ -34,10 +34,10 @@ use Rattle.claim_decider.specs.Outcomes.{record_of, Expands, Gathers, IsProved, 
 use Rattle.cofactor_checker.specs.ProvedMeans.{EvidenceAddsUp}
 use Rattle.outcome_laws.specs.Meanings.{OutcomeMeans, DerivedClaimsAddUp, ClosedClaimsAreOutside, LeastWordsBoundDerivations, HaltedCertificatesAreInside, OutcomesMeanWhatTheySay}
 use Rattle.outcome_laws.specs.Halts.{HaltMeans}
-use Rattle.outcome_laws.specs.Causes.{CauseMeans}
-use Rattle.outcome_laws.proofs.OpenRuns.{open_run, closed_outside, stop_means}
+use Rattle.outcome_laws.specs.Causes.{IsClaim, CauseMeans}
+use Rattle.outcome_laws.proofs.OpenRuns.{open_run, opened_claim, closed_outside, stop_means}
 use Rattle.outcome_laws.proofs.RoundCauses.{stop_says}
-use Rattle.outcome_laws.proofs.ClaimCauses.{claim_stop_means, expansion_means, gathering_means}
+use Rattle.outcome_laws.proofs.ClaimCauses.{claim_named, claim_stop_means, expansion_means, gathering_means}
 use Rattle.outcome_laws.proofs.Derivations.{follows, expansion_adds_up, gathering_adds_up, gathering_names}
 
 -- a halt that names no word and is not in the making of a certificate says nothing
@@ -76,7 +76,7 @@ module _ (problem : Problem) (budget : Budget) (number : ℕ) where
   }
 
   -- nothing is left after a round
-  module _ (round rounds : ℕ) (s : RunState) (run : IsRunState (setting_of problem budget) rounds s) where
+  module _ (round rounds : ℕ) (s : RunState) (run : IsRunState (setting_of problem budget) rounds s) (is_claim : IsClaim problem number) where
     module _ (left : State) (ends : normal_form_of (asked_cmp problem.parts.order) s.rules (claim_at problem number) budget.steps ≡ Ok left) (none : left.rest ≡ []) where
       -- the work stopped in making the certificate
       halted_means : (reason : Cause) → CauseMeans problem budget number (place.Certificate round) None reason → HaltMeans problem budget number (record { cause = reason; place = place.Certificate round; least = None })
@@ -89,7 +89,7 @@ module _ (problem : Problem) (budget : Budget) (number : ℕ) where
       expands : (r : Result Cofactors ExpandFault) → expansion_of s.made (record_of left) ≡ r → (o : Outcome) → Expands number (place.Certificate round) r o → Means o
       expands (Ok c) is o derived = subst Means (sym derived) (record { claim = refl; combination = expansion_adds_up problem budget number rounds s run left ends none c is })
       expands (Err e) is o halted =
-          subst Means (sym halted.halts) (halted_means halted.reason (expansion_means problem budget number rounds s run round left ends none e halted.reason halted.reason_of is))
+          subst Means (sym halted.halts) (halted_means halted.reason (expansion_means problem budget number rounds s run round is_claim left ends none e halted.reason halted.reason_of is))
 
       gathers : (r : Result LemmaCertificate GatherFault) → gathered_of number s.made (record_of left) ≡ r → (o : Outcome) → Gathers (place.Certificate round) r o → Means o
       gathers (Ok c) is o derived =
@@ -99,7 +99,7 @@ module _ (problem : Problem) (budget : Budget) (number : ℕ) where
             evidence = gathering_adds_up problem budget number rounds s run left ends none c is;
           })
       gathers (Err e) is o halted =
-          subst Means (sym halted.halts) (halted_means halted.reason (gathering_means problem budget number rounds s run round left ends none e halted.reason halted.reason_of is))
+          subst Means (sym halted.halts) (halted_means halted.reason (gathering_means problem budget number rounds s run round is_claim left ends none e halted.reason halted.reason_of is))
 
       proved_means : (form : Format) (o : Outcome) → IsProved form number (place.Certificate round) s.made (record_of left) o → Means o
       proved_means format.Plain o proved = expands (expansion_of s.made (record_of left)) refl o proved
@@ -113,7 +113,7 @@ module _ (problem : Problem) (budget : Budget) (number : ℕ) where
     done_by : (form : Format) (r : Result State ReduceFault) → normal_form_of (asked_cmp problem.parts.order) s.rules (claim_at problem number) budget.steps ≡ r → (o : Outcome) → IsDoneBy form number round s.made r o → Means o
     done_by form (Ok left) ends o done = done_with form left ends left.rest refl o done
     done_by form (Err e) ends o halted = subst Means (sym halted.halts) (record {
-      cause_means = claim_stop_means problem budget number rounds s run round e halted.reason halted.reason_of ends;
+      cause_means = claim_stop_means problem budget number rounds s run round is_claim e halted.reason halted.reason_of ends;
       not_below = λ word least. absurd (no_word word least);
       inside = λ n is. absurd (not_certificate round n is);
     })
@@ -122,7 +122,7 @@ module _ (problem : Problem) (budget : Budget) (number : ℕ) where
   gets_means form rounds s o (at_once none first begins derived) = subst Means (sym derived) (zero_means form none)
   gets_means form rounds s o (after_round n before count opened round done) =
       let run : IsRunState (setting_of problem budget) (suc n) s = record { before = before; is_before = open_run (setting_of problem budget) (claim_at problem number) n before opened; round = round } in
-      done_by n (suc n) s run form (normal_form_of (asked_cmp problem.parts.order) s.rules (claim_at problem number) budget.steps) refl o done
+      done_by n (suc n) s run (claim_named problem number (opened_claim (setting_of problem budget) (claim_at problem number) n before opened)) form (normal_form_of (asked_cmp problem.parts.order) s.rules (claim_at problem number) budget.steps) refl o done
   gets_means form rounds s o (by_closing opened round with_rest) = subst Means (sym with_rest.closes) (λ inside. closed_outside problem budget number rounds s with_rest.rest.terms opened round with_rest.left inside)
   gets_means form rounds s o (by_stop halt opened round stops) =
       let means = stop_means problem budget number rounds s halt opened round in

@@ -43,6 +43,10 @@ pub open_run : (setting : Setting) (claim : List Term) (n : ℕ) (s : RunState) 
 open_run setting claim zero s opened = opened.1
 open_run setting claim (suc n) s opened = record { before = opened.before; is_before = open_run setting claim n opened.before opened.is_before; round = opened.round }
 
+pub opened_claim : (setting : Setting) (claim : List Term) (n : ℕ) (s : RunState) → IsOpen setting claim n s → 0 < length claim
+opened_claim setting claim zero s opened = opened.0
+opened_claim setting claim (suc n) s opened = opened_claim setting claim n opened.before opened.is_before
+
 -- a sorted list with a term isn't zero
 pub some_nonzero : (p : List Term) → IsShaped p → 0 < length p → IsNonzero p
 some_nonzero [] shaped some = absurd (omega (arith, some))

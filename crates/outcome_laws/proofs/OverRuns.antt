@@ -1,32 +1,17 @@
 -- The letters of records are letters of the generators, and so are those of the least overlap word.
-use Rattle.std.proofs.Common.{◌≡◌, ◌<◌, ℕ, zero, suc, ◌+◌, List, [], ◌∷◌, ◌++◌, length, take, drop, Bool, true, false, nat_le, Option, Some, None, Result, Ok, Err, sym, ap, ◌∙◌, subst}
+use Rattle.std.proofs.Common.{◌≡◌, ◌<◌, ℕ, zero, suc, List, [], ◌∷◌, ◌++◌, length, take, Bool, true, false, nat_le, Option, Some, None, Result, Ok, Err, sym, ap, ◌∙◌, subst}
 use Rattle.std.specs.List.{All, AllByRecursion}
-use Rattle.std.proofs.lemmas.List.Elements.{All-nil, All-head, All-append, All-take, All-drop, All-from_recursion, recursion_from_All, All-contains}
-use Rattle.definitions.specs.Poly.{Term}
+use Rattle.std.proofs.lemmas.List.Elements.{All-nil, All-head, recursion_from_All}
 use Rattle.word_core.specs.Letters.{IsOver}
 use Rattle.traced_rows.specs.declared.Row.{Row}
 use Rattle.traced_rows.specs.declared.Made.{Made}
 use Rattle.cofactor_trace.specs.declared.halt.Halt.{Halt}
-use Rattle.word_orders.specs.Admissible.{Compare}
-use Rattle.rule_reduce.specs.declared.rule.Rule.{Rule}
-use Rattle.rule_reduce.specs.declared.state.State.{State}
-use Rattle.rule_reduce.specs.declared.state.Choice.{Choice}
 use Rattle.rule_reduce.specs.declared.fault.ReduceFault.{ReduceFault}
-use Rattle.rule_reduce.specs.RuleLists.{IsRule, rule_at, entries_of}
-use Rattle.rule_reduce.specs.Choices.{choice_of}
-use Rattle.rule_reduce.specs.Steps.{moved, move_of, move_row}
-use Rattle.rule_reduce.specs.NormalForms.{start_of, normal_form_of}
-use Rattle.rule_reduce.proofs.Chosen.{found}
-use Rattle.rule_reduce.proofs.LettersKept.{each-moved}
-use Rattle.rule_reduce.proofs.Numbers.{rule_at-all}
-use Rattle.rule_reduce.proofs.Rows.{all-multiplied}
-use Rattle.rule_reduce.proofs.Runs.{reduction_keeps}
+use Rattle.rule_reduce.specs.RuleLists.{IsRule}
 use Rattle.ambiguities.specs.declared.ambiguity.Ambiguity.{Ambiguity}
-use Rattle.ambiguities.specs.Ambiguities.{IsAmbiguity, lead_at, overlap_word_of}
-use Rattle.ambiguities.specs.SPolynomials.{s_rows_of}
 use Rattle.ambiguities.proofs.Bounds.{over_overlap_word}
 use Rattle.ambiguities.proofs.Words.{AreWords, words_over, normal_words, s_words}
-use Rattle.ambiguities.proofs.OverLetters.{AreOver, IsOverRow, reduced_over, s_rows_over}
+use Rattle.ambiguities.proofs.OverLetters.{IsOverRow, reduced_over, s_rows_over}
 use Rattle.ambiguities.specs.declared.waiting.Waiting.{Waiting}
 use Rattle.rule_making.specs.Making.{Recorded}
 use Rattle.traced_completion.specs.Pending.{IsPending, ambiguities_of}

@@ -1,6 +1,5 @@
 -- The run of a problem gives what the laws on runs ask for.
-use Rattle.std.proofs.Common.{◌≡◌, ◌⊎◌, inl, inr, ◌≤◌, ℕ, zero, suc, List, [], ◌∷◌, length, Contains, arith, refl}
-use Rattle.std.specs.List.{All}
+use Rattle.std.proofs.Common.{◌⊎◌, inl, inr, ℕ, suc, List, [], Contains, arith, refl}
 use Rattle.std.proofs.lemmas.List.{length-map}
 use Rattle.std.proofs.lemmas.List.Elements.{All-contains}
 use Rattle.word_orders.specs.Admissible.{Compare}
@@ -16,8 +15,7 @@ use Rattle.completion_laws.specs.Kept.{IsReached}
 use Rattle.completion_laws.proofs.Inside.{rules_are_inside}
 use Rattle.completion_laws.proofs.Outside.{listed_or_not, resolved_where_closed, resolved_below_pending}
 use Rattle.traced_completion.specs.declared.budget.Budget.{Budget}
-use Rattle.ambiguities.specs.declared.waiting.Waiting.{Waiting}
-use Rattle.traced_completion.specs.Pending.{IsPending, AreAllPending}
+use Rattle.traced_completion.specs.Pending.{AreAllPending}
 use Rattle.traced_completion.specs.PlainRun.{RunState, setting_of, IsRunState}
 use Rattle.outcome_laws.specs.KeptRuns.{IsKeptState, done_after}
 use Rattle.outcome_laws.specs.ProblemStates.{IsTreatedOrPending, StatesAreKept, GeneratorsAreReached}

@@ -22,7 +22,7 @@ use Rattle.rule_reduce.specs.declared.rule.Rule.{Rule}
 use Rattle.rule_reduce.specs.declared.state.State.{State}
 use Rattle.rule_reduce.specs.declared.fault.ReduceFault.{ReduceFault}
 use Rattle.rule_reduce.specs.declared.fault.ReduceFault.TheVariants as fault
-use Rattle.rule_reduce.specs.Steps.{multiplied_row, row_operations}
+use Rattle.rule_reduce.specs.Steps.{row_operations}
 use Rattle.rule_reduce.specs.NormalForms.{normal_form_of}
 use Rattle.ambiguities.specs.declared.ambiguity.Ambiguity.{Ambiguity}
 use Rattle.ambiguities.specs.Ambiguities.{IsAmbiguity}
@@ -32,7 +32,7 @@ use Rattle.adjoint_rules.specs.Problem.{polynomials}
 use Rattle.completion_laws.specs.Conclusions.{NothingPendingBelow}
 use Rattle.completion_laws.proofs.Inside.{rules_are_inside}
 use Rattle.completion_laws.proofs.ShapeLaws.{s_polynomials_are_shaped}
-use Rattle.rule_making.specs.Making.{Recorded, negated_row, negated_rows}
+use Rattle.rule_making.specs.Making.{Recorded}
 use Rattle.traced_completion.specs.declared.budget.Budget.{Budget}
 use Rattle.ambiguities.specs.declared.waiting.Waiting.{Waiting}
 use Rattle.traced_completion.specs.Results.{each_in_turn}
@@ -42,10 +42,10 @@ use Rattle.traced_completion.specs.PlainRun.{Setting, RunState, stopped, IsCause
 use Rattle.traced_completion.proofs.RunStates.{states_bounded}
 use Rattle.word_orders.proofs.AskedOrders.{asked_rank}
 use Rattle.outcome_laws.specs.KeptRuns.{done_after}
-use Rattle.outcome_laws.specs.Causes.{AreMade, AreRulesOf, IsFirstReduction, of_generator, of_ambiguity, of_first_rest, IsOfRows, of_row, of_multiple, of_taken, in_rows, CauseMeans}
+use Rattle.outcome_laws.specs.Causes.{AreMade, AreRulesOf, IsFirstReduction, of_generator, of_ambiguity, of_first_rest, IsOfRows, of_first, of_second, in_rows, CauseMeans}
 use Rattle.outcome_laws.proofs.DistinctTreated.{distinct_treated}
 use Rattle.outcome_laws.proofs.LaterRounds.{BeginsWith}
-use Rattle.outcome_laws.proofs.Listed.{failing, value_of, value_listed}
+use Rattle.outcome_laws.proofs.Listed.{failing, value_of}
 use Rattle.outcome_laws.proofs.MadeStates.{taken_are, generators_grow, First_is, first_is_of, rest_shaped, first_reduction, MadeFrom, seconds_grow, states_made}
 use Rattle.outcome_laws.proofs.OpenRuns.{same_halt, not_went, not_closed, order_laws, run_kept}
 use Rattle.outcome_laws.proofs.ProblemPolynomials.{any_letter, generators_are, generators_shaped, turns_in_range}
@@ -57,25 +57,12 @@ use Rattle.outcome_laws.proofs.StepMade.{reduced_of}
 use Rattle.outcome_laws.proofs.WholeRuns.{first_is_least_pending}
 
 -- a product of the rows of a rule that a second reduction makes
-rows_operation : (f : First) (s : State) (o : Overflow) → Contains (rows_operations f s) o → IsOfRows (map (λ row. row.coef) f.rows) (reduced_of f.reduced) (reduced_of s) o
+rows_operation : (f : First) (s : State) (o : Overflow) → Contains (rows_operations f s) o → IsOfRows f.rows (reduced_of f.reduced) (reduced_of s) o
 rows_operation f s o at = by_part (Contains-append_cases (row_operations f.rows f.reduced.multiplier) (row_operations (first_rows f) s.multiplier) o at)
   where
-    by_row : (row : Row) → o ≡ product_of row.coef s.multiplier → Contains (map (multiplied_row f.reduced.multiplier) f.rows) row ⊎ Contains (negated_rows f.reduced.rows) row
-        → IsOfRows (map (λ (row : Row). row.coef) f.rows) (reduced_of f.reduced) (reduced_of s) o
-    by_row row is (inl listed) =
-        let v = value_of (multiplied_row f.reduced.multiplier) f.rows row listed in
-        of_multiple v.argument.coef (value_listed (λ (r : Row). r.coef) f.rows v.argument v.listed) (is ∙ ap (λ (r : Row). product_of r.coef s.multiplier) v.is)
-    by_row row is (inr listed) =
-        let v = value_of negated_row f.reduced.rows row listed in
-        of_taken v.argument.coef (value_listed (λ (r : Row). r.coef) f.reduced.rows v.argument v.listed) (is ∙ ap (λ (r : Row). product_of r.coef s.multiplier) v.is)
-
-    by_part : Contains (row_operations f.rows f.reduced.multiplier) o ⊎ Contains (row_operations (first_rows f) s.multiplier) o → IsOfRows (map (λ (row : Row). row.coef) f.rows) (reduced_of f.reduced) (reduced_of s) o
-    by_part (inl listed) =
-        let v = value_of (λ (row : Row). product_of row.coef f.reduced.multiplier) f.rows o listed in
-        of_row v.argument.coef (value_listed (λ (r : Row). r.coef) f.rows v.argument v.listed) v.is
-    by_part (inr listed) =
-        let v = value_of (λ (row : Row). product_of row.coef s.multiplier) (first_rows f) o listed in
-        by_row v.argument v.is (Contains-append_cases (map (multiplied_row f.reduced.multiplier) f.rows) (negated_rows f.reduced.rows) v.argument v.listed)
+    by_part : Contains (row_operations f.rows f.reduced.multiplier) o ⊎ Contains (row_operations (first_rows f) s.multiplier) o → IsOfRows f.rows (reduced_of f.reduced) (reduced_of s) o
+    by_part (inl listed) = let v = value_of (λ (row : Row). product_of row.coef f.reduced.multiplier) f.rows o listed in of_first v.argument v.listed v.is
+    by_part (inr listed) = let v = value_of (λ (row : Row). product_of row.coef s.multiplier) (first_rows f) o listed in of_second v.argument v.listed v.is
 
 module _ (problem : Problem) (budget : Budget) where
   abbrev setting : Setting
@@ -96,18 +83,19 @@ module _ (problem : Problem) (budget : Budget) where
   abbrev Kept_now : Recorded → List ℕ → List Ambiguity → Type 0
   Kept_now = Now (quiver_of problem.parts.quiver) any_letter letters compare rank (order_laws problem budget) generators (generators_are problem) budget.steps
 
-  rules_of : (r : Recorded) (done : List ℕ) (treated : List Ambiguity) → Kept_now r done treated → AreMade problem budget r.rules → AreRulesOf problem budget r.rules
+  abbrev rules_of : (r : Recorded) (done : List ℕ) (treated : List Ambiguity) → Kept_now r done treated → AreMade problem budget r.rules r.made → AreRulesOf problem budget r.rules
   rules_of r done treated now made = record {
     are_rules = now.0.are_rules;
+    records = r.made;
     made = made;
     apart = now.0.apart;
     inside = λ n g numbered. rules_are_inside letters compare generators r.rules r.made done treated n g now.0 numbered;
   }
 
-  state_now : (n : ℕ) (s : RunState) → IsRunState setting n s → Kept_now (recorded s) (done_after setting n) s.treated
+  abbrev state_now : (n : ℕ) (s : RunState) → IsRunState setting n s → Kept_now (recorded s) (done_after setting n) s.treated
   state_now n s is = let now = run_kept problem budget n s is in (now.kept, now.typed)
 
-  pub state_rules : (n : ℕ) (s : RunState) → IsRunState setting n s → AreRulesOf problem budget s.rules
+  abbrev pub state_rules : (n : ℕ) (s : RunState) → IsRunState setting n s → AreRulesOf problem budget s.rules
   state_rules n s is = rules_of (recorded s) (done_after setting n) s.treated (state_now n s is) (states_made problem budget n s is)
 
   module _ (number : ℕ) (least : Option (List ℕ)) where
@@ -120,7 +108,7 @@ module _ (problem : Problem) (budget : Budget) where
     zero_means s is e c why turn =
         let in_range = recursion_from_All (λ k. (1 ≤ k) × (k ≤ length generators)) setting.in_turn (turns_in_range problem) in
         let fails =
-        generator_fails (quiver_of problem.parts.quiver) any_letter letters compare rank (order_laws problem budget) generators (generators_are problem) budget.steps (AreMade problem budget) setting.in_turn in_range
+        generator_fails (quiver_of problem.parts.quiver) any_letter letters compare rank (order_laws problem budget) generators (generators_are problem) budget.steps (λ r. AreMade problem budget r.rules r.made) setting.in_turn in_range
         (generators_grow problem budget setting.in_turn in_range) (recorded s) (done_after setting 0) s.treated e (state_now 0 s is) (states_made problem budget 0 s is) turn in
         reduction_means problem budget number (place.Round 0) least
         (record {
@@ -181,7 +169,7 @@ module _ (problem : Problem) (budget : Budget) where
                 arithmetic = in_rows n fails.before.rules (reduced_of fails.first.reduced) (reduced_of t) refl are
                     (first_reduction problem budget s.rules fails.ambiguity fails.is fails.first fails.first_is fails.before.rules fails.begins)
                     (normal_form_leaves letters compare rank fails.before.rules fails.first.reduced.rest budget.steps t (order_laws problem budget) (rest_shaped problem budget s.rules fails.ambiguity fails.first first) went)
-                    (subst (λ (rows : List Row). IsOfRows (map (λ (row : Row). row.coef) rows) (reduced_of fails.first.reduced) (reduced_of t) o) first.rows_are (rows_operation fails.first t o fail.listed));
+                    (subst (λ (rows : List Row). IsOfRows rows (reduced_of fails.first.reduced) (reduced_of t) o) first.rows_are (rows_operation fails.first t o fail.listed));
               })
 
       treated_means : (taken : List Ambiguity) → All (IsAmbiguity s.rules) taken → (e : ReduceFault) (c : Cause) → IsCauseOf e c

@@ -71,20 +71,20 @@ module _ (q : Quiver) (play : ℕ → Bool) (letters : ℕ) (compare : Compare) 
   Now = KeptNow q play letters compare rank laws generators each steps
 
   -- Round 0: rules so far, and a generator whose reduction by them has a fault.
-  pub record GeneratorFails (P : List Rule → Type 0) (e : ReduceFault) : Type 0 where
+  pub record GeneratorFails (P : Recorded → Type 0) (e : ReduceFault) : Type 0 where
     pub before : Recorded
     pub done : List ℕ
     pub treated : List Ambiguity
     pub kept : Now before done treated
-    pub holds : P before.rules
+    pub holds : P before
     pub number : ℕ
     pub least : 1 ≤ number
     pub most : number ≤ length generators
     pub fails : normal_form_of compare before.rules (generator_at generators number) steps ≡ Err e
 
-  pub generator_fails : (P : List Rule → Type 0) (numbers : List ℕ) → AllByRecursion (λ k. (1 ≤ k) × (k ≤ length generators)) numbers
+  pub generator_fails : (P : Recorded → Type 0) (numbers : List ℕ) → AllByRecursion (λ k. (1 ≤ k) × (k ≤ length generators)) numbers
       → AllByRecursion (Grows compare P) (map (generator_work compare steps generators) numbers) → (before : Recorded) (done : List ℕ) (treated : List Ambiguity) (e : ReduceFault)
-      → Now before done treated → P before.rules → InTurn compare (map (generator_work compare steps generators) numbers) before (Err e) → GeneratorFails P e
+      → Now before done treated → P before → InTurn compare (map (generator_work compare steps generators) numbers) before (Err e) → GeneratorFails P e
   generator_fails P [] in_range grow before done treated e now held turn = absurd (no_value e before turn)
   generator_fails P (n ∷ numbers) in_range grow before done treated e now held turn =
       go (generator_work compare steps generators n before.rules) refl turn
@@ -92,7 +92,7 @@ module _ (q : Quiver) (play : ℕ → Bool) (letters : ℕ) (compare : Compare) 
     where
       go : (r : Result (Option Rest) ReduceFault) → generator_work compare steps generators n before.rules ≡ r
           → Goes compare r before (λ between. InTurn compare (map (generator_work compare steps generators) numbers) between (Err e)) (Err e)
-          → ((between : Recorded) → Now between (done ++ (n ∷ [])) treated → P between.rules → InTurn compare (map (generator_work compare steps generators) numbers) between (Err e) → GeneratorFails P e)
+          → ((between : Recorded) → Now between (done ++ (n ∷ [])) treated → P between → InTurn compare (map (generator_work compare steps generators) numbers) between (Err e) → GeneratorFails P e)
           → GeneratorFails P e
       go (Err d) ends on further = record {
         before = before;
@@ -162,12 +162,12 @@ module _ (q : Quiver) (play : ℕ → Bool) (letters : ℕ) (compare : Compare) 
       subst (AreFirsts rules (a ∷ taken)) (same_value (one.value ∷ others.value) firsts others.rest) ((are.0, one.given), are_firsts rules taken others.value are.1 others.given)
 
   -- The rules so far of the round, and an ambiguity of those from before it whose second reduction has a fault.
-  pub record SecondFails (P : List Rule → Type 0) (start : List Rule) (e : ReduceFault) : Type 0 where
+  pub record SecondFails (P : Recorded → Type 0) (start : List Rule) (e : ReduceFault) : Type 0 where
     pub before : Recorded
     pub done : List ℕ
     pub treated : List Ambiguity
     pub kept : Now before done treated
-    pub holds : P before.rules
+    pub holds : P before
     pub begins : BeginsWith start before.rules
     pub ambiguity : Ambiguity
     pub is : IsAmbiguity start ambiguity
@@ -176,9 +176,9 @@ module _ (q : Quiver) (play : ℕ → Bool) (letters : ℕ) (compare : Compare) 
     pub fails : second_work compare steps first before.rules ≡ Err e
 
   module _ (start : List Rule) (start_are : All (IsRule letters compare) start) (start_typed : AreTypedInPlay q play start) where
-    pub second_fails : (P : List Rule → Type 0) (taken : List Ambiguity) (firsts : List First) → AreFirsts start taken firsts → AllByRecursion (Grows compare P) (map (second_work compare steps) firsts)
+    pub second_fails : (P : Recorded → Type 0) (taken : List Ambiguity) (firsts : List First) → AreFirsts start taken firsts → AllByRecursion (Grows compare P) (map (second_work compare steps) firsts)
         → (before : Recorded) (done : List ℕ) (treated : List Ambiguity) (e : ReduceFault)
-        → BeginsWith start before.rules → Now before done treated → P before.rules → InTurn compare (map (second_work compare steps) firsts) before (Err e) → SecondFails P start e
+        → BeginsWith start before.rules → Now before done treated → P before → InTurn compare (map (second_work compare steps) firsts) before (Err e) → SecondFails P start e
     second_fails P [] [] are grow before done treated e front now held turn = absurd (no_value e before turn)
     second_fails P [] (f ∷ fs) are grow before done treated e front now held turn = absurd are
     second_fails P (a ∷ taken) [] are grow before done treated e front now held turn = absurd are
@@ -188,7 +188,7 @@ module _ (q : Quiver) (play : ℕ → Bool) (letters : ℕ) (compare : Compare) 
       where
         go : (r : Result (Option Rest) ReduceFault) → second_work compare steps f before.rules ≡ r
             → Goes compare r before (λ between. InTurn compare (map (second_work compare steps) fs) between (Err e)) (Err e)
-            → ((between : Recorded) → BeginsWith start between.rules → Now between done (treated ++ (a ∷ [])) → P between.rules → InTurn compare (map (second_work compare steps) fs) between (Err e)
+            → ((between : Recorded) → BeginsWith start between.rules → Now between done (treated ++ (a ∷ [])) → P between → InTurn compare (map (second_work compare steps) fs) between (Err e)
             → SecondFails P start e)
             → SecondFails P start e
         go (Err d) ends on further = record {

@@ -1,5 +1,5 @@
 -- A step that is computed is a step, and its operations are those of one.
-use Rattle.std.proofs.Common.{◌≡◌, ◌≢◌, ◌⊎◌, inl, inr, ℕ, ℤ, pos, neg_ℤ, ◌+ℤ◌, ◌*ℤ◌, Bool, true, false, cond, List, [], ◌∷◌, ◌++◌, map, Some, None, Ok, refl, sym, ap, ap₂, ◌∙◌, subst, arith}
+use Rattle.std.proofs.Common.{◌≡◌, ◌≢◌, ◌⊎◌, inl, inr, ℕ, ℤ, pos, neg_ℤ, ◌+ℤ◌, ◌*ℤ◌, Bool, true, false, cond, List, [], ◌∷◌, ◌++◌, Some, None, Ok, refl, sym, ap, ap₂, ◌∙◌, subst, arith}
 use Rattle.std.specs.List.{Contains, All, AllByRecursion}
 use Rattle.std.specs.declared.cmp.Ordering.TheVariants.{Greater}
 use Rattle.std.proofs.lemmas.Int.{ints}
@@ -30,14 +30,14 @@ use Rattle.rule_reduce.specs.declared.state.State.{State}
 use Rattle.rule_reduce.specs.declared.state.Choice.{Choice}
 use Rattle.rule_reduce.specs.RuleLists.{rule_at}
 use Rattle.rule_reduce.specs.Choices.{IsChoice}
-use Rattle.rule_reduce.specs.Steps.{Move, multiplied_row, row_operations, state_operations, less_operations, moved, move_operations, move_of}
+use Rattle.rule_reduce.specs.Steps.{Move, row_operations, state_operations, less_operations, moved, move_operations, move_of}
 use Rattle.outcome_laws.specs.ReductionSteps.{Reduced, Next, IsStep, IsOfStep, of_multiplier, of_rest, of_taken, of_rule, of_difference}
-use Rattle.outcome_laws.proofs.Listed.{listed_first, value_of, value_listed, sum_at}
+use Rattle.outcome_laws.proofs.Listed.{listed_first, value_of, sum_at}
 use Rattle.outcome_laws.proofs.Results.{fits_first, none_append}
 
 -- how far a state has come
 abbrev pub reduced_of : State → Reduced
-reduced_of s = record { multiplier = s.multiplier; rest = s.rest; taken = map (λ row. row.coef) s.rows }
+reduced_of s = record { multiplier = s.multiplier; rest = s.rest; taken = s.rows }
 
 -- coefficients
 pub multiplied-scaled : (p : List Term) (k : ℤ) → multiplied p k ≡ scaled k p
@@ -143,12 +143,8 @@ module _ (compare : Compare) (rules : List Rule) (s : State) (shaped : IsShaped 
         shaped_add (multiplied s.rest move.by) (negated (shifted move.times move.left move.rule move.right)) (moved move s).rest (multiplied_shaped s.rest move.by shaped state.0) (shaped-negated (shifted move.times move.left move.rule move.right) taken)
         (fits (sums (multiplied s.rest move.by) (negated (shifted move.times move.left move.rule move.right))) (moved move s).rest less.1)
 
-    rows_taken : (rows : List Row) (last : Row) → map (λ row. row.coef) (map (multiplied_row move.by) rows ++ last ∷ []) ≡ map (λ k. k *ℤ move.by) (map (λ row. row.coef) rows) ++ last.coef ∷ []
-    rows_taken [] last = refl
-    rows_taken (row ∷ rows) last = ap (λ (ks : List ℤ). (row.coef *ℤ move.by) ∷ ks) (rows_taken rows last)
-
     pub step_made : IsStep compare rules (reduced_of s) (reduced_of (moved move s))
-    step_made = record { next = next_step; multiplier = refl; shaped = rest_shaped; rest = record { at = balance }; taken = rows_taken s.rows _ }
+    step_made = record { next = next_step; multiplier = refl; shaped = rest_shaped; rest = record { at = balance }; taken = refl }
 
   -- its products and sums
   abbrev OfStep : Overflow → Type 0
@@ -170,7 +166,7 @@ module _ (compare : Compare) (rules : List Rule) (s : State) (shaped : IsShaped 
       of_coefficient in_rest = let v = value_of (λ (t : Term). product_of t.0 move.by) s.rest o in_rest in of_rest v.argument v.listed v.is
 
       of_row : Contains (row_operations s.rows move.by) o → OfStep o
-      of_row in_rows = let v = value_of (λ (row : Row). product_of row.coef move.by) s.rows o in_rows in of_taken v.argument.coef (value_listed (λ row. row.coef) s.rows v.argument v.listed) v.is
+      of_row in_rows = let v = value_of (λ (row : Row). product_of row.coef move.by) s.rows o in_rows in of_taken v.argument v.listed v.is
 
       by_state : (product_of s.multiplier move.by ≡ o) ⊎ Contains (multiplications s.rest move.by ++ row_operations s.rows move.by) o → OfStep o
       by_state (inl same) = of_multiplier (sym same)

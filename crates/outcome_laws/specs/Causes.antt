@@ -1,5 +1,5 @@
 -- What the cause of a halt says of the run of a problem.
-use Rattle.std.specs.Prelude.{◌≡◌, ◌≢◌, ◌≤◌, ℕ, suc, ℤ, neg_ℤ, ◌*ℤ◌, Bool, true, List, [], ◌∷◌, ◌++◌, if◌then◌else◌, map, length, Option, Some, Contains}
+use Rattle.std.specs.Prelude.{◌≡◌, ◌≢◌, ◌≤◌, ℕ, suc, ℤ, neg_ℤ, Bool, true, List, [], ◌∷◌, ◌++◌, if◌then◌else◌, map, length, Option, Some, Contains}
 use Rattle.std.specs.List.{All, AllPairs}
 use Rattle.coef_int.specs.declared.Overflow.{Overflow}
 use Rattle.coef_int.specs.Operations.{product_of, exact_value}
@@ -10,6 +10,7 @@ use Rattle.word_orders.specs.Specified.{asked_cmp}
 use Rattle.nc_polynomial.specs.Content.{IsContent}
 use Rattle.nc_polynomial.specs.Shape.{IsShaped}
 use Rattle.quiver.specs.Declarations.{letter_count}
+use Rattle.traced_rows.specs.declared.Origin.TheVariants as origin
 use Rattle.traced_rows.specs.declared.Row.{Row}
 use Rattle.traced_rows.specs.declared.Made.{Made}
 use Rattle.cofactor_trace.specs.Laws.{Traces}
@@ -30,7 +31,7 @@ use Rattle.completion_laws.specs.Kept.{AreApart, AreRecorded}
 use Rattle.completion_laws.specs.Conclusions.{NothingPendingBelow}
 use Rattle.traced_completion.specs.declared.budget.Budget.{Budget}
 use Rattle.outcome_laws.specs.Certificates.{IsOfCertificate, HasLongRow, HasManyRows}
-use Rattle.outcome_laws.specs.ReductionSteps.{Reduced, unreduced, HasOneMore, IsOfReduction, IsTooLarge, GetsTooLarge, Leaves, row_words, IsOfSum}
+use Rattle.outcome_laws.specs.ReductionSteps.{Reduced, unreduced, row_times, HasOneMore, IsOfReduction, IsTooLarge, GetsTooLarge, Leaves, row_words, IsOfSum}
 
 -- The polynomial is, each word once, what the two multiples in the S-polynomial of an ambiguity of the rules add up to.
 pub record IsSPolynomial (rules : List Rule) (p : List Term) : Type 0 where
@@ -48,32 +49,52 @@ pub record IsFirstReduction (problem : Problem) (budget : Budget) (rules : List 
   pub is : IsSPolynomial first polynomial
   pub leaves : Leaves (asked_cmp problem.parts.order) first budget.steps (unreduced polynomial) now
 
+abbrev pub negative : Row → Row
+negative row = record row { coef = neg_ℤ row.coef }
+
+abbrev pub negatives : List Row → List Row
+negatives rows = map negative rows
+
+-- rows times the multiplier of a reduction, less the rows that it took away
+abbrev pub rows_less : List Row → Reduced → List Row
+rows_less rows r = map (row_times r.multiplier) rows ++ negatives r.taken
+
+-- the rows by which a generator is reduced to what is left of it
+abbrev pub rows_of_generator : ℕ → Reduced → List Row
+rows_of_generator n r = record { coef = r.multiplier; left = []; from = origin.Generator n; right = [] } ∷ negatives r.taken
+
 -- What becomes a rule is left by the rules so far: of a generator, or of what the first ones of them leave of an S-polynomial of theirs.
-pub data IsLeftBy (problem : Problem) (budget : Budget) (rules : List Rule) (rest : List Term) : Type 0 where
+-- These are the rows that add up to it.
+pub data IsLeftBy (problem : Problem) (budget : Budget) (rules : List Rule) (rest : List Term) (rows : List Row) : Type 0 where
   from_generator : (n : ℕ) (now : Reduced) → 1 ≤ n → n ≤ length problem.generators
       → Leaves (asked_cmp problem.parts.order) rules budget.steps (unreduced (generator_at (polynomials problem.generators) n)) now
-      → rest ≡ now.rest → IsLeftBy problem budget rules rest
-  from_ambiguity : (first now : Reduced) → IsFirstReduction problem budget rules first
-      → Leaves (asked_cmp problem.parts.order) rules budget.steps (unreduced first.rest) now → rest ≡ now.rest → IsLeftBy problem budget rules rest
+      → rest ≡ now.rest → rows ≡ rows_of_generator n now → IsLeftBy problem budget rules rest rows
+  from_ambiguity : (first now : Reduced) → (is : IsFirstReduction problem budget rules first)
+      → Leaves (asked_cmp problem.parts.order) rules budget.steps (unreduced first.rest) now → rest ≡ now.rest
+      → rows ≡ rows_less (rows_less (s_rows_of is.first is.is.ambiguity) first) now → IsLeftBy problem budget rules rest rows
 
--- the rest is the rule times the greatest common divisor of the rest's coefficients, or times the negative of that
-pub record IsRuleOf (rest : List Term) (g : Rule) : Type 0 where
+-- The rest is the rule times the greatest common divisor of the rest's coefficients, or times the negative of that. The record of the rule
+-- has this divisor, and the rows of the rest or their negatives.
+pub record IsRuleOf (rest : List Term) (rows : List Row) (g : Rule) (m : Made) : Type 0 where
   pub content : ℤ
   pub is_content : IsContent rest content
   pub negated : Bool
   pub divided : poly_multiple (if negated then neg_ℤ content else content) g.poly.terms ≡ rest
+  pub scale_is : m.scale ≡ content
+  pub rows_are : m.rows ≡ (if negated then negatives rows else rows)
 
--- Rules that are made one after another.
-pub data AreMade (problem : Problem) (budget : Budget) : List Rule → Type 0 where
-  no_rule : AreMade problem budget []
-  one_more : (rules : List Rule) (rest : List Term) (g : Rule) → AreMade problem budget rules → IsLeftBy problem budget rules rest → IsRuleOf rest g
-      → AreMade problem budget (rules ++ g ∷ [])
+-- Rules that are made one after another, and their records.
+pub data AreMade (problem : Problem) (budget : Budget) : List Rule → List Made → Type 0 where
+  no_rule : AreMade problem budget [] []
+  one_more : (rules : List Rule) (records : List Made) (rest : List Term) (rows : List Row) (g : Rule) (m : Made) → AreMade problem budget rules records
+      → IsLeftBy problem budget rules rest rows → IsRuleOf rest rows g m → AreMade problem budget (rules ++ g ∷ []) (records ++ m ∷ [])
 
 -- Rules in the order of the problem, which are made one after another. Of each some positive multiple is a combination of the generators,
 -- and its leading word occurs in that of no later one.
 pub record AreRulesOf (problem : Problem) (budget : Budget) (rules : List Rule) : Type 0 where
   pub are_rules : All (IsRule (letter_count problem.parts.quiver) (asked_cmp problem.parts.order)) rules
-  pub made : AreMade problem budget rules
+  pub records : List Made
+  pub made : AreMade problem budget rules records
   pub apart : AreApart rules
   pub inside : (n : ℕ) (g : Rule) → rule_at rules n ≡ Some g → InRationalIdeal (polynomials problem.generators) g.poly.terms
 
@@ -94,6 +115,10 @@ pub record PairsAreSpent (problem : Problem) (budget : Budget) (at : Place) (lea
   pub word_is : least ≡ Some (overlap_word_of rules left)
   pub none_below : NothingPendingBelow (letter_count problem.parts.quiver) (asked_cmp problem.parts.order) rules treated (overlap_word_of rules left)
 
+-- a claim has the number
+abbrev pub IsClaim : Problem → ℕ → Type 0
+IsClaim problem number = (1 ≤ number) × (number ≤ length problem.parts.claims)
+
 -- What is reduced by the rules at the place, in the work on the claim with this number.
 pub data IsReducedAt (problem : Problem) (budget : Budget) (number : ℕ) (at : Place) (rules : List Rule) (p : List Term) : Type 0 where
   -- in round 0 a generator
@@ -104,7 +129,7 @@ pub data IsReducedAt (problem : Problem) (budget : Budget) (number : ℕ) (at : 
   of_first_rest : (round : ℕ) (now : Reduced) → at ≡ place.Round (suc round) → IsFirstReduction problem budget rules now → p ≡ now.rest
       → IsReducedAt problem budget number at rules p
   -- after a round the claim
-  of_claim : (round : ℕ) → at ≡ place.Claim round → p ≡ claim_at problem number → IsReducedAt problem budget number at rules p
+  of_claim : (round : ℕ) → at ≡ place.Claim round → IsClaim problem number → p ≡ claim_at problem number → IsReducedAt problem budget number at rules p
 
 -- A reduction at the place.
 pub record Reduction (problem : Problem) (budget : Budget) (number : ℕ) (at : Place) : Type 0 where
@@ -126,20 +151,25 @@ pub record IsOfSPolynomial (rules : List Rule) (o : Overflow) : Type 0 where
   pub of_sum : IsOfSum (first_row rules ambiguity).coef (row_words rules (first_row rules ambiguity))
       (second_row rules ambiguity).coef (row_words rules (second_row rules ambiguity)) o
 
--- It is one of the products of the rows of a rule that a second reduction makes: of those of the S-polynomial, and of those of the first
--- reduction.
-pub data IsOfRows (rows : List ℤ) (first second : Reduced) (o : Overflow) : Type 0 where
-  of_row : (c : ℤ) → Contains rows c → o ≡ product_of c first.multiplier → IsOfRows rows first second o
-  of_multiple : (c : ℤ) → Contains rows c → o ≡ product_of (c *ℤ first.multiplier) second.multiplier → IsOfRows rows first second o
-  of_taken : (c : ℤ) → Contains first.taken c → o ≡ product_of (neg_ℤ c) second.multiplier → IsOfRows rows first second o
+-- It is one of the products of the rows of a rule that two reductions make: of those of the S-polynomial by the first multiplier, and of
+-- those that then are left by the second one.
+pub data IsOfRows (rows : List Row) (first second : Reduced) (o : Overflow) : Type 0 where
+  of_first : (row : Row) → Contains rows row → o ≡ product_of row.coef first.multiplier → IsOfRows rows first second o
+  of_second : (row : Row) → Contains (rows_less rows first) row → o ≡ product_of row.coef second.multiplier → IsOfRows rows first second o
 
--- Nothing is left of the claim by rules. Each of them has a record, whose rows add up to its scale times the rule, and so has the claim.
+-- Nothing is left of the claim by rules. The record of the claim has the multiplier of this reduction and the rows that it took away, and
+-- each rule has the record with which it was made. The rows of each record add up to its scale times the rule, or times the claim.
 pub record ClaimRecord (problem : Problem) (budget : Budget) (number : ℕ) : Type 0 where
+  pub is_claim : IsClaim problem number
   pub rules : List Rule
   pub are_rules : AreRulesOf problem budget rules
-  pub made : List Made
-  pub recorded : AreRecorded (polynomials problem.generators) rules made
+  pub recorded : AreRecorded (polynomials problem.generators) rules are_rules.records
+  pub reduced : Reduced
+  pub leaves : Leaves (asked_cmp problem.parts.order) rules budget.steps (unreduced (claim_at problem number)) reduced
+  pub nothing : reduced.rest ≡ []
   pub claim : Made
+  pub scale_is : claim.scale ≡ reduced.multiplier
+  pub rows_are : claim.rows ≡ reduced.taken
   pub traces : Traces (polynomials problem.generators) (polynomials_of rules) claim (claim_at problem number)
 
 -- One of the products and sums that are made at the place, in the work on the claim with this number.
@@ -153,9 +183,9 @@ pub data IsArithmeticAt (problem : Problem) (budget : Budget) (number : ℕ) (at
   -- and of the rows of a rule that is made of one, by two reductions
   in_rows : (round : ℕ) (rules : List Rule) (first second : Reduced) → at ≡ place.Round (suc round) → AreRulesOf problem budget rules
       → (is : IsFirstReduction problem budget rules first) → Leaves (asked_cmp problem.parts.order) rules budget.steps (unreduced first.rest) second
-      → IsOfRows (map (λ row. row.coef) (s_rows_of is.first is.is.ambiguity)) first second o → IsArithmeticAt problem budget number at o
+      → IsOfRows (s_rows_of is.first is.is.ambiguity) first second o → IsArithmeticAt problem budget number at o
   -- of a certificate
-  in_making : (round : ℕ) → at ≡ place.Certificate round → (r : ClaimRecord problem budget number) → IsOfCertificate r.made r.claim o
+  in_making : (round : ℕ) → at ≡ place.Certificate round → (r : ClaimRecord problem budget number) → IsOfCertificate r.are_rules.records r.claim o
       → IsArithmeticAt problem budget number at o
 
 -- The product or sum is out of the range of coefficients, and it is one of those that are made at the place.
@@ -174,7 +204,7 @@ pub data IsSizeAt (problem : Problem) (budget : Budget) (number : ℕ) (at : Pla
   in_s_polynomial : (round : ℕ) (rules : List Rule) (p : List Term) → at ≡ place.Round (suc round) → AreRulesOf problem budget rules → IsSPolynomial rules p
       → IsTooLarge letters p → IsSizeAt problem budget number at letters
   -- a word of a row of a certificate
-  in_certificate : (round : ℕ) → at ≡ place.Certificate round → letters ≡ true → (r : ClaimRecord problem budget number) → HasLongRow r.made r.claim
+  in_certificate : (round : ℕ) → at ≡ place.Certificate round → letters ≡ true → (r : ClaimRecord problem budget number) → HasLongRow r.are_rules.records r.claim
       → IsSizeAt problem budget number at letters
 
 -- The rows of a certificate of the claim with this number pass a limit.
@@ -182,7 +212,7 @@ pub record AreRowsAt (problem : Problem) (budget : Budget) (number : ℕ) (at : 
   pub round : ℕ
   pub place_is : at ≡ place.Certificate round
   pub record_of : ClaimRecord problem budget number
-  pub many : HasManyRows record_of.made record_of.claim letters
+  pub many : HasManyRows record_of.are_rules.records record_of.claim letters
 
 -- What a cause says of the place, in the work on the claim with this number, and of the least overlap word that is named with it.
 abbrev pub CauseMeans : Problem → Budget → ℕ → Place → Option (List ℕ) → Cause → Type 0

@@ -2,7 +2,6 @@
 use Rattle.std.specs.Prelude.{◌≡◌, ◌⊎◌, ◌≤◌, ℕ, suc, List, [], ◌∷◌, length, Some, Contains}
 use Rattle.std.specs.List.{All}
 use Rattle.definitions.specs.Combination.{InRationalIdeal, generator_at}
-use Rattle.word_orders.specs.Admissible.{Compare}
 use Rattle.word_orders.specs.Specified.{asked_cmp}
 use Rattle.quiver.specs.Declarations.{letter_count, quiver_of}
 use Rattle.rule_reduce.specs.declared.rule.Rule.{Rule}

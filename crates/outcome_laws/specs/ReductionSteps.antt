@@ -8,6 +8,7 @@ use Rattle.definitions.specs.Poly.{Term, coefficient_of, SamePolynomial, poly_su
 use Rattle.word_orders.specs.Admissible.{Compare}
 use Rattle.nc_polynomial.specs.Limits.{word_limit, term_limit}
 use Rattle.nc_polynomial.specs.Shape.{IsShaped}
+use Rattle.traced_rows.specs.declared.Origin.TheVariants as origin
 use Rattle.traced_rows.specs.declared.Row.{Row}
 use Rattle.traced_rows.specs.Traces.{origin_poly}
 use Rattle.rule_reduce.specs.declared.rule.Rule.{Rule}
@@ -16,14 +17,18 @@ use Rattle.rule_reduce.specs.RuleLists.{polynomials_of}
 use Rattle.rule_reduce.specs.Choices.{IsChoice}
 use Rattle.rule_reduce.specs.Laws.{IsIrreducible}
 
--- How far a reduction has come: by what its polynomial was multiplied, what is left, and the coefficients of what was taken away.
+-- How far a reduction has come: by what its polynomial was multiplied, what is left, and the rows of what was taken away.
 pub record Reduced : Type 0 where
   pub multiplier : ℤ
   pub rest : List Term
-  pub taken : List ℤ
+  pub taken : List Row
 
 abbrev pub unreduced : List Term → Reduced
 unreduced p = record { multiplier = pos 1; rest = p; taken = [] }
+
+-- a row times an integer
+abbrev pub row_times : ℤ → Row → Row
+row_times by row = record row { coef = row.coef *ℤ by }
 
 -- What the next step is: the greatest word in which a leading word occurs is l m r, where m is the leading word of the rule g with the
 -- least number, at its leftmost place. With c the coefficient of the word, k that of m in g, and q their greatest common divisor, the
@@ -41,13 +46,22 @@ pub record Next (compare : Compare) (rules : List Rule) (p : List Term) : Type 0
   pub around : List Term
   pub around_is : around ≡ poly_between (take choice.place choice.word) chosen.rule.poly.terms (drop (choice.place + length chosen.rule.lead) choice.word)
 
+-- the row of c/q l g r
+abbrev pub next_row : {compare : Compare} {rules : List Rule} {p : List Term} → Next compare rules p → Row
+next_row next = record {
+  coef = next.times;
+  left = take next.choice.place next.choice.word;
+  from = origin.Rule next.choice.number;
+  right = drop (next.choice.place + length next.chosen.rule.lead) next.choice.word;
+}
+
 -- The step is made.
 pub record IsStep (compare : Compare) (rules : List Rule) (before after : Reduced) : Type 0 where
   pub next : Next compare rules before.rest
   pub multiplier : after.multiplier ≡ before.multiplier *ℤ next.by
   pub shaped : IsShaped after.rest
   pub rest : SamePolynomial (poly_sum after.rest (poly_multiple next.times next.around)) (poly_multiple next.by before.rest)
-  pub taken : after.taken ≡ map (λ c. c *ℤ next.by) before.taken ++ next.times ∷ []
+  pub taken : after.taken ≡ map (row_times next.by) before.taken ++ next_row next ∷ []
 
 -- A step is made, and then what comes later.
 pub record IsStepThen (compare : Compare) (rules : List Rule) (Later : Reduced → Type 0) (before : Reduced) : Type 0 where
@@ -60,12 +74,12 @@ abbrev pub Goes : Compare → List Rule → ℕ → Reduced → Reduced → Type
 Goes compare rules zero before after = before ≡ after
 Goes compare rules (suc n) before after = IsStepThen compare rules (λ r. Goes compare rules n r after) before
 
--- One of the products and sums of a step: of the multiplier, of a coefficient that is left and of one that was taken away, each by k/q on
+-- One of the products and sums of a step: of the multiplier, of a coefficient that is left and of that of a row, each by k/q on
 -- the right; of c/q and a coefficient of g; and the difference of the coefficients of a word.
 pub data IsOfStep (r : Reduced) (by times : ℤ) (g around : List Term) (o : Overflow) : Type 0 where
   of_multiplier : o ≡ product_of r.multiplier by → IsOfStep r by times g around o
   of_rest : (t : Term) → Contains r.rest t → o ≡ product_of t.0 by → IsOfStep r by times g around o
-  of_taken : (c : ℤ) → Contains r.taken c → o ≡ product_of c by → IsOfStep r by times g around o
+  of_taken : (row : Row) → Contains r.taken row → o ≡ product_of row.coef by → IsOfStep r by times g around o
   of_rule : (t : Term) → Contains g t → o ≡ product_of times t.0 → IsOfStep r by times g around o
   of_difference : (w : List ℕ) → o ≡ sum_of (coefficient_of r.rest w *ℤ by) (neg_ℤ (times *ℤ coefficient_of around w)) → IsOfStep r by times g around o
 
