@@ -43,10 +43,9 @@ use Rattle.adjoint_rules.specs.Problem.{polynomials}
 use Rattle.adjoint_rules.specs.Claims.{claim_at, claim_numbers}
 use Rattle.traced_completion.specs.declared.budget.Budget.{Budget}
 use Rattle.traced_completion.specs.PlainRun.{Setting, RunState, went, closed, stopped, Ends, IsRound, IsRunState, setting_of}
-use Rattle.claim_decider.specs.Outcomes.{IsOpen}
 use Rattle.claim_decider.specs.Decided.{polynomials_in}
 use Rattle.outcome_laws.specs.KeptRuns.{done_after}
-use Rattle.outcome_laws.proofs.OpenRuns.{open_run}
+use Rattle.outcome_laws.proofs.OpenRuns.{open_run, opened_claim}
 use Rattle.outcome_laws.proofs.ProblemStates.{state_kept, generators_are_reached}
 use Rattle.outcome_laws.proofs.WholeRuns.{closed_is_nothing_pending}
 use Rattle.basis_text.specs.declared.basis.Basis.{Basis}
@@ -65,11 +64,6 @@ use Rattle.closed_runs.proofs.EndedReductions.{ended_once}
 use Rattle.closed_runs.proofs.MadeRules.{runs_are_primitive}
 use Rattle.closed_runs.proofs.ClosedRuns.{Closes, closes, closing_rules_are_last}
 use Rattle.closed_runs.proofs.RunRules.{rules_of_run, all_may}
-
--- the claim
-opened_claim : (setting : Setting) (claim : List Term) (n : ℕ) (s : RunState) → IsOpen setting claim n s → 0 < length claim
-opened_claim setting claim zero s opened = opened.0
-opened_claim setting claim (suc n) s opened = opened_claim setting claim n opened.before opened.is_before
 
 -- a number with a polynomial that has terms is one of theirs
 named : (ps : List Poly) (number : ℕ) → 0 < length (generator_at (polynomials ps) number) → IsNumberUpTo (length ps) number

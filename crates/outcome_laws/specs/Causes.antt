@@ -49,6 +49,7 @@ pub record IsFirstReduction (problem : Problem) (budget : Budget) (rules : List 
   pub is : IsSPolynomial first polynomial
   pub leaves : Leaves (asked_cmp problem.parts.order) first budget.steps (unreduced polynomial) now
 
+-- times -1
 abbrev pub negative : Row → Row
 negative row = record row { coef = neg_ℤ row.coef }
 
