@@ -24,7 +24,7 @@ fn polynomials(
     requires { All IsCanonical lists }
     ensures { IfOk result (λ ps. map (λ p. p.terms) ps ≡ lists) }
 {
-    let mut polynomials = Listing::new(alloc);
+    let mut polynomials = Listing::with_room(alloc, lists.len())?;
     for terms in lists.into_vec() {
         polynomials.push(Poly { terms })?;
     }

@@ -83,6 +83,15 @@ impl<'q> LineKind for LetterLine<'q> {
     }
 }
 
+/// The list with no room for more items.
+pub(crate) fn fitted<T>(list: Listing<T>) -> Listing<T>
+    ensures { result ≡ list }
+{
+    let mut items = list.into_vec();
+    items.shrink_to_fit();
+    Listing::from_vec(items)
+}
+
 /// A word and a polynomial in the letters of a quiver.
 #[derive(Clone, Copy)]
 pub struct PolynomialLine<'q> {
@@ -98,7 +107,7 @@ impl<'q> LineKind for PolynomialLine<'q> {
     fn read(&self, alloc: Global, line: &[u8]) -> Result<Listing<(i128, Word)>, LineFault> {
         match first_token(line) {
             Some((word, behind)) if is(self.word, word) => {
-                Ok(read_polynomial(alloc, self.quiver, behind)?.terms)
+                Ok(fitted(read_polynomial(alloc, self.quiver, behind)?.terms))
             }
             _ => Err(LineFault::Flaw(Flaw::BadLine)),
         }

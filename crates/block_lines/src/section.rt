@@ -5,7 +5,7 @@ ghost use Rattle.block_text.specs.Fault.{Reads};
 ghost use Rattle.block_lines.specs.SectionSteps.{SectionSteps, no_steps, line_steps, grown, lines_steps};
 ghost use Rattle.block_text.specs.Tokens.{tokens_of};
 
-use crate::line_kind::LineKind;
+use crate::line_kind::{LineKind, fitted};
 use block_text::{Flaw, LineFault, begins};
 use lists::Listing;
 use std::alloc::Global;
@@ -175,6 +175,6 @@ impl<L: LineKind, R: Section> Section for LinesThen<L, R> {
     ) -> Option<(Listing<L::Value>, R::Value)> {
         let LinesPlace { values, rest, .. } = place;
         let rest = self.rest.finish(rest)?;
-        Some((values, rest))
+        Some((fitted(values), rest))
     }
 }
