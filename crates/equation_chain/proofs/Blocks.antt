@@ -1,5 +1,5 @@
 -- Chains are put a step at a time.
-use Rattle.std.proofs.Common.{◌≡◌, ◌<◌, ◌+◌, ℕ, List, ◌∷◌, [], ◌++◌, Result, Ok, Err, OnOk, arith, sym, ap, ap₂, ◌∙◌, length, take, get_or, codes}
+use Rattle.std.proofs.Common.{◌≡◌, ◌<◌, ◌+◌, ℕ, List, ◌++◌, Result, Ok, Err, OnOk, arith, sym, ap, ap₂, ◌∙◌, length, take, get_or}
 use Rattle.std.specs.List.{flat_map, zip}
 use Rattle.std.proofs.lemmas.List.{append_assoc, get_or-map}
 use Rattle.std.proofs.lemmas.Slice.Zip.{length-zip, get_or-zip}

@@ -1,6 +1,6 @@
 -- Steps and lines have letters of the quiver alone, and each line has a signature.
-use Rattle.std.proofs.Common.{◌≡◌, ◌≢◌, ℕ, zero, suc, ◌+◌, ◌<◌, negsuc, true, List, [], ◌∷◌, take, length, get_or, map, Result, Ok, Err, IfOk, refl, sym, subst, ◌∙◌, arith}
-use Rattle.std.specs.List.{All, AllByRecursion, AllZip}
+use Rattle.std.proofs.Common.{◌≡◌, ℕ, zero, suc, ◌+◌, ◌<◌, negsuc, true, List, [], ◌∷◌, take, length, get_or, map, Result, Ok, Err, IfOk, sym, subst, arith}
+use Rattle.std.specs.List.{All, AllByRecursion}
 use Rattle.std.proofs.lemmas.Bool.{and_parts}
 use Rattle.std.proofs.lemmas.List.Elements.{All-filter, All-from_recursion, recursion_from_All}
 use Rattle.std.proofs.lemmas.Slice.Zip.{AllZip-long}
@@ -93,7 +93,7 @@ module _ (problem : Problem) (c : Certificate) where
   pub line_over : (i : ℕ) → IsLineOver (line_before problem c i)
   line_over i = less_over (steps_before problem c i) (typed_in (take i c.rows))
 
-  lines_over : AllByRecursion IsLineOver (lines_of problem c)
+  pub lines_over : AllByRecursion IsLineOver (lines_of problem c)
   lines_over =
       all_in_range IsLineOver (λ k. line_less problem c (take k (steps_of problem c)))
       (λ k. less_over (take k (steps_of problem c)) (all_taken (λ r. is_typed problem c.claim r ≡ true) k (steps_of problem c) (typed_in c.rows)))

@@ -13,3 +13,7 @@ pub mod Making
 pub mod Spelled
 pub mod Letters
 pub mod Blocks
+pub mod ChainsBack
+pub mod OneChain
+pub mod Readable
+mod Examples

@@ -32,7 +32,7 @@ use Rattle.equation_chain.specs.Chains.{less_step, next_line, IsLess}
 use Rattle.equation_chain.proofs.Generators.{generator_shaped}
 
 -- where the generator could be moved, it was
-after_moved : (l : List ℕ) (g : List Term) (r : List ℕ) (next : List Term → Result (List Term) PolyFault) (p : List Term)
+pub after_moved : (l : List ℕ) (g : List Term) (r : List ℕ) (next : List Term → Result (List Term) PolyFault) (p : List Term)
     → and_then (moved_result l g r) next ≡ Ok p → next (poly_between l g r) ≡ Ok p
 after_moved l g r next p made = go (sized (poly_between l g r)) refl made
   where

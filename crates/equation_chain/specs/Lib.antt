@@ -7,3 +7,5 @@ pub mod Written
 pub mod Spelled
 pub mod Made
 pub mod Laws
+pub mod Blocks
+pub mod Back

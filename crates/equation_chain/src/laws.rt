@@ -1,6 +1,7 @@
 //! What users ask of chains.
 ghost use Rattle.equation_chain.specs.Laws.{EachCertificateIsExplained, FirstFaultIsUnique, ExplainedHasNoFault};
 ghost use Rattle.equation_chain.specs.Laws.{StepsAreTyped, StepsAddUp, LinesAreAChain, LinesAreTyped, LinesVanish};
+ghost use Rattle.equation_chain.specs.Back.{ChainsAreReadBack, ChainsAreUnique, TextsTellChains, ExplainedIsReadable};
 
 use category_laws::Preadditive;
 
@@ -42,4 +43,24 @@ pub fn lines_are_typed()
 /// In the category that is handed in, each line is zero wherever the generators are.
 pub fn lines_vanish<C: Preadditive>(category: &C)
     ensures { LinesVanish (C.structure category.now) }
+{}
+
+/// Chains that are written are read as they are, whatever stands around them, where objects and maps have names of the language.
+pub fn chains_are_read_back()
+    ensures { ChainsAreReadBack }
+{}
+
+/// A text has one list of chains.
+pub fn chains_are_unique()
+    ensures { ChainsAreUnique }
+{}
+
+/// Two chains with the same text are the same chain.
+pub fn texts_tell_chains()
+    ensures { TextsTellChains }
+{}
+
+/// Each explained certificate has a chain of which this holds.
+pub fn explained_is_readable()
+    ensures { ExplainedIsReadable }
 {}

@@ -9,3 +9,4 @@ pub mod Equations
 pub mod Statements
 pub mod Meanings
 pub mod Claims
+pub mod OneTree

@@ -29,16 +29,18 @@ abbrev pub IsClaim : List Statement → ℕ → Equation → Type 0
 IsClaim statements zero e = ⊥
 IsClaim statements (suc n) e = slice_get (claims_of statements) n ≡ Some e
 
--- the claim with this number holds
+-- the claim with this number holds; where there is none, nothing is said
 pub record ClaimHolds {Object Arrow : Type 0} (r : Reading Object Arrow) (statements : List Statement) (number : ℕ) : Type 0 where
   pub at : (e : Equation) → IsClaim statements number e → Holds r e.left e.right
 
--- The claim is proved with the denominator d: wherever d cancels and the assumptions hold, the claim holds; whatever the involution, in each star
--- representation, and, where the file isn't starred, in each representation.
+-- The claim is proved with the denominator d: wherever d cancels (for every arrow a, d a = 0 only where a = 0) and the assumptions hold, the claim
+-- holds; whatever the involution, in each star representation, and, where the file isn't starred, in each representation.
 pub record ProvesClaim {Object Arrow : Type 0} (s : Structure Object Arrow) (statements : List Statement) (number : ℕ) (d : ℤ) : Type 0 where
   pub by_star : (involution : Arrow → Arrow) → InvolutionLaws s involution → (f : Representation Object Arrow)
       → StarRepresents s involution (quiver_in statements) f → Cancels s d
       → AssumptionsHold (read_in s involution statements f) statements → ClaimHolds (read_in s involution statements f) statements number
+  -- The quiver has a letter for the adjoint of each map in every file. No equation of one that isn't starred speaks of it, so that any arrow the other
+  -- way serves, a zero say; and of the involution nothing is asked.
   pub plain : is_starred statements ≡ false → (involution : Arrow → Arrow) (f : Representation Object Arrow)
       → Represents s (quiver_in statements) f → Cancels s d
       → AssumptionsHold (read_in s involution statements f) statements → ClaimHolds (read_in s involution statements f) statements number

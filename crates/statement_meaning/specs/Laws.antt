@@ -1,5 +1,5 @@
--- The polynomials of equations and statements say what these mean.
-use Rattle.std.specs.Prelude.{◌≡◌, ◌↔◌, List, Ok, false, ◌||◌}
+-- A file has one tree, and the polynomials of equations and statements say what these mean.
+use Rattle.std.specs.Prelude.{◌≡◌, ◌↔◌, ℕ, List, Ok, false, ◌||◌}
 use Rattle.std.specs.List.{AllZip}
 use Rattle.definitions.specs.Category.{Structure, InvolutionLaws}
 use Rattle.definitions.specs.Poly.{Poly}
@@ -10,6 +10,7 @@ use Rattle.quiver.specs.Declarations.{Declaration, quiver_of, ObjectsFirst, IsDe
 use Rattle.nc_polynomial.specs.declared.poly.Poly as made
 use Rattle.statement_syntax.specs.declared.tree.Statement.{Statement}
 use Rattle.statement_syntax.specs.declared.tree.Sum.{Sum}
+use Rattle.statement_syntax.specs.Texts.{IsTreeOf}
 use Rattle.expression_names.specs.Names.{AreNames}
 use Rattle.expression_names.specs.Occurrences.{has_quote}
 use Rattle.abbreviations.specs.declared.written.Equation.{Equation}
@@ -19,6 +20,10 @@ use Rattle.expressions.specs.Polynomials.{equation_poly}
 use Rattle.adjoint_rules.specs.declared.problem.Problem.{Problem}
 use Rattle.signature_typing.specs.Typing.{IsProblemOf}
 use Rattle.statement_meaning.specs.Values.{Reading, Holds}
+
+-- Bytes are one file, whose statements each promise speaks of: they have one tree at most.
+abbrev pub FilesHaveOneTree : Type 0
+FilesHaveOneTree = (bytes : List ℕ) (one other : List Statement) → IsTreeOf bytes one → IsTreeOf bytes other → one ≡ other
 
 -- The equation is one of maps and objects that are declared, it has a signature, and this is its polynomial.
 pub record IsEquation (ds : List Declaration) (left right : Sum) (s : Sig) (p : Poly) : Type 0 where

@@ -1,9 +1,15 @@
-//! Laws on what equations mean, which have nothing to run.
+//! Laws on files and on what equations mean, which have nothing to run.
 
-ghost use Rattle.statement_meaning.specs.Laws.{EquationsAreRead, StarredEquationsAreRead, StatementsAreRead, StarredStatementsAreRead};
+ghost use Rattle.statement_meaning.specs.Laws.{FilesHaveOneTree, EquationsAreRead, StarredEquationsAreRead};
+ghost use Rattle.statement_meaning.specs.Laws.{StatementsAreRead, StarredStatementsAreRead};
 ghost use Rattle.statement_meaning.specs.Meanings.{ProvedClaimsHold, RefutedClaimsFail, SaysEquations};
 
 use category_laws::Preadditive;
+
+/// The law that a file has one tree.
+pub fn files_have_one_tree()
+    ensures { FilesHaveOneTree }
+{}
 
 /// The law that in the category that is handed in the polynomial of an equation is zero in a representation exactly where
 /// both sides have the same value: in each representation, where there is no adjoint, and in each star representation.

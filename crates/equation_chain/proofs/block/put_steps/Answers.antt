@@ -1,10 +1,9 @@
-use Rattle.std.proofs.Common.{rules, arith, ◌≡◌, ◌+◌, ◌<◌, ◌++◌, ◌∷◌, [], List, ℕ, take, length, get_or, ap, sym, subst, ◌∙◌}
+use Rattle.std.proofs.Common.{rules, arith, ◌≡◌, ◌+◌, ◌<◌, ◌++◌, ◌∷◌, [], ℕ, take, length, get_or, ap, sym, subst, ◌∙◌}
 use Rattle.std.specs.List.{flat_map, zip}
 use Rattle.std.specs.Slice.Iter.{iter_rest}
 use Rattle.std.specs.Iterator.Adapters.{zip_first, zip_second}
 use Rattle.std.proofs.lemmas.List.{take_all, length-append, length-map}
 use Rattle.std.proofs.lemmas.Slice.Zip.{zip_turn, zip_end, length-zip}
-use Rattle.definitions.specs.Poly.{Term}
 use Rattle.nc_polynomial.specs.declared.poly.Poly.{Poly}
 use Rattle.traced_rows.specs.declared.certificate.CertRow.{CertRow}
 use Rattle.adjoint_rules.specs.Problem.{polynomials}

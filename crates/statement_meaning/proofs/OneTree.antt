@@ -1,0 +1,36 @@
+-- A file has one tree: the reader comes to the tree of each list of lines that the bytes are.
+use Rattle.std.proofs.Common.{◌≡◌, ◌⊎◌, inl, inr, ℕ, List, ◌++◌, refl, sym, ap, subst, ◌∙◌}
+use Rattle.statement_syntax.specs.Steps.{run}
+use Rattle.statement_syntax.specs.Lines.{file_step}
+use Rattle.statement_syntax.specs.Grammar.{StatedLine, IsFileOf, file_tokens}
+use Rattle.statement_syntax.specs.Tree.{file_tree}
+use Rattle.statement_syntax.specs.Texts.{IsStatements}
+use Rattle.statement_syntax.specs.Stages.{first_statements, begun, left, AllRead}
+use Rattle.statement_tokens.specs.Language.{language_of}
+use Rattle.statement_syntax.proofs.FirstLine.{file_language, divided}
+use Rattle.statement_syntax.proofs.FileReads.{lines_run}
+use Rattle.statement_syntax.proofs.Stopping.{is_only}
+use Rattle.statement_meaning.specs.Laws.{FilesHaveOneTree}
+
+-- what holds within a limit, within it
+within : {F A B : Type 0} (r s : A) → (F × (r ≡ s)) ⊎ ((F → ⊥) × B) → F → r ≡ s
+within r s (inl (fits, same)) holds = same
+within r s (inr (deep, fails)) holds = absurd (deep holds)
+
+-- all tokens of a file are read, as its tree
+all_read : (bytes : List ℕ) (lines : List StatedLine) → IsStatements bytes lines → AllRead (file_tokens lines) (file_tree lines)
+all_read bytes lines is =
+    let ts = file_tokens lines in
+    let language = language_of ts in
+    let speaks = subst (λ l. IsFileOf l lines) (sym (file_language is.language lines is.speaks)) is.speaks in
+    let first = divided language ts refl in
+    let parts = first.parts lines speaks (left ts) (sym first.are) in
+    let ran = within _ _ (lines_run language (first_statements language ts) parts.others parts.speak) (parts.fits is.fits) in (
+      _,
+      ap (run (file_step language) (begun ts)) parts.are ∙ ran,
+      parts.trees ∙ ap (λ trees. trees ++ file_tree parts.others) (sym first.trees),
+    )
+
+pub files_have_one_tree : FilesHaveOneTree
+files_have_one_tree bytes one other (lines, stated, one_is) (others, also, other_is) =
+    one_is ∙ is_only bytes (file_tokens lines) (file_tree lines) stated.tokens (all_read bytes lines stated) others also ∙ sym other_is
