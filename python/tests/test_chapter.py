@@ -143,7 +143,3 @@ class Formulas(unittest.TestCase):
         self.assertEqual(r" \, ".join(broken(long, 100)).replace(r"\cdot ", ""), long)
         lines = lines_of(["- b", long, "+ c"], 100)
         self.assertTrue(all(width_of(line) <= 110 for line in lines) and lines[0] == "- b" and len(lines) > 4, lines)
-
-
-if __name__ == "__main__":
-    unittest.main()

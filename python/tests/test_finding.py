@@ -207,7 +207,3 @@ class ProveAll(Finding):
         self.assertEqual(tool("prove-all", self.folder, "--none").status, 2)
         self.assertEqual(tool("prove-all").status, 2)
         self.assertEqual(tool("prove-all", self.folder / "none").status, 1)
-
-
-if __name__ == "__main__":
-    unittest.main()

@@ -100,7 +100,3 @@ class Planted(Asking):
                 self.assertIn(sorted(f"`assume {line}`" for line in chain), [sorted(one.split(", ")) for one in sets])
                 for block in answer.blocks:
                     self.assertTrue(accepted(text, block), block)
-
-
-if __name__ == "__main__":
-    unittest.main()
