@@ -3,7 +3,6 @@ from __future__ import annotations
 
 import os
 import re
-import subprocess
 import unittest
 from pathlib import Path
 from tempfile import TemporaryDirectory

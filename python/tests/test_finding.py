@@ -4,7 +4,6 @@ What they ought to find is known from the literature or by hand; that it holds i
 """
 from __future__ import annotations
 
-import unittest
 
 from searching import Answer, Asking, accepted, own_statement, tool
 

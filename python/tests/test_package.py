@@ -25,7 +25,7 @@ from opprove import text
 from opprove.checkers import check
 from opprove.text import StatementText
 from opprove import Equation, Expression, NotTyped, Object, Refused, Report, Statement, Verdict, from_sympy
-from trying import EXAMPLES, GALLERY, STATEMENTS, TESTS, TOP, Failed, Skipped, built, decided, main, need, run, tool, typeset, usage_line
+from trying import EXAMPLES, GALLERY, STATEMENTS, TESTS, TOP, Failed, Skipped, built, decided, need, run, tool, typeset, usage_line
 
 
 def program() -> str:
@@ -523,6 +523,7 @@ import opprove
 from pathlib import Path
 print(*sorted(path.name.split("-")[0] for path in Path(opprove.__file__).parents[1].iterdir() if "opprove" in path.name or path.suffix == ".py"))
 """
+HERE = "import sys, test_package, trying; sys.exit(trying.main(test_package.CHECKS[:-1]))"
 
 
 def builder() -> str:
@@ -544,7 +545,7 @@ def in_venv(folder: Path) -> str:
     need(answer.status == 0 and answer.out == "opprove opprove\n", answer)
     answer = run(room / "bin" / "opprove-tools", "chain", EXAMPLES / "pseudoinverses.op", EXAMPLES / "pseudoinverses.cert")
     need(answer == run(*tool("chain"), EXAMPLES / "pseudoinverses.op", EXAMPLES / "pseudoinverses.cert"), answer)
-    patiently(own, "-B", Path(__file__), "here", PYTHONPATH=str(TESTS))
+    patiently(own, "-B", "-c", HERE, PYTHONPATH=str(TESTS))
     version = run(own, "--version").out.strip()
     return f"{version} has the package from pip, with no network and no other name"
 
@@ -558,6 +559,3 @@ def patiently(*words: object, **more: str) -> None:
 CHECKS: List[Callable[[Path], str]] = [
     gallery, expressions, refusals, stored, statuses, scripts, sympy, notebook, real_statuses, heads, in_words, in_venv,
 ]  # fmt: skip
-
-if __name__ == "__main__":
-    sys.exit(main(CHECKS[:-1] if sys.argv[1:] == ["here"] else CHECKS))
