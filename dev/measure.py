@@ -243,14 +243,10 @@ def row(case: Case, plain: str, folder: Path) -> str:
     return line(case.name, f"{size:,}", told(own), told(other), quotient_text(own, other))
 
 
-def build_plain(folder: Path) -> str:
-    return build("plain", folder)
-
-
 def check_rows(words: List[str], folder: Path) -> Text:
     """The table of `check` and that of other commands, or the rows whose names begin with the word."""
     cases = [case for case in CASES if case.name.startswith("".join(words[:1]))]
-    plain = build_plain(folder) if cases else ""
+    plain = build("plain", folder) if cases else ""
     bound()
     if cases:
         yield head("bytes", "`opprove` s", "MB", "plain s", "MB", "quotient")

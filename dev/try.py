@@ -15,7 +15,6 @@ import tempfile
 from pathlib import Path
 from typing import Callable, Dict, List
 
-import measure
 import try_guide
 import try_library
 import try_opprove
@@ -23,11 +22,11 @@ import try_plain
 import try_release
 from opprove.cli import TOOLS
 from opprove.words.calls import OPTIONS
-from trying import TESTS, TOP, Answer, Skipped, built, installed, is_built, need, run, run_checks, stored, tool
+from trying import TESTS, TOP, Answer, Skipped, build, built, installed, is_built, need, run, run_checks, stored, tool
 
 def plain(folder: Path) -> str:
     """The program that opprove is measured by, and a row of the table where opprove is built."""
-    program = measure.build_plain(folder)
+    program = build("plain", folder)
     cases = [words for words in stored() if words[0].stem in ("pasted_squares", "equal_maps", "halved")]
     for statement, evidence in cases:
         answer = run(program, statement, evidence)

@@ -6,7 +6,6 @@ its box; a paper of each chapter, set by pdflatex; and the theorems of a chapter
 from __future__ import annotations
 
 import re
-import tempfile
 from pathlib import Path
 from typing import Callable, Dict, List
 from unittest import SkipTest
@@ -127,8 +126,3 @@ def coq(folder: Path) -> str:
 
 
 CHECKS: List[Callable[[Path], str]] = [whole, page, site, papers, coq]
-
-if __name__ == "__main__":
-    with tempfile.TemporaryDirectory() as name:
-        for check in CHECKS:
-            print(check(Path(name)), flush=True)

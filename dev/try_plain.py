@@ -1,4 +1,3 @@
-#!/usr/bin/env -S PYTHONPATH=python/src:python/tests python3 -B
 """Tries the plain programs plain_run.rs and plain_models.rs.
 
 Compares plain_models.rs with candidates.py, byte for byte, on the searches of test_models.py, on the examples and on
@@ -25,7 +24,7 @@ import test_models
 import test_words
 from opprove.checkers.check import MODULI, Problem, Refusal
 from measuring import OPPROVE, build, write_tree
-from trying import EXAMPLES, GALLERY, LIBRARY, TOP, Answer, by_whom, checker, is_built, main, need, run
+from trying import EXAMPLES, GALLERY, LIBRARY, TOP, Answer, by_whom, checker, is_built, need, run
 
 SEEDS = [1, 7, 2**64 - 1]
 COUNT = 500  # random statements
@@ -310,7 +309,3 @@ def words(folder: Path) -> str:
 
 
 CHECKS: List[Callable[[Path], str]] = [words, by_hand, documents, runs, searches]
-
-
-if __name__ == "__main__":
-    sys.exit(main(CHECKS))

@@ -1,4 +1,3 @@
-#!/usr/bin/env -S PYTHONPATH=python/src:python/tests python3 -B
 """Tries release.sh, in a clone of this checkout with what is changed here.
 
 Where ./opprove has built the program of these sources, and its object is there, that is what is released; else a stand-in in C,
@@ -18,7 +17,7 @@ from pathlib import Path
 from typing import Callable, Dict, List, Tuple
 
 from opprove.cli import TOOLS
-from trying import STATEMENTS, TOP, Answer, Skipped, installed, main, need, run
+from trying import STATEMENTS, TOP, Answer, Skipped, installed, need, run
 
 STAND_IN = r"""
 #include <stdio.h>
@@ -381,6 +380,3 @@ OF_CHECKOUT: List[Callable[[Checkout], str]] = [
     same_bytes, archive, answers, tools, manual, record, control, citation, refusals, owners, released,
 ]  # fmt: skip
 CHECKS = [lambda folder, check=check: check(checkout_in(folder)) for check in OF_CHECKOUT]
-
-if __name__ == "__main__":
-    sys.exit(main(CHECKS))

@@ -2,10 +2,13 @@
 from __future__ import annotations
 
 import random
-from typing import Iterable, Iterator, List, Tuple
+from itertools import chain
+from typing import Tuple
 
-from opprove.checkers.check import Poly, Problem, Row, Word, add
+from drawing import Rows
+from opprove.checkers.check import Problem
 from opprove.coq.names import RESERVED
+from opprove.translations.chain import certificate_text
 
 ODD = """C I U nat list Type conj sigs hyps claim_1 claim_1_2 claim_1_holds lemmas_1 lemma_1_1 goal_1 checked_1 cancel h1 h2 h_p theorems
 Row Share Var EVar EComp Z pair S O tt Logic x_ _x _1 __ é α𝔸 א 中文 ß x̄ ⅷ क्षि ª a· ꞹ 𐍁 㐀""".split()
@@ -130,68 +133,17 @@ def expressions() -> Tuple[str, str]:
     return "\n".join([*QUIVER, *claims, ""]), "\n".join([*blocks, ""])
 
 
-class Proofs:
-    """Random certificates over random assumptions, whose claims are what their rows add up to."""
-
-    def __init__(self, seed: int) -> None:
-        self.draw = draw = random.Random(seed)
-        self.head = [*QUIVER, "assume [U] uu [U] = uu"]
-        for _ in range(6):
-            ends = draw.choice("UV"), draw.choice("UV")
-            self.head.append(f"assume {expression(draw, *ends, 3)} = {expression(draw, *ends, 3)}")
-        self.problem = Problem("\n".join([*self.head, "claim vv' [V] = vv", ""]).encode())
-        self.generators = self.problem.generators()
-        numbers = [number for number, poly in enumerate(self.generators, 1) if poly]
-        self.numbers = numbers + 3 * [number for number in numbers if number <= len(self.problem.assumptions)]
-
-    def path(self, source: int, target: int) -> Word:
-        """A random path between two objects, by its letters."""
-        stops = [source, *(self.draw.randrange(2) for _ in range(self.draw.randrange(2))), target]
-        ends = self.problem.ends
-        steps = [[letter for letter, pair in enumerate(ends) if pair == step] for step in zip(stops, stops[1:])]
-        word = tuple(self.draw.choice(step) for step in reversed(steps))
-        return () if source == target and self.draw.random() < 0.5 else word
-
-    def rows(self, source: int, target: int) -> List[Row]:
-        """Random rows over generators that say something of this signature."""
-        rows = []
-        for _ in range(self.draw.randrange(1, 5)):
-            number = self.draw.choice(self.numbers)
-            word = next(iter(self.generators[number - 1]))
-            left = self.path(self.problem.ends[word[0]][1], target)
-            rows.append(Row(self.draw.randrange(-3, 4), left, False, number, self.path(source, self.problem.ends[word[-1]][0])))
-        return rows
-
-    def total(self, rows: List[Row]) -> Poly:
-        total: Poly = {}
-        for row in rows:
-            add(total, row.coefficient, self.generators[row.number - 1], row.left, row.right)
-        return total
-
-    def text(self, rows: Iterable[Row], scale: int) -> Iterator[str]:
-        for row in rows:
-            left, right = self.problem.text(row.left), self.problem.text(row.right)
-            yield f"row {scale * row.coefficient} ({left}) {'lemma ' * row.is_lemma}{row.number} ({right})"
-
-    def proof(self, number: int) -> Tuple[str, List[str]]:
-        """A claim, and its certificate. With lemmas, these have rows of two signatures, and the rows of one are taken back."""
-        source, target = self.draw.randrange(2), self.draw.randrange(2)
-        goal, scale = self.rows(source, target), self.draw.choice([1, 2, 3])
-        claim, lemmas = self.total(goal), []
-        for place in range(1, self.draw.choice([1, 4])):
-            one, other = self.rows(source, target), self.rows(1 - source, target)
-            lemmas += [f"lemma {place} scale {place}", *self.text(one + other, place)]
-            factor, left = self.draw.randrange(-2, 3), self.path(target, target)
-            add(claim, factor, self.total(one), left=left)
-            goal.append(Row(factor, left, True, place, ()))
-            goal += [Row(-factor * row.coefficient, left + row.left, False, row.number, row.right) for row in other]
-        terms = [f"{'-' if claim[word] < 0 else '+'} {abs(claim[word])} {self.problem.text(word)}" for word in claim]
-        zero = f"0 {self.problem.text(self.path(source, target)) or '[' + 'UV'[source] + ']'}"
-        head = ["certificate 2" if lemmas else "certificate 1", f"claim {number}", f"denominator {6 if lemmas else scale}", *lemmas]
-        head += [f"goal scale {scale}"] * bool(lemmas)
-        return f"claim {' '.join(terms) or zero} = 0", [*head, *self.text(goal, scale), "end"]
-
-
+def random_proofs(seed: int, count: int) -> Tuple[str, str]:
+    """Random assumptions, with claims that random certificates over them add up to."""
+    draw, head = random.Random(seed), [*QUIVER, "assume [U] uu [U] = uu"]
+    for _ in range(6):
+        ends = draw.choice("UV"), draw.choice("UV")
+        head.append(f"assume {expression(draw, *ends, 3)} = {expression(draw, *ends, 3)}")
+    source = Rows(draw, Problem("\n".join([*head, "claim vv' [V] = vv", ""]).encode()))
+    claims, certificates = zip(*(source.certificate(number) for number in range(1, count + 1)))
+    texts = [*head, *(f"claim {text}" for text in claims)], chain.from_iterable(certificate_text(source.problem, one) for one in certificates)
+    statement, evidence = ("\n".join([*lines, ""]) for lines in texts)
+    return statement, evidence
 
 
 def random_statement(draw: random.Random) -> str:

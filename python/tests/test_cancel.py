@@ -14,9 +14,9 @@ from typing import Callable, Dict, Iterator, List, Tuple
 
 from opprove.checkers import cancel
 import cancel_rows
+import drawing
 import test_chains
-from opprove.checkers.check import Problem
-from opprove.checkers.check import DONE, REFUSED
+from opprove.checkers.check import DONE, REFUSED, Problem, sum_text
 from trying import GALLERY, LETTER, NUMBER, Answer, checker, lowered, need, replaced, run, tool, with_line
 from trying_second import Files, Second, files_in
 
@@ -155,72 +155,41 @@ def changes(folder: Path) -> str:
 class Maker:
     """A statement whose claim follows by taking letters off, and the proof."""
 
-    def __init__(self, random: Random) -> None:
-        self.random = random
-        self.objects = ["U", "V", "W"][: random.randrange(1, 4)]
-        self.maps = [(name, random.choice(self.objects), random.choice(self.objects)) for name in "abcdefgh"]
-        self.lines = [f"object {' '.join(self.objects)}", *(f"map {name} : {source} -> {target}" for name, source, target in self.maps)]
-        self.is_starred = random.random() < 0.3
-
-    def letters(self) -> List[Tuple[str, str, str]]:
-        stars = [(f"{name}'", target, source) for name, source, target in self.maps] if self.is_starred else []
-        return [*self.maps, *stars]
-
-    def word(self, source: str, target: str, most: int) -> List[str]:
-        """A path, or nothing where none was found."""
-        for _ in range(100):
-            word, at = [], source
-            for _ in range(self.random.randrange(1, most + 1)):
-                nexts = [letter for letter in self.letters() if letter[1] == at]
-                if not nexts:
-                    break
-                name, _, at = self.random.choice(nexts)
-                word.insert(0, name)
-            if word and at == target:
-                return word
-        return []
+    def __init__(self, draw: Random) -> None:
+        self.draw, self.objects = draw, ["U", "V", "W"][: draw.randrange(1, 4)]
+        self.maps, self.is_starred = drawing.maps(draw, "abcdefgh", self.objects), draw.random() < 0.3
+        stars = {f"{name}'": (target, source) for name, (source, target) in self.maps.items()} if self.is_starred else {}
+        self.letters = {**self.maps, **stars}
 
     def made(self) -> Tuple[str, str]:
-        random, source, target = self.random, self.random.choice(self.objects), self.random.choice(self.objects)
-        words = {" ".join(word) for word in (self.word(source, target, 3) for _ in range(4)) if word}
-        if not words:
-            return self.made()
-        claim = {word: random.choice([1, 1, -1, 2, -3]) for word in sorted(words)}
-        front, behind, steps, ends = [], [], [], [source, target]
-        for _ in range(random.randrange(4)):
-            is_left = random.random() < 0.5
-            fits = [letter for letter in self.letters() if letter[1 if is_left else 2] == ends[is_left]]
-            if fits:
-                letter = random.choice(fits)
-                ends[is_left] = letter[2 if is_left else 1]
-                front, behind = ([letter[0], *front], behind) if is_left else (front, [*behind, letter[0]])
-                steps.insert(0, (letter[0], is_left))
-        return self.text(claim, front, behind), self.proof(steps)
+        draw, ends = self.draw, [self.draw.choice(self.objects), self.draw.choice(self.objects)]
+        words = {" ".join(drawing.path(draw, self.letters, *ends, 1)) for _ in range(4)}
+        claim = {word: draw.choice([1, 1, -1, 2, -3]) for word in sorted(words)}
+        front, behind, steps = [], [], []
+        for _ in range(draw.randrange(4)):
+            is_left = draw.random() < 0.5
+            letter, pair = draw.choice([(name, pair) for name, pair in self.letters.items() if pair[not is_left] == ends[is_left]])
+            ends[is_left] = pair[is_left]
+            front, behind = ([letter, *front], behind) if is_left else (front, [*behind, letter])
+            steps.insert(0, (letter, is_left))
+        scale = draw.choice([1, 1, 2])
+        return self.text(claim, {" ".join([*front, word, *behind]): scale * value for word, value in claim.items()}), self.proof(steps, scale)
 
-    def text(self, claim: Dict[str, int], front: List[str], behind: List[str]) -> str:
+    def text(self, claim: Dict[str, int], longer: Dict[str, int]) -> str:
         """The statement. The assumption is split into a part and what is left of it."""
-        scale, part = self.random.choice([1, 1, 2]), self.random.choice([0, 1, -2])
-        self.scale, self.part = scale, part
-        longer = {" ".join([*front, word, *behind]): scale * value for word, value in claim.items()}
-        first = {word: part * value for word, value in longer.items()}
-        assumptions = [f"assume {summed({word: value - first[word] for word, value in longer.items()})} = 0", f"assume {summed(first)} = 0"]
-        star = [f"assume {self.maps[0][0]}' = {self.maps[0][0]}'"] if self.is_starred else []
-        return "\n".join([*self.lines, *assumptions, *star, f"claim {summed(claim)} = 0"]) + "\n"
+        part = self.draw.choice([0, 1, -2])
+        parts = [[(word, factor * value) for word, value in longer.items()] for factor in (1 - part, part)]
+        star = ["assume a' = a'"] if self.is_starred else []
+        lines = [*drawing.declared(self.objects, self.maps), *(f"assume {sum_text(terms)} = 0" for terms in parts), *star]
+        return "\n".join([*lines, f"claim {sum_text(claim.items())} = 0", ""])
 
-    def proof(self, steps: List[Tuple[str, bool]]) -> str:
-        monic = dict.fromkeys(letter for letter, is_left in steps if is_left)
-        epic = dict.fromkeys(letter for letter, is_left in steps if not is_left)
-        names = [*(f"monic {letter}" for letter in monic), *(f"epic {letter}" for letter in epic)]
-        self.random.shuffle(names)
+    def proof(self, steps: List[Tuple[str, bool]], scale: int) -> str:
+        names = list(dict.fromkeys(f"{'monic' if is_left else 'epic'} {letter}" for letter, is_left in steps))
+        self.draw.shuffle(names)
         items = ["lemma 1 scale 1", "row 1 () 1 ()", "row 1 () 2 ()"]
         items += [f"cancel {number} {letter} {'left' if is_left else 'right'} {number - 1}" for number, (letter, is_left) in enumerate(steps, 2)]
-        goal = [f"goal scale {self.scale}", f"row 1 () lemma {len(steps) + 1} ()"]
-        return "\n".join(["cancellation 1", "claim 1", f"denominator {self.scale}", *names, *items, *goal, "end"]) + "\n"
-
-
-def summed(poly: Dict[str, int]) -> str:
-    terms = [f"{'-' if value < 0 else '+'} {abs(value)} {word}" for word, value in poly.items()]
-    return re.sub(r"^\+ ", "", " ".join(terms))
+        goal = [f"goal scale {scale}", f"row 1 () lemma {len(steps) + 1} ()"]
+        return "\n".join(["cancellation 1", "claim 1", f"denominator {scale}", *names, *items, *goal, "end", ""])
 
 
 def random_proofs(folder: Path, count: int = COUNT) -> str:

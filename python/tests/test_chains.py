@@ -5,16 +5,17 @@ step has to be the assumption, the adjoint or the lemma that it names, at one pl
 """
 from __future__ import annotations
 
+import itertools
 import re
-import sys
 from pathlib import Path
 from random import Random
-from typing import Callable, Dict, Iterator, List, NamedTuple, Optional, Set, Tuple
+from typing import Callable, Dict, Iterable, Iterator, List, NamedTuple, Optional, Set, Tuple
 
 from opprove.translations import chain as to_chain
-from opprove.checkers.check import Certificate, Evidence, Line, Poly, Problem, Row, Share, Signature, Value, Word, add, judge, loaded, tokens_of
+from opprove.checkers.check import Evidence, Line, Poly, Problem, Signature, Value, add, judge, loaded, tokens_of
 import trying
-from trying import EXAMPLES, GALLERY, PROGRAM, Answer, Skipped, decided, installed, is_built, main, need, run, tool
+from drawing import Rows
+from trying import EXAMPLES, GALLERY, PROGRAM, Answer, Skipped, decided, is_built, need, run, tool, typeset
 
 TOOL = tool("chain")
 STORED = {"pseudoinverses": EXAMPLES / "pseudoinverses.cert", "halved": EXAMPLES / "tools" / "halved.cert"}
@@ -296,180 +297,97 @@ assume [U] d = c e{star}
 """
 
 
-class Maker:
-    """Makes certificates of what random rows add up to. A lemma is typed, and may have a scale; or its rows have any ends."""
-
-    def __init__(self, random: Random, path: Path, template: str = RANDOM) -> None:
-        self.random, self.path, is_starred = random, path, template == RANDOM and random.random() < 0.5
-        self.text = template.format(self=" self" * is_starred, star="'" * is_starred, back="b'" if is_starred else "d")
-        path.write_text(self.text + "claim 0 a = 0\n")
-        self.problem = Problem(str(path))
-        self.generators, self.ends = self.problem.generators(), self.problem.ends
-        self.letters = [letter for letter, star in enumerate(self.problem.stars) if is_starred or star >= letter]
-        self.lemmas: List[Tuple[Poly, Share, Signature]] = []  # the ends of one that isn't typed are (-1, -1)
-
-    def middle(self, row: Row) -> Poly:
-        return self.lemmas[row.number - 1][0] if row.is_lemma else self.generators[row.number - 1]
-
-    def path_between(self, source: int, target: int) -> Word:
-        word: Word = ()
-        while target != source or self.random.random() < 0.3:
-            word += (self.random.choice([letter for letter in self.letters if self.ends[letter][1] == target]),)
-            target = self.ends[word[-1]][0]
-        return word
-
-    def row(self, factor: int, ends: Signature) -> Tuple[Row, Poly]:
-        """A row with these ends, and what it stands for. Where they are (-1, -1) it need be no path."""
-        random = self.random
-        lemmas = [number for number, lemma in enumerate(self.lemmas) if lemma[2][0] >= 0]
-        is_lemma = bool(lemmas) and random.random() < 0.6
-        number = random.choice(lemmas) if is_lemma else random.randrange(len(self.generators))
-        poly = self.lemmas[number][0] if is_lemma else self.generators[number]
-        word = next(iter(poly), ())
-        inner = self.lemmas[number][2] if is_lemma else (self.ends[word[-1]][0], self.ends[word[0]][1])
-        if ends[0] < 0:
-            ends, inner = (random.randrange(2), random.randrange(2)), random.choice([inner, (0, 1)])
-        left, right = self.path_between(inner[1], ends[1]), self.path_between(ends[0], inner[0])
-        row = Row(factor * random.choice([-3, -1, 1, 1, 2]), left, is_lemma, number + 1, right)
-        return row, add({}, row.coefficient, poly, left, right)
-
-    def share(self, ends: Signature) -> Tuple[Poly, Share]:
-        scale = self.random.choice([1, 1, 1, 2, 3]) if ends[0] >= 0 else 1
-        pairs = [self.row(scale, ends) for _ in range(self.random.randrange(1, 6))]
-        total: Poly = {}
-        for _, value in pairs:
-            add(total, 1, value)
-        return {word: value // scale for word, value in total.items()}, Share(scale, [row for row, _ in pairs])
-
-    def untyped(self, ends: Signature) -> List[Row]:
-        """A row over a lemma that isn't typed, and rows that take off what has other ends."""
-        choices = [number for number, lemma in enumerate(self.lemmas) if lemma[2][0] < 0]
-        if not choices:
-            return []
-        number = self.random.choice(choices)
-        left, right = self.path_between(self.random.randrange(2), ends[1]), self.path_between(ends[0], self.random.randrange(2))
-        rows = [Row(6, left, True, number + 1, right)]
-        for row in self.lemmas[number][1].rows:
-            whole = row._replace(coefficient=-6 * row.coefficient, left=left + row.left, right=row.right + right)
-            word = next(iter(add({}, 1, self.middle(row), whole.left, whole.right)), (0,))
-            fits = all(self.ends[one][0] == self.ends[other][1] for one, other in zip(word, word[1:]))
-            if not fits or (self.ends[word[-1]][0], self.ends[word[0]][1]) != ends:
-                rows.append(whole)
-        return rows
-
-    def certificate(self) -> Tuple[str, Certificate]:
-        """The text of the claim, and the certificate."""
-        random = self.random
-        for _ in range(random.randrange(5)):
-            ends = (-1, -1) if random.random() < 0.3 else (random.randrange(2), random.randrange(2))
-            self.lemmas.append((*self.share(ends), ends))
-        ends = (random.randrange(2), random.randrange(2))
-        _, goal = self.share(ends)
-        rows = goal.rows + (self.untyped(ends) if random.random() < 0.7 else [])
-        total: Poly = {}
-        for row in rows:
-            add(total, row.coefficient, self.middle(row), row.left, row.right)
-        random.shuffle(rows)
-        left = {word: value // goal.scale for word, value in total.items() if random.random() < 0.6}
-        right = {word: -value // goal.scale for word, value in total.items() if word not in left}
-        writer = to_chain.Writer(self.problem.names, " ")
-        text = f"{writer.sum(left, ends) if left else ZEROS[ends]} = {writer.sum(right, ends)}"
-        return text, Certificate(1, 12, [*(lemma[1] for lemma in self.lemmas), Share(goal.scale, rows)])
-
-
-ZEROS = {(0, 0): "0 [U]", (0, 1): "0 a", (1, 0): "0 c", (1, 1): "0 [V]"}
-
-
-def random_certificates(folder: Path, count: int = 80) -> str:
-    statement, evidence, random = folder / "random.op", folder / "random.cert", Random(1)
-    proofs = steps = 0
-    for _ in range(count):
-        maker = Maker(random, statement)
-        claim, made = maker.certificate()
-        statement.write_text(maker.text + f"claim {claim}\n")
-        evidence.write_text("\n".join(to_chain.certificate_text(maker.problem, made)))
-        judge(Problem(str(statement)), made, claim)
-        found = tried(statement, evidence, folder)
-        proofs, steps = proofs + found[0], steps + found[1]
-    return f"{proofs} chains of random certificates are read back, with {steps} steps{asked()}"
+def drawn(draw: Random, template: str = RANDOM) -> Tuple[str, Rows]:
+    """The statement of a template without a claim, with adjoints or without, and rows over it."""
+    is_starred = template == RANDOM and draw.random() < 0.5
+    text = template.format(self=" self" * is_starred, star="'" * is_starred, back="b'" if is_starred else "d")
+    return text, Rows(draw, Problem((text + "claim 0 a = 0\n").encode()))
 
 
 # ---- The checks
 
 
-def asked() -> str:
-    return "" if is_built() else "; their certificates are accepted by check.py alone, as opprove is not built"
+def all_tried(what: str, pairs: Iterable[Tuple[Path, Path]], folder: Path, least: int = 1) -> str:
+    """Tries statements with evidence, each when it has been written, among which are so many proofs."""
+    found = [tried(statement, evidence, folder) for statement, evidence in pairs]
+    proofs, steps = map(sum, zip(*found))
+    need(proofs >= least, f"{proofs} proofs")
+    asked = "" if is_built() else "; their certificates are accepted by check.py alone, as opprove is not built"
+    return f"{proofs} chains of {what} are read back, with {steps} steps{asked}"
+
+
+def random_certificates(folder: Path, count: int = 90) -> str:
+    statement, evidence, draw = folder / "random.op", folder / "random.cert", Random(1)
+
+    def made() -> Iterator[Tuple[Path, Path]]:
+        for _ in range(count):
+            text, source = drawn(draw)
+            claim, certificate = source.certificate()
+            statement.write_text(f"{text}claim {claim}\n")
+            evidence.write_text("\n".join(to_chain.certificate_text(source.problem, certificate)))
+            judge(Problem(str(statement)), certificate, claim)
+            yield statement, evidence
+
+    return all_tried("random certificates", made(), folder)
 
 
 def stored(folder: Path) -> str:
     """The certificates of both folders of examples, and texts that are stored."""
-    proofs = steps = 0
-    for statement, evidence in trying.stored():
-        if "refused" in evidence.stem:
-            answer = run(*TOOL, statement, evidence)
-            need(answer == Answer(7, "", "# block 1 refused C6 word b want 0 got -1\n"), answer)
-        else:
-            found = tried(statement, evidence, folder)
-            proofs, steps = proofs + found[0], steps + found[1]
+    pairs = list(trying.stored())
+    for statement, evidence in (pair for pair in pairs if "refused" in pair[1].stem):
+        answer = run(*TOOL, statement, evidence)
+        need(answer == Answer(7, "", "# block 1 refused C6 word b want 0 got -1\n"), answer)
     for name, evidence in STORED.items():
         want = (EXAMPLES / "tools" / f"{name}.chain").read_text()
         need(run(*TOOL, evidence.with_suffix(".op"), evidence) == Answer(0, want, ""), name)
-    return f"{proofs} chains of the examples are read back, with {steps} steps{asked()}"
+    return all_tried("the examples", (pair for pair in pairs if "refused" not in pair[1].stem), folder)
+
+
+def case_files(folder: Path) -> Iterator[Tuple[Path, Path]]:
+    """The files of each of the cases."""
+    for number, texts in enumerate(CASES):
+        statement, evidence = folder / f"typeset{number}.op", folder / f"typeset{number}.cert"
+        for path, text in zip((statement, evidence), texts):
+            path.write_text(text, encoding="utf-8")
+        yield statement, evidence
 
 
 def cases(folder: Path) -> str:
-    statement, evidence = folder / "case.op", folder / "case.cert"
-    proofs = steps = 0
-    for words, text in CASES:
-        statement.write_text(words, encoding="utf-8")
-        evidence.write_text(text, encoding="utf-8")
-        found = tried(statement, evidence, folder)
-        proofs, steps = proofs + found[0], steps + found[1]
-    for words in ([], [statement], [statement, evidence, "--text"], [statement, evidence, "--latex", "--certificate"]):
+    for words in ([], ["x"], ["x", "y", "--text"], ["x", "y", "--latex", "--certificate"]):
         answer = run(*TOOL, *words)
         need(answer.status == 2 and not answer.out and answer.error.startswith("usage: opprove chain "), (words, answer))
-    return f"{proofs} chains of hard certificates are read back, with {steps} steps{asked()}"
+    return all_tried("hard certificates", case_files(folder), folder)
 
 
 def reports(folder: Path) -> str:
     """The reports of prove on the examples, in both formats."""
     if not is_built():
         raise Skipped("opprove is not built, and its reports are not made chains")
-    proofs = steps = 0
-    for statement in decided():
-        for number in (1, 2):
+
+    def made() -> Iterator[Tuple[Path, Path]]:
+        for statement, number in itertools.product(decided(), (1, 2)):
             evidence = folder / f"{statement.stem}{number}.cert"
             evidence.write_text(run(PROGRAM, "prove", statement, "--pairs", 2000, "--format", number).out)
+            if statement.stem == "moore_penrose_unique":
+                text = "\n".join(written(statement, evidence)) + "\n"
+                need(text == (EXAMPLES / "tools" / "moore_penrose_unique.chain").read_text(), text)
             if "\ncertificate " in evidence.read_text():
-                found = tried(statement, evidence, folder)
-                proofs, steps = proofs + found[0], steps + found[1]
-                if statement.stem == "moore_penrose_unique":
-                    text = "\n".join(written(statement, evidence)) + "\n"
-                    need(found == (1, 12) and text == (EXAMPLES / "tools" / "moore_penrose_unique.chain").read_text(), text)
-    need(proofs >= 30, f"{proofs} proofs")
-    return f"{proofs} chains of reports are read back, with {steps} steps"
+                yield statement, evidence
+
+    return all_tried("reports", made(), folder, 30)
 
 
 def latex(folder: Path) -> str:
     """All chains above that have names of ASCII."""
-    program, bodies = installed("pdflatex"), []
-    for number, (words, text) in enumerate(CASES):
-        (folder / f"typeset{number}.op").write_text(words, encoding="utf-8")
-        (folder / f"typeset{number}.cert").write_text(text, encoding="utf-8")
-    statements = [*EXAMPLES.glob("*.op"), *EXAMPLES.glob("tools/*.op"), *GALLERY.values()] + list(folder.glob("typeset*.op"))
+    bodies: List[str] = []
+    statements = [*EXAMPLES.glob("*.op"), *EXAMPLES.glob("tools/*.op"), *GALLERY.values(), *(path for path, _ in case_files(folder))]
     statements = sorted((path for path in statements if path.read_text("utf-8").isascii()), key=lambda path: -len(path.stem))
     for evidence in sorted([*EXAMPLES.glob("*.cert"), *EXAMPLES.glob("tools/*.cert"), *folder.glob("*[0-9].cert")]):
         fitting = [path for path in statements if evidence.stem.startswith(path.stem)]
         if fitting and "certificate " in evidence.read_text("utf-8") and "refused" not in evidence.stem:
             bodies += written(fitting[0], evidence, "latex")
-    head = [r"\documentclass{article}", r"\usepackage{amsmath}", r"\allowdisplaybreaks", r"\begin{document}"]
-    (folder / "chains.tex").write_text("\n".join([*head, *bodies, r"\end{document}"]))
-    answer = run(program, "-interaction=nonstopmode", "-halt-on-error", "chains.tex", folder=folder, seconds=600)
-    need(answer.status == 0, answer)
+    typeset(["\n".join(bodies)], folder)
     return f"{sum(line[:8] == '% claim ' for line in bodies)} chains are typeset by pdflatex"
 
 
 CHECKS: List[Callable[[Path], str]] = [stored, cases, random_certificates, reports, latex]
-
-if __name__ == "__main__":
-    sys.exit(main(CHECKS))

@@ -3,7 +3,6 @@ from __future__ import annotations
 
 import os
 import re
-import subprocess
 import unittest
 from pathlib import Path
 from tempfile import TemporaryDirectory
@@ -143,7 +142,3 @@ class Formulas(unittest.TestCase):
         self.assertEqual(r" \, ".join(broken(long, 100)).replace(r"\cdot ", ""), long)
         lines = lines_of(["- b", long, "+ c"], 100)
         self.assertTrue(all(width_of(line) <= 110 for line in lines) and lines[0] == "- b" and len(lines) > 4, lines)
-
-
-if __name__ == "__main__":
-    unittest.main()

@@ -11,7 +11,7 @@ import trying_node
 from opprove.checkers import check
 from opprove.checkers.check import status_of
 from test_translations import TRANSLATIONS
-from trying import LETTER, NUMBER, STATEMENTS, Answer, built, checker, decided, need, replaced, run, stored, tool, with_line
+from trying import LETTER, NUMBER, STATEMENTS, Answer, built, checker, decided, expanded, need, replaced, rows_of, run, stored, tool, with_line
 from trying_second import Second
 
 SECOND = Second(check)
@@ -94,51 +94,16 @@ def changes(folder: Path) -> str:
 
 # ---- Bad input
 
-FAULTY = [  # statement, evidence, the line
-    (b"object \xff\n", b"", "# refused S1 byte 7"),
-    (b"object U$\n", b"", "# refused S2 line 1 column 9"),
-    (b"object U\nclaim (((\n", b"", "# refused S3 line 2 column 10"),
-    (b"object U\nmap a : U -> U\nclaim " + b"(" * 65 + b"a\n", b"", "# refused S5 line 3 column 71"),
-    (b"claim a = a\n", b"", "# refused S6 line 1 column 7"),
-    (b"object U U\n", b"", "# refused S7 line 1 column 10"),
-    (b"object U V\nmap p : U -> V self\n", b"", "# refused S9 line 2 column 5"),
-    (b"object U V\nmap a b : U -> V\nclaim a b = a\n", b"", "# refused S10 line 3 column 9 left U -> V right U -> V"),
-    (b"object U V\nmap a : U -> V\nclaim a = a'\n", b"", "# refused S11 line 3 column 11 left U -> V right V -> U"),
-    (b"object U\nmap a : U -> U\nclaim 0 = (0)'\n", b"", "# refused S12 line 3 column 7"),
-    (b"object U\nmap a b : U -> U\nclaim " + b"(a + b)" * 40 + b" = a\n", b"", "# refused S14 line 3 column 1"),
-    (b"object U\n", b"", "# refused S15"),
-    (b"object U\nmap a : U -> U\nclaim a = a\n", b"\xff", "# refused K1"),
-    (b"object U\nmap a : U -> U\nclaim a = a\n", b"certificate\n", "# refused K2 line 1"),
-    (b"object U\nmap a : U -> U\nclaim a = a\n", b"certificate 1\nclaim 1\n", "# refused K6"),
-    (b"object U\nmap a : U -> U\nclaim a = a\n", b"", "# refused K7"),
-    (b"object U\nclaim [U] = [U]\n", b"certificate 1\nclaim 1\ndenominator 1\nend\n" * 101, "# refused K5 line 401 limit 100"),
-]
-GOAL = b"goal scale 1\nend\n"
-ROWS = [  # behind "certificate", for a statement with the assumption 2 a = 0 and the claim a = 0
-    (b"1\nclaim 1\ndenominator 1\nrow 1 () 1 (q)\nend\n", "# refused K3 line 4"),
-    (b"1\nclaim 2\ndenominator 1\nend\n", "# block 1 refused C1"),
-    (b"1\nclaim 1\ndenominator 1\nrow 1 () 2 ()\nend\n", "# block 1 refused C2 row 1"),
-    (b"1\nclaim 1\ndenominator 0\nend\n", "# block 1 refused C3"),
-    (b"1\nclaim 1\ndenominator 1\nrow 1 () 1 ()\nend\n", "# block 1 refused C6 word a want 1 got 2"),
-    (b"2\nclaim 1\ndenominator 1\nlemma 2 scale 1\n", "# refused K2 line 4"),
-    (b"2\nclaim 1\ndenominator 2\ngoal scale 2\nrow 1 () lemma 1 ()\nend\n", "# block 1 refused C7 row 1"),
-    (b"2\nclaim 1\ndenominator 3\nlemma 1 scale 3\nrow 1 () 1 ()\n" + GOAL, "# block 1 refused C8 lemma 1 word a got 2"),
-    (b"2\nclaim 1\ndenominator 2\ngoal scale 4\nend\n", "# block 1 refused C10 lemma 0"),
-]
-
-
 def told_by_tools(line: str) -> Tuple[str, ...]:
     """What the tools say of a refusal: those that want a proof, and `coq`, which takes all evidence."""
     return (f"{line}\n", f"{line}: there is no proof to be written\n") if line == "# refused K7" else (f"{line}\n",)
 
 
 def bad_input(folder: Path) -> str:
-    head = b"object U\nmap a : U -> U\nassume 2 a = 0\nclaim a = 0\n"
-    cases = FAULTY + [(head, b"certificate " + rows, line) for rows, line in ROWS]
-    statement, evidence = folder / "faulty.op", folder / "faulty.cert"
-    for text, rows, line in cases:
-        statement.write_bytes(text)
-        evidence.write_bytes(rows)
+    cases, statement, evidence = rows_of("faulty.txt"), folder / "faulty.op", folder / "faulty.cert"
+    for text, (line, *rows) in cases:
+        statement.write_bytes(expanded(text.replace(" / ", "\n")))
+        evidence.write_bytes(expanded("".join(rows).replace(" / ", "\n")))
         found = judged(statement, evidence)
         need(found == line, (text, rows, line, found))
         # Whether sums are equal is for other systems to say, and `coq` takes any number of blocks.

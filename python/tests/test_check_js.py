@@ -74,7 +74,3 @@ class Checks(unittest.TestCase):
                 after = resource.getrusage(resource.RUSAGE_CHILDREN)
                 # Processor time, as the machine may be busy with others.
                 self.assertLess(after.ru_utime - before.ru_utime, 3)
-
-
-if __name__ == "__main__":
-    unittest.main()

@@ -149,7 +149,3 @@ class Clusters(unittest.TestCase):
         answer = tool("needed", path, "--scheduler", "tcp://127.0.0.1:9", python=self.python)
         self.assertEqual((answer.status, answer.out), (1, ""))
         self.assertRegex(answer.error, "^no Dask scheduler answers at tcp://127.0.0.1:9: .*\n$")
-
-
-if __name__ == "__main__":
-    unittest.main()

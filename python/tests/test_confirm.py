@@ -14,6 +14,7 @@ from typing import Callable, Dict, Iterator, List
 
 from opprove.checkers import confirm
 import confirm_rows
+import drawing
 from opprove.checkers.check import Problem, Refusal
 from opprove.checkers.confirm import Bases, Order, Poly, Rules, as_texts, gcd_of, text_of
 from opprove.checkers.check import DONE
@@ -102,20 +103,14 @@ def reports(folder: Path) -> str:
 ORDERS = ["", "", "order weight b 3\n", "order weight a 2 c 5\n", "eliminate b\n", "eliminate c a\n"]
 
 
-def random_word(random: Random, most: int) -> str:
-    return " ".join(random.choice("abc") for _ in range(random.randrange(1, most + 1)))
+def random_sum(draw: Random, most: int) -> str:
+    return " - ".join(draw.choice(["", "", "", "2 ", "3 "]) + drawing.word(draw, "abc", most) for _ in range(draw.randrange(1, 4)))
 
 
-def random_sum(random: Random, most: int) -> str:
-    numbers = ["", "", "", "2 ", "3 "]
-    return " - ".join(random.choice(numbers) + random_word(random, most) for _ in range(random.randrange(1, 4)))
-
-
-def random_statement(random: Random) -> str:
-    lines = [f"assume {random_sum(random, 4)} = {random_sum(random, 3)}\n" for _ in range(random.randrange(1, 3))]
-    lines += [f"claim {random_sum(random, 3)} = {random_sum(random, 4)}\n" for _ in range(2)]
-    order = random.choice(ORDERS)
-    return f"language 2\nobject U\nmap a b c : U -> U\n{order}{''.join(lines)}"
+def random_statement(draw: Random) -> str:
+    lines = [f"assume {random_sum(draw, 4)} = {random_sum(draw, 3)}\n" for _ in range(draw.randrange(1, 3))]
+    lines += [f"claim {random_sum(draw, 3)} = {random_sum(draw, 4)}\n" for _ in range(2)]
+    return f"language 2\nobject U\nmap a b c : U -> U\n{draw.choice(ORDERS)}{''.join(lines)}"
 
 
 def primitive(order: Order, poly: Poly) -> Poly:

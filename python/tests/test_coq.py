@@ -19,7 +19,7 @@ from pathlib import Path
 from typing import Iterator, List, Optional, Tuple
 
 from coq_batches import CLOSED, Coq, has_mathcomp, is_installed
-from coq_statements import CASES, NAMED, Proofs, expressions, large_model, many_rows, named, random_statement, right_inverses
+from coq_statements import CASES, NAMED, expressions, large_model, many_rows, named, random_proofs, random_statement, right_inverses
 from opprove.checkers.check import Refusal
 from opprove.coq import export
 from opprove.text import EvidenceText, StatementText
@@ -178,17 +178,13 @@ class Exports(unittest.TestCase):
             done = self.coq.compile(f"theories/{name}.v")
             self.assertEqual(done[:3], (0, out, ""))
 
-
     def test_random_certificates(self) -> None:
         """Over random assumptions, with claims that are what random rows add up to."""
         for seed in range(3):
-            source = Proofs(seed)
-            found = [source.proof(number) for number in range(1, 31)]
-            path = Path(self.coq.folder, "proofs.op")
-            path.write_text("\n".join([*source.head, *(claim for claim, _ in found), ""]))
-            self.add(path, "\n".join(["\n".join(lines) for _, lines in found] + [""]))
+            path, (statement, evidence) = Path(self.coq.folder, "proofs.op"), random_proofs(seed, 30)
+            path.write_text(statement)
+            self.add(path, evidence)
         say(f"90 random certificates in {self.coq.run():.1f} s")
-
 
     def test_large_evidence(self) -> None:
         """Within twice the seconds that a processor with nothing else to do takes, as others may be busy too."""
@@ -311,7 +307,3 @@ class Verdicts(unittest.TestCase):
                     counts[block.kind] += 1
             seconds += coq.run() if len(coq.pages) == 30 else 0.0
         say(f"reports on random statements, with {counts}, in {seconds + coq.run():.1f} s")
-
-
-if __name__ == "__main__":
-    unittest.main()

@@ -103,7 +103,3 @@ class Linear(unittest.TestCase):
         self.assertIsNone(rationals.solve([[1, 1, 3], [2, 2, 5]], 2, draws))
         x, y = rationals.solve([[1, 2, 3]], 2, draws) or []
         self.assertEqual(x + 2 * y, 3)
-
-
-if __name__ == "__main__":
-    unittest.main()

@@ -17,14 +17,15 @@ from opprove.checkers import explain
 import explain_rows
 from opprove.translations import chain as chain_tool
 import test_chains
-from opprove.checkers.check import Certificate, Evidence, Poly, Problem, Refusal, Share, add, judge
+from opprove.checkers.check import Certificate, Evidence, Poly, Problem, Refusal, Share, judge
 from opprove.checkers.chain_text import Texts
 from opprove.checkers.check import DONE, FAULTY, REFUSED, status_of
+from drawing import Rows
 from explain_rows import Run
-from trying import NUMBER, PROGRAM, Answer, built, is_built, need, replaced, run, stored, tool, typeset, with_line
+from trying import NUMBER, PROGRAM, Answer, built, decided, is_built, need, replaced, run, stored, tool, typeset, with_line
 from trying_second import UNREAD, Files, Second, files_in
 
-COUNT = 60  # random certificates
+COUNT = 72  # random certificates
 LARGE = 2**16  # bytes of a report that isn't read as a chain
 SECOND = Second(explain, UNREAD, re.compile(rb"\[|'|^(?:model|basis) ", re.MULTILINE))
 explained, by_whom = SECOND.answered, SECOND.by_whom
@@ -272,7 +273,7 @@ def examples(folder: Path) -> str:
 
 def proofs(folder: Path) -> str:
     program, files, chains, lines = built(), files_in(folder), 0, 0
-    for statement in test_chains.decided():
+    for statement in decided():
         report = run(program, "prove", statement, "--pairs", 2000, "--format", 1).out
         if "\ncertificate " in report:
             files.write(statement.read_text("utf-8"), report)
@@ -296,33 +297,25 @@ assume d = c e
 """
 
 
-def random_rows(maker: test_chains.Maker) -> Tuple[str, Certificate]:
+def random_rows(source: Rows) -> Tuple[str, Certificate]:
     """A claim, and a certificate of rows with some that are no steps."""
-    random, ends = maker.random, (maker.random.randrange(2), maker.random.randrange(2))
-    goal = maker.share(ends)[1]
-    pairs = [maker.row(goal.scale, random.choice([ends, (-1, -1)]))[0] for _ in range(random.randrange(4))]
-    more = [row for pair in pairs for row in (pair, pair._replace(coefficient=-pair.coefficient))]
-    none = [row._replace(coefficient=0) for row in goal.rows if random.random() < 0.2]
-    rows, total = [*goal.rows, *more, *none], {}
-    random.shuffle(rows)
-    for row in goal.rows:
-        add(total, row.coefficient, maker.middle(row), row.left, row.right)
-    left: Poly = {word: value // goal.scale for word, value in total.items() if random.random() < 0.6}
-    right = {word: -value // goal.scale for word, value in total.items() if word not in left}
-    writer = chain_tool.Writer(maker.problem.names, " ")
-    text = f"{writer.sum(left, ends) if left else test_chains.ZEROS[ends]} = {writer.sum(right, ends)}"
-    return text, Certificate(1, goal.scale, [Share(goal.scale, rows)])
+    draw, ends = source.draw, source.pair()
+    goal = source.share(ends)
+    more = [source.row(goal.scale, draw.choice([ends, (-1, -1)])) for _ in range(draw.randrange(4))]
+    none = [row._replace(coefficient=0) for row in goal.rows if draw.random() < 0.2]
+    rows = [*goal.rows, *more, *(row._replace(coefficient=-row.coefficient) for row in more), *none]
+    draw.shuffle(rows)
+    return source.claim(goal.rows, goal.scale, ends), Certificate(1, goal.scale, [Share(goal.scale, rows)])
 
 
 def random_certificates(folder: Path, count: int = COUNT) -> str:
-    files, random = files_in(folder), Random(1)
+    files, draw = files_in(folder), Random(1)
     chains = changes = 0
     for number in range(count):
-        template = PLAIN if number % 3 == 0 else test_chains.RANDOM
-        maker = test_chains.Maker(random, files.statement, template)
-        claim, made = random_rows(maker)
-        text = "\n".join(chain_tool.certificate_text(maker.problem, made))
-        statement = f"{maker.text}claim {claim}\n"
+        head, source = test_chains.drawn(draw, PLAIN if number % 3 == 0 else test_chains.RANDOM)
+        claim, made = random_rows(source)
+        text = "\n".join(chain_tool.certificate_text(source.problem, made))
+        statement = f"{head}claim {claim}\n"
         for other in list(changed(text))[:: 1 + count // 20]:
             files.write(statement, other)
             changes += 1

@@ -4,7 +4,6 @@ What they ought to find is known from the literature or by hand; that it holds i
 """
 from __future__ import annotations
 
-import unittest
 
 from searching import Answer, Asking, accepted, own_statement, tool
 
@@ -207,7 +206,3 @@ class ProveAll(Finding):
         self.assertEqual(tool("prove-all", self.folder, "--none").status, 2)
         self.assertEqual(tool("prove-all").status, 2)
         self.assertEqual(tool("prove-all", self.folder / "none").status, 1)
-
-
-if __name__ == "__main__":
-    unittest.main()

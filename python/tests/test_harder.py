@@ -7,18 +7,20 @@ from __future__ import annotations
 
 import contextlib
 import os
-import random
 import re
 import signal
 import subprocess
 import sys
 import time
 from pathlib import Path
+from random import Random
 from typing import Callable, Dict, List, NamedTuple, Optional, Tuple
 
 from opprove.search import join
 from opprove.search import variants
-from opprove.checkers.check import Certificate, Evidence, Poly, Problem, Refusal, Row, Share, add, judge
+import drawing
+from drawing import Rows
+from opprove.checkers.check import Certificate, Evidence, Poly, Problem, Refusal, Row, Share, add, judge, sum_text
 from trying import EXAMPLES, GALLERY, LIBRARY, PROGRAM, Answer, Skipped, built, checker, is_built, main, need, run, tool
 
 os.environ["OPPROVE"] = str(PROGRAM)
@@ -135,18 +137,8 @@ class Pair(NamedTuple):
     pieces: List[Tuple[str, str]]
 
 
-def drawn_word(draws: random.Random, most: int) -> str:
-    return " ".join(draws.choice(LETTERS) for _ in range(draws.randint(0, most)))
-
-
-def drawn_sum(draws: random.Random) -> str:
-    terms = [f"{draws.choice('+-')} {draws.randint(1, 4)} {draws.choice(LETTERS)} {drawn_word(draws, 2)}" for _ in range(2)]
-    return " ".join(terms)
-
-
-def text_of(poly: Poly, names: List[str]) -> str:
-    terms = [f"{'-' if value < 0 else '+'} {abs(value)} {' '.join(names[letter] for letter in word)}" for word, value in poly.items()]
-    return " ".join(terms) or "0 a"
+def drawn_sum(draw: Random) -> str:
+    return " ".join(f"{draw.choice('+-')} {draw.randint(1, 4)} {drawing.word(draw, LETTERS, 3)}" for _ in range(2))
 
 
 def text_with(assumptions: List[str], claim: str) -> str:
@@ -154,42 +146,29 @@ def text_with(assumptions: List[str], claim: str) -> str:
     return "\n".join(["object V", "map a b c : V -> V", "assume 0 a'' = 0", *lines, ""])
 
 
-def drawn_rows(draws: random.Random, generators: List[Poly], forced: List[int]) -> List[Row]:
-    numbers = [number for number, poly in enumerate(generators, 1) if poly]
-    rows = []
-    for number in forced + [draws.choice(numbers) for _ in range(draws.randint(0, 3))]:
-        left, right = (tuple(draws.randrange(1, 7) for _ in range(draws.randint(0, 2))) for _ in range(2))
-        rows.append(Row(draws.choice([-3, -2, -1, 1, 2, 3]), left, False, number, right))
-    return rows
+def drawn_rows(source: Rows) -> List[Row]:
+    """Rows, the first of which is over the first assumption after the one that names adjoints."""
+    return [source.row(1, source.pair(), number) for number in [2] + [0] * source.draw.randint(0, 3)]
 
 
-def summed(generators: List[Poly], rows: List[Row]) -> Poly:
-    total: Poly = {}
-    for row in rows:
-        add(total, row.coefficient, generators[row.number - 1], row.left, row.right)
-    return total
-
-
-def drawn_pair(draws: random.Random) -> Optional[Pair]:
+def drawn_pair(draw: Random) -> Optional[Pair]:
     """The lemma is a sum of rows, divided by its scale; its adjoint, its negative or a double may be what is assumed."""
-    sums = [drawn_sum(draws) for _ in range(draws.randint(1, 4))]
+    sums, text = [drawn_sum(draw) for _ in range(draw.randint(1, 4))], lambda poly: sum_text((first.text(word), poly[word]) for word in poly)
     first = Problem(text_with(sums, "a").encode())
-    scale = draws.choice([1, 1, 2, 3])
-    rows = drawn_rows(draws, first.generators(), [2])
-    total = summed(first.generators(), rows)
+    scale, source = draw.choice([1, 1, 2, 3]), Rows(draw, first)
+    rows = drawn_rows(source)
+    total = source.total(rows)
     lemma = {word: value // scale for word, value in total.items()}
     if not lemma or any(value % scale for value in total.values()) or lemma in first.generators():
         return None
     one = evidence(first, Certificate(1, scale, [Share(scale, rows)]))
-    assumed = add({}, draws.choice([1, -1, 2]), draws.choice([lemma, first.star(lemma)]))
-    others = draws.sample(sums, draws.randint(0, len(sums)))
-    second = Problem(text_with([text_of(assumed, first.names), *others], "a").encode())
-    steps = drawn_rows(draws, second.generators(), [2])
-    claim = summed(second.generators(), steps)
-    two = evidence(second, Certificate(1, 1, [Share(1, steps)]))
-    claimed, shown = text_of(claim, first.names), text_of(lemma, first.names)
-    pieces = [(text_with(sums, shown), one), (text_with([text_of(assumed, first.names), *others], claimed), two)]
-    return Pair(text_with(draws.sample(sums, len(sums)), claimed), pieces) if claim else None
+    assumed = text(add({}, draw.choice([1, -1, 2]), draw.choice([lemma, first.star(lemma)])))
+    others = draw.sample(sums, draw.randint(0, len(sums)))
+    second = Rows(draw, Problem(text_with([assumed, *others], "a").encode()))
+    steps = drawn_rows(second)
+    claim, two = text(second.total(steps)), evidence(second.problem, Certificate(1, 1, [Share(1, steps)]))
+    pieces = [(text_with(sums, text(lemma)), one), (text_with([assumed, *others], claim), two)]
+    return Pair(text_with(draw.sample(sums, len(sums)), claim), pieces) if claim != "0" else None
 
 
 def evidence(problem: Problem, certificate: Certificate) -> str:
@@ -224,7 +203,7 @@ def is_accepted(folder: Path, text: str) -> bool:
     return answer
 
 
-def changed(draws: random.Random, pair: Pair) -> Pair:
+def changed(draws: Random, pair: Pair) -> Pair:
     """The pair with another coefficient in the last row of one of its pieces."""
     place = draws.randrange(2)
     statement, text = pair.pieces[place]
@@ -238,7 +217,7 @@ def changed(draws: random.Random, pair: Pair) -> Pair:
 
 def compositions(folder: Path, count: int = COUNT) -> str:
     """Pairs lemma by lemma, each accepted for its whole, and refused where a piece that is used was changed."""
-    draws, done, by_join = random.Random(3), 0, 0
+    draws, done, by_join = Random(3), 0, 0
     while done < count:
         pair = drawn_pair(draws)
         text = joined(pair, folder) if pair else ""

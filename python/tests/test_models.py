@@ -287,4 +287,4 @@ def greedy_solutions(folder: Path) -> str:
     return f"{len(found)} draws are solved for as defined by candidates.py, {found.count(None)} of them with no solution"
 
 
-CHECKS: List[Callable[[Path], str]] = [models, changed_models, searches, greedy_solutions, trying_node.count]
+CHECKS: List[Callable[[Path], str]] = [models, changed_models, searches, example_searches, greedy_solutions, trying_node.count]

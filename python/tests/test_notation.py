@@ -285,7 +285,3 @@ class Library(unittest.TestCase):
                         problem = check.Problem(files[0])
                         for certificate in check.Evidence(problem, files[1]).certificates:
                             check.judge(problem, certificate, "")
-
-
-if __name__ == "__main__":
-    unittest.main()

@@ -3,11 +3,10 @@ from __future__ import annotations
 
 import json
 import os
-import sys
 from pathlib import Path
 from typing import Any, Callable, Dict, List, Tuple
 
-from trying import EXAMPLES, PROGRAM, Skipped, installed, main, need, run
+from trying import EXAMPLES, PROGRAM, Skipped, installed, need, run
 
 NOTEBOOK = EXAMPLES / "notebook.ipynb"
 
@@ -42,6 +41,3 @@ def notebook(folder: Path) -> str:
 
 
 CHECKS: List[Callable[[Path], str]] = [notebook]
-
-if __name__ == "__main__":
-    sys.exit(main(CHECKS))

@@ -18,13 +18,14 @@ from functools import reduce
 from operator import mul
 from random import Random
 from typing import Callable, Dict, List, NamedTuple, Tuple, Union
+from unittest import mock
 
 from opprove import program as programs
 from opprove import text
 from opprove.checkers import check
 from opprove.text import StatementText
 from opprove import Equation, Expression, NotTyped, Object, Refused, Report, Statement, Verdict, from_sympy
-from trying import EXAMPLES, GALLERY, STATEMENTS, TESTS, TOP, Failed, Skipped, built, decided, main, need, run, tool, typeset, usage_line
+from trying import EXAMPLES, GALLERY, STATEMENTS, TESTS, TOP, Failed, Skipped, built, decided, need, run, tool, typeset, usage_line
 
 
 def program() -> str:
@@ -428,14 +429,30 @@ def statuses(folder: Path) -> str:
             raised(action, Refused, line, status)
     none = str(folder / "none")
     raised(lambda: s.prove(program=none), FileNotFoundError, f"[Errno 2] No such file or directory: '{none}'")
-    path, built = os.environ.pop("PATH"), programs.BUILT
-    named, programs.BUILT = os.environ.pop("OPPROVE", None), folder / "none"
-    try:
-        raised(s.prove, FileNotFoundError, "opprove isn't in PATH: name the program by program=, or by OPPROVE")
-    finally:
-        programs.BUILT = built
-        os.environ.update({"PATH": path, **({"OPPROVE": named} if named else {})})
     return f"{len(cases)} statuses of a stand-in are raised with their lines"
+
+
+SCRIPT = f"#!{sys.executable}\nimport sys\nfrom opprove.cli import entry\nsys.exit(entry())\n"
+
+
+def scripts(folder: Path) -> str:
+    """A script that pip makes of the package isn't taken for the program, by whatever name: a call would call itself."""
+    paths = [folder / name / "opprove" for name in ("scripts", "programs")]
+    for path, text in zip(paths, (SCRIPT, FAKE)):
+        path.parent.mkdir()
+        path.write_text(text)
+        path.chmod(0o755)
+    script, other = map(str, paths)
+    s, none = Statement.read(EXAMPLES / "equal_maps.op"), "opprove isn't in PATH: name the program by program=, or by OPPROVE"
+    with mock.patch.object(programs, "BUILT", folder / "none"):
+        for named in ({}, {"OPPROVE": script}):
+            with mock.patch.dict(os.environ, {"PATH": f"{paths[0].parent}:{paths[1].parent}", "OPPROVE": "", **named}):
+                need(programs.path() == other, (named, programs.path()))
+            with mock.patch.dict(os.environ, {"PATH": str(paths[0].parent), "OPPROVE": "", **named}):
+                need(programs.path() == str(folder / "none"), (named, programs.path()))
+                raised(s.prove, FileNotFoundError, none)
+    raised(lambda: s.prove(program=script), FileNotFoundError, f"{script} runs the tools of this package, and isn't the program")
+    return "a script of the package in PATH, or that OPPROVE or a call names, isn't taken for the program"
 
 
 def real_statuses(folder: Path) -> str:
@@ -506,6 +523,7 @@ import opprove
 from pathlib import Path
 print(*sorted(path.name.split("-")[0] for path in Path(opprove.__file__).parents[1].iterdir() if "opprove" in path.name or path.suffix == ".py"))
 """
+HERE = "import sys, test_package, trying; sys.exit(trying.main(test_package.CHECKS[:-1]))"
 
 
 def builder() -> str:
@@ -527,7 +545,7 @@ def in_venv(folder: Path) -> str:
     need(answer.status == 0 and answer.out == "opprove opprove\n", answer)
     answer = run(room / "bin" / "opprove-tools", "chain", EXAMPLES / "pseudoinverses.op", EXAMPLES / "pseudoinverses.cert")
     need(answer == run(*tool("chain"), EXAMPLES / "pseudoinverses.op", EXAMPLES / "pseudoinverses.cert"), answer)
-    patiently(own, "-B", Path(__file__), "here", PYTHONPATH=str(TESTS))
+    patiently(own, "-B", "-c", HERE, PYTHONPATH=str(TESTS))
     version = run(own, "--version").out.strip()
     return f"{version} has the package from pip, with no network and no other name"
 
@@ -539,8 +557,5 @@ def patiently(*words: object, **more: str) -> None:
 
 
 CHECKS: List[Callable[[Path], str]] = [
-    gallery, expressions, refusals, stored, statuses, sympy, notebook, real_statuses, heads, in_words, in_venv,
+    gallery, expressions, refusals, stored, statuses, scripts, sympy, notebook, real_statuses, heads, in_words, in_venv,
 ]  # fmt: skip
-
-if __name__ == "__main__":
-    sys.exit(main(CHECKS[:-1] if sys.argv[1:] == ["here"] else CHECKS))

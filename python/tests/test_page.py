@@ -330,7 +330,3 @@ class Written(unittest.TestCase):
     def test_a_refusal_is_raised(self) -> None:
         with self.assertRaises(Refusal):
             page_of(EXAMPLES / "equal_maps.op", [EXAMPLES / "equal_maps_refused.cert"])
-
-
-if __name__ == "__main__":
-    unittest.main()

@@ -139,7 +139,3 @@ class Site(unittest.TestCase):
         browser.run(find, "")
         signs = "return [...document.querySelectorAll('.theorem > .verdict')].map((at) => at.textContent)"
         self.assertEqual(browser.run(signs), ["not derivable", "proved", "2 proved", "proved", "refuted"])
-
-
-if __name__ == "__main__":
-    unittest.main()

@@ -7,7 +7,6 @@ from __future__ import annotations
 import os
 import random
 import re
-import unittest
 from pathlib import Path
 from typing import List
 
@@ -100,7 +99,3 @@ class Planted(Asking):
                 self.assertIn(sorted(f"`assume {line}`" for line in chain), [sorted(one.split(", ")) for one in sets])
                 for block in answer.blocks:
                     self.assertTrue(accepted(text, block), block)
-
-
-if __name__ == "__main__":
-    unittest.main()

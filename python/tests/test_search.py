@@ -146,7 +146,3 @@ class Search(unittest.TestCase):
         self.assertEqual((answer.status, answer.out, answer.error), (1, "", f"# no map z in {path}\n"))
         answer = tool("search", self.file(SHEAR + "claim z = a\n"))
         self.assertEqual((answer.status, answer.out), (3, "# refused S6 line 6 column 7\n"))
-
-
-if __name__ == "__main__":
-    unittest.main()

@@ -293,7 +293,3 @@ class Worked(Served):
         self.browser.run(choose)
         statement = GALLERY["jacobson_lemma"].read_text("utf-8")
         self.assertEqual(self.browser.run("return document.getElementById('statement').value"), statement)
-
-
-if __name__ == "__main__":
-    unittest.main()

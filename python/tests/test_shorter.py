@@ -6,7 +6,6 @@ as without them, and of no chain are there more steps than its rows give as they
 from __future__ import annotations
 
 import re
-import sys
 from heapq import heappop, heappush
 from pathlib import Path
 from random import Random
@@ -16,8 +15,9 @@ from opprove.checkers.check import Certificate, Evidence, Problem, Row, Word, ju
 from opprove.page.pages import entries_of
 from opprove.translations.chain import Reader, length
 from opprove.translations.least_sum import Effort, least
-from test_chains import Maker
-from trying import EXAMPLES, LIBRARY, PROGRAM, Answer, main, need, run, tool
+from drawing import Rows
+from test_chains import drawn
+from trying import EXAMPLES, LIBRARY, PROGRAM, Answer, need, run, tool
 
 TOOL = tool("shortest")
 Edge = Tuple[int, int, int]  # from, to and length
@@ -70,33 +70,29 @@ def swapped(problem: Problem, one: Row, other: Row, between: Word) -> List[Row]:
     return rows + [Row(-value, one.left + word + between, False, other.number, other.right) for word, value in first.items()]
 
 
-def detours(maker: Maker, random: Random, certificate: Certificate) -> Iterator[Row]:
+def detours(source: Rows, certificate: Certificate) -> Iterator[Row]:
     """Around each row of the goal, with another row behind it in the place of its right word."""
     for row in certificate.shares[-1].rows:
-        if not row.is_lemma and maker.generators[row.number - 1]:
-            word = next(iter(maker.generators[row.number - 1]))
-            source = maker.ends[(row.left + word + row.right)[-1]][0]
-            number = random.randrange(len(maker.generators))
-            other = next(iter(maker.generators[number]), ())
-            if other:
-                between = maker.path_between(maker.ends[other[0]][1], source)
-                yield from swapped(maker.problem, row, Row(1, (), False, number + 1, ()), row.right + between)
+        if not row.is_lemma:
+            start, _ = source.ends_of(row.left + next(iter(source.middle(row))) + row.right)
+            other = Row(1, (), False, source.draw.choice(source.numbers), ())
+            between = source.path(source.ends_of(next(iter(source.middle(other))))[1], start)
+            yield from swapped(source.problem, row, other, row.right + between)
 
 
-def planted(folder: Path, count: int = 60) -> str:
-    statement, random = folder / "planted.op", Random(3)
+def planted(folder: Path, count: int = 80) -> str:
+    draw = Random(3)
     shorter = steps = rows = 0
     for _ in range(count):
-        maker = Maker(random, statement)
-        claim, made = maker.certificate()
-        statement.write_text(maker.text + f"claim {claim}\n")
-        problem = Problem(str(statement))
-        more = list(detours(maker, random, made))
+        text, source = drawn(draw)
+        claim, made = source.certificate()
+        problem = Problem(f"{text}claim {claim}\n".encode())
+        more = list(detours(source, made))
         share = made.shares[-1]
         long = made._replace(shares=[*made.shares[:-1], share._replace(rows=share.rows + more)])
         judge(problem, long, claim)
         plain, before, after = (length(Reader(problem, effort).proof(one).chains) for effort, one in ((0, made), (0, long), (10**6, long)))
-        need(after <= min(plain, before), (statement.read_text(), long, plain, before, after))
+        need(after <= min(plain, before), (text, claim, long, plain, before, after))
         shorter, steps, rows = shorter + (after < plain), steps + after, rows + len(more)
     need(rows > 100 and shorter > 0, (rows, shorter))
     return f"{count} proofs with {rows} rows too many have {steps} steps, {shorter} of them fewer than they were made with"
@@ -141,6 +137,3 @@ def stored(folder: Path) -> str:
 
 
 CHECKS: List[Callable[[Path], str]] = [least_sums, planted, searched, stored]
-
-if __name__ == "__main__":
-    sys.exit(main(CHECKS))

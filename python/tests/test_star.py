@@ -177,7 +177,3 @@ class Reports(unittest.TestCase):
             words = [sys.executable, str(file), *written(folder, ZERO, ZERO_PROOF)]
             done = subprocess.run(words, stdout=subprocess.PIPE, stderr=subprocess.PIPE, cwd=folder, env={"LC_ALL": "C"})
         self.assertEqual((done.returncode, done.stdout, done.stderr), (0, b"# block 1 accepted claim 1 denominator 1 proper\n", b""))
-
-
-if __name__ == "__main__":
-    unittest.main()

@@ -109,7 +109,3 @@ class Evidence(unittest.TestCase):
         """Any bytes are read; what is wrong with them is for the checkers to say."""
         self.assertEqual([(block.kind, block.claim) for block in EvidenceText(b"certificate 1\r\nclaim x\r\n\xff").blocks], [("certificate", 0)])
         self.assertEqual(EvidenceText(b"").blocks, [])
-
-
-if __name__ == "__main__":
-    unittest.main()

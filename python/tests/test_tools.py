@@ -188,7 +188,3 @@ def read_files() -> "dict[str, set[str]]":
         while not files >= {other for name in files for other in uses[name]}:
             files |= {other for name in files for other in uses[name]}
     return found
-
-
-if __name__ == "__main__":
-    unittest.main()

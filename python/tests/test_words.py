@@ -20,11 +20,12 @@ from unittest.mock import patch
 from opprove.words import calls, why
 from opprove.words.statement import RULES
 from opprove.checkers.check import Problem, Refusal
-from trying import GALLERY, PROGRAM, SOURCE, TOP, Answer, Skipped, decided, installed, is_built, main, need, run, tool, usage_line
+from trying import (
+    DATA, GALLERY, PROGRAM, SOURCE, TOP, Answer, Skipped, decided, expanded, installed, is_built, main, need, rows_of, run, tool, usage_line,
+)  # fmt: skip
 from opprove.words.parts import Screen, on_screen
 
-DATA = TOP / "python" / "tests" / "data"
-CASES, TYPED = DATA / "words.txt", DATA / "typed.txt"
+CASES = DATA / "words.txt"
 SCREEN = Screen(100, 60)
 NOT_RUN = ("5", "6", "C5", "C11", "E4", "K5: rows", "12: a large certificate", "12: many terms")  # of devices and memory, and what takes long
 
@@ -65,17 +66,6 @@ def cases() -> List[Case]:
                 files[title] = text
         found.append(Case(name, words.split(), files, status, report, told))
     return found
-
-
-def expanded(text: str) -> bytes:
-    """What a file of a case holds."""
-
-    def repeated(match: "re.Match[str]") -> str:
-        return "".join(match.group(1).replace("#", str(time)) for time in range(1, int(match.group(2)) + 1))
-
-    text = re.sub(r"\{\{(.*?)\|([0-9]+)\}\}", repeated, text + "\n" if text else "", flags=re.DOTALL)
-    parts = re.split(r"\{\{0x(..)\}\}", text)
-    return b"".join(bytes([int(part, 16)]) if place % 2 else part.encode() for place, part in enumerate(parts))
 
 
 def as_text(case: Case) -> str:
@@ -135,10 +125,10 @@ BEFORE = "object U V\nmap a b : U -> V\nmap x y : V -> U\n"
 
 def typed_mistakes(folder: Path) -> str:
     """Each row: the line is refused at its place, and what is said is what is stored."""
-    rows = re.findall(r"^(\[2\] )?(\S.*)\n    (.*)$", TYPED.read_text().split("\n\n", 1)[1], re.MULTILINE)
-    for mark, line, said in rows:
-        path = folder / "typed.op"
-        path.write_text("language 2\n" * bool(mark) + BEFORE + line + "\n" + "claim a = b\n" * (not line.startswith("claim")))
+    rows, path = rows_of("typed.txt"), folder / "typed.op"
+    for row, (said,) in rows:
+        line = row.replace("[2] ", "")
+        path.write_text("language 2\n" * (line != row) + BEFORE + line + "\n" + "claim a = b\n" * (not line.startswith("claim")))
         told = why.explanation(["prove", str(path)], why.Answer(3, answer_of(path)))
         need(len(told) == 1 and told[0].sentence == said, (line, told))
         need(not re.search("token|begins no", said), said)

@@ -15,6 +15,7 @@ from opprove.checkers.check import Refusal
 
 TOP = Path(__file__).resolve().parents[2]
 EXAMPLES, LIBRARY, SOURCE, TESTS = TOP / "examples", TOP / "library", TOP / "python" / "src", TOP / "python" / "tests"
+DATA = TESTS / "data"
 # The statements of the library that the gate's tables have too, by name.
 GALLERY = {
     name: next(path for path in LIBRARY.glob(f"*/{name}.op") if path.parent.name != "harder")
@@ -101,6 +102,23 @@ def stored() -> Iterator[Tuple[Path, Path]]:
     evidence_texts = sorted([*EXAMPLES.glob("*.cert"), *EXAMPLES.glob("tools/*.cert")])
     for evidence in (path for path in evidence_texts if b"\ncertificate " in b"\n" + path.read_bytes()):
         yield next(path for path in statements if evidence.stem.startswith(path.stem)), evidence
+
+
+def rows_of(name: str) -> List[Tuple[str, List[str]]]:
+    """The rows of a file of data: a line, and those that are set in below it."""
+    found = re.findall(r"^(\S.*)\n((?:    .*\n)+)", (DATA / name).read_text(encoding="utf-8"), re.MULTILINE)
+    return [(first, re.findall("^    (.*)$", more, re.MULTILINE)) for first, more in found]
+
+
+def expanded(text: str) -> bytes:
+    """What a text of a file of data stands for, in which {{TEXT|N}} is N times the text and {{0xNN}} a byte."""
+
+    def repeated(match: "re.Match[str]") -> str:
+        return "".join(match.group(1).replace("#", str(time)) for time in range(1, int(match.group(2)) + 1))
+
+    text = re.sub(r"\{\{(.*?)\|([0-9]+)\}\}", repeated, text + "\n" if text else "", flags=re.DOTALL)
+    parts = re.split(r"\{\{0x(..)\}\}", text)
+    return b"".join(bytes([int(part, 16)]) if place % 2 else part.encode() for place, part in enumerate(parts))
 
 
 NUMBER = r"(?<![^ (])-?[0-9]+(?![^ )])"  # in a line of evidence

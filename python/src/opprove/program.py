@@ -5,7 +5,8 @@ import os
 import shutil
 import subprocess
 import tempfile
-from contextlib import contextmanager
+from contextlib import contextmanager, suppress
+from itertools import chain
 from pathlib import Path
 from typing import Iterator, List, Mapping, Optional, Sequence, Union
 
@@ -33,14 +34,27 @@ def files(*texts: str) -> Iterator[List[str]]:
         yield [str(path) for path in paths]
 
 
+def is_own(path: str) -> bool:
+    """Whether a file is a script that pip made of this package, which would call itself in the program's place."""
+    with suppress(OSError), open(path, "rb") as file:
+        text = file.read(4096)
+        return text.startswith(b"#!") and b"opprove.cli" in text
+    return False
+
+
 def path() -> str:
     """The program that OPPROVE names, or that of this checkout, or that in PATH; and where there is none, what this checkout would have."""
-    built = str(BUILT)
-    return os.environ.get("OPPROVE") or (built if os.access(built, os.X_OK) else shutil.which("opprove") or built)
+    folders = os.environ.get("PATH", os.defpath).split(os.pathsep)
+    in_path = (shutil.which("opprove", path=folder) for folder in folders)
+    built = [str(BUILT)] * os.access(BUILT, os.X_OK)
+    places = chain([os.environ.get("OPPROVE")], built, in_path)
+    return next((place for place in places if place and not is_own(place)), str(BUILT))
 
 
 def found(program: Optional[str]) -> str:
     """The program that is named, or else that of `path`."""
+    if program and is_own(program):
+        raise FileNotFoundError(f"{program} runs the tools of this package, and isn't the program")
     if not program and not shutil.which(path()):
         raise FileNotFoundError("opprove isn't in PATH: name the program by program=, or by OPPROVE")
     return program or path()
