@@ -4,6 +4,6 @@
 mod laws;
 
 pub use laws::{
-    equations_are_read, files_have_one_tree, proved_claims_hold, refuted_claims_fail, says_equations,
-    statements_are_read,
+    equations_are_read, files_have_one_tree, proved_claims_hold, refuted_claims_fail,
+    says_equations, statements_are_read,
 };
