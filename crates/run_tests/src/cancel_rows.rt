@@ -42,6 +42,10 @@ const GRAM: &[u8] =
 const UNSTARRED: &[u8] =
     b"object P Q\nmap a : P -> Q\nmap u : P -> P\nassume a u = 0\nclaim u = 0\n";
 
+// A map in front of two others.
+const FRONT: &[u8] =
+    b"object U V\nmap a : U -> V\nmap p q : U -> U\nassume a p = a q\nclaim p = q\n";
+
 /// A statement, and a proof by which both maps come off.
 pub const SOUND: Row = (
     TWICE,
@@ -52,6 +56,12 @@ pub const SOUND: Row = (
 
 /// Proofs that are accepted.
 pub const ACCEPTED: &[Row] = &[
+    (
+        FRONT,
+        b"cancellation 1\nclaim 1\ndenominator 1\nmonic a\nlemma 1 scale 1\nrow 1 () 1 ()\ncancel 2 a left 1\ngoal scale 1\n\
+          row 1 () lemma 2 ()\nend\n",
+        "0 # block 1 accepted claim 1 denominator 1 monic a\n",
+    ),
     (
         TWICE,
         b"cancellation 1\nclaim 1\ndenominator 1\nepic x'\nmonic k\nepic y\nmonic m\nlemma 1 scale 1\nrow 1 () 1 ()\ncancel 2 m left 1\n\
@@ -215,6 +225,18 @@ pub const ACCEPTED: &[Row] = &[
 
 /// Items that take off what does not come off.
 pub const LETTERS: &[Row] = &[
+    (
+        FRONT,
+        b"cancellation 1\nclaim 1\ndenominator 1\nepic a\nlemma 1 scale 1\nrow 1 () 1 ()\ncancel 2 a left 1\ngoal scale 1\n\
+          row 1 () lemma 2 ()\nend\n",
+        "7 # block 1 refused X2 item 2\n",
+    ),
+    (
+        FRONT,
+        b"cancellation 1\nclaim 1\ndenominator 1\nmonic a\nmonic p\nlemma 1 scale 1\nrow 1 () 1 ()\ncancel 2 p left 1\n\
+          goal scale 1\nrow 1 () lemma 2 ()\nend\n",
+        "7 # block 1 refused X4 item 2\n",
+    ),
     (
         FACTORED,
         b"cancellation 1\nclaim 1\ndenominator 1\nmonic f\nepic g\nlemma 1 scale 1\nrow 1 () 1 ()\ncancel 2 f left 1\ncancel 3 g right 2\n\

@@ -6,6 +6,13 @@ pub type CallRow = (&'static [&'static str], &'static [u8], &'static str);
 
 const REFLEXIVE: &[u8] = b"object U\nmap a : U -> U\nclaim a = a\n";
 
+// The same with the greatest coefficient, and with the first literal past it.
+const GREATEST: &[u8] = b"object U\nmap a : U -> U\n\
+      claim 170141183460469231731687303715884105727 a = 170141183460469231731687303715884105727 a\n";
+
+const PAST_GREATEST: &[u8] =
+    b"object U\nmap a : U -> U\nclaim 170141183460469231731687303715884105728 a = a\n";
+
 /// Twice a map is zero.
 pub const DOUBLED: &[u8] = b"object U\nmap x : U -> U\nassume 2 x = 0\nclaim x = 0\n";
 
@@ -63,6 +70,18 @@ const REFUTE: &[&str] = &["refute", "s"];
 const BROKEN_BRAID: &str =
     "11 # claim 1 refuted\nmodel 1\nclaim 1\nmodulus 2\nside V 1\nmap a = 1\nmap b = 0\nend\n";
 
+const BROKEN_SIDED: &str =
+    "11 # claim 1 refuted\nmodel 1\nclaim 1\nmodulus 2\nside U 2\nside V 1\nmap a = 1 0\nmap b = 1 ; 0\nend\n";
+
+const ONE_SIDED_BASIS: &str =
+    "10 # claim 1 not derivable rules 7\nbasis 1\nclaim 1\nrule [U] [U] - [U]\nrule a [U] - a\nrule [U] b - b\nrule [V] [V] - [V]\n\
+     rule [V] a - a\nrule b [V] - b\nrule a b - [V]\nrest b a - [U]\nend\n";
+
+const BRAID_LEAST: &str = "12 # claim 1 undecided pairs 1 least b a a b a b\n";
+
+const TRUE_PLAINLY: &str =
+    "0 # claim 1 proved denominator 1 rows 0\ncertificate 1\nclaim 1\ndenominator 1\nend\n";
+
 const BENCH: &str =
     "10 # claim 1 proved denominator 1 rows 79\n# claim 2 not derivable rules 241\n";
 
@@ -90,15 +109,23 @@ pub const PROVED: &[CallRow] = &[
         "0 # claim 1 proved denominator 1 rows 4\ncertificate 2\nclaim 1\ndenominator 1\nlemma 1 scale 1\nrow 1 () 5 ()\n\
          row -1 (a') 3 ()\ngoal scale 1\nrow 1 (a') 3 ()\nrow 1 () lemma 1 ()\nend\n",
     ),
+    (
+        PROVE,
+        PROJECTION,
+        "0 # claim 1 proved denominator 1 rows 1\ncertificate 2\nclaim 1\ndenominator 1\ngoal scale 1\nrow 1 () 1 (x)\nend\n",
+    ),
+    (
+        PROVE,
+        GREATEST,
+        "0 # claim 1 proved denominator 1 rows 0\ncertificate 2\nclaim 1\ndenominator 1\ngoal scale 1\nend\n",
+    ),
 ];
 
 /// Claims that are proved, by rows over generators alone.
 pub const PROVED_PLAINLY: &[CallRow] = &[
-    (
-        PLAIN,
-        REFLEXIVE,
-        "0 # claim 1 proved denominator 1 rows 0\ncertificate 1\nclaim 1\ndenominator 1\nend\n",
-    ),
+    (PLAIN, REFLEXIVE, TRUE_PLAINLY),
+    (PLAIN, GREATEST, TRUE_PLAINLY),
+    (PLAIN, BRACKETS_64, TRUE_PLAINLY),
     (
         PLAIN,
         DOUBLED,
@@ -128,11 +155,16 @@ pub const OTHERS: &[CallRow] = &[
         ZERO_OBJECT,
         "10 # claim 1 not derivable rules 5\nbasis 1\nclaim 1\nrule [V] [V] - [V]\nrule [V] z - z\nrule z [V] - z\nrule z - [V]\nrule [V]\nrest x\nend\n",
     ),
+    (PROVE, ONE_SIDED, ONE_SIDED_BASIS),
     (
-        PROVE,
+        &["prove", "s", "--workers", "1"],
         ONE_SIDED,
-        "10 # claim 1 not derivable rules 7\nbasis 1\nclaim 1\nrule [U] [U] - [U]\nrule a [U] - a\nrule [U] b - b\nrule [V] [V] - [V]\n\
-         rule [V] a - a\nrule b [V] - b\nrule a b - [V]\nrest b a - [U]\nend\n",
+        ONE_SIDED_BASIS,
+    ),
+    (
+        &["prove", "s", "--workers", "7"],
+        ONE_SIDED,
+        ONE_SIDED_BASIS,
     ),
     (
         &["prove", "s", "--pairs", "33", "--no-models"],
@@ -145,15 +177,36 @@ pub const OTHERS: &[CallRow] = &[
         "12 # claim 1 undecided pairs 32 least a a a a a a a a a a a a a a a a a a a a a a a a a a a a a a a a a a a a a a a a a \
          a a a a a a a a a a a a a a a a a a a a a a a a a a\n",
     ),
+    // the words in each order
     (
         &["prove", "s", "--pairs", "1", "--no-models"],
         BRAID,
-        "12 # claim 1 undecided pairs 1 least b a a b a b\n",
+        BRAID_LEAST,
+    ),
+    (
+        &["prove", "s", "--no-models", "--pairs", "1"],
+        BRAID,
+        BRAID_LEAST,
+    ),
+    (
+        &["prove", "--pairs", "1", "s", "--no-models"],
+        BRAID,
+        BRAID_LEAST,
+    ),
+    (
+        &["prove", "--pairs", "1", "--no-models", "s"],
+        BRAID,
+        BRAID_LEAST,
+    ),
+    (
+        &["prove", "--no-models", "s", "--pairs", "1"],
+        BRAID,
+        BRAID_LEAST,
     ),
     (
         &["prove", "--no-models", "--pairs", "1", "s"],
         BRAID,
-        "12 # claim 1 undecided pairs 1 least b a a b a b\n",
+        BRAID_LEAST,
     ),
     (
         &["prove", "s", "--no-models"],
@@ -161,16 +214,27 @@ pub const OTHERS: &[CallRow] = &[
         "12 # claim 1 undecided overflow 170141183460469231731687303715884105727 times -170141183460469231731687303715884105727 at claim after round 0\n",
     ),
     (PROVE, BRACKETS_65, "3 # refused S5 line 3 column 71\n"),
+    (PLAIN, BRACKETS_65, "3 # refused S5 line 3 column 71\n"),
+    (PROVE, PAST_GREATEST, "3 # refused S4 line 3 column 7\n"),
+    (PLAIN, PAST_GREATEST, "3 # refused S4 line 3 column 7\n"),
 ];
 
 /// Claims that a small model breaks, and claims that none of the candidates does.
 pub const BROKEN: &[CallRow] = &[
-    (
-        REFUTE,
-        ONE_SIDED,
-        "11 # claim 1 refuted\nmodel 1\nclaim 1\nmodulus 2\nside U 2\nside V 1\nmap a = 1 0\nmap b = 1 ; 0\nend\n",
-    ),
+    (REFUTE, ONE_SIDED, BROKEN_SIDED),
+    (&["refute", "s", "--workers", "1"], ONE_SIDED, BROKEN_SIDED),
+    (&["refute", "s", "--workers", "7"], ONE_SIDED, BROKEN_SIDED),
     (&["prove", "s", "--pairs", "1"], BRAID, BROKEN_BRAID),
+    (
+        &["prove", "s", "--pairs", "1", "--workers", "1"],
+        BRAID,
+        BROKEN_BRAID,
+    ),
+    (
+        &["prove", "s", "--pairs", "1", "--workers", "7"],
+        BRAID,
+        BROKEN_BRAID,
+    ),
     (REFUTE, BRAID, BROKEN_BRAID),
     (
         PROVE,
@@ -220,6 +284,16 @@ pub const BROKEN: &[CallRow] = &[
     ),
     (
         REFUTE,
+        TWO_CANDIDATES,
+        "13 # claim 1 not refuted candidates 2\n",
+    ),
+    (
+        &["refute", "s", "--workers", "1"],
+        TWO_CANDIDATES,
+        "13 # claim 1 not refuted candidates 2\n",
+    ),
+    (
+        &["refute", "s", "--workers", "7"],
         TWO_CANDIDATES,
         "13 # claim 1 not refuted candidates 2\n",
     ),

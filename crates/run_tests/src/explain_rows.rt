@@ -10,6 +10,16 @@ const INVERSES: &[Part] = &[Plain(
     "object P Q\nmap f g : P -> Q\nmap s : Q -> P\nassume s f = [P]\nassume s g = [P]\nassume f s = g s\nclaim f = g\n",
 )];
 
+// The third assumption is the claim.
+const EQUALS: &[Part] = &[Plain(
+    "object U V\nmap a b c z : U -> V\nassume a = b\nassume b = c\nassume a = c\nclaim a = c\n",
+)];
+
+// Two one-sided inverses of one map.
+const ONE_SIDED: &[Part] = &[Plain(
+    "object U V\nmap l : V -> U\nmap a : U -> V\nmap r : V -> U\nassume l a = [U]\nassume a r = [V]\nclaim l = r\n",
+)];
+
 // Both generators have factors, and the second claim is zero.
 const SCALED: &[Part] = &[Plain(
     "object P\nmap u v : P -> P\nassume 3 u = 2 v\nassume 4 v = 6 u u\nclaim u = u u\nclaim v = v\n",
@@ -60,6 +70,41 @@ const OTHER_WORDS: Part = Plain(USAGE);
 
 /// Rows in any order, and rows that are no steps.
 pub const STEPS: &[LimitRow] = &[
+    // one step among rows that aren't typed
+    (
+        EXPLAIN,
+        EQUALS,
+        &[
+            HEAD,
+            Plain("row 1 (z) 1 ()\nrow 1 () 3 ()\nrow 1 (z) 2 ()\nrow -1 (z) 3 ()\n"),
+            END,
+        ],
+        &[
+            BLOCK,
+            Plain(
+                " explained claim 1 denominator 1 steps 1\nchain 1\nclaim 1\ndenominator 1\nline - c + a\nuse 1 () 3 ()\nline 0\nend\n",
+            ),
+        ],
+    ),
+    (
+        EXPLAIN,
+        ONE_SIDED,
+        &[
+            HEAD,
+            Plain("row 1 () 1 (r)\nrow -1 (l) 2 ()\nrow 1 () 6 ()\nrow -1 () 8 ()\n"),
+            END,
+        ],
+        &[
+            BLOCK,
+            Plain(
+                " explained claim 1 denominator 1 steps 4\nchain 1\nclaim 1\ndenominator 1\nline - r + l\nuse 1 () 1 (r)\n",
+            ),
+            Plain(
+                "line - l a r + [U] r - r + l\nuse -1 (l) 2 ()\nline - l [V] + [U] r - r + l\nuse 1 () 6 ()\n",
+            ),
+            Plain("line - l [V] + l\nuse -1 () 8 ()\nline 0\nend\n"),
+        ],
+    ),
     // five steps, and the same from the other end
     (
         EXPLAIN,

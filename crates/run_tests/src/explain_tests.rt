@@ -20,58 +20,22 @@ const MOST_PER_PUT: usize = 65_536;
 const ROOM: usize = 50_000_000;
 
 #[test]
-fn rows_that_count_and_are_typed_are_steps(rt: HostRuntime) -> Result<(), Fail> {
-    tell_limits(&rt, rt.alloc(), STEPS)
-}
-
-#[test]
-fn certificates_have_many_forms(rt: HostRuntime) -> Result<(), Fail> {
-    tell_limits(&rt, rt.alloc(), FORMS)
-}
-
-#[test]
-fn claims_are_multiplied(rt: HostRuntime) -> Result<(), Fail> {
-    tell_limits(&rt, rt.alloc(), FACTORS)
-}
-
-#[test]
-fn adjoints_are_letters(rt: HostRuntime) -> Result<(), Fail> {
-    tell_limits(&rt, rt.alloc(), ADJOINTS)
-}
-
-#[test]
-fn words_have_500_letters_at_most(rt: HostRuntime) -> Result<(), Fail> {
-    tell_limits(&rt, rt.alloc(), LONG_WORDS)
-}
-
-#[test]
-fn blocks_are_explained_one_by_one(rt: HostRuntime) -> Result<(), Fail> {
-    tell_limits(&rt, rt.alloc(), BLOCKS)
-}
-
-#[test]
-fn steps_that_leave_the_range_are_told(rt: HostRuntime) -> Result<(), Fail> {
-    tell_limits(&rt, rt.alloc(), OVERFLOWS)
-}
-
-#[test]
-fn what_check_refuses_has_no_chain(rt: HostRuntime) -> Result<(), Fail> {
-    tell_limits(&rt, rt.alloc(), CHECKED)
-}
-
-#[test]
-fn lemmas_and_long_words_have_no_chain(rt: HostRuntime) -> Result<(), Fail> {
-    tell_limits(&rt, rt.alloc(), GROWN)
-}
-
-#[test]
-fn texts_with_faults_are_refused(rt: HostRuntime) -> Result<(), Fail> {
-    tell_limits(&rt, rt.alloc(), TEXTS)
-}
-
-#[test]
-fn files_and_words_come_first(rt: HostRuntime) -> Result<(), Fail> {
+fn certificates_are_explained_or_refused(rt: HostRuntime) -> Result<(), Fail> {
+    tell_limits(&rt, rt.alloc(), STEPS)?;
+    tell_limits(&rt, rt.alloc(), FORMS)?;
+    tell_limits(&rt, rt.alloc(), FACTORS)?;
+    tell_limits(&rt, rt.alloc(), ADJOINTS)?;
+    tell_limits(&rt, rt.alloc(), BLOCKS)?;
+    tell_limits(&rt, rt.alloc(), CHECKED)?;
+    tell_limits(&rt, rt.alloc(), TEXTS)?;
     tell_limits(&rt, rt.alloc(), CALLS)
+}
+
+#[test]
+fn words_and_numbers_of_steps_are_limited(rt: HostRuntime) -> Result<(), Fail> {
+    tell_limits(&rt, rt.alloc(), LONG_WORDS)?;
+    tell_limits(&rt, rt.alloc(), OVERFLOWS)?;
+    tell_limits(&rt, rt.alloc(), GROWN)
 }
 
 #[test]
@@ -126,11 +90,7 @@ fn tell_long<R: Threads + Sync + Abort>(
 }
 
 #[test]
-fn lines_have_20000_terms_at_most(rt: HostRuntime) -> Result<(), Fail> {
-    tell_long(&rt, rt.alloc(), SIZES)
-}
-
-#[test]
-fn chains_have_10000000_letters_at_most(rt: HostRuntime) -> Result<(), Fail> {
+fn lines_and_chains_are_limited(rt: HostRuntime) -> Result<(), Fail> {
+    tell_long(&rt, rt.alloc(), SIZES)?;
     tell_long(&rt, rt.alloc(), LENGTHS)
 }

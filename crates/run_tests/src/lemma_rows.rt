@@ -16,12 +16,6 @@ const LARGE: &[u8] =
       b + c + d + e + f + g + h + i + j + k + l + m + n + o + p + q + r + s + t + u + v + w + x + y + z + A)(a + b + c + d + \
       e + f + g + h + i + j + k + l + m + n + o + p + q + r + s + t + u + v + w + x + y + z + A)) = 0\nclaim a = 0\n";
 
-/// The generator 2 a, and a certificate up to its first word.
-pub const LONG_WORD: (&[u8], &str) = (
-    DOUBLED,
-    "certificate 2\nclaim 1\ndenominator 1\nlemma 1 scale 1\nrow 1 (",
-);
-
 /// Evidence that is accepted, and evidence that is refused by each test that a short text fails.
 pub const LEMMAS: &[Row] = &[
     (

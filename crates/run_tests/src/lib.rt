@@ -16,8 +16,6 @@ mod confirm_tests;
 #[cfg(test)]
 mod decided_rows;
 #[cfg(test)]
-mod direct_tests;
-#[cfg(test)]
 mod explain_rows;
 #[cfg(test)]
 mod explain_tests;
@@ -37,8 +35,6 @@ mod limit_rows;
 mod limit_tests;
 #[cfg(test)]
 mod model_rows;
-#[cfg(test)]
-mod round_tests;
 #[cfg(test)]
 mod steady_tests;
 #[cfg(test)]

@@ -75,8 +75,43 @@ const ACCEPTED: &[Part] = &[Plain("0 # block 1 accepted claim 1 denominator 1\n"
 
 const CONFIRMED: &[Part] = &[Plain("0 # block 1 confirmed claim 1\n")];
 
+const DOUBLED: &[Part] = &[Plain("object U\nmap x : U -> U\nassume 2 x = 0\nclaim x = 0\n")];
+
+const MODEL_BLOCK: &str = "model 1\nclaim 1\nmodulus 2\nside U 1\nmap x = 1\nend\n";
+
 /// Each limit but those on the bytes of a file.
 pub const LIMITS: &[LimitRow] = &[
+    // models, beside which a block of another kind isn't counted
+    (
+        MODEL,
+        DOUBLED,
+        &[Times(MODEL_BLOCK, 100), Plain("certificate 1\nend\n")],
+        &[
+            Plain("0 "),
+            Numbers("# block ", 1, 100, " confirmed claim 1\n", ""),
+        ],
+    ),
+    (
+        MODEL,
+        DOUBLED,
+        &[
+            Times(MODEL_BLOCK, 100),
+            Plain("certificate 1\nend\n"),
+            Plain(MODEL_BLOCK),
+        ],
+        &[Plain("7 # refused K5 line 603 limit 100\n")],
+    ),
+    // a word of 500 letters in front of a generator makes one of 501
+    (
+        CHECK,
+        DOUBLED,
+        &[
+            Plain("certificate 2\nclaim 1\ndenominator 1\nlemma 1 scale 1\nrow 1 ("),
+            Times("x ", 500),
+            Plain(") 1 ()\ngoal scale 1\nend\n"),
+        ],
+        &[Plain("7 # block 1 refused C9 lemma 1\n")],
+    ),
     // letters of a name
     (
         CHECK,

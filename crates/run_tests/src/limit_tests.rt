@@ -191,10 +191,6 @@ pub fn tell_limits<R: Threads + Sync + Abort>(
 
 #[test]
 fn limits_are_where_they_are_said(rt: HostRuntime) -> Result<(), Fail> {
-    tell_limits(&rt, rt.alloc(), LIMITS)
-}
-
-#[test]
-fn files_are_read_up_to_their_limits(rt: HostRuntime) -> Result<(), Fail> {
+    tell_limits(&rt, rt.alloc(), LIMITS)?;
     tell_limits(&rt, rt.alloc(), SIZES)
 }

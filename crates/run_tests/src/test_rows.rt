@@ -174,6 +174,7 @@ pub const JUDGED: &[Row] = &[
 /// Statements that are refused.
 pub const REFUSED: &[Row] = &[
     (b"object U\n", b"", "3 # refused S15\n"),
+    (b"object U\nmap a : U -> U\n", b"", "3 # refused S15\n"),
     (b"", b"", "3 # refused S15\n"),
     (
         b"object U V\nmap p : U -> V self\nclaim p = p\n",

@@ -1,10 +1,10 @@
 //! Runs of the program over files and a sink in memory.
 use crate::calls::{USAGE, owned, shelf_of};
 use crate::decided_rows::{
-    BROKEN, CallRow, DOUBLED, INNER, OTHERS, PLAIN, PROVED, PROVED_PLAINLY, WITHOUT_FILES,
+    BROKEN, CallRow, INNER, OTHERS, PLAIN, PROVED, PROVED_PLAINLY, WITHOUT_FILES,
 };
 use crate::gallery_rows::GALLERY;
-use crate::lemma_rows::{LEMMAS, LONG_WORD};
+use crate::lemma_rows::LEMMAS;
 use crate::model_rows::{FAULTS, MODELS};
 use crate::test_rows::{CALLS, EXAMPLES, JUDGED, REFUSED, Row, SOUND};
 use category_laws::Parity;
@@ -95,6 +95,20 @@ pub fn tell_all<R: Threads + Sync + Abort>(
     Ok(())
 }
 
+/// The same of each list of words over the same files.
+pub fn tell_words<R: Threads + Sync + Abort>(
+    rt: &R,
+    alloc: Global,
+    rows: &[(&[&str], &str)],
+    statement: &[u8],
+    evidence: &[u8],
+) -> Result<(), Fail> {
+    for (words, want) in rows {
+        tell(rt, alloc, words, statement, evidence, want)?;
+    }
+    Ok(())
+}
+
 #[test]
 fn each_run_has_its_status_and_report(rt: HostRuntime) -> Result<(), Fail> {
     tell_all(&rt, rt.alloc(), CHECK, EXAMPLES)?;
@@ -102,14 +116,7 @@ fn each_run_has_its_status_and_report(rt: HostRuntime) -> Result<(), Fail> {
     tell_all(&rt, rt.alloc(), CHECK, LEMMAS)?;
     tell_all(&rt, rt.alloc(), CHECK, REFUSED)?;
     tell(&rt, rt.alloc(), CHECK, SOUND.0, SOUND.1, SOUND.2)?;
-    for (words, want) in CALLS {
-        tell(&rt, rt.alloc(), words, SOUND.0, SOUND.1, want)?;
-    }
-    Ok(())
-}
-
-#[test]
-fn models_are_confirmed_or_refused(rt: HostRuntime) -> Result<(), Fail> {
+    tell_words(&rt, rt.alloc(), CALLS, SOUND.0, SOUND.1)?;
     tell_all(&rt, rt.alloc(), MODEL, MODELS)?;
     tell_all(&rt, rt.alloc(), MODEL, FAULTS)
 }
@@ -157,86 +164,78 @@ fn known_identities_are_proved(rt: HostRuntime) -> Result<(), Fail> {
     Ok(())
 }
 
-// Whether what the words answer over the statement is evidence that is accepted.
-fn is_checked<R: Threads + Sync>(
+// Asserts that the second file, behind the status with which it was put, is answered with these first words.
+fn tell_report<R: Threads + Sync + Abort>(
     rt: &R,
     alloc: Global,
     words: &[&str],
     statement: &[u8],
-) -> Result<bool, Fail> {
-    let told = answer(rt, alloc, words, statement, b"", &[])?;
-    let report = told.as_str().strip_prefix("0 ").unwrap_or("");
-    let got = answer(rt, alloc, CHECK, statement, report.as_bytes(), &[])?;
-    Ok(
-        got.as_str()
-            .starts_with("0 # block 1 accepted claim 1 denominator 1\n"),
-    )
+    told: &str,
+    want: &str,
+) -> Result<(), Fail> {
+    let report = match told.split_once(' ') {
+        Some((_, report)) => report,
+        None => "",
+    };
+    let got = answer(rt, alloc, words, statement, report.as_bytes(), &[])?;
+    assert!(rt; got.as_str().starts_with(want), "{got:?} {told:?}");
+    Ok(())
 }
+
+const ACCEPTED: &str = "0 # block 1 accepted claim 1 denominator ";
 
 #[test]
 fn evidence_of_known_identities_is_accepted(rt: HostRuntime) -> Result<(), Fail> {
+    let alloc = rt.alloc();
     for (words, statement, want) in GALLERY {
         if want.starts_with("0 ") {
-            assert!(rt;
-                is_checked(&rt, rt.alloc(), words, statement)?,
-                "{statement:?}"
-            );
-            assert!(rt;
-                is_checked(&rt, rt.alloc(), PLAIN, statement)?,
-                "{statement:?}"
-            );
+            let told = answer(&rt, alloc, words, statement, b"", &[])?;
+            tell_report(&rt, alloc, CHECK, statement, told.as_str(), ACCEPTED)?;
+            let told = answer(&rt, alloc, PLAIN, statement, b"", &[])?;
+            tell_report(&rt, alloc, CHECK, statement, told.as_str(), ACCEPTED)?;
         }
     }
     Ok(())
 }
 
-// Asserts that the report of each proved claim is evidence that is accepted.
-fn check_reports<R: Threads + Sync + Abort>(
+// Asserts that the report of each row that has this piece is answered with these first words.
+fn tell_reports<R: Threads + Sync + Abort>(
     rt: &R,
     alloc: Global,
+    words: &[&str],
     rows: &[CallRow],
+    piece: &str,
+    want: &str,
 ) -> Result<(), Fail> {
     for (_, statement, told) in rows {
-        let report = told.strip_prefix("0 ").unwrap_or("");
-        let got = answer(rt, alloc, CHECK, statement, report.as_bytes(), &[])?;
-        let is_accepted = got
-            .as_str()
-            .starts_with("0 # block 1 accepted claim 1 denominator ");
-        assert!(rt; is_accepted, "{got:?}");
-    }
-    Ok(())
-}
-
-// The report of a proved claim is evidence that is accepted, and that of a claim that isn't derivable has none.
-#[test]
-fn reports_are_evidence(rt: HostRuntime) -> Result<(), Fail> {
-    check_reports(&rt, rt.alloc(), PROVED)?;
-    check_reports(&rt, rt.alloc(), PROVED_PLAINLY)?;
-    let (_, statement, told) = OTHERS[0];
-    let report = told.strip_prefix("10 ").unwrap_or("");
-    let want = "7 # refused K7\n";
-    tell(&rt, rt.alloc(), CHECK, statement, report.as_bytes(), want)
-}
-
-// The report of a refuted claim is a text of models, the first of which is confirmed.
-#[test]
-fn models_of_refuted_claims_are_confirmed(rt: HostRuntime) -> Result<(), Fail> {
-    for (_, statement, told) in BROKEN {
-        let refuted = told.strip_prefix("11 ").or(told.strip_prefix("13 "));
-        let report = refuted.unwrap_or("");
-        if report.contains("\nmodel ") {
-            let got = answer(&rt, rt.alloc(), MODEL, statement, report.as_bytes(), &[])?;
-            assert!(rt;
-                got.as_str().starts_with("0 # block 1 confirmed claim "),
-                "{got:?}"
-            );
+        if told.contains(piece) {
+            tell_report(rt, alloc, words, statement, told, want)?;
         }
     }
     Ok(())
+}
+
+// The report of a proved claim is evidence that is accepted, that of a claim that isn't derivable has none, and that of a refuted
+// claim is a text of models, the first of which is confirmed.
+#[test]
+fn reports_are_evidence(rt: HostRuntime) -> Result<(), Fail> {
+    let alloc = rt.alloc();
+    tell_reports(&rt, alloc, CHECK, PROVED, "", ACCEPTED)?;
+    tell_reports(&rt, alloc, CHECK, PROVED_PLAINLY, "", ACCEPTED)?;
+    tell_report(
+        &rt,
+        alloc,
+        CHECK,
+        OTHERS[0].1,
+        OTHERS[0].2,
+        "7 # refused K7\n",
+    )?;
+    let confirmed = "0 # block 1 confirmed claim ";
+    tell_reports(&rt, alloc, MODEL, BROKEN, "\nmodel ", confirmed)
 }
 
 // Numbers of threads.
-const WORKERS: &[&str] = &["3", "64"];
+const WORKERS: &[&str] = &["3", "7", "64"];
 
 // Candidates that are drawn are the same on any number of threads.
 #[test]
@@ -247,69 +246,8 @@ fn drawn_models_are_the_same_on_all_threads(rt: HostRuntime) -> Result<(), Fail>
         let words = &["refute", "s", "--workers", *workers];
         tell(&rt, rt.alloc(), words, INNER, b"", one.as_str())?;
     }
-    let report = one.as_str().strip_prefix("11 ").unwrap_or("");
     let want = "0 # block 1 confirmed claim 1\n";
-    tell(&rt, rt.alloc(), MODEL, INNER, report.as_bytes(), want)
-}
-
-const MODEL_BLOCK: &str = "model 1\nclaim 1\nmodulus 2\nside U 1\nmap x = 1\nend\n";
-
-// A hundred models, and a block of another kind.
-fn hundred_models(alloc: Global) -> Result<String, AllocError> {
-    let mut text = String::new(alloc);
-    for _ in 0..100 {
-        text.push_str(MODEL_BLOCK)?;
-    }
-    text.push_str("certificate 1\nend\n")?;
-    Ok(text)
-}
-
-// What is told of them.
-fn hundred_lines(alloc: Global) -> Result<String, AllocError> {
-    let mut lines = String::from_str(alloc, "0 ")?;
-    for block in 1..=100u32 {
-        lines.push_str(format!(in alloc; "# block {block} confirmed claim 1\n")?.as_str())?;
-    }
-    Ok(lines)
-}
-
-// A text has at most 100 models, and blocks of other kinds aren't counted.
-#[test]
-fn a_text_has_at_most_100_models(rt: HostRuntime) -> Result<(), Fail> {
-    let alloc = rt.alloc();
-    let mut text = hundred_models(alloc)?;
-    let lines = hundred_lines(alloc)?;
-    tell(&rt, alloc, MODEL, DOUBLED, text.as_bytes(), lines.as_str())?;
-    text.push_str(MODEL_BLOCK)?;
-    let want = "7 # refused K5 line 603 limit 100\n";
-    tell(&rt, alloc, MODEL, DOUBLED, text.as_bytes(), want)
-}
-
-// A lemma with this front and 500 letters.
-fn long_lemma(alloc: Global, front: &str) -> Result<String, AllocError> {
-    let mut text = String::from_str(alloc, front)?;
-    for _ in 0..500 {
-        text.push_str("a ")?;
-    }
-    text.push_str(") 1 ()\ngoal scale 1\nend\n")?;
-    Ok(text)
-}
-
-// A word of 500 letters in front of a generator makes one of 501.
-#[test]
-fn a_lemma_with_a_long_word_is_refused(rt: HostRuntime) -> Result<(), Fail> {
-    let (statement, front) = LONG_WORD;
-    let text = long_lemma(rt.alloc(), front)?;
-    let want = "7 # block 1 refused C9 lemma 1\n";
-    tell(&rt, rt.alloc(), CHECK, statement, text.as_bytes(), want)
-}
-
-#[test]
-fn a_file_past_its_limit_is_named(rt: HostRuntime) -> Result<(), Fail> {
-    let long = vec![in rt.alloc(); b'x'; 1_048_577]?;
-    let got = answer(&rt, rt.alloc(), CHECK, &long, b"", &[])?;
-    assert_eq!(rt; got.as_str(), "4 # too long s limit 1048576\n");
-    Ok(())
+    tell_report(&rt, rt.alloc(), MODEL, INNER, one.as_str(), want)
 }
 
 #[test]

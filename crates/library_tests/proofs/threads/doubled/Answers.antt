@@ -1,8 +1,0 @@
-use Rattle.std.proofs.Common.{◌*◌}
-use Rattle.std.proofs.lemmas.Result.{IfOk-weaker}
-use Rattle.std.proofs.lemmas.Slice.Zip.{AllZip-map}
-use Rattle.library_tests.proofs.threads.doubled.Goals as goal
-
--- answers in the job's relation are its values
-pub returns : goal.returns
-returns g c = IfOk-weaker c.map_in_order.result _ _ (λ answers agree. AllZip-map (λ number. 2 * number) c.args.numbers.now answers.items agree) c.map_in_order.ensures.answers

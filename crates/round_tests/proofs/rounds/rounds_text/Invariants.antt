@@ -1,0 +1,6 @@
+use Rattle.traced_completion.specs.Completions.{IsCompletionOf}
+use Rattle.round_tests.proofs.rounds.rounds_text.Given as goal
+
+-- the completion is the problem's
+abbrev pub invariant-loop : goal.invariant-loop
+invariant-loop g l = IsCompletionOf l.problem l.completion

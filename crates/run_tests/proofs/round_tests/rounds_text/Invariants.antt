@@ -1,6 +1,0 @@
-use Rattle.traced_completion.specs.Completions.{IsCompletionOf}
-use Rattle.run_tests.proofs.round_tests.rounds_text.Given as goal
-
--- the completion is the problem's
-abbrev pub invariant-loop : goal.invariant-loop
-invariant-loop g l = IsCompletionOf l.problem l.completion
