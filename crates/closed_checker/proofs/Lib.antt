@@ -18,4 +18,5 @@ pub mod PartRests
 pub mod PartOrder
 pub mod Judged
 pub mod ClosedMeaning
+mod Ends
 mod Examples

@@ -1,6 +1,7 @@
 -- The leading words of rules, sorted letter by letter.
-use Rattle.std.specs.Prelude.{◌≡◌, ◌≢◌, ℕ, suc, false, List, [], ◌∷◌, drop, Some}
+use Rattle.std.specs.Prelude.{◌≡◌, ◌≢◌, ℕ, suc, true, false, nat_lt, List, [], ◌∷◌, drop, Some}
 use Rattle.std.specs.Cmp.Lexicographic.{slice_cmp}
+use Rattle.std.specs.List.Sorted.{IsPartitionPoint}
 use Rattle.std.specs.Option.{option_map}
 use Rattle.std.specs.Ordering.{is_lt, nat_cmp}
 use Rattle.rule_reduce.specs.declared.rule.Rule.{Rule}
@@ -28,3 +29,7 @@ rank_of (letter ∷ letters) = suc letter
 -- that of what follows the first letters, as many as the depth says
 abbrev pub rank_at : ℕ → List ℕ → ℕ
 rank_at depth letters = rank_of (drop depth letters)
+
+-- so many of the words, the first ones, have a rank below the bound at the depth, and no others
+abbrev pub IsRankPoint : ℕ → ℕ → List Lead → ℕ → Type 0
+IsRankPoint depth bound = IsPartitionPoint (λ l. nat_lt (rank_at depth l.letters) bound ≡ true) (λ l. nat_lt (rank_at depth l.letters) bound ≡ false)

@@ -1,11 +1,11 @@
 //! Leading words with the numbers of their rules, sorted letter by letter, and the parts of such a table.
 
-ghost use Rattle.std.specs.Prelude.{◌≡◌, ◌<◌, ◌^◌, suc, length, filter, not, nat_lt, nat_eq, IfOk, OnOk};
+ghost use Rattle.std.specs.Prelude.{◌≡◌, ◌<◌, ◌≤◌, ◌^◌, suc, length, filter, not, nat_lt, nat_eq, IfOk, OnOk, IsTrue};
 ghost use Rattle.std.specs.Ordering.{on, nat_cmp};
 ghost use Rattle.std.specs.Cmp.Lexicographic.{slice_cmp};
 ghost use Rattle.std.specs.List.Sorted.{IsNonDecreasingBy, IsPermutation, IsSorted};
 ghost use Rattle.ambiguities.specs.Listed.{ListsExactly};
-ghost use Rattle.closed_checker.specs.Table.{IsLeadOf, IsTableOf, rank_at};
+ghost use Rattle.closed_checker.specs.Table.{IsLeadOf, IsTableOf, IsRankPoint, rank_at};
 
 use lists::Listing;
 use rule_reduce::Rule;
@@ -72,14 +72,50 @@ fn rank(letters: &[u16], depth: usize) -> u32
     }
 }
 
+// Whether the rank of the last one, and so of each, is below the bound.
+fn are_below(leads: &[Lead], depth: usize, bound: u32) -> bool
+    requires { IsNonDecreasingBy (λ l. rank_at depth l.letters) leads.now }
+    ensures { IsTrue result → IsRankPoint depth bound leads.now (length leads.now) }
+{
+    match leads.last() {
+        Some(last) => rank(last.letters.as_slice(), depth) < bound,
+        None => true,
+    }
+}
+
+// Whether the rank of the first one, and so of each, isn't.
+fn are_past(leads: &[Lead], depth: usize, bound: u32) -> bool
+    requires { IsNonDecreasingBy (λ l. rank_at depth l.letters) leads.now }
+    ensures { IsTrue result → IsRankPoint depth bound leads.now 0 }
+{
+    match leads.first() {
+        Some(first) => rank(first.letters.as_slice(), depth) >= bound,
+        None => true,
+    }
+}
+
+// How many have a rank below the bound. Where all have, or none has, the ends tell it.
+fn count_below(leads: &[Lead], depth: usize, bound: u32) -> usize
+    requires { IsNonDecreasingBy (λ l. rank_at depth l.letters) leads.now }
+    ensures within { result ≤ length leads.now }
+    ensures point { IsRankPoint depth bound leads.now result }
+{
+    if are_below(leads, depth, bound) {
+        return leads.len();
+    }
+    if are_past(leads, depth, bound) {
+        return 0;
+    }
+    leads.partition_point(|lead| rank(lead.letters.as_slice(), depth) < bound)
+}
+
 // Those whose rank at the depth is below the bound, and the others.
 fn split(leads: &[Lead], depth: usize, bound: u32) -> (&[Lead], &[Lead])
     requires { IsNonDecreasingBy (λ l. rank_at depth l.letters) leads.now }
     ensures below { result.0.now ≡ filter (λ l. nat_lt (rank_at depth l.letters) bound) leads.now }
     ensures others { result.1.now ≡ filter (λ l. not (nat_lt (rank_at depth l.letters) bound)) leads.now }
 {
-    let end = leads.partition_point(|lead| rank(lead.letters.as_slice(), depth) < bound);
-    leads.split_at(end)
+    leads.split_at(count_below(leads, depth, bound))
 }
 
 // Those that end at the depth, and the longer ones.
