@@ -7,7 +7,7 @@ ghost use Rattle.ambiguities.specs.Agreement.{HasMarks, first_of, IsAgreement};
 ghost use Rattle.ambiguities.specs.Ambiguities.{lead_at};
 ghost use Rattle.ambiguities.specs.Listed.{IsBefore, ListsExactly, IsAmbiguityFrom, IsOfFirst, IsOfPair, IsGrown};
 
-use crate::marks::{MARKS, first_letters, has_quote, marks_of};
+use crate::marks::{MARKS, first_letters, has_mark, marks_of};
 use crate::places::agree;
 use crate::{Ambiguity, Kind};
 use lists::Listing;
@@ -83,7 +83,7 @@ fn push_marked(
     requires first { first_letter ≡ first_of (lead_at rules.now j) }
     ensures { OnOk result (IsGrown (IsOfPair rules.now i j) found.old found.new) }
 {
-    if !has_quote(marks, first_letter) {
+    if !has_mark(marks, first_letter) {
         return Ok(());
     }
     push_pair(found, rules, i, j)

@@ -22,7 +22,7 @@ pub(crate) fn marks_of(word: &Word) -> [bool; MARKS]
 }
 
 // Whether the letter with this number is marked.
-pub(crate) fn has_quote(marks: &[bool; MARKS], letter: u16) -> bool
+pub(crate) fn has_mark(marks: &[bool; MARKS], letter: u16) -> bool
     ensures { result ≡ is_marked marks.now letter }
 {
     marks[letter as usize % MARKS]

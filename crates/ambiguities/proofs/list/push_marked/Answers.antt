@@ -6,8 +6,8 @@ use Rattle.ambiguities.proofs.Exactly.{grown-none}
 use Rattle.ambiguities.proofs.Marked.{pair_nowhere}
 use Rattle.ambiguities.proofs.list.push_marked.Goals as goal
 
-pub returns-then-not-has_quote : goal.returns-then-not-has_quote
-returns-then-not-has_quote c =
+pub returns-then-not-has_mark : goal.returns-then-not-has_mark
+returns-then-not-has_mark c =
     let all = c.args.rules.now in
     let i = c.args.i in
     let j = c.args.j in
