@@ -10,6 +10,7 @@ names; the types, which stand in code, come last. What `std` and crates that are
 from __future__ import annotations
 
 import re
+import signal
 import sys
 from functools import lru_cache
 from pathlib import Path
@@ -203,4 +204,6 @@ def main(words: List[str]) -> int:
 
 
 if __name__ == "__main__":
+    # (a reader that closes the pipe, as head, ends it)
+    signal.signal(signal.SIGPIPE, signal.SIG_DFL)
     sys.exit(main(sys.argv[1:]))

@@ -12,6 +12,7 @@ status is 1 where the document has others.
 from __future__ import annotations
 
 import re
+import signal
 import sys
 from pathlib import Path
 from typing import Dict, Iterator, List, NamedTuple, Set
@@ -142,4 +143,6 @@ def main(words: List[str]) -> int:
 
 
 if __name__ == "__main__":
+    # (a reader that closes the pipe, as head, ends it)
+    signal.signal(signal.SIGPIPE, signal.SIG_DFL)
     sys.exit(main(sys.argv[1:]))
