@@ -15,7 +15,7 @@ from opprove.translations import chain as to_chain
 from opprove.checkers.check import Evidence, Line, Poly, Problem, Signature, Value, add, judge, loaded, tokens_of
 import trying
 from drawing import Rows
-from trying import EXAMPLES, GALLERY, PROGRAM, Answer, Skipped, decided, is_built, need, parts_of, run, tool, typeset, wrong_words
+from trying import EXAMPLES, GALLERY, PROGRAM, Answer, built, decided, is_built, need, parts_of, run, tool, typeset, wrong_words
 
 TOOL = tool("chain")
 STORED = {"pseudoinverses": EXAMPLES / "pseudoinverses.cert", "halved": EXAMPLES / "tools" / "halved.cert"}
@@ -359,13 +359,12 @@ def cases(folder: Path) -> str:
 
 def reports(folder: Path) -> str:
     """The reports of prove on the examples, in both formats."""
-    if not is_built():
-        raise Skipped("opprove is not built, and its reports are not made chains")
+    program = built()
 
     def made() -> Iterator[Tuple[Path, Path]]:
         for statement, number in itertools.product(decided(), (1, 2)):
             evidence = folder / f"{statement.stem}{number}.cert"
-            evidence.write_text(run(PROGRAM, "prove", statement, "--pairs", 2000, "--format", number).out)
+            evidence.write_text(run(program, "prove", statement, "--pairs", 2000, "--format", number).out)
             if statement.stem == "moore_penrose_unique":
                 text = "\n".join(written(statement, evidence)) + "\n"
                 need(text == (EXAMPLES / "tools" / "moore_penrose_unique.chain").read_text(), text)

@@ -15,9 +15,8 @@ from typing import Callable, Dict, Iterator, List
 from opprove.checkers import confirm
 import confirm_rows
 import drawing
-from opprove.checkers.check import Problem, Refusal
+from opprove.checkers.check import DONE, Problem, Refusal
 from opprove.checkers.confirm import Bases, Order, Poly, Rules, as_texts, gcd_of, text_of
-from opprove.checkers.check import DONE
 from trying import NUMBER, PROGRAM, Answer, built, decided, is_built, lowered, need, replaced, run, twice_or_not, with_line
 from trying_second import UNREAD_EVIDENCE, Files, Second, files_in
 

@@ -17,9 +17,8 @@ from opprove.checkers import explain
 import explain_rows
 from opprove.translations import chain as chain_tool
 import test_chains
-from opprove.checkers.check import Certificate, Evidence, Poly, Problem, Refusal, Share, judge
+from opprove.checkers.check import DONE, FAULTY, REFUSED, Certificate, Evidence, Poly, Problem, Refusal, Share, judge, status_of
 from opprove.checkers.chain_text import Texts
-from opprove.checkers.check import DONE, FAULTY, REFUSED, status_of
 from drawing import Rows
 from explain_rows import Run
 from trying import NUMBER, PROGRAM, Answer, built, decided, is_built, need, replaced, run, stored, tool, twice_or_not, typeset, with_line

@@ -16,8 +16,7 @@ from pathlib import Path
 from random import Random
 from typing import Callable, Dict, FrozenSet, List, NamedTuple, Optional, Tuple
 
-from opprove.search import join
-from opprove.search import variants
+from opprove.search import join, variants
 import drawing
 from drawing import Rows
 from opprove.checkers.check import Certificate, Evidence, Poly, Problem, Refusal, Row, Share, add, judge, sum_text

@@ -20,6 +20,7 @@ from random import Random
 from typing import Any, Callable, Dict, List, NamedTuple, Tuple, Type, Union
 from unittest import mock
 
+import test_types
 from opprove import program as programs, text
 from opprove.checkers import check
 from opprove.text import StatementText
@@ -510,7 +511,7 @@ import opprove
 from pathlib import Path
 print(*sorted(path.name.split("-")[0] for path in Path(opprove.__file__).parents[1].iterdir() if "opprove" in path.name or path.suffix == ".py"))
 """
-HERE = "import sys, test_package, trying; sys.exit(trying.main(test_package.CHECKS[:-1]))"
+HERE = "import sys, test_package, trying; sys.exit(trying.main(test_package.CHECKS[:-2]))"
 
 
 def builder() -> str:
@@ -545,4 +546,5 @@ def patiently(*words: object, **more: str) -> None:
 
 CHECKS: List[Callable[[Path], str]] = [
     gallery, expressions, refusals, stored, statuses, scripts, sympy, notebook, real_statuses, heads, in_words, in_venv,
+    lambda folder: test_types.types(folder, TESTS),
 ]  # fmt: skip
