@@ -63,8 +63,6 @@ CASES = [
     *map(letters, (10**5, 10**6, 10**7)),
     Case("rows: 200,000 that are untyped", OTHERS, lambda: untyped(199_998)),
 ]
-
-
 NAMES = ["bytes", "`explain` s", "MB", "`check` s", "MB", "plain s", "MB", "by plain", "by `check`", "beside `check`"]
 
 

@@ -15,8 +15,7 @@ from pathlib import Path
 from typing import Callable, Dict, List, NamedTuple
 
 from opprove import cli
-from trying import EXAMPLES, PROGRAM, SOURCE, TOP, installed, is_built, need, run, tool
-from trying import built as built_program
+from trying import EXAMPLES, PROGRAM, SOURCE, TOP, built as built_program, installed, is_built, need, run, tool
 
 GUIDE, README = TOP / "docs" / "GUIDE.md", TOP / "README.md"
 TUTORIALS = sorted((TOP / "docs" / "tutorials").glob("*.md"))

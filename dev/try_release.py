@@ -39,8 +39,6 @@ CRATES = {"std": "core", "core": "", "arrayvec": "std", "clap": "std strsim", "s
 KINDS = "abstract authors cff-version commit contact date-released doi identifiers keywords license license-url message"
 KINDS += " preferred-citation references repository repository-artifact repository-code title type url version"
 FIELDS = {*KINDS.split()}  # of the Citation File Format 1.2.0
-
-
 OTHER_SOURCES = "the program is that of other sources; ./opprove build proves and builds it anew"
 
 

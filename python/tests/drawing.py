@@ -7,7 +7,8 @@ from typing import Dict, List, Mapping, Sequence, Tuple, TypeVar
 from opprove.checkers.check import Certificate, Poly, Problem, Row, Share, Signature, Word, add
 from opprove.translations.chain import Writer
 
-Letter, Object = TypeVar("Letter"), TypeVar("Object")
+Letter = TypeVar("Letter")
+Object = TypeVar("Object")
 
 
 def word(draw: Random, letters: Sequence[str], most: int, least: int = 1) -> str:

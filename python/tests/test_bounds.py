@@ -67,7 +67,7 @@ def counts() -> Iterator[Bound]:
     yield from (objects, maps)
     yield bound(lambda n: (endomaps(*["assume a = b"] * n), NONE), 500, "# refused S8 line 503 column 1 limit 500")
     pseudoinverses = ["pinv a b"] * 124
-    last, past = (endomaps(*pseudoinverses, *more, "pinv a b") for more in ([], ["assume a = b"]))
+    last, past = endomaps(*pseudoinverses, "pinv a b"), endomaps(*pseudoinverses, "assume a = b", "pinv a b")
     yield Bound((last, NONE), (past, NONE), "# refused S8 line 128 column 1 limit 500")
     yield bound(lambda n: (endomaps(*["claim a = b"] * (n - 1)), rows(claim=100)), 100, "# refused S8 line 103 column 1 limit 100",
                 "# block 1 accepted claim 100 denominator 1")  # fmt: skip

@@ -17,7 +17,7 @@ import cancel_rows
 import drawing
 import test_chains
 from opprove.checkers.check import DONE, REFUSED, Problem, sum_text
-from trying import GALLERY, LETTER, NUMBER, Answer, checker, lowered, need, replaced, run, tool, with_line
+from trying import GALLERY, LETTER, NUMBER, Answer, checker, lowered, need, replaced, run, tool, twice_or_not, with_line
 from trying_second import Files, Second, files_in
 
 COUNT = 60  # random proofs
@@ -131,7 +131,7 @@ def changed(text: str, letters: List[str]) -> Iterator[str]:
         for pattern in (LETTER, r"(?<=ic )\S+", r"(?<=l [0-9] )\S+"):
             yield from replaced(line, pattern, lambda found: [letter for letter in letters if letter != found][:2])
         yield from replaced(line, r"\b(?:left|right|monic|epic)\b", lambda word: [EXCHANGED[word]])
-        yield from ([], [line, line])
+        yield from twice_or_not(line)
 
     return itertools.chain(with_line(text, others), lowered(text))
 
@@ -163,9 +163,11 @@ class Maker:
 
     def made(self) -> Tuple[str, str]:
         draw, ends = self.draw, [self.draw.choice(self.objects), self.draw.choice(self.objects)]
-        words = {" ".join(drawing.path(draw, self.letters, *ends, 1)) for _ in range(4)}
+        words = {" ".join(drawing.path(draw, self.letters, ends[0], ends[1], 1)) for _ in range(4)}
         claim = {word: draw.choice([1, 1, -1, 2, -3]) for word in sorted(words)}
-        front, behind, steps = [], [], []
+        front: List[str] = []
+        behind: List[str] = []
+        steps: List[Tuple[str, bool]] = []
         for _ in range(draw.randrange(4)):
             is_left = draw.random() < 0.5
             letter, pair = draw.choice([(name, pair) for name, pair in self.letters.items() if pair[not is_left] == ends[is_left]])

@@ -15,7 +15,7 @@ from opprove.translations import chain as to_chain
 from opprove.checkers.check import Evidence, Line, Poly, Problem, Signature, Value, add, judge, loaded, tokens_of
 import trying
 from drawing import Rows
-from trying import EXAMPLES, GALLERY, PROGRAM, Answer, Skipped, decided, is_built, need, run, tool, typeset
+from trying import EXAMPLES, GALLERY, PROGRAM, Answer, built, decided, is_built, need, parts_of, run, tool, typeset, wrong_words
 
 TOOL = tool("chain")
 STORED = {"pseudoinverses": EXAMPLES / "pseudoinverses.cert", "halved": EXAMPLES / "tools" / "halved.cert"}
@@ -69,9 +69,9 @@ def sums_of(lines: List[str]) -> Iterator[Tuple[str, str]]:
         else:
             joined.append(line)
     for place, line in enumerate(joined):
-        match = re.fullmatch(r"(  |= )(\S.*?)(?: +by (\S+))?", line)
-        need(match is not None and (match.group(1) == "= ") == (place > 0) == bool(match.group(3)), line)
-        yield match.group(2), match.group(3)
+        sign, text, by = parts_of(r"(  |= )(\S.*?)(?: +by (\S+))?", line)
+        need((sign == "= ") == (place > 0) == bool(by), line)
+        yield text, by
 
 
 def read_chain(reading: Reading, lines: List[str], ends: Signature) -> Tuple[Poly, Poly, List[str]]:
@@ -98,7 +98,7 @@ def read_assumptions(reading: Reading, lines: List[str]) -> Set[str]:
     problem = reading.problem
     found, (others,) = set(), [line for line in lines if line.startswith("Not used: ")]
     for line in lines[1:-1]:
-        name, equation, number = re.fullmatch(r"(\([0-9]+\)) (.*?) +line ([0-9]+)(?:, .*)?", line).groups()
+        name, equation, number = parts_of(r"(\([0-9]+\)) (.*?) +line ([0-9]+)(?:, .*)?", line)
         _, left, right = reading.equation(equation)
         need(add(left, -1, right) == reading.polys[name], line)
         places = [line.tokens[0].line for line in problem.lines for _ in problem.equations(line) if line.tokens[0].text != "claim"]
@@ -117,13 +117,13 @@ def read_proof(problem: Problem, groups: List[List[str]], is_turned: Optional[bo
     polys.update({f"({number})'": problem.star(poly) for number, poly in enumerate(assumptions, 1) if problem.is_starred})
     reading = Reading(problem, polys)
     head, equation = groups[0][0].split(": ", 1)
-    claim = int(re.fullmatch("Claim ([0-9]+)(?:, where .*)?", head).group(1))
+    claim = int(parts_of("Claim ([0-9]+)(?:, where .*)?", head)[0])
     ends, *sides = reading.equation(equation)
     need(add(dict(sides[0]), -1, sides[1]) == bare(problem, problem.claims[claim - 1]), groups)
     used, named, steps = read_assumptions(reading, groups[1]), [], 0
     for place, lines in enumerate(groups[2:], 1):
         if lines[0].startswith("Lemma "):
-            name, equation = re.fullmatch(r"Lemma (\[[0-9]+\])(?:, .*)?: (.*)", lines[0]).groups()
+            name, equation = parts_of(r"Lemma (\[[0-9]+\])(?:, .*)?: (.*)", lines[0])
             chain_ends, *chain_sides = reading.equation(equation)
             scale = scale_of(lines[0].split(": ")[0])
             need(name == f"[{place}]", lines)
@@ -353,21 +353,18 @@ def case_files(folder: Path) -> Iterator[Tuple[Path, Path]]:
 
 
 def cases(folder: Path) -> str:
-    for words in ([], ["x"], ["x", "y", "--text"], ["x", "y", "--latex", "--certificate"]):
-        answer = run(*TOOL, *words)
-        need(answer.status == 2 and not answer.out and answer.error.startswith("usage: opprove chain "), (words, answer))
+    wrong_words("chain", [], ["x"], ["x", "y", "--text"], ["x", "y", "--latex", "--certificate"])
     return all_tried("hard certificates", case_files(folder), folder)
 
 
 def reports(folder: Path) -> str:
     """The reports of prove on the examples, in both formats."""
-    if not is_built():
-        raise Skipped("opprove is not built, and its reports are not made chains")
+    program = built()
 
     def made() -> Iterator[Tuple[Path, Path]]:
         for statement, number in itertools.product(decided(), (1, 2)):
             evidence = folder / f"{statement.stem}{number}.cert"
-            evidence.write_text(run(PROGRAM, "prove", statement, "--pairs", 2000, "--format", number).out)
+            evidence.write_text(run(program, "prove", statement, "--pairs", 2000, "--format", number).out)
             if statement.stem == "moore_penrose_unique":
                 text = "\n".join(written(statement, evidence)) + "\n"
                 need(text == (EXAMPLES / "tools" / "moore_penrose_unique.chain").read_text(), text)

@@ -11,7 +11,7 @@ import trying_node
 from opprove.checkers import check
 from opprove.checkers.check import status_of
 from test_translations import TRANSLATIONS
-from trying import LETTER, NUMBER, STATEMENTS, Answer, built, checker, decided, expanded, need, replaced, rows_of, run, stored, tool, with_line
+from trying import LETTER, NUMBER, STATEMENTS, Answer, built, checker, decided, expanded, need, replaced, rows_of, run, stored, tool, twice_or_not, with_line
 from trying_second import Second
 
 SECOND = Second(check)
@@ -70,7 +70,7 @@ def changed(text: str, letters: List[str]) -> Iterator[str]:
         is_scale = line.startswith("denominator") and "certificate 2" in text
         yield from replaced(line, NUMBER, lambda number: [0 if is_scale else int(number) + 1])
         yield from replaced(line, LETTER, lambda found: [next(letter for letter in letters if letter != found)])
-        yield from [[]] * line.startswith("row")
+        yield from twice_or_not(line)[: line.startswith("row")]
 
     return with_line(text, lambda line: others(line) if line[:1] != "#" else ())
 
@@ -115,9 +115,9 @@ def bad_input(folder: Path) -> str:
             answer = run(*tool("picture"), statement)
             need(answer == Answer(3, "", line + "\n"), (text, answer))
     missing = folder / "missing"
-    for name in (checker("check"), tool("latex"), tool("chain"), checker("explain")):
-        answer = run(*name, missing, evidence)
-        need((answer.status, answer.out + answer.error) == (4, f"# load failed {missing}\n"), (name, answer))
+    for words in (checker("check"), tool("latex"), tool("chain"), checker("explain")):
+        answer = run(*words, missing, evidence)
+        need((answer.status, answer.out + answer.error) == (4, f"# load failed {missing}\n"), (words, answer))
     return f"{len(cases)} faulty inputs are answered by {SECOND.by_whom()}"
 
 

@@ -49,7 +49,7 @@ class Checks(unittest.TestCase):
             with long.open("wb") as file:
                 file.truncate(2**20 + 1)
             usage = "# usage: check.js check|model|confirm|cancel STATEMENT EVIDENCE\n"
-            for words, status, out in (
+            cases: List[Tuple[List[object], int, str]] = [
                 ([], 2, usage), (["check", statement], 2, usage), (["prove", statement, evidence], 2, usage),
                 (["check", statement, evidence, "x"], 2, usage), (["check", "missing", evidence], 4, "# load failed missing\n"),
                 (["check", statement, folder], 4, f"# load failed {folder}\n"), (["check", long, "missing"], 4, "# load failed missing\n"),
@@ -57,7 +57,8 @@ class Checks(unittest.TestCase):
                 (["check", statement, evidence], 0, "# block 1 accepted claim 1 denominator 1\n"),
                 (["model", statement, evidence], 7, "# refused K7\n"), (["check", evidence, statement], 3, "# refused S3 line 1 column 1\n"),
                 (["check", statement, statement], 7, "# refused K2 line 1\n"),
-            ):  # fmt: skip
+            ]  # fmt: skip
+            for words, status, out in cases:
                 with self.subTest(words):
                     self.assertEqual(self.answer(words), (status, out, ""))
         with open("/dev/full", "wb") as full:

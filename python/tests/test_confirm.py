@@ -15,10 +15,9 @@ from typing import Callable, Dict, Iterator, List
 from opprove.checkers import confirm
 import confirm_rows
 import drawing
-from opprove.checkers.check import Problem, Refusal
+from opprove.checkers.check import DONE, Problem, Refusal
 from opprove.checkers.confirm import Bases, Order, Poly, Rules, as_texts, gcd_of, text_of
-from opprove.checkers.check import DONE
-from trying import NUMBER, PROGRAM, Answer, built, decided, is_built, lowered, need, replaced, run, with_line
+from trying import NUMBER, PROGRAM, Answer, built, decided, is_built, lowered, need, replaced, run, twice_or_not, with_line
 from trying_second import UNREAD_EVIDENCE, Files, Second, files_in
 
 COUNT = 40  # random statements
@@ -61,7 +60,7 @@ def changed(text: str, letters: List[str]) -> Iterator[str]:
         if line.startswith(("rule ", "rest ")):
             yield from replaced(line, r"(?<= )[^ 0-9+-][^ ]*", lambda found: [letter for letter in letters if letter != found][:2])
             yield from replaced(line, r"(?<= )[+-](?= )", lambda sign: "+-"["-+".index(sign)])
-            yield from ([], [line, line])
+            yield from twice_or_not(line)
 
     return itertools.chain(with_line(text, others), lowered(text, ("rule ", "rest ")))
 

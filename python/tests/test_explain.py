@@ -17,12 +17,11 @@ from opprove.checkers import explain
 import explain_rows
 from opprove.translations import chain as chain_tool
 import test_chains
-from opprove.checkers.check import Certificate, Evidence, Poly, Problem, Refusal, Share, judge
+from opprove.checkers.check import DONE, FAULTY, REFUSED, Certificate, Evidence, Poly, Problem, Refusal, Share, judge, status_of
 from opprove.checkers.chain_text import Texts
-from opprove.checkers.check import DONE, FAULTY, REFUSED, status_of
 from drawing import Rows
 from explain_rows import Run
-from trying import NUMBER, PROGRAM, Answer, built, decided, is_built, need, replaced, run, stored, tool, typeset, with_line
+from trying import NUMBER, PROGRAM, Answer, built, decided, is_built, need, replaced, run, stored, tool, twice_or_not, typeset, with_line
 from trying_second import UNREAD, Files, Second, files_in
 
 COUNT = 72  # random certificates
@@ -249,8 +248,12 @@ def plainly(statement: Path, evidence: Path) -> str:
 
 def changed(text: str) -> Iterator[str]:
     """The text with one change: of a number, or of a row that is left out or comes twice."""
-    moves = lambda line: [[], [line, line]] * line.startswith("row ")
-    return with_line(text, lambda line: [*replaced(line, NUMBER, lambda number: [int(number) + 1]), *moves(line)])
+
+    def others(line: str) -> Iterator[List[str]]:
+        yield from replaced(line, NUMBER, lambda number: [int(number) + 1])
+        yield from twice_or_not(line) if line.startswith("row ") else ()
+
+    return with_line(text, others)
 
 
 def examples(folder: Path) -> str:
@@ -332,8 +335,8 @@ def latex(folder: Path) -> str:
     for statement, evidence in stored():
         text = plainly(statement, evidence) if "refused" not in evidence.stem else "certificate 2"
         cases += [] if "certificate 2" in text else [(statement.read_text("utf-8"), text)]
-    for statement, evidence in cases:
-        files.write(statement, evidence)
+    for texts_of_it in cases:
+        files.write(*texts_of_it)
         chain = folder / "typeset.chain"
         chain.write_text(explained(files).out, encoding="utf-8")
         bodies += set_text(files.statement, chain, "--latex").out.split("\n")

@@ -14,14 +14,13 @@ import sys
 import time
 from pathlib import Path
 from random import Random
-from typing import Callable, Dict, List, NamedTuple, Optional, Tuple
+from typing import Callable, Dict, FrozenSet, List, NamedTuple, Optional, Tuple
 
-from opprove.search import join
-from opprove.search import variants
+from opprove.search import join, variants
 import drawing
 from drawing import Rows
 from opprove.checkers.check import Certificate, Evidence, Poly, Problem, Refusal, Row, Share, add, judge, sum_text
-from trying import EXAMPLES, GALLERY, LIBRARY, PROGRAM, Answer, Skipped, built, checker, is_built, main, need, run, tool
+from trying import EXAMPLES, GALLERY, LIBRARY, PROGRAM, Answer, Skipped, built, checker, is_built, main, need, run, tool, wrong_words
 
 os.environ["OPPROVE"] = str(PROGRAM)
 COUNT = 20  # random pairs
@@ -46,7 +45,7 @@ SELECTIONS = [  # the selection, a label, and the numbers of the equations of SM
     ("light", "2", [1, 2, 3, 4, 7, 9]), ("light", "8", list(range(1, 10))), ("given", "", [1, 2, 3, 4, 5, 6, 7, 8]),
     ("whole", "", list(range(1, 10))),
 ]  # fmt: skip
-ORDERS = [  # the order, its lines on all of SMALL, whether maps come from the last to the first, whether adjoints are below
+ORDERS: List[Tuple[str, Optional[List[str]], bool, bool]] = [  # the order, its lines on all of SMALL, whether maps come from the last to the first, whether adjoints are below
     ("written", [], False, False), ("defined", ["order weight y 3"], False, False),
     ("eliminated", ["eliminate y"], False, False), ("hidden", ["order weight a 4 c 4 d 4"], False, False),
     ("second", ["order weight d 3 x 3"], False, False), ("shown", ["order weight x 4 y 4"], False, False),
@@ -55,7 +54,7 @@ ORDERS = [  # the order, its lines on all of SMALL, whether maps come from the l
 
 
 SECOND = "# of language 2\nlanguage 02\n" + SMALL.replace("y = x c", "y = x c'^2") + "eliminate y\n"
-ORDERS_OF_SECOND = [  # the same of SECOND
+ORDERS_OF_SECOND: List[Tuple[str, Optional[List[str]], bool, bool]] = [  # the same of SECOND
     ("written", ["eliminate y"], False, False), ("defined", ["order weight y 4"], False, False),
     ("eliminated", ["eliminate y"], False, False), ("adjoints", ["eliminate y"], False, True),
     ("backwards", ["eliminate y"], True, False), ("degree", [], False, False),
@@ -104,7 +103,7 @@ def same_values(statement: variants.Statement, path: str, order: variants.Order)
     problem, names = Problem(path), variants.letter_names(statement, order)
     numbers = [statement.problem.numbers[names.get(name, name)] for name in problem.names]
 
-    def moved(poly: Poly) -> frozenset:
+    def moved(poly: Poly) -> FrozenSet[Tuple[Tuple[int, ...], int]]:
         return frozenset((tuple(numbers[letter] for letter in word), value) for word, value in poly.items())
 
     mine = {frozenset(poly.items()) for poly in statement.problem.generators()}
@@ -153,8 +152,12 @@ def drawn_rows(source: Rows) -> List[Row]:
 
 def drawn_pair(draw: Random) -> Optional[Pair]:
     """The lemma is a sum of rows, divided by its scale; its adjoint, its negative or a double may be what is assumed."""
-    sums, text = [drawn_sum(draw) for _ in range(draw.randint(1, 4))], lambda poly: sum_text((first.text(word), poly[word]) for word in poly)
+    sums = [drawn_sum(draw) for _ in range(draw.randint(1, 4))]
     first = Problem(text_with(sums, "a").encode())
+
+    def text(poly: Poly) -> str:
+        return sum_text((first.text(word), value) for word, value in poly.items())
+
     scale, source = draw.choice([1, 1, 2, 3]), Rows(draw, first)
     rows = drawn_rows(source)
     total = source.total(rows)
@@ -250,8 +253,7 @@ def join_refusals(folder: Path) -> str:
         answer = run(*tool("join"), whole, folder / "one.op", folder / "one.cert")
         is_line = answer.error.startswith(line) and answer.error.count("\n") == 1
         need(answer.status in (3, 4, 7) and not answer.out and is_line, (texts, answer))
-    answer = run(*tool("join"), whole)
-    need(answer.status == 2 and answer.error.startswith("usage: opprove join "), answer)
+    wrong_words("join", [whole])
     return f"{len(JOIN_REFUSED) + 1} faults of pieces are told by one line"
 
 
@@ -330,9 +332,9 @@ def kept(folder: Path) -> str:
     statement, keep = LIBRARY / "harder" / "one_sided_beside.op", folder / "kept"
     answer = answer_of(search(statement, "--keep", keep, "--only", "given,defined"))
     need(answer.status == 10 and answer.out.startswith("# claim 1 not derivable rules 14\nbasis 1\n"), answer)
-    words = re.search("^# found by given defined: opprove (.*)$", answer.out, flags=re.MULTILINE).group(1).split(" ")
+    (words,) = re.findall("^# found by given defined: opprove (.*)$", answer.out, flags=re.MULTILINE)
     block = answer.out[: answer.out.index("# found")]
-    for command in (words, ["prove", str(keep / "claim_1_order.op")]):
+    for command in (words.split(" "), ["prove", str(keep / "claim_1_order.op")]):
         again = run(PROGRAM, *command)
         need(again.status == 10 and again.out == block, (command, block, again))
     return "variants that are kept give the same answer by hand"
@@ -372,7 +374,7 @@ def faults(folder: Path) -> str:
     faulty, lemmas, fine = folder / "faulty.op", folder / "faulty_lemmas", EXAMPLES / "pasted_squares.op"
     faulty.write_text("object U\nclaim a = a\n")
     lemmas.write_text("\nassume y a1 = b1 x\n")
-    cases = [
+    cases: List[Tuple[List[object], int, str, str]] = [
         ([faulty], 3, "# refused S6 line 2 column 7\n", ""), ([folder / "missing"], 4, f"# load failed {folder / 'missing'}\n", ""),
         ([fine, "--lemmas", lemmas], 3, "", "# refused S3 line 2 column 1\n"),
         ([fine, "--lemmas", folder / "missing"], 4, "", f"# load failed {folder / 'missing'}\n"),
@@ -382,9 +384,7 @@ def faults(folder: Path) -> str:
         answer = answer_of(search(*words))
         is_line = answer.error.startswith(error) and answer.error.count("\n") == (error != "")
         need((answer.status, answer.out) == (status, out) and is_line, (words, answer))
-    for wrong in ([fine, "--only", "nothing"], []):
-        answer = answer_of(search(*wrong))
-        need((answer.status, answer.out) == (2, "") and answer.error.startswith("usage: opprove search "), (wrong, answer))
+    wrong_words("search", [fine, "--only", "nothing"], [])
     answer = answer_of(search(fine, OPPROVE=str(folder / "missing")))
     need(answer.status == 1 and not answer.out and answer.error.count("\n") == 1, answer)
     return f"{len(cases) + 3} faults of a search are told by one line"

@@ -116,11 +116,11 @@ def reports_in_front(folder: Path) -> str:
     """The examples of language 1 are answered by the same bytes with `language 2` in front, in both formats."""
     program, path, count = built(), folder / "row.op", 0
     for example in filter(lambda example: not is_second(example), [*EXAMPLES.glob("*.op"), *GALLERY.values()]):
-        for words in ([], ["--format", "1"]):
+        for number in (1, 2):
             path.write_bytes(example.read_bytes())
-            answer = run(program, "prove", path, *words)
+            answer = run(program, "prove", path, "--format", number)
             path.write_bytes(b"language 2\n" + example.read_bytes())
-            need(run(program, "prove", path, *words) == answer, (example, words, answer))
+            need(run(program, "prove", path, "--format", number) == answer, (example, number, answer))
             count += 1
     need(count > 20, count)
     return f"{count} reports on the examples of language 1 have the same bytes with `language 2` in front"

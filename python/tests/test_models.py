@@ -7,10 +7,9 @@ from pathlib import Path
 from typing import Callable, Dict, Iterator, List, Optional, Tuple
 
 import trying_node
-from opprove.checkers import candidates
-from opprove.checkers import check_model
+from opprove.checkers import candidates, check_model, tree
 from opprove.checkers.check import Problem, Refusal
-from trying import GALLERY, PROGRAM, Answer, built, by_whom, checker, decided, is_built, need, run, with_line
+from trying import GALLERY, PROGRAM, Answer, built, by_whom, checker, decided, is_built, need, run, twice_or_not, with_line
 from trying_second import Second
 
 SECOND = Second(check_model)
@@ -177,8 +176,8 @@ def changed(text: str) -> Iterator[str]:
 
     def others(line: str) -> Iterator[List[str]]:
         found = [re.sub("[0-9]+", "0", line), re.sub("[0-9]+", lambda match: str(int(match.group()) + 1), line)]
-        found += [re.sub(rf"\b{name}\b", other, line) for name, other in ("UV", "VU", "ax", "xa", "ba", "bp", "pa")]
-        yield from ([], [line, line], *([other] for other in found if other != line))
+        found += [re.sub(rf"\b{name}\b", other, line) for name, other in zip("UVaxbbp", "VUxaapa")]
+        yield from [*twice_or_not(line), *([other] for other in found if other != line)]
 
     return with_line(text, others)
 
@@ -278,7 +277,7 @@ def greedy_solutions(folder: Path) -> str:
     for text in GREEDY:
         statement.write_text(text)
         problem = Problem(str(statement))
-        for search in [candidates.Search(problem, shape) for shape in candidates.shapes_of(problem)]:
+        for search in [candidates.Search(problem, shape) for shape in tree.shapes_of(problem)]:
             for _ in range(12):
                 draws = [next(words) % search.shape.modulus for _ in range(search.entries)]
                 found.append(search.greedy_values(draws))

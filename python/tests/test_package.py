@@ -17,11 +17,11 @@ from pathlib import Path
 from functools import reduce
 from operator import mul
 from random import Random
-from typing import Callable, Dict, List, NamedTuple, Tuple, Union
+from typing import Any, Callable, Dict, List, NamedTuple, Tuple, Type, Union
 from unittest import mock
 
-from opprove import program as programs
-from opprove import text
+import test_types
+from opprove import program as programs, text
 from opprove.checkers import check
 from opprove.text import StatementText
 from opprove import Equation, Expression, NotTyped, Object, Refused, Report, Statement, Verdict, from_sympy
@@ -103,20 +103,21 @@ class Builder:
             elif line.word == "order":
                 s.write("order degree")
 
-    def equation(self, one: text.Equation) -> Equation:
+    def equation(self, one: text.Equation) -> Any:
         left, right = self.value(one.left), self.value(one.right)
         return (left * right if isinstance(left, int) else left) == right  # as 0 alone has no ends
 
-    def value(self, node: text.Expression) -> Union[Expression, int]:
+    def value(self, node: text.Expression) -> Any:
         parts = [self.value(part) for part in node.parts]
         if node.kind == "sum":
             pairs = zip(node.parts[1:], parts[1:])
             return reduce(lambda total, pair: total - -pair[1] if pair[0].kind == "negative" else total + pair[1], pairs, parts[0])
-        return {
+        ways: Dict[str, Callable[[], Any]] = {
             "map": lambda: self.statement[node.name], "identity": lambda: self.statement[node.name].id, "zero": lambda: 0,
             "product": lambda: reduce(mul, parts), "scaled": lambda: node.number * parts[0], "negative": lambda: -parts[0],
             "adjoint": lambda: parts[0].H, "power": lambda: parts[0] ** node.number,
-        }[node.kind]()  # fmt: skip
+        }  # fmt: skip
+        return ways[node.kind]()
 
 
 def polys(problem: check.Problem) -> Tuple[object, ...]:
@@ -160,7 +161,7 @@ def heads(folder: Path) -> str:
         is_false = path.stem in ("braid_relation", "one_sided_inverse", "two_sided_equation_condition")
         more = s.refute(program=program()) if is_false else s.prove("--format", 1, *options.split(), program=program())
         count += sum([confirmed(verdict) for verdict in verdicts + more])
-        proofs += [verdict._repr_latex_() for verdict in verdicts if verdict]
+        proofs += [verdict._repr_latex_() or "" for verdict in verdicts if verdict]
     need(count >= 38 and len(paths) >= 12, (count, paths))
     if shutil.which("pdflatex"):
         typeset(proofs, folder)
@@ -224,14 +225,12 @@ def stored(folder: Path) -> str:
 
 # ---- Expressions
 
-Poly = Dict[Tuple[str, ...], int]  # words of letters as they are written
-
 
 class Sample(NamedTuple):
     """An expression, and what it has to multiply out to."""
 
     expression: Expression
-    poly: Poly
+    poly: check.Poly
 
 
 class Samples:
@@ -239,14 +238,12 @@ class Samples:
 
     def __init__(self, seed: int) -> None:
         self.random, self.statement = Random(seed), Statement()
-        objects = self.statement.objects("U V")
-        self.objects = objects
-        U, V = objects
+        U, V = self.objects = self.statement.objects("U V")
         maps = [*self.statement.maps("a b", U, V), self.statement.map("c", V, U), self.statement.map("e", U, U)]
         maps.append(self.statement.map("p", V, V, self_adjoint=True))
         self.statement.claim(maps[0] == 0)
-        self.maps = [Sample(a, {(a.text,): 1}) for a in maps]
-        self.maps += [Sample(end.id, {(f"[{end}]",): 1}) for end in objects]
+        self.problem = problem_of(str(self.statement))
+        self.maps = [Sample(one, {(self.problem.numbers[one.text],): 1}) for one in [*maps, U.id, V.id]]
 
     def sample(self, source: Object, target: Object, depth: int) -> Sample:
         fitting = [one for one in self.maps if (one.expression.source, one.expression.target) == (source, target)]
@@ -274,7 +271,7 @@ class Samples:
 
     def adjoint(self, source: Object, target: Object, depth: int) -> Sample:
         one = self.sample(target, source, depth)
-        return Sample(one.expression.H, {tuple(starred(letter) for letter in word[::-1]): one.poly[word] for word in one.poly})
+        return Sample(one.expression.H, self.problem.star(one.poly))
 
     def signed(self, source: Object, target: Object, depth: int) -> Sample:
         one = self.sample(source, target, depth)
@@ -282,30 +279,21 @@ class Samples:
 
     def power(self, source: Object, target: Object, depth: int) -> Sample:
         one, exponent = self.sample(source, target, depth), self.random.randint(0, 2)
-        poly: Poly = one.poly if exponent else {(f"[{source}]",): 1}
+        poly = one.poly if exponent else {(self.problem.numbers[f"[{source}]"],): 1}
         for _ in range(exponent - 1):
             poly = times(poly, one.poly)
         return Sample(one.expression**exponent, poly)
 
     def beside_integer(self, source: Object, target: Object, depth: int) -> Sample:
         one, number = self.sample(source, target, depth), self.random.randint(-3, 3)
-        unit: Poly = {(f"[{source}]",): number} if number else {}
-        result, signs = self.random.choice(
-            [
-                (lambda e: e + number, (1, 1)), (lambda e: number + e, (1, 1)),
-                (lambda e: e - number, (1, -1)), (lambda e: number - e, (-1, 1)),
-            ]
-        )  # fmt: skip
-        return Sample(result(one.expression), check.add(check.add({}, signs[0], one.poly), signs[1], unit))
+        unit: check.Poly = {(self.problem.numbers[f"[{source}]"],): number} if number else {}
+        e = one.expression
+        result, signs = self.random.choice([(e + number, (1, 1)), (number + e, (1, 1)), (e - number, (1, -1)), (number - e, (-1, 1))])
+        return Sample(result, check.add(check.add({}, signs[0], one.poly), signs[1], unit))
 
 
-def starred(letter: str) -> str:
-    is_own = letter[0] == "[" or letter == "p"
-    return letter if is_own else letter[:-1] if letter[-1] == "'" else letter + "'"
-
-
-def times(left: Poly, right: Poly) -> Poly:
-    total: Poly = {}
+def times(left: check.Poly, right: check.Poly) -> check.Poly:
+    total: check.Poly = {}
     for word, coefficient in left.items():
         check.add(total, coefficient, right, left=word)
     return total
@@ -314,24 +302,23 @@ def times(left: Poly, right: Poly) -> Poly:
 def expressions(folder: Path) -> str:
     """The written text of random expressions has, by check.py, the polynomial that they were multiplied out to."""
     samples = Samples(7)
-    problem = problem_of(str(samples.statement))
+    problem = samples.problem
     for number in range(1000):
         source, target = (samples.random.choice(samples.objects) for _ in range(2))
         one = samples.sample(source, target, samples.random.randint(1, 5))
         line = check.Line(check.tokens_of(one.expression.text, 1), problem)
         ends, poly = line.sum()
-        need(line.is_at("end"), one)
-        written = {tuple(problem.names[letter] for letter in word): value for word, value in poly.items()}
-        need(written == one.poly, (one, written))
-        need(tuple(problem.names[end] for end in ends) == (f"[{source}]", f"[{target}]"), (one, ends))
+        need(line.is_at("end") and poly == one.poly, (one, poly))
+        need(ends == (problem.numbers[f"[{source}]"], problem.numbers[f"[{target}]"]), (one, ends))
     return f"{number + 1} random expressions are written as what they multiply out to"
 
 
-def raised(action: Callable[[], object], kind: type, message: str, status: int = 0) -> None:
+def raised(action: Callable[[], object], kind: Type[Exception], message: str, status: int = 0) -> None:
     try:
         found: object = action()
     except kind as error:
-        need(getattr(error, "line", str(error)) == message and (not status or error.status == status), (error, message))
+        found = getattr(error, "line", str(error)), status and getattr(error, "status", 0)
+        need(found == (message, status), (error, message))
         return
     raise Failed(f"{message}: not raised, but {found!r}")
 
@@ -340,8 +327,8 @@ def refusals(folder: Path) -> str:
     """What doesn't fit is refused at once, and faults of files by their lines."""
     s, other = Statement(), Statement()
     U, V = s.objects("U V")
-    a, x, b = s.map("a", U, V), s.map("x", V, U), other.map("b", *other.objects("U V"))
-    cases = [
+    a, x, b = s.map("a", U, V), s.map("x", V, U), other.map("b", other.object("U"), other.object("V"))
+    cases: List[Tuple[Callable[[], object], str]] = [
         (lambda: a * a, "a : U -> V doesn't compose with a : U -> V"),
         (lambda: a**2, "a : U -> V doesn't compose with a : U -> V"),
         (lambda: a**0, "a : U -> V doesn't compose with a : U -> V"),
@@ -389,9 +376,10 @@ def sympy(folder: Path) -> str:
         found = from_sympy(expression, maps)
         values = [check.Line(check.tokens_of(text, 1), problem).sum() for text in (str(found), str(want))]
         need(values[0] == values[1], (expression, found, want))
+    equation = sympy.Eq(A * X, 1)  # type: ignore[no-untyped-call]
     need(from_sympy(sympy.Integer(2), maps) == 2, "an integer")
-    need(str(from_sympy(sympy.Eq(A * X, 1), maps)) == "a x = [V]", "an equation")
-    for expression in (A / 2, sympy.Symbol("a") * A, A**-1, sympy.Symbol("q", commutative=False), sympy.sin(A)):
+    need(str(from_sympy(equation, maps)) == "a x = [V]", "an equation")
+    for expression in (A / 2, sympy.symbols("a") * A, A**-1, sympy.symbols("q", commutative=False), sympy.sin(A)):
         try:
             need(False, (expression, from_sympy(expression, maps)))
         except TypeError:
@@ -445,10 +433,10 @@ def scripts(folder: Path) -> str:
     script, other = map(str, paths)
     s, none = Statement.read(EXAMPLES / "equal_maps.op"), "opprove isn't in PATH: name the program by program=, or by OPPROVE"
     with mock.patch.object(programs, "BUILT", folder / "none"):
-        for named in ({}, {"OPPROVE": script}):
-            with mock.patch.dict(os.environ, {"PATH": f"{paths[0].parent}:{paths[1].parent}", "OPPROVE": "", **named}):
+        for named in ("", script):
+            with mock.patch.dict(os.environ, PATH=f"{paths[0].parent}:{paths[1].parent}", OPPROVE=named):
                 need(programs.path() == other, (named, programs.path()))
-            with mock.patch.dict(os.environ, {"PATH": str(paths[0].parent), "OPPROVE": "", **named}):
+            with mock.patch.dict(os.environ, PATH=str(paths[0].parent), OPPROVE=named):
                 need(programs.path() == str(folder / "none"), (named, programs.path()))
                 raised(s.prove, FileNotFoundError, none)
     raised(lambda: s.prove(program=script), FileNotFoundError, f"{script} runs the tools of this package, and isn't the program")
@@ -476,14 +464,14 @@ def real_statuses(folder: Path) -> str:
 def notebook(folder: Path) -> str:
     """What a notebook shows: pictures that are XML, and proofs that are typeset."""
     for path in STATEMENTS:
-        found = xml.etree.ElementTree.fromstring(Statement.read(path)._repr_svg_())
+        found = xml.etree.ElementTree.fromstring(Statement.read(path)._repr_svg_() or "")
         need(found.tag == "{http://www.w3.org/2000/svg}svg", path)
     need(Statement()._repr_svg_() is None, "a picture of nothing")
     proofs = []
     for path in sorted(EXAMPLES.glob("*.cert")):
         if path.stem in ("pasted_squares", "one_sided_inverses", "pseudoinverses"):
             s = Statement.read(path.with_suffix(".op"))
-            proofs.append(Verdict(1, s.claims[0], "proved", "denominator 1", path.read_text(), str(s))._repr_latex_())
+            proofs.append(Verdict(1, s.claims[0], "proved", "denominator 1", path.read_text(), str(s))._repr_latex_() or "")
     typeset(proofs, folder)
     return f"pictures are XML, and {len(proofs)} proofs are typeset by pdflatex"
 
@@ -523,7 +511,7 @@ import opprove
 from pathlib import Path
 print(*sorted(path.name.split("-")[0] for path in Path(opprove.__file__).parents[1].iterdir() if "opprove" in path.name or path.suffix == ".py"))
 """
-HERE = "import sys, test_package, trying; sys.exit(trying.main(test_package.CHECKS[:-1]))"
+HERE = "import sys, test_package, trying; sys.exit(trying.main(test_package.CHECKS[:-2]))"
 
 
 def builder() -> str:
@@ -558,4 +546,5 @@ def patiently(*words: object, **more: str) -> None:
 
 CHECKS: List[Callable[[Path], str]] = [
     gallery, expressions, refusals, stored, statuses, scripts, sympy, notebook, real_statuses, heads, in_words, in_venv,
+    lambda folder: test_types.types(folder, TESTS),
 ]  # fmt: skip

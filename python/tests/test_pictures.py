@@ -11,7 +11,7 @@ from typing import Callable, List
 
 from opprove.translations import picture
 from opprove.checkers.check import Problem
-from trying import EXAMPLES, STATEMENTS, Answer, Skipped, installed, need, run, tool, typeset
+from trying import EXAMPLES, STATEMENTS, Answer, Skipped, installed, need, run, tool, typeset, wrong_words
 
 
 # Statements whose pictures are hard: names beyond ASCII and long ones, many maps with the same ends, objects with no map,
@@ -74,9 +74,7 @@ def known() -> str:
     stored = (EXAMPLES / "tools" / "pasted_squares.svg").read_text()
     call = tool("picture")
     need(run(*call, path) == Answer(0, stored, ""), "another picture than the stored one")
-    for words in ([], [path, path], [path, "--svg"], [path, "--dot", "--tikz"]):
-        answer = run(*call, *words)
-        need(answer.status == 2 and not answer.out and answer.error.startswith("usage: opprove picture "), (words, answer))
+    wrong_words("picture", [], [path, path], [path, "--svg"], [path, "--dot", "--tikz"])
     answer = run(*call, EXAMPLES / "missing.op", "--dot")
     need(answer == Answer(4, "", f"# load failed {EXAMPLES / 'missing.op'}\n"), answer)
     return "two squares side by side are two rows of three, as stored"

@@ -105,7 +105,7 @@ class Refused(Served):
     def test_what_is_refused(self) -> None:
         path, look = urlsplit(self.address).path, {"statement": INVERSES}
         own = f"http://{self.host}"
-        for want, method, asked, sent, headers in (
+        cases: List[Tuple[int, str, str, Any, Dict[str, Optional[str]]]] = [
             (200, "GET", path, None, {}),
             (403, "GET", "/", None, {}), (403, "GET", "/x" + path[2:], None, {}), (403, "GET", path[:-2] + "/", None, {}),
             (403, "GET", path, None, {"Host": "localhost:" + self.host.split(":")[1]}), (403, "GET", path, None, {"Host": "evil.example"}),
@@ -126,7 +126,8 @@ class Refused(Served):
             (400, "POST", path + "prove", look, {}), (400, "POST", path + "prove", {**look, **BUDGETS, "pairs": 10**7}, {}),
             (400, "POST", path + "search", {**look, "seconds": "60"}, {}), (404, "POST", path + "stop", {"run": 3}, {}),
             (501, "PUT", path, b"", {}),
-        ):  # fmt: skip
+        ]  # fmt: skip
+        for want, method, asked, sent, headers in cases:
             with self.subTest(method=method, path=asked, headers=headers, sent=sent):
                 self.assertEqual(self.ask(method, asked, sent, **headers)[0], want)
 

@@ -17,7 +17,7 @@ from opprove.translations.chain import Reader, length
 from opprove.translations.least_sum import Effort, least
 from drawing import Rows
 from test_chains import drawn
-from trying import EXAMPLES, LIBRARY, PROGRAM, Answer, need, run, tool
+from trying import EXAMPLES, LIBRARY, PROGRAM, Answer, need, run, tool, wrong_words
 
 TOOL = tool("shortest")
 Edge = Tuple[int, int, int]  # from, to and length
@@ -113,9 +113,7 @@ def searched(folder: Path) -> str:
     need(answer == Answer(0, "# block 1 accepted claim 1 denominator 1\n", ""), answer)
     answer = run(*TOOL, LIBRARY / "false" / "one_sided_inverse.op", "--seconds", 2)
     need(answer == Answer(12, "# claim 1: no proof was found\n", ""), answer)
-    for words in ([], [statement, "--steps", "0"], [statement, report, report]):
-        answer = run(*TOOL, *words)
-        need(answer.status == 2 and not answer.out and answer.error.startswith("usage: opprove shortest "), (words, answer))
+    wrong_words("shortest", [], [statement, "--steps", "0"], [statement, report, report])
     return "shortest finds the least denominator and few steps, and refuses what is wrong"
 
 

@@ -12,7 +12,6 @@ import os
 import random
 import re
 import sys
-import tempfile
 from pathlib import Path
 from typing import Callable, Dict, Iterator, List, NamedTuple, Tuple
 from unittest.mock import patch
@@ -104,7 +103,7 @@ def is_run(case: Case) -> bool:
     return case.name not in NOT_RUN and is_built()
 
 
-def write(folder: Path) -> None:
+def write(folder: Path) -> str:
     texts = []
     for case in cases():
         with inside(folder, case):
@@ -116,6 +115,7 @@ def write(folder: Path) -> None:
     for short, text in short_texts().items():
         whole = whole.replace(text, short)
     CASES.write_text(f"{front}\n{whole}")
+    return f"{len(texts)} answers are written"
 
 
 # ---- What is often typed
@@ -247,7 +247,4 @@ def stored_words(folder: Path) -> str:
 CHECKS: List[Callable[[Path], str]] = [stored_words, typed_mistakes, edits, editor]
 
 if __name__ == "__main__":
-    if sys.argv[1:] == ["--write"]:
-        with tempfile.TemporaryDirectory() as name:
-            write(Path(name))
-    sys.exit(main(CHECKS))
+    sys.exit(main([write, *CHECKS] if sys.argv[1:] == ["--write"] else CHECKS))

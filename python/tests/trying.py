@@ -9,7 +9,7 @@ import subprocess
 import sys
 import tempfile
 from pathlib import Path
-from typing import Callable, Iterable, Iterator, List, NamedTuple, Tuple
+from typing import Callable, Iterable, Iterator, List, NamedTuple, Sequence, Tuple
 
 from opprove.checkers.check import Refusal
 
@@ -133,6 +133,11 @@ def with_line(text: str, others: Callable[[str], Iterable[List[str]]]) -> Iterat
             yield "\n".join([*lines[:place], *instead, *lines[place + 1 :]])
 
 
+def twice_or_not(line: str) -> List[List[str]]:
+    """What may stand in the place of a line: nothing, or the line twice."""
+    return [[], [line, line]]
+
+
 def replaced(line: str, pattern: str, others: Callable[[str], Iterable[object]]) -> Iterator[List[str]]:
     """The line with others in the place of what fits the pattern."""
     for match in re.finditer(pattern, line):
@@ -160,6 +165,21 @@ def checker(name: str) -> List[str]:
 def need(condition: object, what: object) -> None:
     if not condition:
         raise Failed(str(what))
+
+
+def wrong_words(name: str, *calls: Sequence[object]) -> None:
+    """Fails unless a tool answers each of these words by how it is called."""
+    for words in calls:
+        answer = run(*tool(name), *words)
+        need(answer.status == 2 and not answer.out and answer.error.startswith(f"usage: opprove {name} "), (words, answer))
+
+
+def parts_of(pattern: str, text: str) -> Tuple[str, ...]:
+    """Those of a pattern, which the whole text has to fit."""
+    match = re.fullmatch(pattern, text)
+    if not match:
+        raise Failed(f"{text!r} isn't {pattern}")
+    return match.groups()
 
 
 def build(name: str, folder: Path) -> str:

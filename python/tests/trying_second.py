@@ -100,7 +100,7 @@ class Second:
             for name, line in (("missing", "# load failed missing\n"), ("long", f"# too long long limit {2**26}\n")):
                 answer = run(*program, files.statement, name, folder=folder)
                 need(answer == Answer(check.NOT_LOADED, line, ""), (program, name, answer))
-            paths = [files.statement, files.evidence]
+            paths: List[object] = [files.statement, files.evidence]
             for words in (paths[:1], [*paths, files.evidence], [*paths, *more]):
                 answer = run(*program, *words)
                 need(answer.status == check.USAGE and re.fullmatch("# usage: .*\n", answer.out) is not None, (program, words, answer))

@@ -31,7 +31,8 @@ if TYPE_CHECKING:
     from opprove.statements import Statement
     from opprove.sympy_expressions import from_sympy
     from opprove.verdicts import Proof, Report, Verdict
-    from opprove.version import VERSION as __version__
+
+    __version__: str
 
 __all__ = ["Equation", "Expression", "NotTyped", "Object", "Proof", "Refused", "Report", "Statement", "Verdict", "from_sympy"]
 

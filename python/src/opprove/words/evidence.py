@@ -6,9 +6,7 @@ import functools
 import re
 from typing import Iterator, List, NamedTuple, Optional, Tuple
 
-from opprove.checkers import cancel
-from opprove.checkers import check_model
-from opprove.checkers import confirm
+from opprove.checkers import cancel, check_model, confirm
 from opprove.checkers.chain_text import BOUNDS, Lines
 from opprove.checkers.check import Evidence, Poly, Problem, add, greatness, is_letter, sum_text
 from opprove.checkers.confirm import is_number
