@@ -124,8 +124,6 @@ pub const PROVED: &[CallRow] = &[
 /// Claims that are proved, by rows over generators alone.
 pub const PROVED_PLAINLY: &[CallRow] = &[
     (PLAIN, REFLEXIVE, TRUE_PLAINLY),
-    (PLAIN, GREATEST, TRUE_PLAINLY),
-    (PLAIN, BRACKETS_64, TRUE_PLAINLY),
     (
         PLAIN,
         DOUBLED,
@@ -146,6 +144,8 @@ pub const PROVED_PLAINLY: &[CallRow] = &[
         WEIGHTED,
         "0 # claim 1 proved denominator 1 rows 2\ncertificate 1\nclaim 1\ndenominator 1\nrow -1 () 1 (b)\nrow -1 (a a) 1 ()\nend\n",
     ),
+    (PLAIN, GREATEST, TRUE_PLAINLY),
+    (PLAIN, BRACKETS_64, TRUE_PLAINLY),
 ];
 
 /// Claims that no positive multiple of is a combination of the generators, and claims that are left undecided.
