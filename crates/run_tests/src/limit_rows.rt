@@ -79,8 +79,8 @@ const DOUBLED: &[Part] = &[Plain("object U\nmap x : U -> U\nassume 2 x = 0\nclai
 
 const MODEL_BLOCK: &str = "model 1\nclaim 1\nmodulus 2\nside U 1\nmap x = 1\nend\n";
 
-/// Each limit but those on the bytes of a file.
-pub const LIMITS: &[LimitRow] = &[
+/// The limits on blocks of models, and on the letters of a word that a certificate makes.
+pub const BLOCKS: &[LimitRow] = &[
     // models, beside which a block of another kind isn't counted
     (
         MODEL,
@@ -112,6 +112,10 @@ pub const LIMITS: &[LimitRow] = &[
         ],
         &[Plain("7 # block 1 refused C9 lemma 1\n")],
     ),
+];
+
+/// Each limit but those on the bytes of a file.
+pub const LIMITS: &[LimitRow] = &[
     // letters of a name
     (
         CHECK,

@@ -1,5 +1,5 @@
 //! Runs over files at each limit and one past it, which are put together from parts.
-use crate::limit_rows::{LIMITS, LimitRow, Part, SIZES};
+use crate::limit_rows::{BLOCKS, LIMITS, LimitRow, Part, SIZES};
 use crate::tests::answer;
 use std::alloc::{AllocError, Global};
 use std::process::Abort;
@@ -191,6 +191,15 @@ pub fn tell_limits<R: Threads + Sync + Abort>(
 
 #[test]
 fn limits_are_where_they_are_said(rt: HostRuntime) -> Result<(), Fail> {
-    tell_limits(&rt, rt.alloc(), LIMITS)?;
+    tell_limits(&rt, rt.alloc(), LIMITS)
+}
+
+#[test]
+fn files_are_read_up_to_their_limits(rt: HostRuntime) -> Result<(), Fail> {
     tell_limits(&rt, rt.alloc(), SIZES)
+}
+
+#[test]
+fn blocks_of_models_and_words_of_certificates_are_limited(rt: HostRuntime) -> Result<(), Fail> {
+    tell_limits(&rt, rt.alloc(), BLOCKS)
 }

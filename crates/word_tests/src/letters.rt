@@ -54,8 +54,9 @@ fn names_are_declared_once_and_loops_alone_are_their_own_adjoints(
     rt: HostRuntime,
 ) -> Result<(), Fail> {
     let mut quiver = two_maps(rt.alloc())?;
+    let mut other = two_maps(rt.alloc())?;
     let again = quiver.add_object("a");
-    let no_loop = quiver.add_map("p", Object(0), Object(1), true);
+    let no_loop = other.add_map("p", Object(0), Object(1), true);
     assert!(rt; matches!(again, Err(QuiverStop::Fault(QuiverFault::DoubleName))));
     assert!(rt; matches!(no_loop, Err(QuiverStop::Fault(QuiverFault::NotSquare))));
     Ok(())
