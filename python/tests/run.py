@@ -2,8 +2,8 @@
 """Runs the tests of the package: run.py [--quick | NAME ..], each a file test_NAME.py beside this one; all where none is named.
 
 --quick runs those that the gate names, in under two minutes. A test that wants a program which isn't installed says so in a line.
-OPPROVE names the program that answers are compared with; where none is built, what asks for it is skipped. The status is 0 where
-nothing failed.
+OPPROVE names the program that answers are compared with; where none is built, what asks for it is skipped. OPPROVE_PATIENCE=10 waits ten
+times as long, on a busy machine. The status is 0 where nothing failed.
 """
 from __future__ import annotations
 

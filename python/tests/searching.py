@@ -12,6 +12,7 @@ from typing import List, NamedTuple
 
 import opprove
 from opprove import program
+from trying import PATIENCE
 
 ROOT = Path(opprove.__file__).resolve().parents[3]
 SOURCES = str(Path(opprove.__file__).resolve().parents[1])
@@ -66,7 +67,7 @@ def environment(**more: str) -> "dict[str, str]":
 def tool(*words: object, seconds: int = 200, python: str = sys.executable) -> Answer:
     """The answer of `opprove WORD ..`."""
     command = [python, "-m", "opprove", *map(str, words)]
-    done = subprocess.run(command, stdout=subprocess.PIPE, stderr=subprocess.PIPE, env=environment(), timeout=seconds, cwd=ROOT)
+    done = subprocess.run(command, stdout=subprocess.PIPE, stderr=subprocess.PIPE, env=environment(), timeout=seconds * PATIENCE, cwd=ROOT)
     return Answer(done.returncode, done.stdout.decode(), done.stderr.decode())
 
 

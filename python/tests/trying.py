@@ -28,6 +28,7 @@ STATEMENTS = sorted([*EXAMPLES.glob("**/*.op"), *GALLERY.values(), *LIBRARY.glob
 os.environ["PYTHONPATH"] = f"{SOURCE}:{TESTS}"  # for the scripts that are run
 # The program that OPPROVE names, and else that of a gate here, or of `./opprove build`.
 BUILT = [TOP / "crates" / "opprove" / "out" / "opprove", TOP / "out" / "opprove"]
+PATIENCE = int(os.environ.get("OPPROVE_PATIENCE") or 1)  # how many times the seconds that programs have, on a busy machine
 PROGRAM = Path(os.environ.get("OPPROVE") or str(next((path for path in BUILT if path.exists()), BUILT[1]))).resolve()
 
 
@@ -53,11 +54,11 @@ class Answer(NamedTuple):
 
 
 def run(*words: object, folder: Path = TOP, seconds: int = 120) -> Answer:
-    """The answer of a program, which gets no input, and two minutes where nothing else is said."""
+    """The answer of a program, which gets no input, and two minutes times the patience where nothing else is said."""
     command = [str(word) for word in words]
     environment = {**os.environ, "LC_ALL": "C.UTF-8", "PYTHONDONTWRITEBYTECODE": "1"}
     done = subprocess.run(
-        command, cwd=folder, env=environment, stdin=subprocess.DEVNULL, capture_output=True, timeout=seconds
+        command, cwd=folder, env=environment, stdin=subprocess.DEVNULL, capture_output=True, timeout=seconds * PATIENCE
     )
     return Answer(done.returncode, done.stdout.decode(), done.stderr.decode())
 
