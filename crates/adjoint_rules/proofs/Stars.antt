@@ -27,7 +27,7 @@ module _ (ds : List Declaration) where
       below : (a : ℕ) → a < letter_count ds → star (quiver_of ds) a < letter_count ds
       below a h = subst (λ b. b < letter_count ds) (sym (star-quiver_of ds a h)) (in_range_from_table ds (letter_at ds a).star (letter_is ds declared a h).star_is_letter)
 
--- one letter more of a list of numbers
+-- one more letter of a list of numbers
 pub numbers_more : (letters : List Letter) (l : Letter) (i : ℕ) (xs : List ℕ) → i < length xs → numbers_of letters ≡ take i xs → l.0 ≡ get_or xs i i → numbers_of (letters ++ l ∷ []) ≡ take (i + 1) xs
 numbers_more letters l i xs below so_far is =
     map-append (λ (a : Letter). a.0) letters (l ∷ []) ∙ ap₂ (λ ys a. ys ++ a ∷ []) so_far is ∙ sym (take_more xs i i below)

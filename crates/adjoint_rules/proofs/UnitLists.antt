@@ -1,4 +1,4 @@
--- The list of the relations of an identity, as its parts are put behind one another.
+-- The list of the relations of an identity, as its parts are appended to one another.
 use Rattle.std.specs.Prelude.{Bool, ◌||◌, true, false, if◌then◌else◌, nat_le}
 use Rattle.std.specs.Ordering.{nat_cmp, is_gt}
 use Rattle.std.proofs.Common.{◌≡◌, ℕ, List, [], ◌∷◌, ◌++◌, ap, ◌∙◌, sym, refl, rules, append_assoc}
@@ -16,7 +16,7 @@ pub in_play-of_not_gt : (starred : Bool) (a s : ℕ) → is_gt (nat_cmp a s) ≡
 in_play-of_not_gt true a s not_above = refl
 in_play-of_not_gt false a s not_above = not_gt-le a s not_above
 
--- a polynomial that was put behind others since a test was true
+-- a polynomial that was appended to others since a test was true
 pub polynomials-pushed : (ps qs : List Poly) (p : Poly) (t : List Term) (b : Bool) → b ≡ true → qs ≡ ps ++ p ∷ [] → p.terms ≡ t → polynomials qs ≡ polynomials ps ++ (if b then t ∷ [] else [])
 polynomials-pushed ps qs p t b holds more is =
     rw holds (ap polynomials more ∙ map-append (λ (r : Poly). r.terms) ps (p ∷ []) ∙ ap (λ r. polynomials ps ++ r ∷ []) is)

@@ -12,6 +12,6 @@ pub record AreAnInvolution (q : Quiver) : Type 0 where
   pub sums : (p r : Poly) → adjoint_poly q (p ++ r) ≡ adjoint_poly q p ++ adjoint_poly q r
   pub coefficients : (p : Poly) (w : List ℕ) → coefficient_of (adjoint_poly q p) (adjoint_word q w) ≡ coefficient_of p w
 
--- So it is in each quiver.
+-- This holds in each quiver.
 abbrev pub AdjointsAreAnInvolution : Type 0
 AdjointsAreAnInvolution = (q : Quiver) → IsQuiver q → AreAnInvolution q

@@ -15,6 +15,6 @@ shape_limit = 16
 abbrev pub generator_limit : ℕ
 generator_limit = 2 * assumption_limit + (object_limit + 2 * (letter_limit - object_limit))
 
--- the side of an object of a shape
+-- of the side of an object of a shape
 abbrev pub shape_side_limit : ℕ
 shape_side_limit = 6

@@ -9,7 +9,7 @@ use Rattle.quiver.specs.Declarations.{quiver_of}
 use Rattle.adjoint_rules.specs.declared.parts.Parts.{Parts}
 use Rattle.adjoint_rules.specs.Problem.{polynomials, numbers}
 
--- In each quiver whose letters have these adjoints it is the adjoint of p, and there is none where that is plus or minus p.
+-- In each quiver whose letters have these adjoints it is the adjoint of p, or None where that is plus or minus p.
 abbrev pub IsNewAdjoint : List ℕ → List Term → Option Poly → Type 0
 IsNewAdjoint stars p adjoint = (q : Quiver) → q.stars ≡ stars → AllZip SamePolynomial (polynomials (option_to_list adjoint)) (new_adjoint q p)
 

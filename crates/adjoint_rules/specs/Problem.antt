@@ -1,4 +1,4 @@
--- What is asked of the parts of a statement, and what its generators are.
+-- The conditions on the parts of a statement, and its generators.
 use Rattle.std.specs.Prelude.{◌≡◌, ℕ, ◌<◌, ◌≤◌, Bool, ◌&&◌, ◌||◌, nat_eq, nat_lt, nat_le, IsTrue, if◌then◌else◌, List, [], ◌∷◌, length, map, AllPairs}
 use Rattle.std.specs.List.{All, AllZip, list_any}
 use Rattle.definitions.specs.Poly.{Term, SamePolynomial}
@@ -33,7 +33,7 @@ is_in_play ds starred marked a =
 abbrev pub IsInPlay : List Declaration → Bool → List ℕ → ℕ → Type 0
 IsInPlay ds starred marked a = IsTrue (is_in_play ds starred marked a)
 
--- each letter of each word of the polynomial is
+-- each letter of each word of the polynomial is in play
 abbrev pub HasLettersInPlay : List Declaration → Bool → List ℕ → Poly → Type 0
 HasLettersInPlay ds starred marked p = All (λ t. All (IsInPlay ds starred marked) t.1) p.terms
 
@@ -48,7 +48,7 @@ pub record HasObjects (ds : List Declaration) (s : Sig) : Type 0 where
   pub source : s.source.0 < object_count ds
   pub target : s.target.0 < object_count ds
 
--- the polynomial is typed of the signature
+-- the polynomial has the signature
 abbrev pub IsTypedOf : List Declaration → Poly → Sig → Type 0
 IsTypedOf ds p s = IsTyped (quiver_of ds) s.source.0 s.target.0 p.terms
 
@@ -63,7 +63,7 @@ pub record IsShape (objects : ℕ) (s : Shape) : Type 0 where
   pub side_of_each : length s.sides ≡ objects
   pub sides : All IsSide s.sides
 
--- What is asked of the parts of a statement. That its declarations are those of a quiver, `Quiver::objects` tells.
+-- The conditions on the parts of a statement. That its declarations are those of a quiver is ensured by `Quiver::objects`.
 pub record IsPosed (p : Parts) : Type 0 where
   pub declared : IsDeclared p.quiver
   pub objects_first : ObjectsFirst p.quiver
@@ -81,7 +81,7 @@ pub record IsPosed (p : Parts) : Type 0 where
   pub claims_typed : AllZip (IsTypedOf p.quiver) p.claims p.claim_sigs
   pub claim_ends : All (HasObjects p.quiver) p.claim_sigs
   pub claim_letters : All (HasLettersInPlay p.quiver p.starred (numbers p.marked)) p.claims
-  -- the models that are looked for
+  -- the shapes of the models that are searched
   pub some_shape : 1 ≤ length p.shapes
   pub few_shapes : length p.shapes ≤ shape_limit
   pub shapes : All (IsShape (object_count p.quiver)) p.shapes

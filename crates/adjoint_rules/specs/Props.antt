@@ -1,4 +1,4 @@
--- A fact that the type of problems keeps has one proof at most.
+-- A fact that the type of problems has as a field has at most one proof.
 use Rattle.std.specs.Prelude.{ℕ, List, [], ◌∷◌}
 use Rattle.std.specs.List.{AllZip}
 use Rattle.std.proofs.Props as std

@@ -46,7 +46,7 @@ fn stars_of(alloc: Global, quiver: &Quiver) -> Result<Listing<Letter>, AllocErro
     ensures count { IfOk result (λ stars. length stars ≡ letter_count quiver.now) }
     ensures involution { IfOk result (λ stars. IsInvolution (numbers_of stars)) }
 {
-    // The number of objects comes with the fact that adjoints are letters.
+    // That adjoints are letters is ensured with the number of objects.
     let _ = quiver.objects();
     let mut stars = Listing::new(alloc);
     for number in 0..quiver.letters() {

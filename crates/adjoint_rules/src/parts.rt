@@ -6,7 +6,7 @@ use quiver::{Quiver, Sig};
 use word_core::{Letter, Object};
 use word_orders::OrderSpec;
 
-/// The shape of the models that are tried: matrices over the integers of the modulus, whose sizes are the sides of the objects.
+/// The shape of the models that are tried: matrices over the integers modulo the modulus, whose sizes are the sides of the objects.
 #[derive(Drop)]
 pub struct Shape {
     /// One of 2, 3, 5, 7, 101, 32003 and 65537.
@@ -22,7 +22,7 @@ pub struct Parts {
     pub quiver: Quiver,
     /// The order of words.
     pub order: OrderSpec,
-    /// Whether the statement speaks of adjoints.
+    /// Whether the statement has adjoints.
     pub starred: bool,
     /// The objects whose identities the statement writes, ascending.
     pub marked: Listing<Object>,
@@ -34,7 +34,7 @@ pub struct Parts {
     pub claims: Listing<Poly>,
     /// The signature of each claim.
     pub claim_sigs: Listing<Sig>,
-    /// The shapes in which models are looked for.
+    /// The shapes of the models that are searched.
     pub shapes: Listing<Shape>,
     /// The maps that the search for models solves for, ascending.
     pub solved: Listing<Letter>,

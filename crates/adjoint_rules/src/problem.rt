@@ -13,13 +13,13 @@ use lists::{Duplicate, Listing};
 use nc_polynomial::Poly;
 use std::alloc::{AllocError, Global};
 
-/// The parts of a statement with its generators: the assumptions; where the statement is starred, the adjoints of those that
-/// have another one than plus or minus themselves; and the relations of the marked identities.
+/// The parts of a statement with its generators: the assumptions; where the statement is starred, the adjoints of those whose
+/// adjoint isn't plus or minus themselves; and the relations of the marked identities.
 #[derive(Drop)]
 pub struct Problem {
     /// What the statement says.
     pub parts: Parts,
-    /// The generators, which the claims are to follow from. They are numbered from 1.
+    /// The generators, from which the claims should follow. They are numbered from 1.
     pub generators: Listing<Poly>,
     /// How many of them are relations of identities, which are the last ones.
     pub unit_count: usize,
