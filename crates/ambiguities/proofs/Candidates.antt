@@ -24,7 +24,7 @@ use Rattle.ambiguities.proofs.Numbers.{rule_at-last}
 use Rattle.ambiguities.proofs.Occurrences.{occurs_within, overlaps_within}
 use Rattle.ambiguities.proofs.Sorted.{Decided}
 
--- what a test tells
+-- what a test decides
 by_test : (r : Bool) (P : Type 0) → Decides r P → Decided P
 by_test true P tells = inl (tells.0 refl)
 by_test false P tells = inr (not_from_Decides false tells refl)

@@ -41,7 +41,7 @@ of_two = joined_cmp 65536 (λ a b p q low less. omega (arith, low, less))
 of_four : (a b p q : ℕ) → p < 4294967296 → q < 4294967296 → nat_cmp (a * 4294967296 + p) (b * 4294967296 + q) ≡ ordering_then (nat_cmp a b) (nat_cmp p q)
 of_four = joined_cmp 4294967296 (λ a b p q low less. omega (arith, low, less))
 
--- so many letters from a place on, and then an answer
+-- this many letters from a place on, and then an answer
 abbrev ahead : ℕ → ℕ → List ℕ → List ℕ → Ordering → Ordering
 ahead zero k u v o = o
 ahead (suc n) k u v o = ordering_then (nat_cmp (get_or u k 0) (get_or v k 0)) (ahead n (suc k) u v o)

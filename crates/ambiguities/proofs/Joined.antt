@@ -18,7 +18,7 @@ pub record HasBoth (w p q : List ℕ) (place : ℕ) : Type 0 where
   pub first : OccursAt w p 0
   pub second : OccursAt w q place
 
--- the overlap goes on as the second word does
+-- the overlap ends as the second word does
 overlapped : (p q : List ℕ) (place : ℕ) → OverlapsAt p q place → HasBoth (take place p ++ q) p q place
 overlapped p q place at =
     let front : take place p ≡ at.before = ap (take place) at.left_splits ∙ take_at at.before at.shared place at.at_place in
@@ -46,7 +46,7 @@ module _ (rules : List Rule) (a : Ambiguity) (is : IsAmbiguity rules a) where
   pub both : HasBoth (overlap_word_of rules a) is.first.lead is.second.lead a.place
   both = subst (λ w. HasBoth w is.first.lead is.second.lead a.place) (sym overlap_word-is) (joined a.kind a.i a.j is.first.lead is.second.lead a.place is.meets)
 
-  -- the overlap word is what stands before the leading word in a row, the leading word, and what stands behind it
+  -- the overlap word is what is before the leading word in a row, the leading word, and what follows it
   pub first_splits : overlap_word_of rules a ≡ (first_row rules a).left ++ (is.first.lead ++ (first_row rules a).right)
   first_splits =
       let behind : 0 + length is.first.lead ≡ length (lead_at rules a.i) = omega (arith, ap length (lead_at-is rules a.i is.first is.first_numbered)) in

@@ -47,7 +47,7 @@ pub coefficient_of-around : (l r w : List ℕ) (p : List Term) → coefficient_o
 coefficient_of-around l r w [] = refl
 coefficient_of-around l r w (t ∷ p) = ap₂ (λ b (z : ℤ). cond b t.0 (pos 0) +ℤ z) (word_eq-around l t.1 w r) (coefficient_of-around l r w p)
 
--- in a list in which no word stands twice, the integer beside a word is its coefficient
+-- in a list with no word twice, the integer beside a word is its coefficient
 own_coefficients : (p : List Term) → AreDistinct p → AllByRecursion (λ t. coefficient_of p t.1 ≡ t.0) p
 own_coefficients [] distinct = tt
 own_coefficients (t ∷ p) distinct = (first_coefficient t p distinct.0, later p distinct.0 (own_coefficients p distinct.1))

@@ -28,7 +28,7 @@ module _ (word sub : List ℕ) (place : ℕ) where
 pub overlaps_within : (p q : List ℕ) (place : ℕ) → OverlapsAt p q place → place < length p
 overlaps_within p q place at = omega (arith, ap length at.left_splits, length-append at.before at.shared, at.at_place, at.shared_letters)
 
--- and the right word goes on behind it
+-- and the second word ends after it
 pub overlaps_past : (p q : List ℕ) (place : ℕ) → OverlapsAt p q place → length p < place + length q
 overlaps_past p q place at =
     omega (arith, ap length at.left_splits, length-append at.before at.shared, at.at_place, ap length at.right_splits, length-append at.shared at.after, at.after_letters)

@@ -58,7 +58,7 @@ module _ (rules : List Rule) (i j : ℕ) (first second : Rule) (first_is : rule_
       found : (a : Ambiguity) → OfKind kind a → (low ≤ a.place) × (a.place < high) × Agree first.lead second.lead a.place → IsAgreement i j kind first.lead second.lead low high a
       found a of at = record { first = of.of_pair.1; second = of.of_pair.2; of_kind = of.of_kind; reached = at.0; below = at.1; agree = at.2 }
 
-  -- overlaps from the first place on from which the second word goes on behind the first
+  -- overlaps from the first place on from which the second word ends after the first
   pub grown-overlaps : (low : ℕ) (old new : List Ambiguity) → 0 < low → length first.lead < low + length second.lead → ((n : ℕ) → 0 < n → length first.lead < n + length second.lead → low ≤ n)
       → IsGrown (IsAgreement i j Overlap first.lead second.lead low (length first.lead)) old new → IsGrown (OfKind Overlap) old new
   grown-overlaps low old new some longer least = grown-kind Overlap low (length first.lead) old new

@@ -1,17 +1,17 @@
--- When words have the same letters from a place on, and marks of letters, by which it is told of many words that they haven't.
+-- When words have the same letters from a place on, and marks of letters, by which many words are seen not to.
 use Rattle.std.specs.Prelude.{◌≡◌, ℕ, ◌+◌, ◌%◌, ◌<◌, ◌≤◌, Bool, true, false, List, length, get_or}
 use Rattle.ambiguities.specs.declared.ambiguity.Kind.{Kind}
 use Rattle.ambiguities.specs.declared.ambiguity.Ambiguity.{Ambiguity}
 
--- what follows the place in the word and the other word have the same letters, as far as both go
+-- the word from the place on and the other word have the same letters, up to the end of the shorter one
 abbrev pub Agree : List ℕ → List ℕ → ℕ → Type 0
 Agree word other place = (k : ℕ) → place + k < length word → k < length other → get_or word (place + k) 0 ≡ get_or other k 0
 
--- the first letter of a word, and the one with the number 0 where there is none
+-- the first letter of a word, or 0 where there is none
 abbrev pub first_of : List ℕ → ℕ
 first_of word = get_or word 0 0
 
--- whether the letter is marked: its mark is the remainder of its number by how many marks there are
+-- whether the letter is marked: its mark is its number modulo the number of marks
 abbrev pub is_marked : List Bool → ℕ → Bool
 is_marked marks letter = get_or marks (letter % length marks) false
 

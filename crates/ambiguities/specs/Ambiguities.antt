@@ -1,4 +1,4 @@
--- Ambiguities of rules: where a word has two leading words in it that share letters.
+-- Ambiguities of rules: words in which two leading words share letters.
 use Rattle.std.specs.Prelude.{◌≡◌, ◌≢◌, ℕ, List, [], ◌++◌, take, Some, unwrap_or}
 use Rattle.std.specs.Option.{option_map}
 use Rattle.word_core.specs.Occurrence.{OccursAt}
@@ -9,7 +9,7 @@ use Rattle.ambiguities.specs.declared.ambiguity.Kind.{Kind}
 use Rattle.ambiguities.specs.declared.ambiguity.Kind.TheVariants.{Overlap, Inclusion}
 use Rattle.ambiguities.specs.declared.ambiguity.Ambiguity.{Ambiguity}
 
--- An overlap of the words p and q: from the place on, p is a beginning of q, and all of neither word.
+-- An overlap of the words p and q: the suffix of p from the place on is a prefix of q, and all of neither word.
 -- An inclusion: q occurs in p at the place, and their rules differ.
 abbrev pub MeetsAs : Kind → ℕ → ℕ → List ℕ → List ℕ → ℕ → Type 0
 MeetsAs Overlap i j p q place = OverlapsAt p q place
@@ -23,7 +23,7 @@ pub record IsAmbiguity (rules : List Rule) (a : Ambiguity) : Type 0 where
   pub second_numbered : rule_at rules a.j ≡ Some second
   pub meets : MeetsAs a.kind a.i a.j first.lead second.lead a.place
 
--- the leading word of the rule with this number, and the empty word where there is none
+-- the leading word of the rule with this number, or the empty word where there is none
 abbrev pub lead_at : List Rule → ℕ → List ℕ
 lead_at rules number = unwrap_or (option_map (λ g. g.lead) (rule_at rules number)) []
 

@@ -9,11 +9,11 @@ use Rattle.ambiguities.specs.Ambiguities.{overlap_word_of}
 use Rattle.ambiguities.specs.declared.key.Key.{Key}
 use Rattle.ambiguities.specs.Order.{waiting_cmp, waiting_of}
 
--- the first four letters, each below 2 ^ 16, as one number, with 0 for those that the word doesn't have
+-- the first four letters, each below 2 ^ 16, as one number, with 0 for those that the word lacks
 abbrev pub front_of : List ℕ → ℕ
 front_of w = (slice_index_or w 0 0 * 65536 + slice_index_or w 1 0) * 4294967296 + (slice_index_or w 2 0 * 65536 + slice_index_or w 3 0)
 
--- the ambiguity with its overlap word, the number of that word which is compared first, and the number that its letters make
+-- the ambiguity with its overlap word, the number of that word which is compared first, and the number of its first letters
 abbrev pub key_of : (List ℕ → ℕ) → List Rule → Ambiguity → Key
 key_of measure rules a = record { measure = measure (overlap_word_of rules a); front = front_of (overlap_word_of rules a); waiting = waiting_of rules a }
 

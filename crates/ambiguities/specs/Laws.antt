@@ -1,4 +1,4 @@
--- What S-polynomials are, below what their words are, and that they are typed.
+-- The laws of S-polynomials: their rows, their words and their types.
 use Rattle.std.specs.Prelude.{◌≡◌, ◌≢◌, ◌⊎◌, ℕ, pos, List, [], ◌++◌, Ok}
 use Rattle.std.specs.List.{All}
 use Rattle.definitions.specs.Poly.{Term, SamePolynomial, coefficient_of}
@@ -24,7 +24,7 @@ SPolynomialsBalance = (rules : List Rule) (a : Ambiguity) (p : List Term) → s_
 abbrev pub EachOfRow : (List ℕ → Type 0) → List Rule → Row → Type 0
 EachOfRow P rules row = (w : List ℕ) → coefficient_of (origin_poly [] (polynomials_of rules) row.from) w ≢ pos 0 → P (row.left ++ (w ++ row.right))
 
--- The word is over the letters, each word of the polynomial is below it, and none to which a row multiplies its rule is above.
+-- The word is over the letters, each word of the polynomial is below it, and no word of the multiples of the rows is above it.
 pub record IsBound (letters : ℕ) (compare : Compare) (rules : List Rule) (p : List Term) (rows : List Row) (bound : List ℕ) : Type 0 where
   pub over : IsOver letters bound
   pub polynomial : (w : List ℕ) → coefficient_of p w ≢ pos 0 → IsBelow letters compare w bound
@@ -36,7 +36,7 @@ LeadingWordsCancel = (letters : ℕ) (compare : Compare) (rank : List ℕ → Li
     → IsAdmissible letters compare rank → All (IsRule letters compare) rules → IsAmbiguity rules a → s_polynomial_of rules a ≡ Ok p
     → IsBound letters compare rules p (s_rows_of rules a) (overlap_word_of rules a)
 
--- All words of the polynomial, the word itself and all words to which the rows multiply their rules are paths of one signature.
+-- All words of the polynomial, the word itself and all words of the multiples of the rows are paths of one signature.
 pub record HasOneSignature (q : Quiver) (rules : List Rule) (p : List Term) (rows : List Row) (word : List ℕ) : Type 0 where
   pub source : ℕ
   pub target : ℕ
@@ -44,7 +44,7 @@ pub record HasOneSignature (q : Quiver) (rules : List Rule) (p : List Term) (row
   pub typed : IsTyped q source target p
   pub rows_are_typed : All (EachOfRow (IsPath q source target) rules) rows
 
--- By typed rules, the overlap word is a path, and the S-polynomial and its rows are typed of its signature.
+-- Where the rules are typed, the overlap word is a path, and the S-polynomial and its rows have its signature.
 abbrev pub SPolynomialsAreTyped : Type 0
 SPolynomialsAreTyped = (q : Quiver) (letters : ℕ) (compare : Compare) (rules : List Rule) (a : Ambiguity) (p : List Term)
     → All (IsRule letters compare) rules → All (IsTypedRule q) rules → IsAmbiguity rules a → s_polynomial_of rules a ≡ Ok p

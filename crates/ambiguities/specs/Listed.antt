@@ -12,7 +12,7 @@ abbrev pub kind_number : Kind → ℕ
 kind_number Overlap = 0
 kind_number Inclusion = 1
 
--- the first one stands before the second: by the first rule, then by the second rule, then by the kind, then by the place
+-- the first one is before the second: by the first rule, then by the second rule, then by the kind, then by the place
 abbrev pub IsBefore : Ambiguity → Ambiguity → Type 0
 IsBefore a b = (a.i < b.i) ⊎ ((a.i ≡ b.i)
     × ((a.j < b.j) ⊎ ((a.j ≡ b.j) × ((kind_number a.kind < kind_number b.kind) ⊎ ((a.kind ≡ b.kind) × (a.place < b.place))))))

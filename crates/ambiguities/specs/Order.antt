@@ -14,7 +14,7 @@ use Rattle.ambiguities.specs.Listed.{IsBefore, ListsExactly, kind_number}
 abbrev pub waiting_of : List Rule → Ambiguity → Waiting
 waiting_of rules a = record { which = a; word = overlap_word_of rules a }
 
--- The first one stands before the second: by the overlap word, and where they have the same one by the first rule, then by
+-- The first one is before the second: by the overlap word, and where they have the same one by the first rule, then by
 -- the second rule, then overlaps before inclusions, then by the place.
 abbrev pub IsWaitingBefore : Compare → Waiting → Waiting → Type 0
 IsWaitingBefore compare v w = (compare v.word w.word ≡ Less) ⊎ ((v.word ≡ w.word) × IsBefore v.which w.which)

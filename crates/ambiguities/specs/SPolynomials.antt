@@ -14,7 +14,7 @@ use Rattle.rule_reduce.specs.RuleLists.{rule_at, polynomials_of}
 use Rattle.ambiguities.specs.declared.ambiguity.Ambiguity.{Ambiguity}
 use Rattle.ambiguities.specs.Ambiguities.{lead_at, overlap_word_of}
 
--- the leading coefficient of the rule with this number, and zero where there is none
+-- the leading coefficient of the rule with this number, or zero where there is none
 abbrev pub leading_at : List Rule → ℕ → ℤ
 leading_at rules number = unwrap_or (option_map (λ g. g.leading) (rule_at rules number)) (pos 0)
 
@@ -22,7 +22,7 @@ leading_at rules number = unwrap_or (option_map (λ g. g.leading) (rule_at rules
 abbrev pub shared_divisor : List Rule → Ambiguity → ℤ
 shared_divisor rules a = gcd_of (leading_at rules a.i) (leading_at rules a.j)
 
--- the multiple of the first rule: what follows its leading word in the overlap word stands behind it
+-- the multiple of the first rule: what follows its leading word in the overlap word is its right factor
 abbrev pub first_row : List Rule → Ambiguity → Row
 first_row rules a = record {
   coef = int_div (leading_at rules a.j) (shared_divisor rules a);
@@ -31,7 +31,7 @@ first_row rules a = record {
   right = drop (length (lead_at rules a.i)) (overlap_word_of rules a);
 }
 
--- that of the second rule: the letters before the place stand before it, and what follows its leading word behind it
+-- that of the second rule: the letters before the place are its left factor, and what follows its leading word is its right one
 abbrev pub second_row : List Rule → Ambiguity → Row
 second_row rules a = record {
   coef = neg_ℤ (int_div (leading_at rules a.i) (shared_divisor rules a));

@@ -3,7 +3,7 @@
 /// How the leading words of two rules meet.
 #[derive(Clone, Copy)]
 pub enum Kind {
-    /// An end of the first word is a beginning of the second, and neither word is all of it.
+    /// A suffix of the first word is a prefix of the second, and neither word is all of it.
     Overlap,
     /// The second word occurs in the first.
     Inclusion,

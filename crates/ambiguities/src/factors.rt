@@ -1,4 +1,4 @@
-//! The factors by which two leading coefficients become equal.
+//! The factors that make two leading coefficients equal.
 
 ghost use Rattle.std.specs.Prelude.{◌≡◌, ◌<ℤ◌, pos, int_div};
 ghost use Rattle.coef_int.specs.Range.{IsCoefficient};
@@ -6,7 +6,7 @@ ghost use Rattle.coef_int.specs.Divisor.{gcd_of};
 
 use coef_int::{divisor, quotient};
 
-// The least positive integers by which the two numbers become equal: each is the other number by their greatest common
+// The least positive integers that make the two numbers equal: each is the other number divided by their greatest common
 // divisor.
 pub(crate) fn factors(first: i128, second: i128) -> (i128, i128)
     requires first_in { IsCoefficient first }

@@ -1,4 +1,4 @@
-//! What an S-polynomial is, as laws over the definitions.
+//! The laws of S-polynomials.
 ghost use Rattle.ambiguities.specs.Laws.{SPolynomialsBalance, LeadingWordsCancel, SPolynomialsAreTyped};
 
 /// The S-polynomial is the sum of its two rows over the rules.
@@ -6,14 +6,14 @@ pub fn s_polynomials_balance()
     ensures { SPolynomialsBalance }
 {}
 
-/// In an admissible order each word of the S-polynomial is below the overlap word, and each word to which a row multiplies
-/// its rule is at most the overlap word.
+/// In an admissible order each word of the S-polynomial is below the overlap word, and each word of the multiple of a row is
+/// at most the overlap word.
 pub fn leading_words_cancel()
     ensures { LeadingWordsCancel }
 {}
 
-/// Where the rules are typed, the overlap word is a path, and all words of the S-polynomial and those to which the rows
-/// multiply their rules are paths of its signature.
+/// Where the rules are typed, the overlap word is a path, and all words of the S-polynomial and of the multiples of the rows
+/// are paths of its signature.
 pub fn s_polynomials_are_typed()
     ensures { SPolynomialsAreTyped }
 {}

@@ -40,7 +40,7 @@ fn list_all(alloc: Global, rules: &[Rule], from: u32) -> Result<Listing<Ambiguit
     Ok(found)
 }
 
-// Those with this first rule. The leading words' first letters tell which second rules are passed over.
+// Those with this first rule. Second rules are skipped by the first letters of their leading words.
 fn push_first(
     found: &mut Listing<Ambiguity>,
     rules: &[Rule],
@@ -64,7 +64,7 @@ fn push_first(
     Ok(())
 }
 
-// Those of two rules, with the marks of the letters of the first one's leading word and the first letter of the second one's.
+// Those of two rules, by the marks of the letters of the first one's leading word and the first letter of the second one's.
 fn push_marked(
     found: &mut Listing<Ambiguity>,
     rules: &[Rule],
@@ -89,7 +89,7 @@ fn push_marked(
     push_pair(found, rules, i, j)
 }
 
-// Those of two rules: overlaps where the second word goes on behind the first, and inclusions where it doesn't.
+// Those of two rules: overlaps where the second word ends after the first, and inclusions where it doesn't.
 fn push_pair(
     found: &mut Listing<Ambiguity>,
     rules: &[Rule],

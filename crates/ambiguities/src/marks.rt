@@ -1,4 +1,4 @@
-//! Marks of the letters of a word, by which words with no letter in common are told apart at once.
+//! Marks of the letters of a word, by which a word without a given letter is found at once.
 ghost use Rattle.std.specs.Prelude.{◌≡◌, ◌<◌, length, map, IfOk};
 ghost use Rattle.std.specs.List.{All};
 ghost use Rattle.ambiguities.specs.Agreement.{HasMarks, first_of, is_marked};
@@ -7,7 +7,7 @@ use rule_reduce::Rule;
 use std::alloc::{AllocError, Global};
 use word_core::Word;
 
-// The number of marks. A letter's mark is the remainder of its number by it.
+// The number of marks. A letter's mark is its number modulo this.
 pub(crate) const MARKS: usize = 64;
 
 // A mark for each letter of the word.

@@ -1,4 +1,4 @@
-//! The word in which the leading words of an ambiguity meet.
+//! The overlap word of an ambiguity.
 
 ghost use Rattle.std.specs.Prelude.{◌≡◌, ◌≤◌, ◌++◌, length, take, IfOk, OnOk};
 ghost use Rattle.word_core.specs.Letters.{IsOver};
@@ -20,7 +20,7 @@ pub fn overlap_word<O: WordOrder>(rules: &Rules<O>, which: &Ambiguity) -> Result
     make_word(rules.rules.allocator(), rules.rules.as_slice(), which)
 }
 
-// The same word, of which that of an overlap is made with room for all its letters.
+// The same word. Room for all its letters is made at once.
 pub(crate) fn make_word(
     alloc: Global,
     rules: &[Rule],
@@ -43,7 +43,7 @@ pub(crate) fn make_word(
     }
 }
 
-// Puts the first letters of another word, as many as `count` says, behind the word.
+// Appends the first `count` letters of another word.
 fn push_first(word: &mut Word, other: &Word, count: usize) -> Result<(), AllocError>
     requires { count ≤ length other.now }
     ensures { OnOk result (word.new ≡ word.old ++ take count other.now) }

@@ -4,7 +4,7 @@ ghost use Rattle.ambiguities.specs.Agreement.{Agree};
 
 use word_core::Word;
 
-// Whether the first word from the place on and the second word have the same letters, as far as both go.
+// Whether the first word from the place on and the second word have the same letters, up to the end of the shorter one.
 pub(crate) fn agree(word: &Word, other: &Word, place: usize) -> bool
     requires { place ≤ length word.now }
     ensures { IsTrue result ↔ Agree word.now other.now place }

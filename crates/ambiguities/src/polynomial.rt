@@ -1,4 +1,4 @@
-//! The S-polynomial of an ambiguity, with the rows that it is made of.
+//! The S-polynomial of an ambiguity, with its rows.
 
 ghost use Rattle.std.specs.Prelude.{◌≡◌, ◌<ℤ◌, ◌≤◌, [], ◌∷◌, length, take, drop, pos, IfOk, MatchResult, Ok};
 ghost use Rattle.std.specs.List.{All};
@@ -107,7 +107,7 @@ fn make_rows(alloc: Global, rules: &[Rule], which: &Ambiguity) -> Result<(Row, R
     Ok((left, right))
 }
 
-// The multiple of a rule by what stands in the word before one place and from another one on.
+// The multiple of a rule by the part of the word before one place and the part from another one on.
 fn row_around(
     coef: i128,
     number: u32,

@@ -1,4 +1,4 @@
-//! Ambiguities with their overlap words, in their order: each overlap word is measured once.
+//! Ambiguities with their overlap words, in order: each overlap word is measured once.
 ghost use Rattle.std.specs.Prelude.{◌≡◌, ◌≢◌, ◌+◌, ◌<◌, ◌^◌, map, slice_index_or, Contains, IfOk, OnOk};
 ghost use Rattle.std.specs.List.{All, AllPairs};
 ghost use Rattle.std.specs.List.Sorted.{IsPermutation, IsSorted};
@@ -32,7 +32,7 @@ pub fn in_order<O: WordOrder>(
     take_waiting(alloc, keys)
 }
 
-// The word's letter at a place, and 0 where it has none there.
+// The word's letter at a place, or 0 where it has none there.
 fn letter_at(word: &Word, place: usize) -> u64
     ensures exact { result ≡ slice_index_or word.now place 0 }
     ensures below { result < 65536 }
@@ -44,7 +44,7 @@ fn letter_at(word: &Word, place: usize) -> u64
     }
 }
 
-// The number that the word's first letters make.
+// The number of the word's first letters.
 fn front(word: &Word) -> u64
     ensures exact { result ≡ front_of word.now }
     ensures over { IsOver (2 ^ 16) word.now }
@@ -103,7 +103,7 @@ fn compare_keys(left: &Key, right: &Key) -> Ordering
     by_numbers.then_with(|| compare_canonically(&left.waiting, &right.waiting))
 }
 
-// Puts the keys into their order.
+// Sorts the keys.
 fn sort_keys(keys: &mut Vec<Key>) -> Result<(), AllocError>
     ensures permutation { IsPermutation keys.old.items keys.new.items }
     ensures sorted { OnOk result (IsSorted key_cmp keys.new.items) }
