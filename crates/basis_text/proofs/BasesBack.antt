@@ -1,4 +1,4 @@
--- A basis that is written is read back, whatever stands around it.
+-- A basis that is written is read back, whatever texts are before and after it.
 use Rattle.std.proofs.Common.{◌≡◌, true, false, ℕ, List, [], ◌∷◌, ◌++◌, IsTrue, arith, refl, sym, ap, ap₂, ◌∙◌, subst, length, map, codes}
 use Rattle.std.specs.Prelude.{decimal}
 use Rattle.std.specs.List.{All, flat_map, list_all}
@@ -42,7 +42,7 @@ module _ (ds : List Declaration) (declared : IsDeclared ds) (known : IsTrue (lis
   read_back : (p : Poly) → IsWritable p → IsPolynomialLine ds (tokens_of (poly_text ds p.terms)) p.terms
   read_back p is = polynomials_are_read_back ds p.terms declared known p.canonical is.over is.some
 
-  -- its line behind a word, by the word with a blank
+  -- its line after a word, by the word with a blank
   polynomial_written : (word front : List ℕ) → are_low front ≡ true → list_all is_inside front ≡ true → ((text : List ℕ) → tokens_of (front ++ text) ≡ word ∷ tokens_of text) → ((line : Line) → is_skipped (word ∷ line) ≡ false)
       → (p : Poly) → IsWritable p → IsLineWritten (polynomial_behind ds part word) ((front ++ poly_text ds p.terms) ++ codes "\n") p.terms
   polynomial_written word front low inside split stands p is =

@@ -1,4 +1,4 @@
--- What is read of bases that are written, whatever stands around them.
+-- Bases that are written are read back, whatever texts are before and after them.
 use Rattle.std.specs.Prelude.{◌<◌, ◌≤◌, ◌^◌, ℕ, List, length, IsTrue}
 use Rattle.std.specs.List.{All, list_all}
 use Rattle.nc_polynomial.specs.declared.poly.Poly.{Poly}
@@ -25,8 +25,8 @@ pub record IsWritableBasis (ds : List Declaration) (b : Basis) : Type 0 where
 abbrev pub text_of : List Declaration → Basis → List ℕ
 text_of ds b = basis_text ds b.rules b.claim b.rest
 
--- A basis that is written between whole lines and other lines is read as it is, behind the bases that those before it have and
--- before those that the others have.
+-- A basis that is written between whole lines and other lines is read as it is, after the bases of the lines before it
+-- and before those of the lines after it.
 abbrev pub BasesAreReadBack : Type 0
 BasesAreReadBack = (ds : List Declaration) → IsDeclared ds → IsTrue (list_all is_named ds) → IsReadBetween (HasBases ds) (text_of ds) (IsWritableBasis ds)
 

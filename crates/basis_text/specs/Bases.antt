@@ -1,4 +1,4 @@
--- Bases in evidence text: those that bytes are, or the first thing that is wrong with the bytes.
+-- Bases in evidence text: those of bytes, or the first fault of the bytes.
 use Rattle.std.specs.Prelude.{ℕ, List, [], ◌∷◌, map, codes}
 use Rattle.std.specs.List.{All}
 use Rattle.nc_polynomial.specs.Shape.{IsCanonical}
@@ -29,11 +29,11 @@ by_terms b = record { claim = b.claim; rules = map (λ p. p.terms) b.rules; rest
 abbrev pub HasBases : List Declaration → List ℕ → List Basis → Type 0
 HasBases ds bytes bases = HasBlocks (basis_kind ds) bytes (map by_terms bases)
 
--- There is one at least.
+-- There is at least one.
 abbrev pub IsBases : List Declaration → List ℕ → List Basis → Type 0
 IsBases ds bytes bases = IsBlocks (basis_kind ds) bytes (map by_terms bases)
 
--- the first thing that is wrong with the bytes
+-- the first fault of the bytes
 abbrev pub IsFirstFault : List Declaration → List ℕ → Fault → Type 0
 IsFirstFault ds = texts.IsFirstFault (basis_kind ds)
 

@@ -1,4 +1,4 @@
--- The lines of bases in evidence text, the bounds on them in the order in which they count.
+-- The lines of bases in evidence text, and the bounds on them in the order in which they are tested.
 use Rattle.std.specs.Prelude.{⊤, ℕ, List, [], ◌∷◌, ◌++◌, map, Option, Some, None, codes}
 use Rattle.definitions.specs.Poly.{Poly}
 use Rattle.quiver.specs.Declarations.{Declaration}
@@ -15,11 +15,11 @@ pub data Bound : Type 0 where
   on_polynomial : PolynomialBound → Bound
   rules : Bound
 
--- they count in this order
+-- they are tested in this order
 abbrev pub bounds : List Bound
 bounds = map on_polynomial (names ∷ writing ∷ numbers ∷ terms ∷ words ∷ []) ++ rules ∷ []
 
--- what a line is told for that passes the bound
+-- the flaw of a line that exceeds the bound
 abbrev pub flaw_of : Bound → Flaw
 flaw_of (on_polynomial bound) = polynomial_flaw bound
 flaw_of rules = TooMany rule_limit

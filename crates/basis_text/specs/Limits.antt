@@ -1,6 +1,6 @@
 -- The limit of a basis in evidence text.
 use Rattle.std.specs.Prelude.{ℕ}
 
--- its rules
+-- of its rules
 abbrev pub rule_limit : ℕ
 rule_limit = 100000

@@ -1,5 +1,5 @@
--- How a reader of bases goes over the lines of evidence text. Only the reader's functions and proofs use it: what the bases of a text
--- are, Bases says.
+-- How a reader of bases goes over the lines of evidence text. Only the reader's functions and proofs use it; the bases of a text
+-- are defined in Bases.
 use Rattle.std.specs.Prelude.{⊤, ℕ, List, codes}
 use Rattle.definitions.specs.Poly.{Poly}
 use Rattle.quiver.specs.Declarations.{Declaration}

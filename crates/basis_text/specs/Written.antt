@@ -9,7 +9,7 @@ use Rattle.block_text.specs.Written.{poly_text}
 abbrev pub rule_line : List Declaration → Poly → List ℕ
 rule_line ds p = codes "rule " ++ poly_text ds p.terms ++ codes "\n"
 
--- all rules, and what is left of the claim by them
+-- all rules, and the rest of the claim by them
 abbrev pub basis_text : List Declaration → List Poly → ℕ → Poly → List ℕ
 basis_text ds rules claim rest = codes "basis 1\nclaim " ++ decimal claim ++ codes "\n" ++ flat_map (rule_line ds) rules ++ codes "rest "
     ++ poly_text ds rest.terms ++ codes "\nend\n"

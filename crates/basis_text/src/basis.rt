@@ -1,4 +1,4 @@
-//! Bases: rules and what they leave of a claim, which say nothing by themselves.
+//! Bases: rules and the rest of a claim by them, which say nothing by themselves.
 
 use lists::Listing;
 use nc_polynomial::Poly;
@@ -6,13 +6,13 @@ use nc_polynomial::Poly;
 /// The greatest number of rules of a basis in evidence text.
 pub const RULE_LIMIT: u32 = 100_000;
 
-/// Rules, offered as a basis by which a claim leaves a rest. Plain data: nothing is known of it.
+/// Rules, given as a basis by which a claim has a rest. Plain data: nothing is known of it.
 #[derive(Drop)]
 pub struct Basis {
     /// The number of the claim, from 1.
     pub claim: u32,
-    /// The rules in their order, each as a polynomial.
+    /// The rules in order, each as a polynomial.
     pub rules: Listing<Poly>,
-    /// What they leave of the claim.
+    /// The rest of the claim by them.
     pub rest: Poly,
 }

@@ -10,12 +10,12 @@ pub fn each_text_is_read()
     ensures { (ds : List Declaration) → EachIsRead (IsBases ds) (IsFirstFault ds) }
 {}
 
-/// A text has one list of bases.
+/// A text has at most one list of bases.
 pub fn bases_are_unique()
     ensures { (ds : List Declaration) → ValuesAreUnique (IsBases ds) (IsFirstFault ds) }
 {}
 
-/// A text has one first fault.
+/// A text has at most one first fault.
 pub fn first_fault_is_unique()
     ensures { (ds : List Declaration) → FaultIsUnique (IsBases ds) (IsFirstFault ds) }
 {}
@@ -25,13 +25,13 @@ pub fn bases_have_no_fault()
     ensures { (ds : List Declaration) → ValuesHaveNoFault (IsBases ds) (IsFirstFault ds) }
 {}
 
-/// The law that a basis that is written is read as it is, whatever whole lines stand before it and whatever follows. It has
+/// A basis that is written is read as it is, whatever whole lines are before it and whatever follows. It has
 /// nothing to run.
 pub fn bases_are_read_back()
     ensures { BasesAreReadBack }
 {}
 
-/// The law that the bases of a text of written bases, comments and blocks of other kinds are those bases, in their order. It has
+/// The bases of a text of written bases, comments and blocks of other kinds are those bases, in their order. It has
 /// nothing to run.
 pub fn parts_are_read_back()
     ensures { ArePartsReadBack }

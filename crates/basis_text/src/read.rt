@@ -55,11 +55,11 @@ fn bases_of(alloc: Global, blocks: Listing<BasisTerms>) -> Result<Listing<Basis>
     Ok(bases)
 }
 
-/// The bases of the text, over the letters of the quiver, or the first thing that is wrong with it. Blocks of other kinds are
-/// skipped. Want of memory is told where there is no room, whatever the text is.
+/// The bases of the text, over the letters of the quiver, or its first fault. Blocks of other kinds are
+/// skipped. Any text can fail for want of memory.
 pub fn read_bases(alloc: Global, bytes: &[u8], quiver: &Quiver) -> ReadText<Basis>
     requires { length bytes.now < 4294967295 }
-    // They are those that the bytes have, or what is told is the first thing that is wrong with the bytes.
+    // They are those of the bytes, or the fault is the first one of the bytes.
     ensures exact { MatchResult result (IsBases quiver.now bytes.now) (ExplainsBy (IsFirstFault quiver.now bytes.now)) }
     // Each can be checked.
     ensures checkable { IfOk result (All (IsBasisOver quiver.now)) }

@@ -22,7 +22,7 @@ pub struct Bases<'q> {
     pub quiver: &'q Quiver,
 }
 
-// A rule for each line, and what they leave.
+// A line for each rule, and one for the rest.
 type PolynomialLines<'q> = LinesThen<PolynomialLine<'q>, LineThen<PolynomialLine<'q>, NoLines>>;
 
 fn polynomial_lines(quiver: &Quiver) -> PolynomialLines<'_>

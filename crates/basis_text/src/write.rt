@@ -18,8 +18,8 @@ fn put_rule(out: &mut Vec<u8>, quiver: &Quiver, rule: &Poly) -> Result<(), Alloc
     put(out, "\n")
 }
 
-/// A basis behind bytes, as a block of evidence text with a line for each rule and one for what they leave of the claim. Only
-/// memory can be short.
+/// Appends a basis, as a block of evidence text with a line for each rule and one for the rest of the claim. It fails
+/// only where memory is short.
 pub fn put_basis(
     out: &mut Vec<u8>,
     quiver: &Quiver,
