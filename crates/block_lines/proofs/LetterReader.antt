@@ -1,4 +1,4 @@
--- The line of a letter behind a word, or of the word alone, is read and read back.
+-- The line of a letter after a word, or of the word alone, is read and read back.
 use Rattle.std.proofs.Common.{◌≡◌, ◌&&◌, ◌<◌, ◌++◌, ◌∷◌, [], ℕ, Bool, true, false, List, Option, Some, None, IfSome, IsTrue, refl, sym, ap, ap₂, ◌∙◌, subst, codes}
 use Rattle.std.specs.List.{list_all}
 use Rattle.std.proofs.lemmas.Bool.{and_parts}
@@ -69,7 +69,7 @@ module _ {Bound : Type 0} (bound : Bound) (ds : List Declaration) (word : List �
     says = refl;
   }
 
-  -- and a letter behind it
+  -- and a letter after it
   pub letter_behind_written : (a : Letter) → IsDeclared ds → IsTrue (list_all is_named ds) → a.0 < letter_count ds → ((token : List ℕ) → tokens_of ((word ++ codes " ") ++ token) ≡ word ∷ tokens_of token)
       → ((token : List ℕ) → is_skipped (word ∷ token ∷ []) ≡ false) → IsLineWritten (letter_behind bound ds word) (((word ++ codes " ") ++ letter_text ds a.0) ++ codes "\n") (Some a)
   letter_behind_written a declared known below split stands =

@@ -1,4 +1,4 @@
--- The line of a polynomial behind a word is read.
+-- The line of a polynomial after a word is read.
 use Rattle.std.proofs.Common.{arith, ◌≡◌, ◌⊎◌, ◌∷◌, [], ℕ, Bool, true, false, List, Option, Some, None, Result, Ok, Err, IfSome, refl, sym, ap, ap₂, ◌∙◌, subst, map, inl, inr, codes}
 use Rattle.std.specs.List.{All}
 use Rattle.std.proofs.lemmas.List.Elements.{All-nil, All-map, All-weaker, All-from_recursion}
@@ -68,7 +68,7 @@ module _ (ds : List Declaration) where
   passed_by line flaw (wrong.long t told fits known written within few passed) =
       inr (record { from = t; fits = fits; bound = words; told = told; keeps = All-from_recursion (λ b. KeepsPolynomial ds b t) (polynomial_before words) (known, (written, (within, (few, tt)))); passed = passed })
 
-  -- by the bounds of a kind, of which those on polynomials count before the others
+  -- by the bounds of a kind, of which those on polynomials are tested before the others
   module _ {Bound : Type 0} (flaw_of : Bound → Flaw) (bounds : List Bound) (part : Bound → Option PolynomialBound) (bound : PolynomialBound → Bound) (part_of : (b : PolynomialBound) → part (bound b) ≡ Some b)
       (told : (b : PolynomialBound) → flaw_of (bound b) ≡ polynomial_flaw b) (order : (b : PolynomialBound) → before flaw_of bounds (bound b) ≡ map bound (polynomial_before b)) (word : List ℕ) where
     abbrev Keeps : PolynomialTokens → Bound → Type 0

@@ -105,7 +105,7 @@ pub record IsLineWritten {Bound V : Type 0} (line : LineKind Bound V) (text : Li
   pub keeps : (bound : Bound) → line.Keeps bound tokens
   pub says : line.Says tokens v
 
--- lines and the line `end` behind them
+-- lines and the line `end` after them
 pub record AreLinesWritten {Bound V : Type 0} (section : Section Bound V) (text : List ℕ) (v : V) : Type 0 where
   pub tree : section.Tree
   pub text_is : IsTextOf text (section.lines_of tree ++ end_line ∷ [])

@@ -1,4 +1,4 @@
--- What a reader of a line and one of lines owe, and that lines one behind another are read where each is.
+-- What a reader of a line and one of lines owe, and that lines one after another are read where each is.
 use Rattle.std.proofs.Common.{arith, ◌≡◌, ◌≤◌, ◌<◌, ◌+◌, ◌&&◌, ◌⊎◌, ◌++◌, ◌∷◌, [], ℕ, Bool, true, false, not, List, Option, Some, None, Result, Ok, Err, refl, sym, ap, ap₂, ◌∙◌, subst, length, length-append, map, nat_le, append_assoc, append-nil, inl, inr}
 use Rattle.std.specs.Bool.{⊤}
 use Rattle.std.specs.List.{All, AllZip, list_all}
@@ -51,7 +51,7 @@ abbrev pub heads : List ℕ → List Line → Bool
 heads word [] = false
 heads word (line ∷ lines) = begins word line
 
--- bounds in front of one
+-- bounds before one
 until_fails : {A : Type 0} (p : A → Bool) (xs : List A) → All (λ x. p x ≡ false) (until p xs)
 until_fails p [] = All-nil (λ x. p x ≡ false)
 until_fails p (x ∷ xs) = by_first (p x) refl (until_fails p xs)
@@ -67,7 +67,7 @@ same_flaw-refl flaw.NotAsWritten = refl
 same_flaw-refl flaw.NumberTooLarge = refl
 same_flaw-refl (flaw.TooMany limit) = grind (arith, nat_tests)
 
--- by what a line is told for that passes a bound, and the bounds in the order in which they count
+-- by the flaw of a line that exceeds a bound, and the bounds in the order in which they are tested
 module _ {Bound : Type 0} (flaw_of : Bound → Flaw) (bounds : List Bound) where
   pub apart_before : (bound : Bound) → All (λ b. b ≡ bound → ⊥) (before flaw_of bounds bound)
   apart_before bound =
@@ -170,7 +170,7 @@ module _ {Bound : Type 0} (flaw_of : Bound → Flaw) (bounds : List Bound) where
             keeps = All-weaker (λ b. b ≡ bound → ⊥) (λ b. b ≡ bound → (x : V) × (value found.0 ≡ Some x)) (λ b apart same. absurd (apart same)) (before flaw_of bounds bound) (apart_before bound);
           })
 
-  -- no line more
+  -- no more lines
   pub none_read : IsSectionReader (no_lines {Bound = Bound}) no_steps
   none_read = record {
     example = tt;
@@ -188,7 +188,7 @@ module _ {Bound : Type 0} (flaw_of : Bound → Flaw) (bounds : List Bound) where
   }
 
   module _ {V W B : Type 0} {line : LineKind Bound V} {read : Reading V} {rest : Section Bound W} {steps : SectionSteps B W} (one : IsLineReader line read) (more : IsSectionReader rest steps) where
-    -- a line, and others behind it
+    -- a line, and others after it
     module _ where
       abbrev Whole : Section Bound (V × W)
       Whole = line_then line rest
@@ -295,7 +295,7 @@ module _ {Bound : Type 0} (flaw_of : Bound → Flaw) (bounds : List Bound) where
         reads = line_reads;
       }
 
-    -- lines that begin with a word, at most so many, and others behind them; the bound on their number counts before no other
+    -- lines that begin with a word, at most so many, and others after them; the bound on their number is tested last
     module _ (word : List ℕ) (limit : ℕ) (count : Bound) (told : flaw_of count ≡ TooMany limit) (last : (bound : Bound) → list_all (λ b. not (same_flaw (flaw_of count) (flaw_of b))) (before flaw_of bounds bound) ≡ true)
         (begin : (t : line.Tokens) → line.IsLine t → begins word (line.line_of t) ≡ true) (others : (t : rest.Tree) → rest.IsTree t → heads word (rest.lines_of t) ≡ false) where
       abbrev All_Lines : Section Bound (List V × W)
@@ -358,7 +358,7 @@ module _ {Bound : Type 0} (flaw_of : Bound → Flaw) (bounds : List Bound) where
           keeps = All-weaker (λ b. rest.Keeps b begins.tree) (λ b. All (line.Keeps b) here.ts × IsFew b here.ts × rest.Keeps b begins.tree) (λ b kept. (here.lines.keep b, λ _. here.lines.few, kept)) within begins.keeps;
         }
 
-        -- with a line more, where the bound on their number is not asked for
+        -- with one more line, where the bound on their number is not asked for
         begins_more : (within : List Bound) (l : Line) (t : line.Tokens) → p.more ≡ true → l ≡ line.line_of t → line.IsLine t → All (λ b. line.Keeps b t) within → All (λ b. b ≡ count → ⊥) within
             → Begins (kind_by All_Lines) within (front ++ l ∷ [])
         begins_more within l t first are is keeps apart = record {
@@ -407,7 +407,7 @@ module _ {Bound : Type 0} (flaw_of : Bound → Flaw) (bounds : List Bound) where
               says = (here.lines.say, found.says);
             }))
 
-        -- what a line is told for
+        -- the flaw of a line
         passed_more : (l : Line) (f : Flaw) → p.more ≡ true → IsLinePassed line l f → IsStopped (kind_by All_Lines) f (front ++ l ∷ [])
         passed_more l f first passed =
             owed.passes passed.bound passed.told

@@ -1,4 +1,4 @@
--- Kinds of lines of a block: a word behind which a number, a letter or a polynomial stands.
+-- Kinds of lines of a block: a word, followed by a number, a letter or a polynomial.
 use Rattle.std.specs.Prelude.{◌≡◌, ℕ, Bool, true, IsTrue, List, [], ◌∷◌, Option, Some, None, IfSome}
 use Rattle.std.specs.Option.{option_map}
 use Rattle.definitions.specs.Poly.{Poly}
@@ -12,7 +12,7 @@ use Rattle.block_text.specs.Lines.{Line}
 use Rattle.block_text.specs.PolynomialLines.{PolynomialTokens, polynomial_line, IsPolynomialTokens, IsPolynomialOf, HasKnownLetters}
 use Rattle.block_text.specs.PolynomialLines.{IsAsWritten, HasNumbersWithin, HasFewTerms, HasShortWords}
 
--- A kind of line: which tokens it has, which bounds they keep, and what they say.
+-- A kind of line: its tokens, their bounds, and what they say.
 pub record LineKind (Bound Value : Type 0) : Type 1 where
   pub Tokens : Type 0
   pub line_of : Tokens → Line
@@ -20,7 +20,7 @@ pub record LineKind (Bound Value : Type 0) : Type 1 where
   pub Keeps : Bound → Tokens → Type 0
   pub Says : Tokens → Value → Type 0
 
--- a line whose tokens have a value where they keep this bound
+-- a line whose tokens have a value if they are within this bound
 abbrev pub said_line : {Bound T V : Type 0} → Bound → (T → Line) → (T → Type 0) → (T → Option V) → LineKind Bound V
 said_line {Bound} {T} {V} bound line_of IsLine value = record {
   Tokens = T;
@@ -52,7 +52,7 @@ letter_said ds (Some token) = option_map (λ a. Some (record { 0 = a })) (letter
 abbrev pub letter_behind : {Bound : Type 0} → Bound → List Declaration → List ℕ → LineKind Bound (Option Letter)
 letter_behind bound ds word = said_line bound (letter_line word) (λ token. IsTrue (may_be_letter token)) (letter_said ds)
 
--- the bounds on a polynomial, in the order in which they count
+-- the bounds on a polynomial, in the order in which they are tested
 pub data PolynomialBound : Type 0 where
   names : PolynomialBound
   writing : PolynomialBound
@@ -68,7 +68,7 @@ polynomial_before numbers = names ∷ writing ∷ []
 polynomial_before terms = names ∷ writing ∷ numbers ∷ []
 polynomial_before words = names ∷ writing ∷ numbers ∷ terms ∷ []
 
--- what a line is told for that passes one
+-- the flaw of a line that exceeds one
 abbrev pub polynomial_flaw : PolynomialBound → Flaw
 polynomial_flaw names = UnknownName
 polynomial_flaw writing = NotAsWritten

@@ -1,4 +1,4 @@
--- What a reader makes of a line. Only the reader's functions and proofs use it: what the lines are, LineKinds says.
+-- What a reader makes of a line. Only the reader's functions and proofs use it; the lines are defined in LineKinds.
 use Rattle.std.specs.Prelude.{ℕ, ◌&&◌, List, [], ◌∷◌, Option, Some, None, Result, Err, if◌then◌else◌}
 use Rattle.definitions.specs.Poly.{Poly}
 use Rattle.word_core.specs.declared.letter.Letter.{Letter}
@@ -10,11 +10,11 @@ use Rattle.block_text.specs.Lines.{Line, is, said}
 use Rattle.block_text.specs.PolynomialReading.{polynomial_of}
 use Rattle.block_lines.specs.LineKinds.{letter_said}
 
--- what a line says, or what is wrong with it
+-- what a line says, or its first flaw
 abbrev pub Reading : Type 0 → Type 0
 Reading Value = Line → Result Value Flaw
 
--- the token behind the word, none where it stands alone
+-- the token after the word, None where there is none
 abbrev pub letter_token : List ℕ → Line → Option (Option (List ℕ))
 letter_token word [] = None
 letter_token word (first ∷ []) = if is word first then Some None else None
@@ -24,7 +24,7 @@ letter_token word (first ∷ token ∷ more ∷ tokens) = None
 abbrev pub letter_read : List Declaration → List ℕ → Reading (Option Letter)
 letter_read ds word line = said (letter_token word) (letter_said ds) UnknownName line
 
--- the polynomial behind a word
+-- the polynomial after a word
 abbrev pub polynomial_read : List Declaration → List ℕ → Reading Poly
 polynomial_read ds word [] = Err BadLine
 polynomial_read ds word (token ∷ tokens) = if is word token then polynomial_of ds tokens else Err BadLine

@@ -1,4 +1,4 @@
--- How a reader goes over the lines of a block. Only the reader's functions and proofs use it: what the lines are, Sections says.
+-- How a reader goes over the lines of a block. Only the reader's functions and proofs use it; the lines are defined in Sections.
 use Rattle.std.specs.Prelude.{ℕ, ◌&&◌, Bool, true, false, ⊤, List, [], ◌∷◌, ◌++◌, length, nat_le, Option, Some, None, Result, Ok, Err, if◌then◌else◌}
 use Rattle.std.specs.Option.{option_map}
 use Rattle.block_text.specs.declared.fault.Flaw.{Flaw}
@@ -11,7 +11,7 @@ use Rattle.block_lines.specs.declared.section.LinePlace.{LinePlace}
 use Rattle.block_lines.specs.declared.section.LinePlace.TheVariants as at
 use Rattle.block_lines.specs.declared.section.LinesPlace.{LinesPlace}
 
--- before the first line, with a line more, and at the end
+-- before the first line, with one more line, and at the end
 pub record SectionSteps (Begun Value : Type 0) : Type 0 where
   pub start : Begun
   pub next : Begun → Line → Result Begun Flaw
@@ -20,7 +20,7 @@ pub record SectionSteps (Begun Value : Type 0) : Type 0 where
 abbrev pub no_steps : SectionSteps ⊤ ⊤
 no_steps = record { start = tt; next = λ b line. Err BadLine; finish = λ b. Some tt }
 
--- a value more, where there may be one
+-- one more value, where there may be one
 abbrev pub grown : {V : Type 0} → ℕ → List V → V → Result (List V) Flaw
 grown limit values v = if nat_le limit (length values) then Err (TooMany limit) else Ok (values ++ v ∷ [])
 

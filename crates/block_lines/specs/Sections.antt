@@ -1,4 +1,4 @@
--- Lines of a block one behind another, and the blocks that begin with two words and go on with such lines.
+-- Lines of a block one after another, and the blocks that begin with two words and continue with such lines.
 use Rattle.std.specs.Prelude.{◌≡◌, ◌≤◌, ⊤, ℕ, List, [], ◌∷◌, ◌++◌, length, map}
 use Rattle.std.specs.List.{All, AllZip}
 use Rattle.block_text.specs.declared.fault.Flaw.{Flaw}
@@ -6,7 +6,7 @@ use Rattle.block_text.specs.Lines.{Line}
 use Rattle.block_text.specs.Kind.{Kind}
 use Rattle.block_lines.specs.LineKinds.{LineKind}
 
--- Lines of a block: which trees of tokens they have, which bounds those keep, and what they say.
+-- Lines of a block: their trees of tokens, the bounds of these, and what they say.
 pub record Section (Bound Value : Type 0) : Type 1 where
   pub Tree : Type 0
   pub lines_of : Tree → List Line
@@ -14,12 +14,12 @@ pub record Section (Bound Value : Type 0) : Type 1 where
   pub Keeps : Bound → Tree → Type 0
   pub Says : Tree → Value → Type 0
 
--- no line more
+-- no more lines
 abbrev pub no_lines : {Bound : Type 0} → Section Bound ⊤
 no_lines = record { Tree = ⊤; lines_of = λ t. []; IsTree = λ t. ⊤; Keeps = λ bound t. ⊤; Says = λ t v. ⊤ }
 
 module _ {Bound V W : Type 0} (line : LineKind Bound V) (rest : Section Bound W) where
-  -- a line, and others behind it
+  -- a line, and others after it
   abbrev pub line_then : Section Bound (V × W)
   line_then = record {
     Tree = line.Tokens × rest.Tree;
@@ -29,7 +29,7 @@ module _ {Bound V W : Type 0} (line : LineKind Bound V) (rest : Section Bound W)
     Says = λ t v. line.Says t.0 v.0 × rest.Says t.1 v.1;
   }
 
-  -- lines of the kind, by the bound on their number and what that is at most, and others behind them
+  -- lines of the kind, at most so many by this bound, and others after them
   abbrev pub lines_then : Bound → ℕ → Section Bound (List V × W)
   lines_then count limit = record {
     Tree = List line.Tokens × rest.Tree;
@@ -39,7 +39,7 @@ module _ {Bound V W : Type 0} (line : LineKind Bound V) (rest : Section Bound W)
     Says = λ t v. AllZip line.Says t.0 v.0 × rest.Says t.1 v.1;
   }
 
--- Blocks that begin with two words and go on with these lines, and say what is made of what those say.
+-- Blocks that begin with two words and continue with these lines, whose values the function maps to those of the block.
 abbrev pub block_kind : {Bound V W : Type 0} → List ℕ → List ℕ → List (List ℕ) → List Bound → (Bound → Flaw) → Section Bound V → (V → W) → Kind W
 block_kind {Bound} {V} {W} first second others bounds flaw_of section value = record {
   Tree = section.Tree;

@@ -1,4 +1,4 @@
-//! Kinds of blocks of evidence text by their lines: what a line may be, and which stand one behind another.
+//! Kinds of blocks of evidence text by their lines: what a line may be, and in which order.
 #![tactic(auto)]
 
 mod line_kind;

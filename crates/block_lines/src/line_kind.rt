@@ -22,7 +22,7 @@ pub trait LineKind {
 
     ghost reading: { Self → Reading Self.Value };
 
-    /// What the line says, or what is wrong with it.
+    /// What the line says, or its first flaw.
     fn read(&self, alloc: Global, line: &[u8]) -> Result<Self::Value, LineFault>
         ensures { Reads (λ v. v) result (reading self.now (tokens_of line.now)) };
 }
@@ -51,7 +51,7 @@ pub struct LetterLine<'q> {
     pub quiver: &'q Quiver,
 }
 
-// The token behind the word, none where it stands alone.
+// The token after the word, None where there is none.
 fn letter_token<'a>(word: &str, line: &'a [u8]) -> Option<Option<&'a [u8]>>
     ensures { option_map option_copied result ≡ letter_token word.now (tokens_of line.now) }
 {
@@ -83,7 +83,7 @@ impl<'q> LineKind for LetterLine<'q> {
     }
 }
 
-/// The list with no room for more items.
+/// The list with no spare room.
 pub(crate) fn fitted<T>(list: Listing<T>) -> Listing<T>
     ensures { result ≡ list }
 {

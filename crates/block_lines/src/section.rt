@@ -1,4 +1,4 @@
-//! Lines of a block one behind another.
+//! Lines of a block one after another.
 
 ghost use Rattle.std.specs.Prelude.{◌≡◌};
 ghost use Rattle.block_text.specs.Fault.{Reads};
@@ -10,7 +10,7 @@ use block_text::{Flaw, LineFault, begins};
 use lists::Listing;
 use std::alloc::Global;
 
-/// Lines of a block one behind another, and what is made of them.
+/// Lines of a block one after another, and what is made of them.
 pub trait Section {
     /// How far they were read.
     type Begun: Drop;
@@ -23,7 +23,7 @@ pub trait Section {
     fn start(&self, alloc: Global) -> Self::Begun
         ensures { result ≡ (steps self.now).start };
 
-    /// With a line more, which is not `end`.
+    /// With one more line, which is not `end`.
     fn next(&self, alloc: Global, begun: Self::Begun, line: &[u8]) -> Result<Self::Begun, LineFault>
         ensures { Reads (λ b. b) result ((steps self.now).next begun (tokens_of line.now)) };
 
@@ -32,7 +32,7 @@ pub trait Section {
         ensures { result ≡ (steps self.now).finish begun };
 }
 
-/// No line more.
+/// No more lines.
 #[derive(Clone, Copy)]
 pub struct NoLines;
 
@@ -54,14 +54,14 @@ impl Section for NoLines {
     }
 }
 
-/// A line, and others behind it.
+/// A line, and others after it.
 #[derive(Drop)]
 pub struct LineThen<L, R> {
     pub line: L,
     pub rest: R,
 }
 
-/// Before a line, or behind it.
+/// Before a line, or after it.
 #[derive(Drop)]
 pub enum LinePlace<V, B> {
     Before,
@@ -109,7 +109,7 @@ impl<L: LineKind, R: Section> Section for LineThen<L, R> {
     }
 }
 
-/// Lines that begin with the word, at most so many, and others behind them.
+/// Lines that begin with the word, at most `limit`, and others after them.
 #[derive(Drop)]
 pub struct LinesThen<L, R> {
     pub word: &'static str,
@@ -118,7 +118,7 @@ pub struct LinesThen<L, R> {
     pub rest: R,
 }
 
-/// The values of the lines with the word, how far those behind them were read, and whether one of them may still come.
+/// The values of the lines with the word, how far those after them were read, and whether one of them may still come.
 #[derive(Drop)]
 pub struct LinesPlace<V, B> {
     pub values: Listing<V>,
@@ -126,7 +126,7 @@ pub struct LinesPlace<V, B> {
     pub more: bool,
 }
 
-// A value more, where there may be one.
+// One more value, where there may be one.
 fn grown<V: Drop>(limit: u32, mut values: Listing<V>, value: V) -> Result<Listing<V>, LineFault>
     ensures { Reads (λ vs. vs) result (grown limit values value) }
 {
