@@ -1,11 +1,11 @@
--- The bounds of a kind, by what a line is told for that passes one.
+-- The bounds of a kind, by the flaw of a line that exceeds one.
 use Rattle.std.proofs.Common.{◌≡◌, ◌==◌, ◌&&◌, ℕ, Bool, true, false, List, [], ◌∷◌, ◌++◌, Option, Some, refl, ap, if◌then◌else◌}
 use Rattle.std.specs.List.{find}
 use Rattle.block_text.specs.declared.fault.Flaw.{Flaw}
 use Rattle.block_text.specs.declared.fault.Flaw.TheVariants as flaw
 use Rattle.block_text.specs.Fault.{limit_of}
 
--- those in front of it
+-- those before it
 abbrev pub until : {A : Type 0} → (A → Bool) → List A → List A
 until p [] = []
 until p (x ∷ xs) = if p x then [] else x ∷ until p xs
@@ -37,17 +37,17 @@ form_of (flaw.TooMany limit) = 4
 abbrev pub same_flaw : Flaw → Flaw → Bool
 same_flaw f g = (form_of f == form_of g) && (limit_of f == limit_of g)
 
--- by what a line is told for that passes a bound, and the bounds in the order in which they count
+-- by the flaw of a line that exceeds a bound, and the bounds in the order in which they are tested
 module _ {Bound : Type 0} (flaw_of : Bound → Flaw) (bounds : List Bound) where
-  -- the bound that a line passes which is told for this
+  -- the bound whose flaw this is
   abbrev pub bound_of : Flaw → Option Bound
   bound_of f = find (λ bound. same_flaw f (flaw_of bound)) bounds
 
-  -- the bounds that count before it
+  -- the bounds that are tested before it
   abbrev pub before : Bound → List Bound
   before bound = until (λ other. same_flaw (flaw_of bound) (flaw_of other)) bounds
 
-  -- where it stands among all
+  -- its place among all
   pub record IsListed (bound : Bound) : Type 0 where
     pub later : List Bound
     pub splits : bounds ≡ before bound ++ bound ∷ later

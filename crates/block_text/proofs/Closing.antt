@@ -18,7 +18,7 @@ pub record IsSign (s : ℕ) : Type 0 where
 onto_front : (c : ℕ) (ts us : List (List ℕ)) (t : List ℕ) (more : List (List ℕ)) → ts ≡ t ∷ more → onto_first c (ts ++ us) ≡ onto_first c ts ++ us
 onto_front c ts us t more is = rw is refl
 
--- the characters in front keep their tokens
+-- the characters before keep their tokens
 abbrev Between : ℕ → List ℕ → List ℕ → Type 0
 Between s rest front = tokens_of (front ++ s ∷ rest) ≡ tokens_of front ++ (s ∷ []) ∷ tokens_of rest
 

@@ -55,7 +55,7 @@ text_of_line text line = record {
   are = ap content (line_is text [] line.inside);
 }
 
--- the same of a line that stands
+-- the same of a line that isn't skipped
 pub text_of_tokens : (text : List ℕ) (line : Line) → IsLineText text → tokens_of text ≡ line → is_skipped line ≡ false → IsTextOf (text ++ 10 ∷ []) (line ∷ [])
 text_of_tokens text line inside tokens known =
     let stays : content (text ∷ []) ≡ line ∷ [] = rw (tokens, known) refl in

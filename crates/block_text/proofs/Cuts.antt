@@ -66,7 +66,7 @@ plain_by c g s gap sign = rw (gap, sign) refl
 prefix_more : (c : ℕ) (cs : List ℕ) → is_plain c ≡ true → prefix_len is_plain (c ∷ cs) ≡ suc (prefix_len is_plain cs)
 prefix_more c cs plain = rw plain (omega arith)
 
--- the rest is a run of so many characters and what stands behind it
+-- the rest is a run of so many characters and what follows it
 abbrev pub IsRun : List ℕ → Type 0
 IsRun text = tokens_of text ≡ take (prefix_len is_plain text) text ∷ tokens_of (drop (prefix_len is_plain text) text)
 

@@ -161,7 +161,7 @@ module _ {Begun Value : Type 0} (kind : Kind Value) (steps : Steps Begun Value) 
         let left : all_values steps bytes ≡ Ok values = values_are_read values is in
         let right : all_values steps bytes ≡ Err told = fault_is_read told wrong in absurd (cc)
 
-    -- what a reader returns, as its callers are told
+    -- the fault that a reader returns is the first one
     pub fault_told : (e : CertFault) → Explains (all_values steps bytes) e → ExplainsBy (IsFirstFault kind bytes) e
     fault_told (cert_fault.Fault code line limit) told = fault_read (record { code = code; line = line; limit = limit }) told
     fault_told (cert_fault.Memory e) told = tt

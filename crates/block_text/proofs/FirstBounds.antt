@@ -21,7 +21,7 @@ first_kept K front back all = subst (All K) (take-append_seam front back) (All-t
 pub up_to_kept : {B : Type 0} (K : B → Type 0) (all earlier later : List B) (b : B) → all ≡ earlier ++ b ∷ later → All K all → All K (earlier ++ b ∷ [])
 up_to_kept K all earlier later b splits kept = first_kept K (earlier ++ b ∷ []) later (subst (All K) (splits ∙ sym (append_assoc earlier (b ∷ []) later)) kept)
 
--- two places in one list: they are one, or one stands before the other
+-- two places in one list: they are the same, or one is before the other
 data Places {B : Type 0} (a b : B) (front back : List B) : Type 0 where
   same : front ≡ back → a ≡ b → Places a b front back
   before : (more : List B) → back ≡ (front ++ a ∷ []) ++ more → Places a b front back

@@ -1,4 +1,4 @@
--- What a loop has read of a list, in front of what the rest gives.
+-- What a loop has read of a list, before what the rest gives.
 use Rattle.std.proofs.Common.{List, ◌++◌, Option}
 use Rattle.std.specs.Option.{option_map}
 

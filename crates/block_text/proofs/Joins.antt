@@ -6,7 +6,7 @@ use Rattle.std.specs.List.{join_with_byte}
 use Rattle.quiver.specs.Declarations.{Declaration}
 use Rattle.block_text.specs.Written.{letter_text, gap_text, word_text}
 
--- a part more behind others
+-- one more part after others
 join_behind : (x : List ℕ) (xs : List (List ℕ)) (y : List ℕ) → join_with_byte 32 ((x ∷ xs) ++ y ∷ []) ≡ join_with_byte 32 (x ∷ xs) ++ (32 ∷ []) ++ y
 join_behind x [] y = rw append_assoc refl
 join_behind x (z ∷ xs) y = rw (join_behind z xs y) (simp append_assoc refl)
@@ -24,7 +24,7 @@ word_more ds w place a within read =
     let count : length (map (letter_text ds) (take place w)) ≡ place = rw length-map (length-take-le place w (omega (arith, within))) in
     rw (split, ← read, map-append, join_more, count) refl
 
--- the blank and then the letter are put behind what is written
+-- the blank and then the letter are appended to what is written
 pub letter_put : (ds : List Declaration) (w : List ℕ) (place a : ℕ) (front before with_gap after : List ℕ)
     → before ≡ front ++ word_text ds (take place w) → with_gap ≡ before ++ gap_text place → after ≡ with_gap ++ letter_text ds a
     → place < length w → a ≡ get_or w place 0 → after ≡ front ++ word_text ds (take (place + 1) w)

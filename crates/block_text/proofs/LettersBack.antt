@@ -42,7 +42,7 @@ not_begun (b ∷ bs) mark text other =
     let apart : nat_eq mark b ≡ false = ne_eqb mark b (λ e. differs b mark first other (sym e)) in
     rw apart refl
 
--- a text ends with the character that is put behind it
+-- a text ends with the character that is appended to it
 pub ended_by : (front : List ℕ) (last mark : ℕ) → ends_with nat_eq (front ++ last ∷ []) (mark ∷ []) ≡ (nat_eq mark last && true)
 ended_by front last mark =
     let count : length front ≡ length (front ++ last ∷ []) - 1 = omega (arith, length-append front (last ∷ [])) in

@@ -39,7 +39,7 @@ number_is word (a ∷ b ∷ []) n read =
     (ap₂ (λ x y. x ∷ y ∷ []) (is_word word a parts.0) found.1, subst (λ m. IsTrue (is_number m)) found.1 parts.1)
 number_is word (a ∷ b ∷ c ∷ tokens) n read = absurd (cc)
 
--- what stands in a bracket, and what stands behind it
+-- the tokens in a bracket and those after it
 abbrev pub Parts : Type 0
 Parts = List (List ℕ) × List (List ℕ)
 

@@ -38,7 +38,7 @@ line_is line rest all =
     slice_split_at is_line_end line 10 rest (All-from_recursion (λ c. is_line_end c ≡ false) line (no_line_end line all)) refl in
     rw split (part_is_line line rest ∙ ap (λ l. l ∷ lines rest) (kept line all))
 
--- the first part of a whole text, and the lines behind it with and without what stands behind the text
+-- the first part of a whole text, and the lines after it with and without what follows the text
 record Joined (xs ys : List ℕ) : Type 0 where
   part : List ℕ
   next : List ℕ

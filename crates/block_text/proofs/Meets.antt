@@ -1,9 +1,9 @@
--- What comes of reading where some bounds are kept: a value of which a fact holds, or what a line is told for that passes another bound.
+-- A result of reading within some bounds: a value of which a fact holds, or the flaw of another bound.
 use Rattle.std.proofs.Common.{◌≡◌, Bool, true, false, Option, Some, None, Result, Ok, Err, if◌then◌else◌, refl}
 use Rattle.block_text.specs.declared.fault.Flaw.{Flaw}
 use Rattle.block_text.specs.Fault.{◌>>=◌, asked}
 
--- flaw_of says what a line is told for that passes a bound, and K which bounds are kept
+-- flaw_of gives the flaw of a line that exceeds a bound, and K says which bounds are met
 pub data Meets {Bound A : Type 0} (flaw_of : Bound → Flaw) (K : Bound → Type 0) (P : A → Type 0) (r : Result A Flaw) : Type 0 where
   reads : (x : A) → r ≡ Ok x → P x → Meets flaw_of K P r
   passes : (bound : Bound) → r ≡ Err (flaw_of bound) → (K bound → ⊥) → Meets flaw_of K P r

@@ -26,7 +26,7 @@ byte_by c b false is continues same =
     let ascii : (is_ascii_alphanumeric b || (b == 95)) ≡ true = sym (is_xid_continue-ascii b low) ∙ subst (λ (x : ℕ). is_xid_continue x ≡ true) (same low) continues in
     rw (is, ascii) refl
 
--- the bytes of a character that goes on with a name
+-- the bytes of a character that continues a name
 character_bytes : (c : ℕ) → is_xid_continue c ≡ true → list_all is_name_byte (encode_utf8 c) ≡ true
 character_bytes c continues =
     all_from_places is_name_byte (encode_utf8 c) (λ k within. byte_by c (get_or (encode_utf8 c) k 0) _ refl continues

@@ -21,11 +21,11 @@ abbrev pub lines_by : {P : Type 0} → (P → Line → Result P Flaw) → ℕ �
 lines_by step number p [] = Ok p
 lines_by step number p (line ∷ rest) = at_line number (if is_skipped (tokens_of line) then Ok p else step p (tokens_of line)) >>= λ q. lines_by step (number + 1) q rest
 
--- a line that is read is told in front of the lines behind it
+-- a line that is read is before the content of the lines after it
 content-stands : (line : List ℕ) (ls : List (List ℕ)) → is_skipped (tokens_of line) ≡ false → content (line ∷ ls) ≡ tokens_of line ∷ content ls
 content-stands line ls stands = rw stands refl
 
--- a line that is not read, and what was made of the lines in front of it
+-- a line that is refused, and what was made of the lines before it
 pub record IsRefused {P : Type 0} (step : P → Line → Result P Flaw) (p : P) (ls : List (List ℕ)) (number : ℕ) (fault : Fault) : Type 0 where
   pub front : List (List ℕ)
   pub line : List ℕ
@@ -44,7 +44,7 @@ pub data AreLinesRead {P : Type 0} (step : P → Line → Result P Flaw) (p : P)
   some : (fault : Fault) → r ≡ Err fault → IsRefused step p ls number fault → AreLinesRead step p ls number r
 
 module _ {P : Type 0} (step : P → Line → Result P Flaw) where
-  -- a line more in front, which is skipped or read
+  -- one more line before it, which is skipped or read
   behind_line : (p q : P) (line : List ℕ) (ls : List (List ℕ)) (number : ℕ) (r : Result P Fault) → ((front : List (List ℕ)) → run step p (content (line ∷ front)) ≡ run step q (content front))
       → AreLinesRead step q ls (number + 1) r → AreLinesRead step p (line ∷ ls) number r
   behind_line p q line ls number r same (all end is run_is) = all end is (same ls ∙ run_is)
@@ -85,7 +85,7 @@ module _ {P : Type 0} (step : P → Line → Result P Flaw) where
   lines_are_read p [] number = all p refl refl
   lines_are_read p (line ∷ ls) number = read_on p line ls number (is_skipped (tokens_of line)) (step p (tokens_of line)) refl refl (λ q. lines_are_read q ls (number + 1))
 
-  -- lines that are read, and a line behind them that isn't
+  -- lines that are read, and a line after them that isn't
   pub run_past : (p q : P) (xs : List Line) (line : Line) (ys : List Line) (flaw : Flaw) → run step p xs ≡ Ok q → step q line ≡ Err flaw → run step p (xs ++ line ∷ ys) ≡ Err flaw
   run_past p q xs line ys flaw front refused = rw (run-append step p xs (line ∷ ys), front, refused) refl
 

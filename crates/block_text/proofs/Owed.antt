@@ -66,7 +66,7 @@ module _ {Value : Type 0} (kind : Kind Value) where
   begins_as within front others line other fronts lines begins = subst (Begins within) (ap₂ (λ ls l. ls ++ l ∷ []) (sym fronts) (sym lines)) begins
 
   pub record IsReader {Begun : Type 0} (steps : Steps Begun Value) : Type 1 where
-    -- each bound is told apart, and none is told for a line that doesn't fit or for a block too many
+    -- each bound has a flaw of its own, other than that of a line that doesn't fit or of a block too many
     pub told : (bound : kind.Bound) → bound_of kind.flaw_of kind.bounds (kind.flaw_of bound) ≡ Some bound
     pub none_told : (bound_of kind.flaw_of kind.bounds BadLine ≡ None) × (bound_of kind.flaw_of kind.bounds (TooMany block_limit) ≡ None)
     -- blocks of other kinds begin with the words of the kind, which aren't comments
@@ -92,7 +92,7 @@ module _ {Value : Type 0} {kind : Kind Value} {Begun : Type 0} {steps : Steps Be
   pub told_for_none : (b : kind.Bound) (f : Flaw) → bound_of kind.flaw_of kind.bounds f ≡ None → f ≡ kind.flaw_of b → ⊥
   told_for_none b f none same = let found = sym none ∙ ap (bound_of kind.flaw_of kind.bounds) same ∙ reader.told b in absurd (cc)
 
--- where a reader that stands there behind the head stands, and no block of another kind begins
+-- where an open block is after its head, and no block of another kind begins
 pub begins_by_head : {Begun : Type 0} (others : List (List ℕ)) (IsOpen : Begun → List Line → Type 0) (first second : List ℕ) (b : Begun)
     → is_other_head others (first ∷ second ∷ []) ≡ false → IsOpen b ((first ∷ second ∷ []) ∷ [])
     → (line : Line) (c : Begun) → (if is_pair first second line then Some b else None) ≡ Some c → (is_other_head others line ≡ false) × IsOpen c (line ∷ [])
@@ -101,7 +101,7 @@ begins_by_head others IsOpen first second b none is_open line c read =
     let known : first ∷ second ∷ [] ≡ line = sym (pair_is first second line found.0) in
     (subst (λ l. is_other_head others l ≡ false) known none, subst (λ d. IsOpen d (line ∷ [])) found.1 (subst (λ l. IsOpen b (l ∷ [])) known is_open))
 
--- a reader of a kind all of whose blocks begin with the same two words, by what it makes of the lines behind them
+-- a reader of a kind all of whose blocks begin with the same two words, by what it makes of the lines after them
 pub reader_by_head : {Value : Type 0} (kind : Kind Value) {Begun : Type 0} (steps : Steps Begun Value) (IsOpen : Begun → List Line → Type 0)
     → ((bound : kind.Bound) → bound_of kind.flaw_of kind.bounds (kind.flaw_of bound) ≡ Some bound)
     → (bound_of kind.flaw_of kind.bounds BadLine ≡ None) × (bound_of kind.flaw_of kind.bounds (TooMany block_limit) ≡ None)

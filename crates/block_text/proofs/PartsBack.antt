@@ -1,4 +1,4 @@
--- Texts one behind another, and texts of several parts: written blocks, comments and blocks of other kinds.
+-- Texts one after another, and texts of several parts: written blocks, comments and blocks of other kinds.
 use Rattle.std.proofs.Common.{◌≡◌, ◌≤◌, ◌<◌, ◌+◌, ◌==◌, ℕ, zero, suc, Bool, true, false, not, cond, ◌||◌, List, [], ◌∷◌, ◌++◌, arith, refl, sym, ap, ◌∙◌, subst, length, take, map, codes, IsTrue, flat_map}
 use Rattle.std.specs.List.{All, AllByRecursion, AllZip, list_all, onto_first, slice_split}
 use Rattle.std.specs.Str.{IsUtf8}
@@ -113,12 +113,12 @@ body_goes_on ls each =
     (All-map (λ line. is_end line ≡ false) tokens_of ls (All-weaker IsBodyLine (λ line. is_end (tokens_of line) ≡ false) (λ line body. body.goes_on) ls each))
 
 module _ {Value : Type 0} (kind : Kind Value) where
-  -- texts one behind another
+  -- texts one after another
   keeps-append : (xs ys : List (Block kind.Tree)) (bound : TextBound kind.Bound) → Keeps kind xs bound → Keeps kind ys bound → length (own_in xs) + length (own_in ys) ≤ block_limit → Keeps kind (xs ++ ys) bound
   keeps-append xs ys (on_block bound) left right few = subst (All (kind.Keeps bound)) (sym (own_in-append xs ys)) (All-append (kind.Keeps bound) (own_in xs) (own_in ys) left right)
   keeps-append xs ys on_count left right few = omega (arith, few, ap length (own_in-append xs ys), length-append (own_in xs) (own_in ys))
 
-  -- Texts of which the first is whole lines may stand one behind the other, where they have few blocks.
+  -- Texts of which the first is whole lines may follow one another, where they have few blocks.
   pub joined : (before after : List ℕ) (first last : List Value) → IsTrue (is_whole before) → HasBlocks kind before first → HasBlocks kind after last → length first + length last ≤ block_limit
       → HasBlocks kind (before ++ after) (first ++ last)
   joined before after first last whole left right few =

@@ -1,4 +1,4 @@
--- The tokens of a line are those of one polynomial, and what is the first that is wrong with a line is what it is told for.
+-- The tokens of a line are those of one polynomial, and a line is refused for its first flaw.
 use Rattle.std.proofs.Common.{◌≡◌, ◌≤◌, ℕ, true, false, ◌&&◌, List, [], ◌∷◌, Option, Some, None, arith, Err, refl, sym, ap, ◌∙◌, subst}
 use Rattle.std.specs.List.{All, list_all}
 use Rattle.std.proofs.lemmas.Bool.{and_parts, false_from_ne_true}
@@ -149,7 +149,7 @@ module _ (ds : List Declaration) where
   no_letters : (digits : List ℕ) → HasKnownLetters ds (zero_line digits)
   no_letters digits = record { known = All-nil _ }
 
-  -- a line is told for the first that is wrong with it
+  -- a line is refused for its first flaw
   pub flaw_there : (line : Line) (flaw : Flaw) → IsPolynomialFlaw ds line flaw → polynomial_of ds line ≡ Err flaw
   flaw_there line flaw (misfit told none) = misfit_told line none ∙ ap Err (sym told)
   flaw_there line flaw (unknown (zero_line digits) told fits none) = absurd (none (no_letters digits))

@@ -1,4 +1,4 @@
--- The last term of a polynomial, and those behind it.
+-- The last term of a polynomial, and those after it.
 use Rattle.std.proofs.Common.{◌≡◌, ◌+◌, ◌==◌, ℕ, zero, suc, List, [], ◌∷◌, arith, refl, sym, ap, length, get_or}
 use Rattle.std.specs.Ordering.{ordering_index}
 use Rattle.std.specs.declared.cmp.Ordering.{Ordering}

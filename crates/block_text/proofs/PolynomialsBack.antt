@@ -209,7 +209,7 @@ module _ (ds : List Declaration) (declared : IsDeclared ds) (known : IsTrue (lis
       ∙ ap (λ ts. cond (is_negative t.0) (codes "-") (codes "+") ∷ ts) (term_tokens t more good.0 (later_stops p rest stops) ∙ ap (λ ts. term_line (written_term ds t) ++ ts) (later_tokens p rest good.1 stops)
       ∙ sym (append_assoc (term_line (written_term ds t)) line (tokens_of rest)))
 
-  -- the tokens of a polynomial that is written before what goes on with no token
+  -- the tokens of a polynomial that is written before a character that continues no token
   poly_tokens : (p : Poly) (rest : List ℕ) → AllByRecursion IsGood p → goes_on rest ≡ false → tokens_of (poly_text ds p ++ rest) ≡ polynomial_line (written_tokens ds p) ++ tokens_of rest
   poly_tokens [] rest good stops = token_read (codes "0") rest (plain_token (codes "0") refl (omega arith)) stops
   poly_tokens (t ∷ p) rest good stops =

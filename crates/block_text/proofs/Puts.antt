@@ -1,4 +1,4 @@
--- Parts of a text that are put one behind the other.
+-- Parts of a text that are appended one after another.
 use Rattle.std.proofs.Common.{◌≡◌, ◌<◌, ◌+◌, ℕ, List, [], ◌∷◌, ◌++◌, Result, Ok, Err, OnOk, length, take, get_or, sym, ap, ◌∙◌, append_assoc}
 use Rattle.std.proofs.lemmas.Grind.{flat_map-append}
 use Rattle.std.proofs.lemmas.List.{append-nil, take_more}
@@ -11,7 +11,7 @@ four_put (Ok done) before first second third fourth one two three last one_is tw
     ∙ append_assoc before ((first ++ second) ++ third) fourth
 four_put (Err e) before first second third fourth one two three last one_is two_is three_is last_is = tt
 
--- three parts, one behind the other
+-- three parts, one after another
 pub three_put : {E : Type 0} (r : Result (Unit {0}) E) (before first second third one two last : List ℕ) → one ≡ before ++ first → two ≡ one ++ second → OnOk r (last ≡ two ++ third)
     → OnOk r (last ≡ before ++ ((first ++ second) ++ third))
 three_put (Ok done) before first second third one two last one_is two_is last_is =

@@ -58,7 +58,7 @@ module _ {Begun Value : Type 0} (kind : Kind Value) (steps : Steps Begun Value) 
       before_it bound = before kind.flaw_of kind.bounds bound
   kept_at K all on_count = last_kept K (map on_block kind.bounds) on_count all
 
-  -- blocks that go on with a line that is refused pass the bound that it is refused for
+  -- blocks that have the line next exceed the bound for which it is refused
   record IsPassed (blocks : List (Block kind.Tree)) (flaw : Flaw) : Type 0 where
     bound : TextBound kind.Bound
     is : flaw ≡ flaw_of kind bound

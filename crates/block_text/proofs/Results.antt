@@ -47,7 +47,7 @@ pub option_map_some : {A B P : Type 0} (f : A → B) (o : Option A) (y : B) → 
 option_map_some f (Some x) y read use_it = use_it x refl (cc)
 option_map_some f None y read use_it = absurd (cc)
 
--- an option behind a test
+-- an option after a test
 pub cond_option : {A : Type 0} (b : Bool) (o : Option A) (x : A) → cond b o None ≡ Some x → (b ≡ true) × (o ≡ Some x)
 cond_option true o x read = (refl, read)
 cond_option false o x read = absurd (cc)

@@ -41,7 +41,7 @@ module _ {Begun Value : Type 0} (kind : Kind Value) (steps : Steps Begun Value) 
     within : (bound : TextBound kind.Bound) → Keeps kind text bound
     says : AllZip kind.Says (own_in text) values
 
-  -- behind the head of another kind
+  -- after the head of another kind
   record IsInOther (front : List Line) : Type 0 where
     tokens : OtherTokens
     is_block : IsOtherBlock kind.others tokens
@@ -58,7 +58,7 @@ module _ {Begun Value : Type 0} (kind : Kind Value) (steps : Steps Begun Value) 
   HasRoom at.Skipped n = ⊤
   HasRoom (at.Inside b) n = n < block_limit
 
-  -- The lines so far are whole blocks within all bounds, whose values were read, and behind them the first lines of the block that the place stands in.
+  -- The lines so far are whole blocks within all bounds, whose values were read, and the first lines of the block that is open at the place.
   pub record Stands (ls : List Line) (p : Progress Begun Value) : Type 0 where
     text : Text
     whole : AreWhole text p.values

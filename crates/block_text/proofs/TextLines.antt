@@ -83,7 +83,7 @@ module _ {Begun Value : Type 0} (kind : Kind Value) (steps : Steps Begun Value) 
       by_head (Some b) is = rw (is, full) refl
       by_head None is = absurd (fits (rw is refl))
 
-  -- the blocks were read behind others
+  -- the blocks were read after others
   pub record AreRead (done : List Value) (text : List (Block kind.Tree)) (q : Progress Begun Value) : Type 0 where
     pub values : List Value
     pub say : AllZip kind.Says (own_in text) values

@@ -19,7 +19,7 @@ plain_by c false false gap sign plain = record { gap = gap; sign = sign }
 plain_is : (c : ℕ) → is_plain c ≡ true → IsPlain c
 plain_is c plain = plain_by c _ _ refl refl plain
 
--- one or more characters of which each goes on with a run
+-- one or more characters, each of which continues a run
 pub record IsToken (token : List ℕ) : Type 0 where
   pub first : ℕ
   pub more : List ℕ

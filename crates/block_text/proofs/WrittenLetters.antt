@@ -1,4 +1,4 @@
--- A letter is written as it is spelled, but for a ' behind one that is its own adjoint.
+-- A letter is written as it is spelled, but for a ' after one that is its own adjoint.
 use Rattle.std.proofs.Common.{◌≡◌, ◌-◌, ℕ, Bool, true, false, not, cond, ◌&&◌, List, [], ◌∷◌, Option, Some, None, arith, refl, ap, ◌∙◌, subst, length, take, drop, codes, nat_eq, eq-eqb}
 use Rattle.std.specs.Bool.{⊤}
 use Rattle.std.specs.List.{starts_with, ends_with}
@@ -38,7 +38,7 @@ named_read P identity adjoint text s read holds =
     let known = cond_some (is_name text) text name found in
     subst P same (subst (λ (n : List ℕ). P (record { name = n; identity = identity; adjoint = adjoint })) known.1 holds))
 
--- a token isn't what stands before its '
+-- a token isn't its own part before the '
 no_front : (token : List ℕ) → ends_with nat_eq token (codes "'") ≡ true → is (take (length token - 1) token) token ≡ false
 no_front [] ends = absurd (cc)
 no_front (x ∷ xs) ends =

@@ -6,11 +6,11 @@ use Rattle.block_text.specs.declared.fault.Flaw.TheVariants.{TooMany}
 use Rattle.block_text.specs.Lines.{Line, OtherTokens, block_limit, begins, is_end, end_line}
 use Rattle.block_text.specs.Kind.{Kind}
 
--- whether a block that begins with one of these words begins
+-- whether the line begins with one of these words, so that a block of another kind begins
 abbrev pub is_other_head : List (List ℕ) → Line → Bool
 is_other_head others line = list_any (λ word. begins word line) others
 
--- the first line `end` ends it
+-- none of its lines is `end`
 pub record IsOtherBlock (others : List (List ℕ)) (b : OtherTokens) : Type 0 where
   pub head : IsTrue (is_other_head others b.head)
   pub lines : All (λ line. is_end line ≡ false) b.lines
@@ -47,7 +47,7 @@ abbrev pub KeepsText : {Tree Bound : Type 0} → (Bound → Tree → Type 0) →
 KeepsText Keeps text (on_block bound) = All (Keeps bound) (own_in text)
 KeepsText Keeps text on_count = length (own_in text) ≤ block_limit
 
--- that on their number counts last
+-- that on their number is tested last
 abbrev pub text_bounds : {Bound : Type 0} → List Bound → List (TextBound Bound)
 text_bounds bounds = map on_block bounds ++ on_count ∷ []
 
@@ -57,13 +57,13 @@ module _ {Value : Type 0} (kind : Kind Value) where
     pub are : lines ≡ flat_map (block_lines kind.lines_of) blocks
     pub each : All (IsBlock kind.IsTree kind.others) blocks
 
-  -- The blocks keep the bound.
+  -- The blocks are within the bound.
   abbrev pub Keeps : List (Block kind.Tree) → TextBound kind.Bound → Type 0
   Keeps text bound = KeepsText kind.Keeps text bound
 
   abbrev pub bounds : List (TextBound kind.Bound)
   bounds = text_bounds kind.bounds
 
-  -- what a line is told for that passes the bound
+  -- the flaw of a line that exceeds the bound
   abbrev pub flaw_of : TextBound kind.Bound → Flaw
   flaw_of bound = told_for kind.flaw_of bound

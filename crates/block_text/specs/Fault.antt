@@ -1,4 +1,4 @@
--- What can be wrong with evidence, and how a reader tells it.
+-- What can be wrong with evidence, and how a reader returns it.
 use Rattle.std.specs.Prelude.{◌≡◌, ⊤, ℕ, Option, Some, None, Result, Ok, Err}
 use Rattle.block_text.specs.declared.fault.Flaw.{Flaw}
 use Rattle.block_text.specs.declared.fault.Flaw.TheVariants as flaw
@@ -9,7 +9,7 @@ use Rattle.block_text.specs.declared.fault.TextFlaw.TheVariants as text_flaw
 use Rattle.block_text.specs.declared.fault.CertFault.{CertFault}
 use Rattle.block_text.specs.declared.fault.CertFault.TheVariants as cert_fault
 
--- the number that is printed for it, and the limit that is passed, 0 where none is
+-- the number that is printed for it, and the limit that is exceeded, or 0
 abbrev pub code_of : Flaw → ℕ
 code_of flaw.BadLine = 2
 code_of flaw.UnknownName = 3
@@ -24,7 +24,7 @@ limit_of flaw.NotAsWritten = 0
 limit_of flaw.NumberTooLarge = 0
 limit_of (flaw.TooMany limit) = limit
 
--- its number, the line, and the limit that is passed; 0 stands for a line or a limit where there is none
+-- its number, the line, and the limit that is exceeded; 0 stands for no line or no limit
 pub record Fault : Type 0 where
   pub code : ℕ
   pub line : ℕ
@@ -43,34 +43,34 @@ truncated = record { code = 6; line = 0; limit = 0 }
 abbrev pub no_block : Fault
 no_block = record { code = 7; line = 0; limit = 0 }
 
--- what is wrong with a text as a whole
+-- the fault of a flaw of a text as a whole
 abbrev pub in_text : TextFlaw → Fault
 in_text text_flaw.NotUtf8 = not_utf8
 in_text text_flaw.Truncated = truncated
 in_text text_flaw.NoBlock = no_block
 
--- the value behind another, where neither is wrong
+-- the second result, of the value of the first; the first error otherwise
 infixl 10 ◌>>=◌
 abbrev pub ◌>>=◌ : {A B F : Type 0} → Result A F → (A → Result B F) → Result B F
 (Ok x) >>= f = f x
 (Err e) >>= f = Err e
 
--- a value that has to be there, and what is wrong where it isn't
+-- the value, or this flaw where there is none
 abbrev pub asked : {A : Type 0} → Flaw → Option A → Result A Flaw
 asked f (Some x) = Ok x
 asked f None = Err f
 
--- what is wrong, with the number of the line where it is
+-- the fault of a line: its flaw, with the number of the line
 abbrev pub at_line : {A : Type 0} → ℕ → Result A Flaw → Result A Fault
 at_line number (Ok x) = Ok x
 at_line number (Err f) = Err (in_line number f)
 
--- what is wrong with a text as a whole has no number of a line
+-- the fault of a text as a whole, which has no line
 abbrev pub at_text : {A : Type 0} → Result A TextFlaw → Result A Fault
 at_text (Ok x) = Ok x
 at_text (Err f) = Err (in_text f)
 
--- it tells of a fault for which this holds
+-- it is a fault for which this holds, or want of memory
 abbrev pub ExplainsBy : (Fault → Type 0) → CertFault → Type 0
 ExplainsBy IsFault (cert_fault.Fault code line limit) = IsFault (record { code = code; line = line; limit = limit })
 ExplainsBy IsFault (cert_fault.Memory e) = ⊤
@@ -83,7 +83,7 @@ abbrev pub Explains : {A : Type 0} → Result A Fault → CertFault → Type 0
 Explains read (cert_fault.Fault code line limit) = read ≡ Err (record { code = code; line = line; limit = limit })
 Explains read (cert_fault.Memory e) = ⊤
 
--- the value that a line gives, or what is wrong with it
+-- the value of a line, or its flaw
 abbrev pub Reads : {X Y : Type 0} → (X → Y) → Result X LineFault → Result Y Flaw → Type 0
 Reads view (Ok x) read = read ≡ Ok (view x)
 Reads view (Err e) read = ExplainsLine read e
@@ -101,11 +101,11 @@ abbrev pub IsMemory : CertFault → Type 0
 IsMemory (cert_fault.Fault code line limit) = ⊥
 IsMemory (cert_fault.Memory e) = ⊤
 
--- how a reader tells what is wrong with a text as a whole
+-- what a reader returns for a flaw of a text as a whole
 abbrev pub TellsText : TextFlaw → CertFault → Type 0
 TellsText f told = told ≡ cert_fault.Fault (in_text f).code (in_text f).line (in_text f).limit
 
--- how a reader of lines tells what is wrong with one
+-- what a reader of lines returns for a line's flaw
 abbrev pub TellsLine : ℕ → LineFault → CertFault → Type 0
 TellsLine number (line_fault.Flaw f) told = told ≡ cert_fault.Fault (code_of f) number (limit_of f)
 TellsLine number (line_fault.Memory e) told = IsMemory told

@@ -1,25 +1,25 @@
--- The laws of the values that texts have: that each text is read in one way, and that what is written is read back.
+-- The laws of the values of texts: each text is read in one way, and what is written is read back.
 use Rattle.std.specs.Prelude.{◌≡◌, ◌≤◌, ◌<◌, ◌+◌, ◌⊎◌, ℕ, List, ◌∷◌, ◌++◌, length, IsTrue}
 use Rattle.std.specs.List.{All, flat_map}
 use Rattle.block_text.specs.Fault.{Fault}
 use Rattle.block_text.specs.Lines.{block_limit}
 use Rattle.block_text.specs.Back.{Part, part_text, values_in, IsPart, is_whole}
 
--- by the values that a text is, and the first thing that is wrong with it
+-- by the values that a text has, and its first fault
 module _ {Value : Type 0} (IsText : List ℕ → List Value → Type 0) (IsFirst : List ℕ → Fault → Type 0) where
-  -- Each text has values, or something is the first that is wrong with it.
+  -- Each text has values or a first fault.
   abbrev pub EachIsRead : Type 0
   EachIsRead = (bytes : List ℕ) → ((values : List Value) × IsText bytes values) ⊎ ((fault : Fault) × IsFirst bytes fault)
 
-  -- They are those of one list.
+  -- A text has at most one list of values.
   abbrev pub ValuesAreUnique : Type 0
   ValuesAreUnique = (bytes : List ℕ) (one other : List Value) → IsText bytes one → IsText bytes other → one ≡ other
 
-  -- One fault is the first.
+  -- A text has at most one first fault.
   abbrev pub FaultIsUnique : Type 0
   FaultIsUnique = (bytes : List ℕ) (one other : Fault) → IsFirst bytes one → IsFirst bytes other → one ≡ other
 
-  -- Nothing is wrong with a text that has values.
+  -- A text that has values has no fault.
   abbrev pub ValuesHaveNoFault : Type 0
   ValuesHaveNoFault = (bytes : List ℕ) (values : List Value) (fault : Fault) → IsText bytes values → IsFirst bytes fault → ⊥
 
@@ -32,8 +32,8 @@ module _ {Value : Type 0} (IsText : List ℕ → List Value → Type 0) (IsFirst
 
 -- by the values that the blocks of a text say, the text as which a value is written, and the values that may be written
 module _ {Value : Type 0} (Has : List ℕ → List Value → Type 0) (text_of : Value → List ℕ) (IsGood : Value → Type 0) where
-  -- A value that is written between whole lines and other lines is read as it is, behind the values that those before it have and
-  -- before those that the others have.
+  -- A value that is written between whole lines and other lines is read as it is, after the values of the lines before it and
+  -- before those of the lines after it.
   abbrev pub IsReadBetween : Type 0
   IsReadBetween = (value : Value) (before after : List ℕ) (first last : List Value) → IsGood value
       → IsTrue (is_whole before) → Has before first → Has after last → length first + length last < block_limit

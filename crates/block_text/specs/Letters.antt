@@ -21,7 +21,7 @@ abbrev pub begins_name : List ℕ → Bool
 begins_name [] = false
 begins_name (c ∷ cs) = starts_name c
 
--- no more bytes than the limit, of a character that starts a name and characters that go on with it
+-- at most so many bytes as the limit, of a character that starts a name and characters that continue it
 abbrev pub is_name : List ℕ → Bool
 is_name token = nat_le (length token) name_limit && (is_utf8 token && (begins_name (chars token) && list_all is_xid_continue (drop 1 (chars token))))
 
@@ -32,22 +32,22 @@ name_in token = if is_name token then Some token else None
 -- letters: NAME, [NAME], NAME' or [NAME]'
 pub record Spelled : Type 0 where
   pub name : List ℕ
-  -- whether the name stands in square brackets
+  -- whether the name is in square brackets
   pub identity : Bool
-  -- whether a ' stands behind it
+  -- whether a ' follows it
   pub adjoint : Bool
 
--- a name that stood in square brackets or not, before a ' or not
+-- a name that was in square brackets or not, before a ' or not
 abbrev pub named_by : Bool → Bool → List ℕ → Option Spelled
 named_by identity adjoint token = option_map (λ name. record { name = name; identity = identity; adjoint = adjoint }) (name_in token)
 
--- the brackets are taken off
+-- the brackets are removed
 abbrev pub without_brackets : Bool → List ℕ → Option Spelled
 without_brackets adjoint token =
     if starts_with nat_eq token (codes "[") && ends_with nat_eq token (codes "]") then named_by true adjoint (take (length token - 2) (drop 1 token))
     else named_by false adjoint token
 
--- the ' is taken off
+-- the ' is removed
 abbrev pub spelled_by : List ℕ → Option Spelled
 spelled_by token =
     if ends_with nat_eq token (codes "'") then without_brackets true (take (length token - 1) token)
@@ -91,7 +91,7 @@ abbrev pub is_negative : List ℕ → Bool
 is_negative [] = false
 is_negative (c ∷ cs) = c == 45
 
--- the token without the - in front
+-- the token without its leading -
 abbrev pub digits_of : List ℕ → List ℕ
 digits_of token = if is_negative token then drop 1 token else token
 

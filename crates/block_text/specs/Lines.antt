@@ -53,18 +53,18 @@ is_end (token ∷ other ∷ tokens) = false
 abbrev pub end_line : Line
 end_line = codes "end" ∷ []
 
--- the number behind a word
+-- the number after a word
 abbrev pub number_behind : List ℕ → List (List ℕ) → Option (List ℕ)
 number_behind word (a ∷ b ∷ []) = if is word a && is_number b then Some b else None
 number_behind word [] = None
 number_behind word (a ∷ []) = None
 number_behind word (a ∷ b ∷ c ∷ tokens) = None
 
--- the value of the tokens of a line, which is told for this flaw where they say none
+-- the value of the tokens of a line, or this flaw where they have none
 abbrev pub said : {T A : Type 0} → (Line → Option T) → (T → Option A) → Flaw → Line → Result A Flaw
 said tokens value flaw line = asked BadLine (tokens line) >>= λ t. asked flaw (value t)
 
--- the number behind a word, at most this
+-- the number after a word, at most this
 abbrev pub number_of : List ℕ → ℕ → Line → Result ℕ Flaw
 number_of word most line = said (number_behind word) (number_within most) NumberTooLarge line
 
@@ -85,12 +85,12 @@ is_open = is (codes "(")
 abbrev pub is_close : List ℕ → Bool
 is_close = is (codes ")")
 
--- what stands before the first ) and what stands behind it
+-- the tokens before the first ) and those after it
 abbrev pub closed : List (List ℕ) → Option (List (List ℕ) × List (List ℕ))
 closed [] = None
 closed (token ∷ tokens) = if is_close token then Some ([], tokens) else option_map (λ parts. (token ∷ parts.0, parts.1)) (closed tokens)
 
--- what stands in a ( .. ) and what stands behind it
+-- the tokens in a leading ( .. ) and those after it
 abbrev pub bracketed : List (List ℕ) → Option (List (List ℕ) × List (List ℕ))
 bracketed [] = None
 bracketed (token ∷ tokens) = if is_open token then closed tokens else None

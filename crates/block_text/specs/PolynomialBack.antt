@@ -24,7 +24,7 @@ pub record IsPolynomialLine (ds : List Declaration) (line : Line) (p : Poly) : T
   pub short : HasShortWords tokens
   pub says : IsPolynomialOf ds tokens p
 
--- A polynomial in the letters of a quiver, without the empty word, is what the line spells as which it is written.
+-- A polynomial in the letters of a quiver, without the empty word, is spelled by the line as which it is written.
 abbrev pub PolynomialsAreReadBack : Type 0
 PolynomialsAreReadBack = (ds : List Declaration) (p : Poly) → IsDeclared ds → IsTrue (list_all is_named ds)
     → IsCanonical p → All (λ t. IsOver (letter_count ds) t.1) p → All (λ t. 0 < length t.1) p

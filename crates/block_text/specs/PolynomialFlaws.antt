@@ -1,4 +1,4 @@
--- The first that is wrong with a line that spells no polynomial within all bounds.
+-- The first flaw of a line that spells no polynomial within all bounds.
 use Rattle.std.specs.Prelude.{◌≡◌, ◌↔◌, List, Ok, Err}
 use Rattle.definitions.specs.Poly.{Poly}
 use Rattle.nc_polynomial.specs.Limits.{word_limit, term_limit}
@@ -17,7 +17,7 @@ pub record Fits (line : Line) (tokens : PolynomialTokens) : Type 0 where
   pub fit : IsPolynomialTokens tokens
 
 module _ (ds : List Declaration) where
-  -- No tokens fit the line, or some do, and keep the bounds before one, but not that one.
+  -- No tokens fit the line, or some do, within the bounds before one, but not within that one.
   pub data IsPolynomialFlaw (line : Line) (flaw : Flaw) : Type 0 where
     misfit : flaw ≡ BadLine → ((tokens : PolynomialTokens) → Fits line tokens → ⊥) → IsPolynomialFlaw line flaw
     unknown : (tokens : PolynomialTokens) → flaw ≡ UnknownName → Fits line tokens
@@ -37,6 +37,6 @@ module _ (ds : List Declaration) where
 abbrev pub PolynomialLinesAreRead : Type 0
 PolynomialLinesAreRead = (ds : List Declaration) (line : Line) (p : Poly) → (polynomial_of ds line ≡ Ok p) ↔ IsPolynomialLine ds line p
 
--- A line is told for the first that is wrong with it, and no other is.
+-- A line is refused for its first flaw, and for no other.
 abbrev pub PolynomialFlawsAreTold : Type 0
 PolynomialFlawsAreTold = (ds : List Declaration) (line : Line) (flaw : Flaw) → (polynomial_of ds line ≡ Err flaw) ↔ IsPolynomialFlaw ds line flaw

@@ -10,18 +10,18 @@ use Rattle.block_text.specs.Letters.{Spelled, spelled_by, letter_of, word_of, is
 use Rattle.block_text.specs.Lines.{Line, integer_limit}
 use Rattle.block_text.specs.Written.{letter_text}
 
--- a term behind its sign: a number, where one stands, and letters
+-- a term without its sign: an optional number, and letters
 pub record TermTokens : Type 0 where
   pub negative : Bool
   pub factor : Option (List ℕ)
   pub letters : List (List ℕ)
 
--- a number for the zero polynomial, or a first term and those behind it
+-- a number for the zero polynomial, or a first term and the later ones
 pub data PolynomialTokens : Type 0 where
   zero : List ℕ → PolynomialTokens
   terms : TermTokens → List TermTokens → PolynomialTokens
 
--- the number, where one stands
+-- the number, if there is one
 abbrev pub factor_line : Option (List ℕ) → Line
 factor_line None = []
 factor_line (Some digits) = digits ∷ []
@@ -72,7 +72,7 @@ abbrev pub terms_in : PolynomialTokens → List TermTokens
 terms_in (zero digits) = []
 terms_in (terms first later) = first ∷ later
 
--- 1 where no number stands
+-- 1 where there is no number
 abbrev pub factor_value : Option (List ℕ) → ℕ
 factor_value None = 1
 factor_value (Some digits) = digits_value 10 digits

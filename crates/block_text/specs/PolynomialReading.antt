@@ -1,5 +1,5 @@
--- How a reader goes over the tokens of a line that spells a polynomial. Only the reader's functions and proofs use it: what such a line is,
--- PolynomialLines says.
+-- How a reader goes over the tokens of a line that spells a polynomial. Only the reader's functions and proofs use it; such lines are defined in
+-- PolynomialLines.
 use Rattle.std.specs.Prelude.{ℕ, ◌-◌, ◌==◌, ◌&&◌, ◌||◌, Bool, true, false, not, List, [], ◌∷◌, ◌++◌, length, take, drop, nat_eq, nat_le}
 use Rattle.std.specs.Prelude.{Option, Some, None, is_some, Result, Ok, if◌then◌else◌, codes}
 use Rattle.std.specs.Borrow.{Bor}
@@ -29,32 +29,32 @@ use Rattle.block_text.specs.Tokens.{tokens_of}
 abbrev pub is_minus : List ℕ → Bool
 is_minus token = is (codes "-") token
 
--- whether a term begins behind the token
+-- whether a term begins after the token
 abbrev pub is_term_sign : List ℕ → Bool
 is_term_sign token = is_minus token || is (codes "+") token
 
--- the tokens in front of the first sign
+-- the tokens before the first sign
 abbrev pub part_in : Line → Line
 part_in [] = []
 part_in (token ∷ tokens) = if is_term_sign token then [] else token ∷ part_in tokens
 
--- the term of the tokens behind its sign
+-- the term of the tokens after its sign
 abbrev pub term_of : Bool → Line → TermTokens
 term_of negative [] = record { negative = negative; factor = None; letters = [] }
 term_of negative (token ∷ tokens) =
     if is_number token then (record { negative = negative; factor = Some token; letters = tokens })
     else record { negative = negative; factor = None; letters = token ∷ tokens }
 
--- the terms behind the signs in the line
+-- the terms after the signs in the line
 abbrev pub later_in : Line → List TermTokens
 later_in [] = []
 later_in (token ∷ tokens) = if is_term_sign token then term_of (is_minus token) (part_in tokens) ∷ later_in tokens else later_in tokens
 
--- the terms of a line behind a sign
+-- the terms of a line after a sign
 abbrev pub terms_behind : Bool → Line → List TermTokens
 terms_behind negative line = term_of negative (part_in line) ∷ later_in line
 
--- the terms of a line, of which the first may have a - in front
+-- the terms of a line, the first of which may follow a -
 abbrev pub terms_of : Line → List TermTokens
 terms_of [] = terms_behind false []
 terms_of (token ∷ tokens) = if is_minus token then terms_behind true tokens else terms_behind false (token ∷ tokens)
@@ -65,7 +65,7 @@ is_zero [] = false
 is_zero (token ∷ []) = is_number token && is_some (number_within 0 token)
 is_zero (token ∷ other ∷ tokens) = false
 
--- as the program has them: a term, and those behind it in the line
+-- as the program has them: a term, and those after it in the line
 abbrev pub now_of : Option (Bor (List ℕ)) → Option (List ℕ)
 now_of token = option_map (λ t. t.now) token
 
@@ -100,13 +100,13 @@ is_written_as ds a token = is_spelling (letter_name ds a) a (named_in ds (letter
 abbrev pub written_letter : List Declaration → List ℕ → Option ℕ
 written_letter ds token = if is_term_letter token then option_and_then (λ a. if is_written_as ds a token then Some a else None) (letter_of ds token) else None
 
--- letters behind others, if there are not too many
+-- the letters after these, if there are not too many
 abbrev pub word_behind : List Declaration → List ℕ → Line → Option (List ℕ)
 word_behind ds word [] = Some word
 word_behind ds word (token ∷ tokens) =
     if nat_le word_limit (length word) then None else option_and_then (λ a. word_behind ds (word ++ a ∷ []) tokens) (written_letter ds token)
 
--- whether a number above 1 stands
+-- whether it is a number above 1
 abbrev pub is_above_one : List ℕ → Bool
 is_above_one digits = is_number digits && not (is_some (number_within 1 digits))
 
@@ -135,13 +135,13 @@ may_follow [] word = true
 may_follow (t ∷ []) word = is_greater (word_cmp t.1 word)
 may_follow (t ∷ u ∷ terms) word = may_follow (u ∷ terms) word
 
--- terms behind others, if they descend and there are not too many
+-- the terms after these, if they descend and there are not too many
 abbrev pub poly_behind : List Declaration → Poly → List TermTokens → Option Poly
 poly_behind ds p [] = Some p
 poly_behind ds p (t ∷ ts) =
     option_and_then (λ term. if nat_le term_limit (length p) || not (may_follow p term.1) then None else poly_behind ds (p ++ term ∷ []) ts) (term_value ds t)
 
--- what is wrong with them
+-- the tests of the letters and of the terms of a line
 abbrev pub passes_letter : List Declaration → Asked → List ℕ → Bool
 passes_letter ds Form token = is_term_letter token
 passes_letter ds Known token = is_some (letter_of ds token)
@@ -159,7 +159,7 @@ abbrev pub is_some_token : Line → Bool
 is_some_token [] = false
 is_some_token (token ∷ tokens) = true
 
--- whether there is one at least, and all pass
+-- whether there is at least one, and all pass
 abbrev pub pass_letters : List Declaration → Asked → Line → Bool
 pass_letters ds asked tokens = list_all (passes_letter ds asked) tokens && is_some_token tokens
 
@@ -171,14 +171,14 @@ letters_cmp (Some a) (Some b) = nat_cmp a b
 letters_cmp None b = Equal
 letters_cmp (Some a) None = Equal
 
--- the order of two words, of whose first letters this is known
+-- the order of two words, given that of their first letters so far
 abbrev pub words_cmp : List Declaration → Ordering → Line → Line → Ordering
 words_cmp ds so_far [] [] = so_far
 words_cmp ds so_far [] (y ∷ ys) = Less
 words_cmp ds so_far (x ∷ xs) [] = Greater
 words_cmp ds so_far (x ∷ xs) (y ∷ ys) = words_cmp ds (ordering_then so_far (letters_cmp (letter_of ds x) (letter_of ds y))) xs ys
 
--- whether the words of terms behind another descend
+-- whether the words of the terms descend
 abbrev pub descend_behind : List Declaration → TermTokens → List TermTokens → Bool
 descend_behind ds t [] = true
 descend_behind ds t (u ∷ ts) = is_greater (words_cmp ds Equal t.letters u.letters) && descend_behind ds u ts
@@ -192,7 +192,7 @@ abbrev pub at_most : {A : Type 0} → ℕ → List A → Bool
 at_most n [] = true
 at_most n (x ∷ xs) = if n == 0 then false else at_most (n - 1) xs
 
--- the first that is wrong; where nothing else is, a word is too long
+-- the first flaw; where there is no other, a word is too long
 abbrev pub first_flaw : List Declaration → List TermTokens → Flaw
 first_flaw ds ts =
     if not (list_all (passes ds Form) ts) then BadLine
@@ -202,6 +202,6 @@ first_flaw ds ts =
     else if not (at_most term_limit ts) then TooMany term_limit
     else TooMany word_limit
 
--- the polynomial that the tokens of a line spell, or the first that is wrong with them
+-- the polynomial that the tokens of a line spell, or their first flaw
 abbrev pub polynomial_of : List Declaration → Line → Result Poly Flaw
 polynomial_of ds line = if is_zero line then Ok [] else asked (first_flaw ds (terms_of line)) (poly_behind ds [] (terms_of line))

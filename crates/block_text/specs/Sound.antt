@@ -1,4 +1,4 @@
--- What holds of a block whose lines go on holds at the place in it.
+-- A fact about the block that is open at the place, if one is.
 use Rattle.std.specs.Prelude.{⊤}
 use Rattle.block_text.specs.declared.place.Place.{Place}
 use Rattle.block_text.specs.declared.place.Place.TheVariants as at

@@ -1,4 +1,4 @@
--- How a reader goes over the lines of blocks. Only the reader's functions and proofs use it: what a text of blocks is, Texts says.
+-- How a reader goes over the lines of blocks. Only the reader's functions and proofs use it; texts of blocks are defined in Texts.
 use Rattle.std.specs.Prelude.{ℕ, ◌+◌, List, [], ◌∷◌, ◌++◌, length, nat_le, Option, Some, None, Result, Ok, Err, if◌then◌else◌}
 use Rattle.std.specs.Str.{is_utf8}
 use Rattle.std.specs.Str.Lines.{lines}
@@ -12,7 +12,7 @@ use Rattle.block_text.specs.Tokens.{tokens_of, is_skipped}
 use Rattle.block_text.specs.Lines.{Line, block_limit, is_end}
 use Rattle.block_text.specs.Blocks.{is_other_head}
 
--- What a reader makes of the head of a block, of a line more and of the line `end`.
+-- What a reader makes of the head of a block, of a further line and of the line `end`.
 pub record Steps (Begun Value : Type 0) : Type 0 where
   pub others : List (List ℕ)
   pub begin : Line → Option Begun
@@ -28,7 +28,7 @@ one_or_more [] = Err no_block
 one_or_more (v ∷ vs) = Ok (v ∷ vs)
 
 module _ {Begun Value : Type 0} where
-  -- the values that were read, and where the next line stands
+  -- the values that were read, and the place of the next line
   abbrev pub progress : List Value → Place Begun → Progress Begun Value
   progress done place = record { values = done; place = place }
 
@@ -46,7 +46,7 @@ module _ {Begun Value : Type 0} where
     abbrev pub inside : List Value → Begun → Line → Result (Progress Begun Value) Flaw
     inside done o line = if is_end line then finished done (steps.finish o) else steps.next o line >>= λ p. Ok (progress done (at.Inside p))
 
-    -- what a line comes to at its place
+    -- the progress after a line at its place, or the line's flaw
     abbrev pub step : List Value → Place Begun → Line → Result (Progress Begun Value) Flaw
     step done at.Outside line = headed done (steps.begin line) line
     step done at.Skipped line = Ok (progress done (skipped_to line))
@@ -61,7 +61,7 @@ module _ {Begun Value : Type 0} where
     read_lines number p [] = Ok p
     read_lines number p (line ∷ rest) = at_line number (read_tokens p (tokens_of line)) >>= λ q. read_lines (number + 1) q rest
 
-  -- the text may end outside of blocks alone
+  -- the text may end only outside of blocks
   abbrev pub ended : List Value → Place Begun → Result (List Value) Fault
   ended done at.Outside = Ok done
   ended done at.Skipped = Err truncated
@@ -75,6 +75,6 @@ module _ {Begun Value : Type 0} where
     abbrev pub values_of : List ℕ → Result (List Value) Fault
     values_of bytes = if is_utf8 bytes then (read_lines steps 1 beginning (lines bytes) >>= λ p. ended p.values p.place) else Err not_utf8
 
-    -- the values that the bytes are
+    -- the values of the bytes, at least one
     abbrev pub all_values : List ℕ → Result (List Value) Fault
     all_values bytes = values_of bytes >>= one_or_more

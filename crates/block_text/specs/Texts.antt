@@ -1,4 +1,4 @@
--- Evidence text of a kind: the values that bytes have, or the first thing that is wrong with the bytes.
+-- Evidence text of a kind: the values of bytes, or their first fault.
 use Rattle.std.specs.Prelude.{◌≡◌, ◌<◌, ℕ, ◌+◌, true, false, List, [], ◌∷◌, ◌++◌, length}
 use Rattle.std.specs.List.{All, AllZip}
 use Rattle.std.specs.Str.{is_utf8}
@@ -20,25 +20,25 @@ module _ {Value : Type 0} (kind : Kind Value) where
     pub within : All (Keeps kind blocks) (bounds kind)
     pub says : AllZip kind.Says (own_in blocks) values
 
-  -- There is one at least.
+  -- There is at least one.
   pub record IsBlocks (bytes : List ℕ) (values : List Value) : Type 0 where
     pub has : HasBlocks bytes values
     pub some : 0 < length values
 
-  -- The lines are the first lines of blocks that keep these bounds.
+  -- The lines are the first lines of blocks within these bounds.
   pub record GoesOn (within : List (TextBound kind.Bound)) (ls : List Line) : Type 0 where
     pub more : List Line
     pub blocks : List (Block kind.Tree)
     pub are_blocks : AreBlocks kind (ls ++ more) blocks
     pub keeps : All (Keeps kind blocks) within
 
-  -- Behind the lines before it no blocks go on with this line; or some do, but none of those that keep the bounds before one keeps that one.
+  -- After the lines before it no blocks continue with this line; or some do, but none that are within the bounds before one are within that one.
   pub data IsFlawed (front : List Line) (line : Line) (flaw : Flaw) : Type 0 where
     misfit : flaw ≡ BadLine → (GoesOn [] (front ++ line ∷ []) → ⊥) → IsFlawed front line flaw
     passes : (earlier later : List (TextBound kind.Bound)) (bound : TextBound kind.Bound) → bounds kind ≡ earlier ++ bound ∷ later → flaw ≡ flaw_of kind bound
         → GoesOn earlier (front ++ line ∷ []) → (GoesOn (earlier ++ bound ∷ []) (front ++ line ∷ []) → ⊥) → IsFlawed front line flaw
 
-  -- A line: the lines in front of it are the first ones of blocks within all bounds, and it is flawed.
+  -- A line: those before it are the first ones of blocks within all bounds, and it is flawed.
   pub record IsFirstFlaw (ls : List (List ℕ)) (number : ℕ) (flaw : Flaw) : Type 0 where
     pub front : List (List ℕ)
     pub line : List ℕ
@@ -49,18 +49,18 @@ module _ {Value : Type 0} (kind : Kind Value) where
     pub sound : GoesOn (bounds kind) (content front)
     pub flawed : IsFlawed (content front) (tokens_of line) flaw
 
-  -- The lines are the first ones of blocks within all bounds, and no blocks by themselves.
+  -- The lines are the first ones of blocks within all bounds, but no whole blocks.
   pub record IsCutOff (ls : List Line) : Type 0 where
     pub sound : GoesOn (bounds kind) ls
     pub cut : (blocks : List (Block kind.Tree)) → AreBlocks kind ls blocks → ⊥
 
-  -- The lines are blocks of other kinds alone.
+  -- All the lines are blocks of other kinds.
   pub record HasNone (ls : List Line) : Type 0 where
     pub blocks : List (Block kind.Tree)
     pub are_blocks : AreBlocks kind ls blocks
     pub none : own_in blocks ≡ []
 
-  -- the first thing that is wrong with the bytes: their encoding, a line, that they end inside a block, or that they have no block of the kind
+  -- the first fault of the bytes: their encoding, a line, that they end inside a block, or that they have no block of the kind
   pub data IsFirstFault (bytes : List ℕ) (fault : Fault) : Type 0 where
     encoding : is_utf8 bytes ≡ false → fault ≡ not_utf8 → IsFirstFault bytes fault
     line : (number : ℕ) (flaw : Flaw) → is_utf8 bytes ≡ true → IsFirstFlaw (lines bytes) number flaw → fault ≡ in_line number flaw → IsFirstFault bytes fault

@@ -18,7 +18,7 @@ is_sign c = (c == 40) || (c == 41) || (c == 59) || (c == 61)
 abbrev pub is_plain : ℕ → Bool
 is_plain c = not (is_gap c || is_sign c)
 
--- whether a run goes on with the text
+-- whether the text begins with a character of a run
 abbrev pub goes_on : List ℕ → Bool
 goes_on [] = false
 goes_on (c ∷ cs) = is_plain c
@@ -30,7 +30,7 @@ tokens_of (c ∷ cs) =
     else if is_sign c || not (goes_on cs) then (c ∷ []) ∷ tokens_of cs
     else onto_first c (tokens_of cs)
 
--- how many characters the token at the front has, where there is one
+-- how many characters the first token has, or 0
 abbrev pub token_len : List ℕ → ℕ
 token_len [] = 0
 token_len (c ∷ cs) = if is_sign c then 1 else prefix_len is_plain (c ∷ cs)

@@ -8,7 +8,7 @@ use Rattle.quiver.specs.declared.named.Named.{Named}
 use Rattle.quiver.specs.declared.named.Named.TheVariants.{Object, Map}
 use Rattle.quiver.specs.Declarations.{Declaration, named_in, letter_name}
 
--- of a letter that comes from what its name stands for: an identity, a map, or the adjoint of a map
+-- the text of a letter that comes from what its name stands for: an identity, a map, or the adjoint of a map
 abbrev pub spelled_as : List ℕ → ℕ → Option Named → List ℕ
 spelled_as name a (Some (Object v)) = codes "[" ++ name ++ codes "]"
 spelled_as name a (Some (Map b)) = if nat_eq a b.0 then name else name ++ codes "'"
@@ -17,7 +17,7 @@ spelled_as name a None = []
 abbrev pub letter_text : List Declaration → ℕ → List ℕ
 letter_text ds a = spelled_as (letter_name ds a) a (named_in ds (letter_name ds a))
 
--- the blank in front of the letter at a place
+-- the blank before the letter at a place, but the first
 abbrev pub gap_text : ℕ → List ℕ
 gap_text place = if place == 0 then [] else codes " "
 

@@ -9,7 +9,7 @@ use Rattle.block_text.specs.Letters.{Spelled, letter_named}
 abbrev pub other_star : List Declaration → ℕ → Option ℕ
 other_star ds a = if nat_eq (star (quiver_of ds) a) a then None else Some (star (quiver_of ds) a)
 
--- a ' is written behind no letter that is its own adjoint
+-- no ' is written after a letter that is its own adjoint
 abbrev pub marked : List Declaration → Bool → ℕ → Option ℕ
 marked ds true a = other_star ds a
 marked ds false a = Some a

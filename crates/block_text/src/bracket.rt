@@ -1,4 +1,4 @@
-//! What stands in round brackets.
+//! The tokens in round brackets.
 
 ghost use Rattle.std.specs.Prelude.{◌≡◌, ◌<◌, length, position, IfSome};
 ghost use Rattle.std.specs.Option.{option_map};
@@ -16,7 +16,7 @@ fn close_place(line: &[u8]) -> Option<usize>
     line.iter().position(|byte| *byte == b')')
 }
 
-// What stands before the first `)` and what stands behind it.
+// The line before the first `)` and after it.
 fn closed(line: &[u8]) -> Option<(&[u8], &[u8])>
     ensures { option_map (λ parts. (tokens_of parts.0.now, tokens_of parts.1.now)) result ≡ closed (tokens_of line.now) }
 {
@@ -26,7 +26,7 @@ fn closed(line: &[u8]) -> Option<(&[u8], &[u8])>
     }
 }
 
-/// What stands in a `( .. )` that begins the line and what stands behind it.
+/// The line in a leading `( .. )` and after it.
 pub fn bracketed(line: &[u8]) -> Option<(&[u8], &[u8])>
     ensures { option_map (λ parts. (tokens_of parts.0.now, tokens_of parts.1.now)) result ≡ bracketed (tokens_of line.now) }
 {

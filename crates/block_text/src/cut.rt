@@ -13,7 +13,7 @@ fn line_end(text: &[u8]) -> Option<usize>
     text.iter().position(|byte| *byte == b'\n')
 }
 
-/// The first line of a text that has one, and what stands behind it.
+/// The first line of a text that has one, and the rest.
 pub fn first_line(text: &[u8]) -> (&[u8], &[u8])
     requires some { 0 < length text.now }
     ensures lines { lines text.now ≡ result.0.now ∷ lines result.1.now }
@@ -25,7 +25,7 @@ pub fn first_line(text: &[u8]) -> (&[u8], &[u8])
     }
 }
 
-// A line before its LF, without the CR in front of that.
+// A line without its LF and without a CR before that.
 fn ended_line(line: &[u8]) -> &[u8]
     ensures { result.now ≡ strip_carriage_return line.now }
 {
@@ -47,7 +47,7 @@ fn is_sign(byte: u8) -> bool
     byte == b'(' || byte == b')' || byte == b';' || byte == b'='
 }
 
-// How many characters the run at the front of the text has.
+// The number of characters of the run at the start of the text.
 fn run_len(text: &[u8]) -> usize
     ensures exact { result ≡ prefix_len is_plain text.now }
     ensures within { result ≤ length text.now }
@@ -70,7 +70,7 @@ fn token_len(text: &[u8]) -> usize
     }
 }
 
-// The token at the front of a line that begins with one, and what stands behind it.
+// The token at the start of a line that begins with one, and the rest.
 fn token_cut(line: &[u8]) -> (&[u8], &[u8])
     requires some { 0 < length line.now }
     requires token { is_gap (slice_index line.now 0) ≡ false }
@@ -81,7 +81,7 @@ fn token_cut(line: &[u8]) -> (&[u8], &[u8])
     (&line[..length], &line[length..])
 }
 
-/// The first token of a line, and what stands behind it.
+/// The first token of a line, and the rest.
 pub fn first_token(line: &[u8]) -> Option<(&[u8], &[u8])>
     ensures tokens { MatchOption result (tokens_of line.now ≡ []) (λ parts. tokens_of line.now ≡ parts.0.now ∷ tokens_of parts.1.now) }
     ensures shorter { IfSome result (λ parts. length parts.1.now < length line.now) }

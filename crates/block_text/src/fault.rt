@@ -1,4 +1,4 @@
-//! What can be wrong with a line and with a text, and how it is told.
+//! What can be wrong with a line and with a text, and the fault that is returned.
 
 ghost use Rattle.std.specs.Prelude.{◌≡◌};
 ghost use Rattle.block_text.specs.Fault.{code_of, limit_of, TellsLine, TellsText, IsLineMemory, IsMemory};
@@ -7,11 +7,11 @@ ghost use Rattle.block_text.specs.declared.fault.LineFault.TheVariants as line_f
 use std::alloc::{AllocError, AllocFailed};
 use thiserror::Error;
 
-/// Why evidence is not read: the first thing that is wrong with it, or want of memory.
+/// Why evidence is not read: its first fault, or want of memory.
 #[derive(Debug, Drop, Error)]
 pub enum CertFault {
-    /// The code is the n of Kn. The line counts from 1, and is 0 for K1, K6 and K7. The limit is that which is passed, and
-    /// 0 but for K5.
+    /// The code is the n of Kn. The line counts from 1, and is 0 for K1, K6 and K7. The limit is the one that is exceeded,
+    /// and 0 but for K5.
     #[error("K{code} in line {line}, limit {limit}")]
     Fault { code: u32, line: u32, limit: u32 },
     /// Memory is short.
@@ -26,7 +26,7 @@ pub enum Flaw {
     BadLine,
     /// A name is not of the quiver, or of the other kind.
     UnknownName,
-    /// It says nothing wrong, and is not as it is written.
+    /// It is valid, but not as it is written.
     NotAsWritten,
     /// A number exceeds its bound.
     NumberTooLarge,

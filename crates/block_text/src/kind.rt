@@ -17,7 +17,7 @@ pub trait BlockKind {
 
     ghost steps: { Self → Steps Self.Begun Self.Value };
 
-    // What holds of a block whose lines go on, if anything does.
+    // What holds of an open block, if anything does.
     ghost is_sound: { Self → Self.Begun → Type 0 } = { λ kind begun. ⊤ };
 
     /// The words that blocks of the other kinds begin with, which are skipped.
@@ -29,13 +29,13 @@ pub trait BlockKind {
         ensures exact { result ≡ (steps self.now).begin (tokens_of line.now) }
         ensures sound { IfSome result (is_sound self.now) };
 
-    /// The block with a line more, which is not `end`.
+    /// The block with one more line, which is not `end`.
     fn next(&self, alloc: Global, begun: Self::Begun, line: &[u8]) -> Result<Self::Begun, LineFault>
         requires { is_sound self.now begun }
         ensures exact { Reads (λ b. b) result ((steps self.now).next begun (tokens_of line.now)) }
         ensures sound { IfOk result (is_sound self.now) };
 
-    /// What the block says that ends, if it may.
+    /// What a finished block says, if it may end.
     fn finish(&self, alloc: Global, begun: Self::Begun) -> Result<Option<Self::Value>, AllocError>
         requires { is_sound self.now begun }
         ensures { IfOk result (λ value. value ≡ (steps self.now).finish begun) };

@@ -7,12 +7,12 @@ pub fn polynomial_lines_are_read()
     ensures { PolynomialLinesAreRead }
 {}
 
-/// A line is told for the first that is wrong with it, and no other line is.
+/// A line is refused for its first flaw, and for no other.
 pub fn polynomial_flaws_are_told()
     ensures { PolynomialFlawsAreTold }
 {}
 
-/// The law that a polynomial that is written is what its line spells.
+/// A polynomial that is written is what its line spells.
 pub fn polynomials_are_read_back()
     ensures { PolynomialsAreReadBack }
 {}

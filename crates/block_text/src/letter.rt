@@ -16,7 +16,7 @@ use quiver::{Named, Quiver};
 use statement_tokens::NAME_LIMIT;
 use word_core::Letter;
 
-// A name, whether it stands in square brackets, and whether a ' stands behind it.
+// A name, whether it is in square brackets, and whether a ' follows it.
 #[derive(Drop)]
 struct Spelled<'a> {
     name: &'a str,
@@ -40,7 +40,7 @@ fn begins_name(text: &str) -> bool
     }
 }
 
-// Whether a name goes on with all characters but the first.
+// Whether all characters but the first may continue a name.
 fn goes_on(text: &str) -> bool
     ensures { result ≡ list_all is_xid_continue (drop 1 (chars text.now)) }
 {
@@ -150,7 +150,7 @@ fn other_star(quiver: &Quiver, letter: Letter) -> Option<Letter>
     if star.0 == letter.0 { None } else { Some(star) }
 }
 
-// The letter that is written so. A ' is written behind no letter that is its own adjoint.
+// The letter that is written so. No ' is written after a letter that is its own adjoint.
 fn written_by(quiver: &Quiver, text: &Spelled<'_>) -> Option<Letter>
     ensures { option_map (λ a. a.0) result ≡ written_by quiver.now (spelled text.now) }
 {

@@ -60,7 +60,7 @@ pub fn is_pair(first: &str, second: &str, line: &[u8]) -> bool
     }
 }
 
-/// Whether the line is `end`. Of another line the first token alone is cut.
+/// Whether the line is `end`. Of another line only the first token is cut.
 pub fn is_end(line: &[u8]) -> bool
     ensures { result ≡ is_end (tokens_of line.now) }
 {
@@ -70,7 +70,7 @@ pub fn is_end(line: &[u8]) -> bool
     }
 }
 
-/// The number behind a word, if the line is these.
+/// The number after a word, if the line is these.
 pub fn number_behind<'a>(word: &str, line: &'a [u8]) -> Option<&'a [u8]>
     ensures exact { option_copied result ≡ number_behind word.now (tokens_of line.now) }
     ensures number { IfSome result (λ digits. IsTrue (is_number digits.now)) }
@@ -81,7 +81,7 @@ pub fn number_behind<'a>(word: &str, line: &'a [u8]) -> Option<&'a [u8]>
     }
 }
 
-/// The number behind a word, at most the limit, if the line is these.
+/// The number after a word, at most the limit, if the line is these.
 pub fn number_of(word: &str, most: u32, line: &[u8]) -> Result<u32, Flaw>
     ensures { result ≡ number_of word.now most (tokens_of line.now) }
 {

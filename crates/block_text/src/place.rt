@@ -2,7 +2,7 @@
 
 use lists::Listing;
 
-/// Where a line stands.
+/// The place of a line.
 #[derive(Drop)]
 pub enum Place<B> {
     /// Outside of all blocks.
@@ -13,7 +13,7 @@ pub enum Place<B> {
     Inside { begun: B },
 }
 
-/// The values that were read, and where the next line stands.
+/// The values that were read, and the place of the next line.
 #[derive(Drop)]
 pub struct Progress<B, V> {
     pub values: Listing<V>,

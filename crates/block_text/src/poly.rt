@@ -1,4 +1,4 @@
-//! Polynomials behind bytes.
+//! Appends polynomials to bytes.
 
 ghost use Rattle.std.specs.Prelude.{◌≡◌, ◌++◌, IfOk, OnOk};
 ghost use Rattle.std.specs.List.{All, flat_map};
@@ -69,7 +69,7 @@ fn put_terms(out: &mut Vec<u8>, quiver: &Quiver, terms: &[(i128, Word)]) -> Resu
     }
 }
 
-/// The terms of a polynomial behind bytes, descending, with their signs, and 0 where there are none.
+/// Appends the terms of a polynomial, descending, with their signs, or 0 where there are none.
 pub fn put_poly(out: &mut Vec<u8>, quiver: &Quiver, poly: &Poly) -> Result<(), AllocError>
     requires { All (λ t. IsOver (letter_count quiver.now) t.1) poly.now.terms }
     ensures { OnOk result (out.new.items ≡ out.old.items ++ poly_text quiver.now poly.now.terms) }
@@ -77,7 +77,7 @@ pub fn put_poly(out: &mut Vec<u8>, quiver: &Quiver, poly: &Poly) -> Result<(), A
     put_terms(out, quiver, poly.terms.as_slice())
 }
 
-/// The terms of a polynomial, descending, with their signs, and 0 where there are none.
+/// The terms of a polynomial, descending, with their signs, or 0 where there are none.
 pub fn write_poly(alloc: Global, quiver: &Quiver, poly: &Poly) -> Result<Vec<u8>, AllocError>
     requires { All (λ t. IsOver (letter_count quiver.now) t.1) poly.now.terms }
     ensures { IfOk result (λ text. text.items ≡ poly_text quiver.now poly.now.terms) }

@@ -28,7 +28,7 @@ use std::alloc::{AllocError, Global};
 use std::cmp::Ordering;
 use word_core::Word;
 
-// A term of a line: its sign, its number where one stands, and its letters, which end before the next sign.
+// A term of a line: its sign, its number if it has one, and its letters, which end before the next sign.
 #[derive(Clone, Copy)]
 struct TermText<'a> {
     negative: bool,
@@ -36,7 +36,7 @@ struct TermText<'a> {
     letters: &'a [u8],
 }
 
-// What the terms of a line are asked for, in the order in which it counts.
+// The tests of the terms of a line, in their order.
 #[derive(Clone, Copy)]
 enum Asked {
     Form,
@@ -45,14 +45,14 @@ enum Asked {
     Within,
 }
 
-// Whether a term begins behind the token.
+// Whether a term begins after the token.
 fn is_term_sign(token: &[u8]) -> bool
     ensures { result ≡ is_term_sign token.now }
 {
     is("-", token) || is("+", token)
 }
 
-// The first letter of those before the next sign, and what stands behind it.
+// The first letter of those before the next sign, and the rest of the line.
 fn first_letter(line: &[u8]) -> Option<(&[u8], &[u8])>
     ensures part { MatchOption result (part_in (tokens_of line.now) ≡ []) (λ cut. part_in (tokens_of line.now) ≡ cut.0.now ∷ part_in (tokens_of cut.1.now)) }
     ensures later { IfSome result (λ cut. later_in (tokens_of line.now) ≡ later_in (tokens_of cut.1.now)) }
@@ -64,7 +64,7 @@ fn first_letter(line: &[u8]) -> Option<(&[u8], &[u8])>
     }
 }
 
-// The term at the front of a line behind its sign.
+// The term at the start of a line after its sign.
 fn term_at(negative: bool, line: &[u8]) -> TermText<'_>
     ensures terms { terms_from result ≡ terms_behind negative (tokens_of line.now) }
     ensures within { length result.letters.now ≤ length line.now }
@@ -93,7 +93,7 @@ fn first_term(line: &[u8]) -> TermText<'_>
     }
 }
 
-// The first term behind a sign in a line.
+// The first term after a sign in a line.
 fn next_term(line: &[u8]) -> Option<TermText<'_>>
     ensures terms { terms_left result ≡ later_in (tokens_of line.now) }
     ensures shorter { IfSome result (λ next. length next.letters.now < length line.now) }
@@ -120,7 +120,7 @@ fn is_zero(line: &[u8]) -> bool
     }
 }
 
-// The word of the letters before the next sign, if each is as it is written and there are not too many, and what stands behind them.
+// The word of the letters before the next sign, if each is as it is written and there are not too many, and the rest of the line.
 fn word_in<'a>(
     alloc: Global,
     quiver: &Quiver,
@@ -174,7 +174,7 @@ fn signed(negative: bool, value: u128) -> i128
     }
 }
 
-// What a term says, if it is within its bounds, and what stands behind its letters.
+// What a term says, if it is within its bounds, and the line after its letters.
 fn term_value<'a>(
     alloc: Global,
     quiver: &Quiver,
@@ -343,7 +343,7 @@ fn are_few(first: TermText<'_>) -> bool
     true
 }
 
-// The first that is wrong with the terms from one on. Where nothing else is, a word is too long.
+// The first flaw of the terms from one on. Where there is no other, a word is too long.
 fn first_flaw(quiver: &Quiver, first: TermText<'_>) -> Flaw
     ensures { result ≡ first_flaw quiver.now (terms_from first.entry) }
 {
@@ -366,7 +366,7 @@ fn first_flaw(quiver: &Quiver, first: TermText<'_>) -> Flaw
     }
 }
 
-/// The polynomial that a line spells behind its first word, or the first that is wrong with it: the form, names that are
+/// The polynomial that a line spells after its first word, or its first flaw: the form, names that are
 /// unknown, letters or an order of words that are not as it is written, numbers, the number of terms, and of letters.
 pub fn read_polynomial(alloc: Global, quiver: &Quiver, line: &[u8]) -> Result<Poly, LineFault>
     ensures exact { Reads (λ p. p.terms) result (polynomial_of quiver.now (tokens_of line.now)) }

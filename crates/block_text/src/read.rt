@@ -18,7 +18,7 @@ use crate::place::{Place, Progress};
 use lists::Listing;
 use std::alloc::Global;
 
-/// The values that a text says, or the first thing that is wrong with it.
+/// The values that a text says, or its first fault.
 pub type ReadText<V> = Result<Listing<V>, CertFault>;
 
 // Whether the line begins with one of these words.
@@ -59,7 +59,7 @@ fn headed<K: BlockKind>(
     }
 }
 
-// A block of another kind goes on, or ends.
+// The progress after a line of a block of another kind.
 fn skipped<B: Drop, V: Drop>(values: Listing<V>, line: &[u8]) -> Progress<B, V>
     ensures values { result.values ≡ values }
     ensures place { result.place ≡ skipped_to (tokens_of line.now) }
@@ -72,7 +72,7 @@ fn skipped<B: Drop, V: Drop>(values: Listing<V>, line: &[u8]) -> Progress<B, V>
     Progress { values, place }
 }
 
-// The end of a block, or a line more.
+// The end of a block, or one more line.
 fn inside<K: BlockKind>(
     alloc: Global,
     kind: &K,
@@ -97,7 +97,7 @@ fn inside<K: BlockKind>(
     Ok(Progress { values, place })
 }
 
-// What the line comes to at its place.
+// The progress after the line, or its flaw.
 fn step<K: BlockKind>(
     alloc: Global,
     kind: &K,
@@ -158,7 +158,7 @@ fn read_lines<K: BlockKind>(
     Ok(progress)
 }
 
-// The text may end outside of blocks alone.
+// The text may end only outside of blocks.
 fn ended<B: Drop, V: Drop>(progress: Progress<B, V>) -> Result<Listing<V>, TextFlaw>
     ensures { at_text result ≡ ended progress.values progress.place }
 {
@@ -188,7 +188,7 @@ fn one_or_more<V: Drop>(values: Listing<V>) -> Result<Listing<V>, TextFlaw>
     }
 }
 
-/// The values of the blocks of the kind that the bytes have, one at least, or what is wrong with the bytes.
+/// The values of the blocks of the kind, at least one, or the first fault of the bytes.
 pub fn read_blocks<K: BlockKind>(alloc: Global, kind: &K, bytes: &[u8]) -> ReadText<K::Value>
     requires { length bytes.now < 4294967295 }
     ensures { ReadsText (λ vs. vs) result (all_values (K.steps kind.now) bytes.now) }

@@ -1,4 +1,4 @@
-//! Texts, numbers, letters and words behind bytes.
+//! Appends texts, numbers, letters and words to bytes.
 
 ghost use Rattle.std.specs.Prelude.{◌≡◌, ◌<◌, ◌++◌, decimal, IfOk, OnOk};
 ghost use Rattle.std.specs.Fmt.{signed_decimal};
@@ -11,14 +11,14 @@ use quiver::{Named, Quiver};
 use std::alloc::{AllocError, Global};
 use word_core::{Letter, Word};
 
-/// A text behind bytes.
+/// Appends a text.
 pub fn put(out: &mut Vec<u8>, text: &str) -> Result<(), AllocError>
     ensures { OnOk result (out.new.items ≡ out.old.items ++ text.now) }
 {
     out.extend_from_slice(text.as_bytes())
 }
 
-/// A number in decimal digits behind bytes.
+/// Appends a number in decimal digits.
 pub fn put_number(out: &mut Vec<u8>, number: u128) -> Result<(), AllocError>
     ensures { OnOk result (out.new.items ≡ out.old.items ++ decimal number) }
 {
@@ -26,7 +26,7 @@ pub fn put_number(out: &mut Vec<u8>, number: u128) -> Result<(), AllocError>
     put(out, buffer.format(number))
 }
 
-/// An integer in decimal digits behind bytes, with `-` in front where it is negative.
+/// Appends an integer in decimal digits, after `-` where it is negative.
 pub fn put_integer(out: &mut Vec<u8>, integer: i128) -> Result<(), AllocError>
     ensures { OnOk result (out.new.items ≡ out.old.items ++ signed_decimal integer) }
 {
@@ -34,7 +34,7 @@ pub fn put_integer(out: &mut Vec<u8>, integer: i128) -> Result<(), AllocError>
     put(out, buffer.format(integer))
 }
 
-/// A text and then a number.
+/// Appends a text and then a number.
 pub fn put_labelled(out: &mut Vec<u8>, label: &str, number: u128) -> Result<(), AllocError>
     ensures { OnOk result (out.new.items ≡ out.old.items ++ (label.now ++ decimal number)) }
 {
@@ -42,7 +42,7 @@ pub fn put_labelled(out: &mut Vec<u8>, label: &str, number: u128) -> Result<(), 
     put_number(out, number)
 }
 
-/// A text and then an integer.
+/// Appends a text and then an integer.
 pub fn put_signed(out: &mut Vec<u8>, label: &str, integer: i128) -> Result<(), AllocError>
     ensures { OnOk result (out.new.items ≡ out.old.items ++ (label.now ++ signed_decimal integer)) }
 {
@@ -50,7 +50,7 @@ pub fn put_signed(out: &mut Vec<u8>, label: &str, integer: i128) -> Result<(), A
     put_integer(out, integer)
 }
 
-/// A letter behind bytes.
+/// Appends a letter.
 pub fn put_letter(out: &mut Vec<u8>, quiver: &Quiver, letter: Letter) -> Result<(), AllocError>
     requires { letter.0 < letter_count quiver.now }
     ensures { OnOk result (out.new.items ≡ out.old.items ++ letter_text quiver.now letter.0) }
@@ -71,14 +71,14 @@ pub fn put_letter(out: &mut Vec<u8>, quiver: &Quiver, letter: Letter) -> Result<
     }
 }
 
-// The blank in front of all letters but the first.
+// Appends the blank before each letter but the first.
 fn put_gap(out: &mut Vec<u8>, place: usize) -> Result<(), AllocError>
     ensures { OnOk result (out.new.items ≡ out.old.items ++ gap_text place) }
 {
     if place == 0 { Ok(()) } else { put(out, " ") }
 }
 
-/// The letters of a word behind bytes, with one blank between them.
+/// Appends the letters of a word with one blank between them.
 pub fn put_word(out: &mut Vec<u8>, quiver: &Quiver, word: &Word) -> Result<(), AllocError>
     requires { IsOver (letter_count quiver.now) word.now }
     ensures { OnOk result (out.new.items ≡ out.old.items ++ word_text quiver.now word.now) }

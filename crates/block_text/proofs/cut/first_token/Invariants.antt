@@ -2,7 +2,7 @@ use Rattle.std.proofs.Common.{◌≡◌, ◌≤◌, length}
 use Rattle.block_text.specs.Tokens.{tokens_of}
 use Rattle.block_text.proofs.cut.first_token.Given as goal
 
--- the line without some of the gaps in front
+-- the line without some of its leading gaps
 abbrev pub invariant-loop-rest : goal.invariant-loop-rest
 invariant-loop-rest l = record {
   same : tokens_of l.rest ≡ tokens_of l.line;
