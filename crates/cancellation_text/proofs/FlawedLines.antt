@@ -40,7 +40,7 @@ module _ (ds : List Declaration) (flaw : Flaw) (front : List Line) (line : Line)
   abbrev Stopped : Type 0
   Stopped = IsStopped (cancellation_kind ds) flaw (front ++ line ∷ [])
 
-  -- a bound that is passed by a line behind lines of the same block
+  -- a bound that is passed by a line after lines of the same block
   passed : (bound : Bound) (others : List Line) (other : Line) → flaw ≡ flaw_of bound → front ≡ others → line ≡ other → Begins (cancellation_kind ds) (before bound) (others ++ other ∷ []) → Stopped
   passed bound others other told fronts lines begins = passes bound told (begins_as (cancellation_kind ds) (before bound) front others line other fronts lines begins)
 

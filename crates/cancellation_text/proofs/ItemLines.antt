@@ -111,7 +111,7 @@ module _ (K : Bound → Type 0) (ds : List Declaration) where
   waits_cancelled : (o : Opened) → Waits o (at.Cancelled o)
   waits_cancelled o line no_row none = refl
 
-  -- the rows behind this scale begin
+  -- the rows after this scale begin
   abbrev Begins : List ℕ → (ℤ → Stage) → Stage → Type 0
   Begins digits place q = (scale : ℤ) × (integer_of digits ≡ Ok scale) × (q ≡ place scale)
 
@@ -259,7 +259,7 @@ module _ (K : Bound → Type 0) (ds : List Declaration) where
     none_called k z Left = refl
     none_called k z Right = refl
 
-    -- behind the letters that are called monic and epic
+    -- after the letters that are called monic and epic
     behind_called : (k : ℕ) (z : ℤ) → number_within number_limit b.claim ≡ Some k → integer_of b.denominator ≡ Ok z → (q : Stage) → CalledAreRead k z b.called q
         → Meets flaw_of K (IsBlockRead b) (run (next ds) q (flat_map item_lines b.items ++ goal_lines b.goal))
     behind_called k z k_is z_is q called =

@@ -36,7 +36,7 @@ none_is a letters none k d within same =
     let found : is_called a letters ≡ true = list_any_at (same_test a) letters k d within number in
     absurd (cc)
 
--- letters of which the one behind others is none of them
+-- letters of which the one after others is none of them
 pub none_before : (a : Letter) (xs ys : List Letter) → AllPairs (λ b c. b ≢ c) (xs ++ a ∷ ys) → is_called a xs ≡ false
 none_before a xs ys once = list_any_none (same_test a) xs each
   where
@@ -75,7 +75,7 @@ module _ (ds : List Declaration) (called : List CalledTokens) where
     once_by Right once none Left = subst (AllPairs (λ b c. b ≢ c)) (sym (others Right Left refl)) (subst (AllPairs (λ b c. b ≢ c)) (are Left) (once Left))
     once_by Right once none Right = subst (AllPairs (λ b c. b ≢ c)) (sym (own Right known)) (pushed_once Right (once Right) none)
 
-    -- behind a letter that stands behind these, none of them is it
+    -- after a letter that follows these, none of them is it
     own_on : (side : Side) → called_on ds side (called_of letter side) ≡ Some a
     own_on Left = known
     own_on Right = known
@@ -88,7 +88,7 @@ module _ (ds : List Declaration) (called : List CalledTokens) where
         ∙ ap (λ ls. ls ++ a ∷ called_letters ds side later) (are side) in
         none_before a (letters_on o side) (called_letters ds side later) (subst (AllPairs (λ b c. b ≢ c)) split (once side))
 
--- with the line of a letter more
+-- with the line of one more letter
 pub called_more : (ds : List Declaration) (called : List CalledTokens) (o : Opened) (c : CalledTokens) (a : Letter) → AreCalled ds called o → known_letter ds c.letter ≡ Some a
     → AreCalled ds (called ++ c ∷ []) (with_letters o c.side (letters_on o c.side ++ a ∷ []))
 called_more ds called o c a are known = more_by ds called o c.letter a are known c.side

@@ -30,7 +30,7 @@ pub record IsWrittenMap (ds : List Declaration) (a : Letter) : Type 0 where
   pub letter : IsTrue (is_map_letter (letter_text ds a.0))
   pub known : known_letter ds (letter_text ds a.0) ≡ Some a
 
--- a map by its name, or its adjoint with a ' behind it
+-- a map by its name, or its adjoint with a ' after it
 map_letter : (name : List ℕ) (own : Bool) → is_name name ≡ true → is_map_letter (cond own name (name ++ codes "'")) ≡ true
 map_letter name true known = let text = name_text name known in rw (not_ended name 39 text refl) known
 map_letter name false known = rw (ended_by name 39 39, without_last name 39) known
@@ -73,7 +73,7 @@ side_read Left rest = refl
 side_read Right rest = refl
 
 module _ (ds : List Declaration) (number from : ℕ) (a : Letter) (side : Side) (small : number < 10 ^ 64) (below : from < 2 ^ 32) (of_map : IsWrittenMap ds a) where
-  -- the text of a cancellation without its LF, and what stands behind each part
+  -- the text of a cancellation without its LF, and what follows each part
   abbrev behind_side : List ℕ
   behind_side = codes " " ++ decimal from
 

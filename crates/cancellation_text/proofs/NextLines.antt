@@ -227,7 +227,7 @@ module _ (ds : List Declaration) where
             ∙ lead_push (parts_front inside.parts) lead inside.so_far.tokens more.row;
       }
 
-  -- behind the last row of a lemma
+  -- after the last row of a lemma
   pub lemma_finished : (o : Opened) (l : Lemma) (number : List ℕ) (front : List Line) (inside : IsInside ds o l (Some number) front)
       → IsOpenedBy ds (more_item inside.parts (lemma_item number inside.so_far.tokens)) (with_item o (item.Lemma l)) front
   lemma_finished o l number front inside =

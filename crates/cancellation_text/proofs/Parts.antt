@@ -1,4 +1,4 @@
--- The first lines of a block, by the place that stands behind them, and the blocks that go on with them.
+-- The first lines of a block, by the place after them, and the blocks that continue them.
 use Rattle.std.proofs.Common.{◌≡◌, ◌<◌, ◌≤◌, ◌+◌, ℕ, List, [], ◌∷◌, ◌++◌, Some, None, Ok, IsTrue, arith, refl, sym, ap, ◌∙◌, subst, length, map, append_assoc, append-nil, length-append, codes}
 use Rattle.std.specs.Bool.{⊤}
 use Rattle.std.specs.List.{All, AllZip, flat_map}
@@ -29,7 +29,7 @@ use Rattle.cancellation_text.specs.Cancellations.{cancellation_kind}
 use Rattle.cancellation_text.specs.Reading.{with_item, resized}
 use Rattle.cancellation_text.proofs.Letters.{AreCalled, AreOnce}
 
--- what stands in front of the goal
+-- what is before the goal
 pub record Parts : Type 0 where
   pub claim : List ℕ
   pub denominator : List ℕ
@@ -71,7 +71,7 @@ front-called claim denominator called c =
 pub rows-item : (items : List ItemTokens) (i : ItemTokens) → rows_of (items ++ i ∷ []) ≡ rows_of items ++ item_rows i
 rows-item items i = flat_map-append item_rows items (i ∷ []) ∙ ap (λ rs. rows_of items ++ rs) (append-nil (item_rows i))
 
--- numbers and letters stand at their places, and no letter is called monic or epic twice
+-- numbers and letters are at their places, and no letter is called monic or epic twice
 pub record IsParts (ds : List Declaration) (p : Parts) : Type 0 where
   pub claim : IsTrue (is_number p.claim)
   pub denominator : IsTrue (is_number p.denominator)
@@ -96,7 +96,7 @@ ItemKeeps ds i names = HasItemName ds i
 ItemKeeps ds i numbers = HasItemNumber i
 ItemKeeps ds i bound = ⊤
 
--- there is room for one item more
+-- there is room for one more item
 abbrev pub HasRoom : Parts → Bound → Type 0
 HasRoom p rows = length p.items < row_limit
 HasRoom p bound = ⊤
@@ -236,7 +236,7 @@ parts-resized ds p o size are = record {
     called : AreCalled ds p.called (resized o size)
     called side = are.values.called side
 
--- with an item more
+-- with one more item
 pub parts-more : (ds : List Declaration) (p : Parts) (o : Opened) (i : ItemTokens) (v : Item) → AreParts ds p o → IsItem (next_number p) i → ((bound : Bound) → ItemKeeps ds i bound) → length p.items < row_limit
     → IsItemOf ds i v → AreParts ds (more_item p i) (with_item o v)
 parts-more ds p o i v are next keeps few says = record {
@@ -253,20 +253,20 @@ parts-more ds p o i v are next keeps few says = record {
     called : AreCalled ds p.called (with_item o v)
     called side = are.values.called side
 
--- behind the claim
+-- after the claim
 pub record IsClaimed (n : ℕ) (front : List Line) : Type 0 where
   pub claim : List ℕ
   pub number : IsTrue (is_number claim)
   pub value : number_within number_limit claim ≡ Some n
   pub are : front ≡ head_line ∷ claim_line claim ∷ []
 
--- behind whole items
+-- after whole items
 pub record IsOpenedBy (ds : List Declaration) (p : Parts) (o : Opened) (front : List Line) : Type 0 where
   pub known : AreParts ds p o
   pub have : HaveSize ds o.size (rows_of p.items)
   pub are : front ≡ parts_front p
 
--- behind the denominator, or a letter that is called monic or epic
+-- after the denominator, or a letter that is called monic or epic
 pub record IsCalling (ds : List Declaration) (o : Opened) (front : List Line) : Type 0 where
   pub claim : List ℕ
   pub denominator : List ℕ
@@ -290,7 +290,7 @@ IsOpen ds (at.Lemma o l) front = (number : List ℕ) × IsInside ds o l (Some nu
 IsOpen ds (at.Cancelled o) front = (p : Parts) × IsOpenedBy ds p o front
 IsOpen ds (at.Goal o goal) front = IsInside ds o goal None front
 
--- and the blocks that go on with it
+-- and the blocks that continue it
 pub scale_keeps : (ds : List Declaration) (s : ScaledTokens) (l : Lemma) → IsScaledOf ds s l → (bound : Bound) → ScaleKeeps s.scale bound
 scale_keeps ds s l says names = tt
 scale_keeps ds s l says numbers = integer_is_within s.scale l.scale says.scale

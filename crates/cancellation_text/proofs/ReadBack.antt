@@ -1,4 +1,4 @@
--- Proofs that cancel letters that are written are read back, whatever stands around them.
+-- Proofs that cancel letters and are written are read back, whatever texts are before and after them.
 use Rattle.std.proofs.Common.{List, IsTrue}
 use Rattle.std.specs.List.{list_all}
 use Rattle.quiver.specs.Declarations.{Declaration, IsDeclared}

@@ -1,4 +1,4 @@
--- What is read of proofs that cancel letters that are written, whatever stands around them.
+-- Proofs that cancel letters and are written are read back, whatever texts are before and after them.
 use Rattle.std.specs.Prelude.{◌≡◌, ◌≢◌, ◌<◌, ◌≤◌, ◌^◌, ◌+◌, List, [], ◌∷◌, ◌++◌, length, Some, AllPairs, IsTrue}
 use Rattle.std.specs.List.{All, list_all}
 use Rattle.word_core.specs.declared.letter.Letter.{Letter}
@@ -38,7 +38,7 @@ lemmas_in [] = []
 lemmas_in (item.Lemma l ∷ items) = l ∷ lemmas_in items
 lemmas_in (item.Cancel a side from ∷ items) = lemmas_in items
 
--- the rows and the letters of the lemmas and of the goal count together
+-- the rows and the letters of the lemmas and of the goal are counted together
 pub record IsWritable (ds : List Declaration) (proof : Cancellation) : Type 0 where
   pub claim : proof.claim < 2 ^ 32
   pub denominator : IsWritableInteger proof.denominator
@@ -50,8 +50,8 @@ pub record IsWritable (ds : List Declaration) (proof : Cancellation) : Type 0 wh
   pub few_rows : row_count (lemmas_in proof.items ++ proof.goal ∷ []) ≤ row_limit
   pub letters : letters_of_lemmas (lemmas_in proof.items ++ proof.goal ∷ []) ≤ letter_limit
 
--- A proof that is written between whole lines and other lines is read as it is, behind the proofs that those before it have and
--- before those that the others have.
+-- A proof that is written between whole lines and other lines is read as it is, after the proofs of the lines before it
+-- and before those of the lines after it.
 abbrev pub CancellationsAreReadBack : Type 0
 CancellationsAreReadBack = (ds : List Declaration) → IsDeclared ds → IsTrue (list_all is_named ds)
     → IsReadBetween (HasBlocks (cancellation_kind ds)) (cancellation_text ds) (IsWritable ds)

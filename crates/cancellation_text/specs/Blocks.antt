@@ -1,4 +1,4 @@
--- The grammar of proofs that cancel letters: blocks as trees of tokens, and the lines that they are.
+-- The grammar of proofs that cancel letters: blocks as trees of tokens, and the lines of each.
 use Rattle.std.specs.Prelude.{◌≢◌, ⊤, ℕ, ◌+◌, ◌-◌, Bool, IsTrue, List, [], ◌∷◌, ◌++◌, length, take, map, nat_eq, Option, None, AllPairs, codes, if◌then◌else◌}
 use Rattle.std.specs.List.{All, filter_map, ends_with, flat_map}
 use Rattle.std.specs.Option.{option_map}
@@ -40,7 +40,7 @@ pub record CancellationTokens : Type 0 where
 abbrev pub head_line : Line
 head_line = codes "cancellation" ∷ codes "1" ∷ []
 
--- what a letter is called that is cancelled on this side
+-- the word for a letter that is cancelled on this side
 abbrev pub called_word : Side → List ℕ
 called_word Left = codes "monic"
 called_word Right = codes "epic"
@@ -93,7 +93,7 @@ called_on ds side c = on_side side c.side (known_letter ds c.letter)
 abbrev pub called_letters : List Declaration → Side → List CalledTokens → List Letter
 called_letters ds side called = filter_map (called_on ds side) called
 
--- an item has the number behind that of the item before it
+-- an item has the number after that of the item before it
 abbrev pub IsItem : ℕ → ItemTokens → Type 0
 IsItem number (lemma l) = IsTrue (is_value number l.number) × IsScaled l.scaled
 IsItem number (cancel c) = IsTrue (is_value number c.number) × IsTrue (is_map_letter c.letter) × IsTrue (is_number c.item)
@@ -102,7 +102,7 @@ abbrev pub AreItems : ℕ → List ItemTokens → Type 0
 AreItems number [] = ⊤
 AreItems number (i ∷ items) = IsItem number i × AreItems (number + 1) items
 
--- numbers and letters of maps stand at their places, items are numbered from 1, and no letter is called monic or epic twice
+-- numbers and letters of maps are at their places, items are numbered from 1, and no letter is called monic or epic twice
 pub record IsCancellationBlock (ds : List Declaration) (b : CancellationTokens) : Type 0 where
   pub claim : IsTrue (is_number b.claim)
   pub denominator : IsTrue (is_number b.denominator)

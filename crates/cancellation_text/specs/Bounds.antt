@@ -1,4 +1,4 @@
--- The bounds of proofs that cancel letters, which are those of certificates in their order, and what its blocks say.
+-- The bounds of proofs that cancel letters, which are those of certificates in their order, and what the blocks say.
 use Rattle.std.specs.Prelude.{◌≡◌, ◌≤◌, ⊤, ℕ, List, [], ◌++◌, length, Some, Ok}
 use Rattle.std.specs.List.{All, AllZip, flat_map}
 use Rattle.word_core.specs.declared.letter.Letter.{Letter}
@@ -69,7 +69,7 @@ pub record HasNumbersOutside (b : CancellationTokens) : Type 0 where
   pub items : All HasItemNumber b.items
   pub goal : IsWithin integer_limit b.goal.scale
 
--- the block keeps the bound
+-- the block is within the bound
 abbrev pub KeepsOne : List Declaration → Bound → CancellationTokens → Type 0
 KeepsOne ds names b = HasNamesOutside ds b × All (HasNames ds) (rows_in b)
 KeepsOne ds numbers b = HasNumbersOutside b × All HasNumbers (rows_in b)

@@ -1,4 +1,4 @@
--- Proofs that cancel letters in evidence text: those that bytes are, or the first thing that is wrong with the bytes.
+-- Proofs that cancel letters in evidence text: those of bytes, or the first fault of the bytes.
 use Rattle.std.specs.Prelude.{ℕ, List, [], ◌∷◌, codes}
 use Rattle.quiver.specs.Declarations.{Declaration}
 use Rattle.cancel_rules.specs.declared.cancellation.Cancellation.{Cancellation}
@@ -17,10 +17,10 @@ other_words = codes "certificate" ∷ codes "model" ∷ codes "basis" ∷ []
 abbrev pub cancellation_kind : List Declaration → Kind Cancellation
 cancellation_kind ds = kind_of cancellation_lines (IsCancellationBlock ds) other_words bounds flaw_of (KeepsOne ds) (IsCancellationOf ds)
 
--- The bytes are UTF-8, their lines are blocks within all bounds, and these are the proofs among them, of which there is one at least.
+-- The bytes are UTF-8, their lines are blocks within all bounds, and these are the proofs among them, of which there is at least one.
 abbrev pub IsCancellations : List Declaration → List ℕ → List Cancellation → Type 0
 IsCancellations ds = IsBlocks (cancellation_kind ds)
 
--- the first thing that is wrong with the bytes
+-- the first fault of the bytes
 abbrev pub IsFirstFault : List Declaration → List ℕ → Fault → Type 0
 IsFirstFault ds = texts.IsFirstFault (cancellation_kind ds)

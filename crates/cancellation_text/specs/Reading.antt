@@ -1,4 +1,4 @@
--- What a reader makes of the lines of a proof that cancels letters. Only the reader's functions and proofs use it: what such a text is, Cancellations says.
+-- What a reader makes of the lines of a proof that cancels letters. Only the reader's functions and proofs use it; such texts are in Cancellations.
 use Rattle.std.specs.Prelude.{ℕ, ◌+◌, ◌&&◌, Bool, List, [], ◌∷◌, ◌++◌, length, nat_eq, nat_le, ℤ, Option, Some, None, Result, Ok, Err, if◌then◌else◌, codes}
 use Rattle.std.specs.List.{list_any}
 use Rattle.std.specs.Option.{option_map, option_and_then}
@@ -27,7 +27,7 @@ use Rattle.cancellation_text.specs.declared.place.Stage.TheVariants as at
 use Rattle.cancellation_text.specs.Blocks.{CalledTokens, CancelTokens, is_map_letter, known_letter}
 use Rattle.cancellation_text.specs.Cancellations.{other_words}
 
--- the side on which a letter is cancelled that is called so
+-- the side on which a letter of this word is cancelled
 abbrev pub called_side : List ℕ → Option Side
 called_side word = if is (codes "monic") word then Some Left else if is (codes "epic") word then Some Right else None
 
@@ -60,7 +60,7 @@ cancel_tokens n (word ∷ number ∷ []) = None
 cancel_tokens n (word ∷ number ∷ letter ∷ tokens) =
     if is (codes "cancel") word && (is_value n number && is_map_letter letter) then option_and_then (cancel_pair number letter) (two_tokens tokens) else None
 
--- the cancellation behind so many items, of which there are at most as many as rows
+-- the cancellation after so many items, of which there are at most as many as rows
 abbrev pub cancel_of : List Declaration → ℕ → CancelTokens → Result Item Flaw
 cancel_of ds before c =
     asked UnknownName (known_letter ds c.letter) >>= λ a.
@@ -104,7 +104,7 @@ called ds o c =
     asked UnknownName (known_letter ds c.letter) >>= λ a.
     (one_more (letters_on o c.side) a >>= λ letters. Ok (at.Called (with_letters o c.side letters)))
 
--- behind the denominator
+-- after the denominator
 abbrev pub begun : ℕ → ℤ → Opened
 begun claim denominator = record { claim = claim; denominator = denominator; monic = []; epic = []; items = []; size = no_rows }
 
@@ -140,7 +140,7 @@ abbrev pub calling : List Declaration → Opened → Line → Option CalledToken
 calling ds o line (Some c) = called ds o c
 calling ds o line None = item_or_goal ds o line
 
--- a row of the lemma, or what stands behind it
+-- a row of the lemma, or what follows it
 abbrev pub in_lemma : List Declaration → Opened → Lemma → Line → Result Stage Flaw
 in_lemma ds o l line =
     if begins (codes "row") line then (lemma_row ds o.size l line >>= λ grown. Ok (at.Lemma (resized o grown.0) grown.1))

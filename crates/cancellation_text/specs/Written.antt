@@ -16,7 +16,7 @@ use Rattle.cancellation_text.specs.Blocks.{called_word, side_word}
 abbrev pub called_text : List Declaration → Side → Letter → List ℕ
 called_text ds side a = called_word side ++ codes " " ++ letter_text ds a.0 ++ codes "\n"
 
--- the cancellation with this number, of a letter at a side, and the item that it is taken off
+-- the cancellation with this number, of a letter on a side, and the item from which it is cancelled
 abbrev pub cancel_text : List Declaration → ℕ → Letter → Side → ℕ → List ℕ
 cancel_text ds number a side from = codes "cancel " ++ decimal number ++ codes " " ++ letter_text ds a.0 ++ codes " "
     ++ side_word side ++ codes " " ++ decimal from ++ codes "\n"

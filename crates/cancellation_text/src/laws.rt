@@ -10,13 +10,13 @@ pub fn each_text_is_told()
     ensures { (ds : List Declaration) → AreTold (IsCancellations ds) (IsFirstFault ds) }
 {}
 
-/// The law that a proof that is written is read as it is, whatever whole lines stand before it and whatever follows. It has
+/// A proof that is written is read as it is, whatever whole lines are before it and whatever follows. It has
 /// nothing to run.
 pub fn cancellations_are_read_back()
     ensures { CancellationsAreReadBack }
 {}
 
-/// The law that the proofs of a text of written proofs, comments and blocks of other kinds are those proofs, in their order. It
+/// The proofs of a text of written proofs, comments and blocks of other kinds are those proofs, in their order. It
 /// has nothing to run.
 pub fn parts_are_read_back()
     ensures { ArePartsReadBack }

@@ -49,7 +49,7 @@ fn is_map_letter(token: &[u8]) -> bool
     name_in(unstarred(token)).is_some()
 }
 
-// The side on which a letter is cancelled that is called so.
+// The side on which a letter of this word is cancelled.
 fn called_side(word: &[u8]) -> Option<Side>
     ensures { result ≡ called_side word.now }
 {
@@ -111,7 +111,7 @@ pub fn cancel_tokens(number: u128, line: &[u8]) -> Option<CancelTokens<'_>>
     })
 }
 
-/// The cancellation of these tokens behind so many items. There are at most as many items as rows.
+/// The cancellation of these tokens after so many items. There are at most as many items as rows.
 pub fn cancel_of(quiver: &Quiver, before: usize, tokens: &CancelTokens<'_>) -> Result<Item, Flaw>
     requires { IsTrue (is_number tokens.now.item.now) }
     ensures { result ≡ cancel_of quiver.now before (cancel_now tokens.now) }

@@ -6,24 +6,24 @@ use cofactor_trace::Lemma;
 use lists::Listing;
 use word_core::Letter;
 
-/// How far a proof was read whose lines go on.
+/// How far an open proof was read.
 #[derive(Drop)]
 pub enum Stage {
-    /// Behind its head.
+    /// After its head.
     Headed,
-    /// Behind its claim.
+    /// After its claim.
     Claimed { claim: u32 },
-    /// Behind its denominator, or a letter that it calls monic or epic.
+    /// After its denominator, or a letter that it calls monic or epic.
     Called { opened: Opened },
     /// In the rows of a lemma.
     Lemma { opened: Opened, lemma: Lemma },
-    /// Behind a cancellation.
+    /// After a cancellation.
     Cancelled { opened: Opened },
     /// In the rows of the goal.
     Goal { opened: Opened, goal: Lemma },
 }
 
-/// What was read of a proof whose lines go on.
+/// What was read of an open proof.
 #[derive(Drop)]
 pub struct Opened {
     pub claim: u32,

@@ -12,11 +12,11 @@ use cancel_rules::Cancellation;
 use quiver::Quiver;
 use std::alloc::Global;
 
-/// The proofs that cancel letters of the text, over the letters of the quiver, or the first thing that is wrong with it. Blocks of
-/// other kinds are skipped. Want of memory is told where there is no room, whatever the text is.
+/// The proofs that cancel letters of the text, over the letters of the quiver, or its first fault. Blocks of
+/// other kinds are skipped. Any text can fail for want of memory.
 pub fn read_cancellations(alloc: Global, bytes: &[u8], quiver: &Quiver) -> ReadText<Cancellation>
     requires { length bytes.now < 4294967295 }
-    // They are those that the bytes are, or what is told is the first thing that is wrong with the bytes.
+    // They are those of the bytes, or the fault is the first one of the bytes.
     ensures exact { MatchResult result (IsCancellations quiver.now bytes.now) (ExplainsBy (IsFirstFault quiver.now bytes.now)) }
     // Each can be checked.
     ensures readable { IfOk result (All (IsReadableCancellation quiver.now)) }

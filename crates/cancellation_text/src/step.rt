@@ -25,7 +25,7 @@ pub struct Cancellations<'q> {
     pub quiver: &'q Quiver,
 }
 
-// The denominator behind the claim.
+// The denominator after the claim.
 fn divided(alloc: Global, claim: u32, line: &[u8]) -> Result<Stage, Flaw>
     ensures { result ≡ next [] (stage.Claimed claim) (tokens_of line.now) }
 {
@@ -125,7 +125,7 @@ fn item_or_goal(
     item(alloc, quiver, opened, line)
 }
 
-// A letter that is called monic or epic, or what stands behind all of these.
+// A letter that is called monic or epic, or what follows all of these.
 fn calling(alloc: Global, quiver: &Quiver, opened: Opened, line: &[u8]) -> Result<Stage, LineFault>
     ensures { Reads (λ s. s) result (calling quiver.now opened (tokens_of line.now) (called_tokens (tokens_of line.now))) }
 {

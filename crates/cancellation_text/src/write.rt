@@ -15,10 +15,10 @@ use quiver::Quiver;
 use std::alloc::{AllocError, Global};
 use word_core::Letter;
 
-/// The bytes of what is written, or want of memory.
+/// The bytes that are written, or want of memory.
 pub type WrittenText = Result<Vec<u8>, AllocError>;
 
-// What a letter is called that is cancelled on this side.
+// The word for a letter that is cancelled on this side.
 fn called_word(side: Side) -> &'static str
     ensures { result.now ≡ called_word side }
 {
@@ -52,7 +52,7 @@ fn side_word(side: Side) -> &'static str
     }
 }
 
-// The cancellation with this number.
+// Appends the cancellation with this number.
 fn put_cancel(
     out: &mut Vec<u8>,
     quiver: &Quiver,
@@ -75,7 +75,7 @@ fn put_cancel(
     put(out, "\n")
 }
 
-// The first three lines of a proof.
+// Appends the first three lines of a proof.
 fn put_head(out: &mut Vec<u8>, proof: &Cancellation) -> Result<(), AllocError>
     ensures { OnOk result (out.new.items ≡ out.old.items ++ head_text proof.now) }
 {
@@ -87,7 +87,7 @@ fn put_head(out: &mut Vec<u8>, proof: &Cancellation) -> Result<(), AllocError>
     )
 }
 
-// The letters that a proof calls monic, and then those that it calls epic.
+// Appends the letters that a proof calls monic, and then those that it calls epic.
 fn put_letters(out: &mut Vec<u8>, quiver: &Quiver, proof: &Cancellation) -> Result<(), AllocError>
     requires monic { All (λ a. a.0 < letter_count quiver.now) proof.now.monic }
     requires epic { All (λ a. a.0 < letter_count quiver.now) proof.now.epic }
@@ -102,7 +102,7 @@ fn put_letters(out: &mut Vec<u8>, quiver: &Quiver, proof: &Cancellation) -> Resu
     Ok(())
 }
 
-// The items of a proof, its goal, and the end of the block.
+// Appends the items of a proof, its goal, and the end of the block.
 fn put_steps(out: &mut Vec<u8>, quiver: &Quiver, proof: &Cancellation) -> Result<(), AllocError>
     requires items { All (IsItemOver quiver.now) proof.now.items }
     requires goal { IsLemmaOver quiver.now proof.now.goal }
@@ -122,7 +122,7 @@ fn put_steps(out: &mut Vec<u8>, quiver: &Quiver, proof: &Cancellation) -> Result
 }
 
 /// A proof that cancels letters as a block of evidence text: a line for each letter that it calls monic, and then epic, a line for
-/// each cancellation, and one for each lemma, the goal and each of their rows. Only memory can be short.
+/// each cancellation, and one for each lemma, the goal and each of their rows. It fails only where memory is short.
 pub fn write_cancellation(alloc: Global, quiver: &Quiver, proof: &Cancellation) -> WrittenText
     requires { IsCancellationOver quiver.now proof.now }
     ensures { IfOk result (λ text. text.items ≡ cancellation_text quiver.now proof.now) }
