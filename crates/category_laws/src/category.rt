@@ -5,7 +5,7 @@ ghost use Rattle.definitions.specs.Category.{Structure, PreadditiveLaws, Involut
 
 use std::alloc::{AllocError, Global};
 
-/// A type whose values are preadditive categories: definitions and laws alone.
+/// A type whose values are preadditive categories: only definitions and laws.
 pub trait Preadditive {
     /// What the objects of the category are made of.
     type Object;
@@ -90,7 +90,7 @@ pub trait Involutive: Category {
     /// The adjoint of an arrow.
     ghost involution: { Self → Self.Arrow → Self.Arrow };
 
-    /// The adjoint of an arrow, which leads from its target to its source.
+    /// The adjoint of an arrow, from its target to its source.
     fn adjoint(&self, alloc: Global, arrow: &Self::Arrow) -> Result<Self::Arrow, AllocError>
         requires { (Self.structure self.now).is_arrow arrow.now }
         ensures { IfOk result (λ x. x ≡ involution self.now arrow.now) };

@@ -1,11 +1,11 @@
-//! The opposite of a category: its arrows are turned round.
+//! The opposite of a category: its arrows are reversed.
 
 ghost use Rattle.category_laws.specs.Opposite.{opposite, opposite_laws, opposite_involution_laws};
 
 use crate::category::{Category, Involutive, Preadditive};
 use std::alloc::{AllocError, Global};
 
-/// The category with all arrows turned round.
+/// The category with all arrows reversed.
 #[derive(Drop)]
 pub struct Opposite<C>(pub C);
 
