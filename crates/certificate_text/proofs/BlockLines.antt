@@ -33,18 +33,18 @@ use Rattle.block_text.proofs.Zips.{AllZip-weaker}
 use Rattle.certificate_text.proofs.RowLines.{row_line_read, lemma_row_line_read}
 use Rattle.certificate_text.proofs.RowValues.{RowsFit, with_rows, with_rows-append, rows_fit_parts, TakesRow, IsMadeOf, rows_meet}
 
--- a size, and the place behind it
+-- a size, and the place after it
 size_steps : {S M E F : Type 0} (size : Result S F) (made : S → M) (behind : M → E) → ((size >>= λ s. Ok (made s)) >>= λ m. Ok (behind m)) ≡ (size >>= λ s. Ok (behind (made s)))
 size_steps (Ok s) made behind = refl
 size_steps (Err f) made behind = refl
 
--- a row, the size with it, and the place behind it
+-- a row, the size with it, and the place after it
 row_steps : {A B S M E F : Type 0} (row : Result A F) (view : A → B) (size : B → Result S F) (made : S → B → M) (behind : M → E)
     → (((row >>= λ a. Ok (view a)) >>= λ b. (size b >>= λ s. Ok (made s b))) >>= λ m. Ok (behind m)) ≡ (row >>= λ a. (size (view a) >>= λ s. Ok (behind (made s (view a)))))
 row_steps (Ok a) view size made behind = size_steps (size (view a)) (λ s. made s (view a)) behind
 row_steps (Err f) view size made behind = refl
 
--- the line of a row of a lemma, and the place behind it
+-- the line of a row of a lemma, and the place after it
 pub lemma_row_takes : {E : Type 0} (ds : List Declaration) (r : RowTokens) → IsTrue (is_row r) → (size : Size) (l : Lemma) (place : Size → Lemma → E)
     → (lemma_row ds size l (row_line r) >>= λ next. Ok (place next.0 next.1))
     ≡ (row_values ds r >>= λ row. (grown size row.left row.right >>= λ larger. Ok (place larger (lemma_of l.scale (l.rows ++ over_lemma r.lemma row ∷ [])))))
@@ -75,7 +75,7 @@ module _ (K : Bound → Type 0) where
       → Meets flaw_of K (λ q. (k : ℕ) × (number_within number_limit n ≡ Some k) × (q ≡ (at.Claimed form k))) (step ds (at.Headed form) (claim_line n))
   claim_meets ds form n number within = rw number (then_meets _ (asked_meets K bound.numbers (number_within number_limit n) within) (λ k _ k_is. reads _ refl (k, k_is, refl)))
 
-  -- behind the head and the claim
+  -- after the head and the claim
   denominator_meets : (ds : List Declaration) (form : Format) (k : ℕ) (d : List ℕ) → IsTrue (is_number d) → (K bound.numbers → IsWithin integer_limit d)
       → Meets flaw_of K (λ q. (z : ℤ) × (integer_of d ≡ Ok z) × (q ≡ (begun form k z))) (step ds (at.Claimed form k) (denominator_line d))
   denominator_meets ds form k d number within = rw number (then_meets _ (integer_meets d within) (λ z _ z_is. reads _ refl (z, z_is, refl)))
@@ -86,7 +86,7 @@ module _ (K : Bound → Type 0) where
     abbrev IsBlockRead : BlockTokens → Stage → Type 0
     IsBlockRead b q = (e : Evidence) × (finish q ≡ Some e) × IsCertificateOf ds b e
 
-    -- behind the denominator of a certificate
+    -- after the denominator of a certificate
     behind_numbers : (form : Format) (claim denominator : List ℕ) (lines : List Line) (P : Stage → Type 0) → IsTrue (is_number claim) → IsTrue (is_number denominator)
         → (K bound.numbers → IsWithin number_limit claim) → (K bound.numbers → IsWithin integer_limit denominator)
         → ((k : ℕ) (z : ℤ) → number_within number_limit claim ≡ Some k → integer_of denominator ≡ Ok z → Meets flaw_of K P (run (step ds) (begun form k z) lines))
@@ -147,7 +147,7 @@ module _ (K : Bound → Type 0) where
     scale_meets before l numbered number within few =
         rw (numbered, number) (then_meets _ (integer_meets l.scaled.scale within) (λ scale _ scale_is. unless_meets bound.rows _ _ (λ kept. lt-leb row_limit before (few kept)) (reads _ refl scale_is)))
 
-    -- the rows behind this scale begin
+    -- the rows after this scale begin
     abbrev Begins : List ℕ → (ℤ → Stage) → Stage → Type 0
     Begins digits place q = (scale : ℤ) × (integer_of digits ≡ Ok scale) × (q ≡ (place scale))
 
@@ -254,7 +254,7 @@ module _ (K : Bound → Type 0) where
       letters = λ kept. omega (arith, keeps bound.letters kept);
     }
 
-    -- the lines behind the head are read, and what they are
+    -- the lines after the head are read, and what they are
     read_by : (most form : Format) (b : BlockTokens) (lines : List Line) → All (λ line. is_end line ≡ false) lines → Meets flaw_of K (IsBlockRead b) (run (step ds) (at.Headed form) lines)
         → Meets flaw_of K (IsCertificateOf ds b) (read_inside (certificate_steps most ds) (at.Headed form) lines)
     read_by most form b lines none met =

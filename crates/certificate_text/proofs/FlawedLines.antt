@@ -80,7 +80,7 @@ goal_unread line flaw read =
     let known = goal_is line digits (asked_ok BadLine (goal_digits line) digits there) in
     inr (record { digits = digits; line_is = known.0; number = known.1; large = too_large digits flaw large }))
 
--- the first line of the lemma behind so many others, of which the scale is too large, or that is one too many
+-- the first line of the lemma after so many others, whose scale is too large, or that is one too many
 pub record IsLemmaPast (before : ℕ) (line : Line) (flaw : Flaw) : Type 0 where
   pub number : List ℕ
   pub digits : List ℕ

@@ -5,7 +5,7 @@ use Rattle.std.proofs.lemmas.List.{append-nil, append_assoc, take_more, length-t
 use Rattle.certificate_text.specs.Written.{numbered_texts}
 
 module _ {X : Type 0} (text_of : ℕ → X → List ℕ) where
-  -- one more behind others
+  -- one more after others
   numbered_behind : (number : ℕ) (xs : List X) (x : X) → numbered_texts text_of number (xs ++ x ∷ []) ≡ numbered_texts text_of number xs ++ text_of (length xs + number) x
   numbered_behind number [] x =
       let none : 0 + number ≡ number = omega arith in
@@ -15,7 +15,7 @@ module _ {X : Type 0} (text_of : ℕ → X → List ℕ) where
       ap (λ t. text_of number y ++ t) (numbered_behind (suc number) xs x ∙ ap (λ n. numbered_texts text_of (suc number) xs ++ text_of n x) count)
       ∙ sym (append_assoc (text_of number y) (numbered_texts text_of (suc number) xs) (text_of (suc (length xs) + number) x))
 
-  -- So many of them are put behind others, and this is the number of the next one.
+  -- So many of them are appended to others, and this is the number of the next one.
   abbrev pub ArePut : List X → List ℕ → ℕ → ℕ → List ℕ → Type 0
   ArePut xs front place number out = (out ≡ front ++ numbered_texts text_of 1 (take place xs)) × (number ≡ place + 1)
 

@@ -45,7 +45,7 @@ grouped : (front word scale end listed : List ℕ) → front ++ (word ++ scale +
 grouped front word scale end listed = simp append_assoc refl
 
 module _ (ds : List Declaration) (l : Lemma) (written : IsWrittenLemma ds l) where
-  -- the scale behind other words, and the rows
+  -- the scale after other words, and the rows
   scaled_is_text : (front : List ℕ) (before : Line) → IsLineText front
       → tokens_of ((front ++ codes " scale ") ++ signed_decimal l.scale) ≡ before ++ tokens_of (signed_decimal l.scale) → is_skipped (before ++ signed_decimal l.scale ∷ []) ≡ false
       → IsTextOf (front ++ scaled_text ds l) ((before ++ signed_decimal l.scale ∷ []) ∷ map row_line (scaled_tree ds l).rows)

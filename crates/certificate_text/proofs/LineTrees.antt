@@ -46,7 +46,7 @@ row_end_is : (coefficient : List ℕ) (left : Line) (lemma : Bool) (number : Lis
 row_end_is coefficient left lemma number right [] r read = (refl, cc)
 row_end_is coefficient left lemma number right (token ∷ behind) r read = absurd (cc)
 
--- the tokens behind the first bracket, without `lemma`, are those of a row
+-- the tokens after the first bracket, without `lemma`, are those of a row
 record IsOrigin (coefficient : List ℕ) (left : Line) (lemma : Bool) (tokens : Line) (r : RowTokens) : Type 0 where
   number : List ℕ
   right : Line
@@ -65,7 +65,7 @@ number_part_is coefficient left lemma (number ∷ tokens) r read =
       tokens_are = ap (λ ts. number ∷ ts) (bracketed_is tokens right found ∙ ap (λ (behind : Line). codes "(" ∷ (right.0 ++ codes ")" ∷ behind)) end.0);
     })
 
--- the line of the row behind the first bracket
+-- the line of the row after the first bracket
 abbrev origin_line : RowTokens → Line
 origin_line r = origin_tokens r ++ (codes "(" ∷ (r.right ++ codes ")" ∷ []))
 

@@ -29,7 +29,7 @@ use Rattle.certificate_text.proofs.RowTrees.{HaveSize, no_rows_size, size_push, 
 use Rattle.block_text.proofs.Zips.{zip_push, zip_length}
 use Rattle.certificate_text.proofs.OpenBlocks.{IsHeaded, IsClaimed, IsInPlain, IsBegun, IsOpened, IsLed, IsInside, IsOpen, Lead, lemma_tokens, lead_lines, IsNext, IsFew, rows_of, lemmas_front, are_lemmas-push, plain_front}
 
--- two lists of lines with one line more
+-- two lists of lines with one more line
 pub behind : (front other : List Line) (line last : Line) → front ≡ other → line ≡ last → front ++ line ∷ [] ≡ other ++ last ∷ []
 behind front other line last same same_line = ap₂ (λ ls l. ls ++ l ∷ []) same same_line
 
@@ -43,7 +43,7 @@ goal_read line scale read =
     let known = goal_is line digits (asked_ok BadLine (goal_digits line) digits there) in
     (digits, known.0, known.1, within))
 
--- the next lemma, behind so many
+-- the next lemma, after so many
 pub record IsLemmaRead (before : ℕ) (line : Line) (scale : ℤ) : Type 0 where
   pub number : List ℕ
   pub digits : List ℕ
@@ -118,7 +118,7 @@ next_claimed most ds Lemmas front line n d claimed read =
       are = behind front (head_line Lemmas ∷ claim_line claimed.claim ∷ []) line (denominator_line digits) claimed.are known.0.is;
     }
 
--- the lines of rows with one row more
+-- the lines of rows with one more row
 pub rows_push : (rs : List RowTokens) (r : RowTokens) → map row_line (rs ++ r ∷ []) ≡ map row_line rs ++ row_line r ∷ []
 rows_push rs r = map-append row_line rs (r ∷ [])
 
@@ -157,11 +157,11 @@ pub lead_lines-push : (lead : Lead) (s : ScaledTokens) (r : RowTokens) → lead_
 lead_lines-push None s r = ap (λ (ls : List Line). (codes "goal" ∷ codes "scale" ∷ s.scale ∷ []) ∷ ls) (sym (rows_push s.rows r))
 lead_lines-push (Some number) s r = ap (λ (ls : List Line). (codes "lemma" ∷ number ∷ codes "scale" ∷ s.scale ∷ []) ∷ ls) (sym (rows_push s.rows r))
 
--- the same behind other lines
+-- the same after other lines
 pub lead_push : (front : List Line) (lead : Lead) (s : ScaledTokens) (r : RowTokens) → (front ++ lead_lines lead s) ++ row_line r ∷ [] ≡ front ++ lead_lines lead (scaled_push s r)
 lead_push front lead s r = append_assoc front (lead_lines lead s) (row_line r ∷ []) ∙ ap (λ ls. front ++ ls) (lead_lines-push lead s r)
 
--- a row more of a lemma or of the goal, behind other rows
+-- one more row of a lemma or of the goal, after other rows
 pub record IsRowMore (ds : List Declaration) (s : ScaledTokens) (before : List RowTokens) (line : Line) (next : Size × Lemma) : Type 0 where
   pub row : RowTokens
   pub line_is : line ≡ row_line row
@@ -231,7 +231,7 @@ module _ (most : Format) (ds : List Declaration) where
             ∙ lead_push (lemmas_front inside.claim inside.denominator inside.finished) lead s more.row;
       }
 
-  -- behind the last row of a lemma
+  -- after the last row of a lemma
   pub lemma_finished : (o : Opened) (l : Lemma) (number : List ℕ) (front : List Line) → IsInside most ds o l (Some number) front → IsOpened most ds (closed_by o l) front
   lemma_finished o l number front inside =
       let last : LemmaTokens = lemma_tokens number inside.so_far.tokens in

@@ -1,4 +1,4 @@
--- The first lines of a block, by the place that stands behind them, and the blocks that go on with them.
+-- The first lines of a block, by the place after them, and the blocks that continue them.
 use Rattle.std.proofs.Common.{◌≡◌, ◌<◌, ◌≤◌, ◌+◌, ℕ, List, [], ◌∷◌, ◌++◌, Option, Some, None, Ok, IsTrue, arith, refl, sym, ap, ◌∙◌, subst, length, map, append_assoc, append-nil, codes}
 use Rattle.std.specs.Bool.{⊤}
 use Rattle.std.specs.List.{All, AllZip, flat_map}
@@ -104,7 +104,7 @@ module _ (claim denominator : List ℕ) (finished : List LemmaTokens) where
   abbrev pub with_goal : List LemmaTokens → ScaledTokens → LemmasTokens
   with_goal ls goal = record { claim = claim; denominator = denominator; lemmas = ls; goal = goal }
 
-  -- the block with these rows behind the finished lemmas
+  -- the block with these rows after the finished lemmas
   abbrev pub rows_behind : Lead → ScaledTokens → LemmasTokens
   rows_behind None s = with_goal finished s
   rows_behind (Some number) s = with_goal (finished ++ lemma_tokens number s ∷ []) unit_goal
@@ -131,7 +131,7 @@ module _ (claim denominator : List ℕ) (finished : List LemmaTokens) where
   few_lemmas None s few = few
   few_lemmas (Some number) s few = omega (arith, few, length-append finished (lemma_tokens number s ∷ []))
 
-  -- numbers stand at the places of numbers
+  -- numbers are at the places of numbers
   pub record IsHead : Type 0 where
     pub claim_number : IsTrue (is_number claim)
     pub denominator_number : IsTrue (is_number denominator)
@@ -168,7 +168,7 @@ module _ (most : Format) (ds : List Declaration) (claim denominator : List ℕ) 
     unit_within,
   )
 
-  -- rows behind finished lemmas
+  -- rows after finished lemmas
   pub begin_rows : (within : List Bound) (lead : Lead) (s : ScaledTokens) → IsRead most Lemmas → IsHead claim denominator finished → IsNext lead finished → IsScaled s
       → All (λ bound. KeepsOne ds bound (lemmas (rows_behind claim denominator finished lead s))) within → Begins (certificate_kind most ds) within (lemmas_front claim denominator finished ++ lead_lines lead s)
   begin_rows within lead s read head next scaled keeps = record {
@@ -185,12 +185,12 @@ module _ (most : Format) (ds : List Declaration) (claim denominator : List ℕ) 
       keeps_one ds (lemmas (rows_behind claim denominator finished lead s)) (rows_outside lead s head scale) (few_lemmas claim denominator finished lead s few) bound
       (subst (λ rs. RowsWithin ds rs bound) (sym (rows_are claim denominator finished lead s)) keep)
 
--- behind the head
+-- after the head
 pub record IsHeaded (most form : Format) (front : List Line) : Type 0 where
   pub read : IsRead most form
   pub are : front ≡ head_line form ∷ []
 
--- behind the claim
+-- after the claim
 pub record IsClaimed (most form : Format) (n : ℕ) (front : List Line) : Type 0 where
   pub read : IsRead most form
   pub claim : List ℕ
@@ -206,7 +206,7 @@ pub record IsBegun (ds : List Declaration) (claim denominator : List ℕ) (finis
   pub denominator_value : integer_of denominator ≡ Ok o.denominator
   pub values : AllZip (λ l lemma. IsScaledOf ds l.scaled lemma) finished o.lemmas
 
--- behind finished lemmas
+-- after finished lemmas
 pub record IsOpened (most : Format) (ds : List Declaration) (o : Opened) (front : List Line) : Type 0 where
   pub read : IsRead most Lemmas
   pub claim : List ℕ
@@ -217,7 +217,7 @@ pub record IsOpened (most : Format) (ds : List Declaration) (o : Opened) (front 
   pub have : HaveSize ds o.size (rows_of finished)
   pub are : front ≡ lemmas_front claim denominator finished
 
--- the scale and the first rows of a lemma or of the goal, behind other rows
+-- the scale and the first rows of a lemma or of the goal, after other rows
 pub record IsLed (ds : List Declaration) (size : Size) (l : Lemma) (before : List RowTokens) : Type 0 where
   pub tokens : ScaledTokens
   pub scaled : IsScaled tokens
@@ -244,7 +244,7 @@ IsOpen most ds (at.Opened o) front = IsOpened most ds o front
 IsOpen most ds (at.Lemma o l) front = (number : List ℕ) × IsInside most ds o l (Some number) front
 IsOpen most ds (at.Goal o goal) front = IsInside most ds o goal None front
 
--- and the blocks that go on with it
+-- and the blocks that continue it
 begin_shorter : (most : Format) (ds : List Declaration) (within : List Bound) (front behind : List Line) → Begins (certificate_kind most ds) within (front ++ behind) → Begins (certificate_kind most ds) within front
 begin_shorter most ds within front behind begin = record {
   tree = begin.tree;

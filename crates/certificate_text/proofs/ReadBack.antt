@@ -1,4 +1,4 @@
--- Evidence that is written is read back, whatever stands around it.
+-- Evidence that is written is read back, whatever texts are before and after it.
 use Rattle.std.proofs.Common.{List, IsTrue}
 use Rattle.std.specs.List.{list_all}
 use Rattle.quiver.specs.Declarations.{Declaration, IsDeclared}

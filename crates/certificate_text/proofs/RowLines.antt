@@ -39,7 +39,7 @@ origin_read coefficient left true number right digits unclosed = number_read coe
 origin_read coefficient left false number right digits unclosed =
     rw (other_word is_number (codes "lemma") number digits refl) (number_read coefficient left false number right unclosed)
 
--- numbers stand at the places of numbers, and letters in the brackets
+-- numbers are at the places of numbers, and letters in the brackets
 record IsRow (r : RowTokens) : Type 0 where
   coefficient : is_integer r.coefficient ≡ true
   left : list_all is_letter r.left ≡ true

@@ -1,4 +1,4 @@
--- What a row of a certificate comes to: it is added, or its fault is told.
+-- A row of a certificate is added, or its fault is returned.
 use Rattle.std.proofs.Common.{◌≡◌, ℕ, List, [], ◌∷◌, ◌++◌, Result, Ok, Err, sym, ap, subst, ◌∙◌}
 use Rattle.std.specs.Result.{IsErrAnd}
 use Rattle.quiver.specs.Declarations.{Declaration}

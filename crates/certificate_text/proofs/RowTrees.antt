@@ -1,4 +1,4 @@
--- The rows of a block that goes on: what their tokens say, the bounds that they keep, and how they grow.
+-- The rows of an open block: what their tokens say, the bounds that they are within, and how they grow.
 use Rattle.std.proofs.Common.{◌≡◌, ◌<◌, ◌≤◌, ◌+◌, ◌⊎◌, ℕ, ℤ, pos, suc, Bool, false, ◌||◌, List, [], ◌∷◌, ◌++◌, Some, Ok, Err, arith, refl, sym, ap, ◌∙◌, subst, length, nat_lt, nat_le, ltb-false, leb-false, inl, inr}
 use Rattle.std.specs.List.{All}
 use Rattle.std.specs.Option.{option_map}
@@ -19,7 +19,7 @@ use Rattle.certificate_text.specs.Bounds.{Bound, names, numbers, words, rows, le
 use Rattle.block_text.proofs.Bounds as listed
 use Rattle.block_text.proofs.Results.{by_test, bind_ok, bind_err, asked_ok, asked_err, option_map_some}
 
--- the bounds that count before it
+-- the bounds that are tested before it
 abbrev pub before : Bound → List Bound
 before bound = listed.before flaw_of bounds bound
 
@@ -190,7 +190,7 @@ module _ (ds : List Declaration) (size : Size) (rs : List RowTokens) (have : Hav
     rows_push : size.rows < row_limit → length (rs ++ r ∷ []) ≤ row_limit
     rows_push few = omega (arith, longer, have.count, few)
 
-    -- with one row more
+    -- with one more row
     pub size_push : (next : Size) → grown size row.left row.right ≡ Ok next → HaveSize ds next (rs ++ r ∷ [])
     size_push next fits =
         record {

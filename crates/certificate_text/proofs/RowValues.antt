@@ -32,7 +32,7 @@ values_meet K ds r names numbers =
     then_meets _ (asked_meets K bound.numbers (number_within number_limit r.number) (λ kept. (numbers kept).number)) (λ number _ number_is.
     reads _ refl (record { left = word_of-length ds r.left left left_is; right = word_of-length ds r.right right right_is })))))
 
--- behind a row of so many letters
+-- after a row of so many letters
 abbrev pub with_letters : Size → ℕ → Size
 with_letters size n = record { rows = size.rows + 1; letters = size.letters + n }
 
@@ -44,7 +44,7 @@ grown_meets K size left right n count words rows letters =
     (unless_meets bound.letters _ _ (λ kept. le-ltb letter_limit _ (rw (← count) (letters kept)))
     (reads _ refl (rw count refl))))
 
--- where K says that a bound is kept, these rows keep it behind rows of this size
+-- where K says that a bound is met, these rows are within it after rows of this size
 pub record RowsFit (K : Bound → Type 0) (ds : List Declaration) (size : Size) (rs : List RowTokens) : Type 0 where
   pub names : K bound.names → All (HasNames ds) rs
   pub numbers : K bound.numbers → All HasNumbers rs
@@ -55,7 +55,7 @@ pub record RowsFit (K : Bound → Type 0) (ds : List Declaration) (size : Size) 
 abbrev letters_of : RowTokens → ℕ
 letters_of r = length r.left + length r.right
 
--- behind these rows
+-- after these rows
 abbrev pub with_rows : Size → List RowTokens → Size
 with_rows size rs = record { rows = size.rows + length rs; letters = size.letters + letters_in rs }
 
@@ -68,7 +68,7 @@ rows_fit_on K ds size r rs keep = record {
   letters = λ kept. omega (arith, keep.letters kept);
 }
 
--- rows and the rows behind them
+-- rows and the rows after them
 All-parts : {X : Type 0} (P : X → Type 0) (xs ys : List X) → All P (xs ++ ys) → All P xs × All P ys
 All-parts P [] ys all = (All-nil P, all)
 All-parts P (x ∷ xs) ys all =

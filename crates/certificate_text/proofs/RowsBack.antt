@@ -60,7 +60,7 @@ line_text ds row = codes "row " ++ (signed_decimal row.coef ++ (codes " (" ++ (w
 line_is : (ds : List Declaration) (row : LemmaRow) → lemma_row_text ds row ≡ line_text ds row ++ 10 ∷ []
 line_is ds row = simp append_assoc refl
 
--- a generator or a lemma, before what doesn't go on with its number
+-- a generator or a lemma, before a character that doesn't continue its number
 origin_read : (source : CertFrom) (rest : List ℕ) → IsToken (decimal (number_of source)) → goes_on rest ≡ false
     → tokens_of (origin_text source ++ rest) ≡ cond (is_over_lemma source) (codes "lemma" ∷ decimal (number_of source) ∷ []) (decimal (number_of source) ∷ []) ++ tokens_of rest
 origin_read (Generator n) rest token stops = token_read (decimal n) rest token stops
@@ -77,7 +77,7 @@ module _ (ds : List Declaration) (row : LemmaRow) (written : IsWrittenRow ds row
   number_token : IsToken (decimal (number_of row.from))
   number_token = name_token (decimal (number_of row.from)) (decimal_text (number_of row.from) small)
 
-  -- what stands behind each part
+  -- what follows each part
   abbrev behind_origin : List ℕ
   behind_origin = codes " (" ++ (word_text ds row.right ++ codes ")")
 
@@ -150,7 +150,7 @@ lemma_row_says ds row written = (
   ap (λ (source : CertFrom). record { coef = row.coef; left = row.left; from = source; right = row.right }) (over_same row.from),
 )
 
--- numbers and letters stand at their places, and are within the bounds on rows
+-- numbers and letters are at their places, and are within the bounds on rows
 pub record AreRows (ds : List Declaration) (rows : List RowTokens) : Type 0 where
   pub each : All (λ r. IsTrue (is_row r)) rows
   pub names : All (HasNames ds) rows

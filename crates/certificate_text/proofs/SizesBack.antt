@@ -45,7 +45,7 @@ number_is_value n below =
 opening_is : (head end first claim second denominator : List ℕ) → (head ++ (end ++ first)) ++ claim ++ (end ++ second) ++ denominator ++ end ≡ (head ++ end) ++ (((first ++ claim) ++ end) ++ ((second ++ denominator) ++ end))
 opening_is head end first claim second denominator = simp append_assoc refl
 
--- behind a head
+-- after a head
 pub headed_is_text : (head : List ℕ) (line : Line) (claim : ℕ) (denominator : ℤ) → IsTextOf (head ++ 10 ∷ []) (line ∷ []) → claim < 2 ^ 32 → IsSize denominator
     → IsTextOf (opening_text (head ++ codes "\nclaim ") claim denominator) (line ∷ claim_line (decimal claim) ∷ denominator_line (signed_decimal denominator) ∷ [])
 headed_is_text head line claim denominator first small size =

@@ -1,4 +1,4 @@
--- What is read of evidence that is written, whatever stands around it.
+-- Evidence that is written is read back, whatever texts are before and after it.
 use Rattle.std.specs.Prelude.{◌≡◌, ◌<◌, ◌≤◌, ◌^◌, ⊤, ℕ, ℤ, pos, List, length, IsTrue}
 use Rattle.std.specs.List.{All, list_all}
 use Rattle.coef_int.specs.Range.{IsCoefficient}
@@ -61,7 +61,7 @@ pub record IsWritableLemma (ds : List Declaration) (l : Lemma) : Type 0 where
   pub scale : IsWritableInteger l.scale
   pub rows : All (IsWritableLemmaRow ds) l.rows
 
--- the rows and the letters of the lemmas and of the goal count together
+-- the rows and the letters of the lemmas and of the goal are counted together
 pub record IsWritableByLemmas (ds : List Declaration) (c : LemmaCertificate) : Type 0 where
   pub claim : c.claim < 2 ^ 32
   pub denominator : IsWritableInteger c.denominator
@@ -75,7 +75,7 @@ abbrev pub IsWritableEvidence : List Declaration → Evidence → Type 0
 IsWritableEvidence ds (evidence.Plain c) = IsWritable ds c
 IsWritableEvidence ds (evidence.Lemmas c) = IsWritableByLemmas ds c
 
--- it is of this format or of one before it
+-- it is of this format or of an earlier one
 abbrev pub IsOfFormat : Format → Evidence → Type 0
 IsOfFormat most (evidence.Plain c) = ⊤
 IsOfFormat format.Plain (evidence.Lemmas c) = ⊥
@@ -85,8 +85,8 @@ IsOfFormat format.Lemmas (evidence.Lemmas c) = ⊤
 abbrev pub IsGood : Format → List Declaration → Evidence → Type 0
 IsGood most ds e = IsOfFormat most e × IsWritableEvidence ds e
 
--- Evidence that is written between whole lines and other lines is read as it is, behind the certificates that those before it
--- have and before those that the others have.
+-- Evidence that is written between whole lines and other lines is read as it is, after the certificates of the lines
+-- before it and before those of the lines after it.
 abbrev pub IsReadBack : Type 0
 IsReadBack = (most : Format) (ds : List Declaration) → IsDeclared ds → IsTrue (list_all is_named ds)
     → IsReadBetween (HasCertificates most ds) (evidence_text ds) (IsGood most ds)

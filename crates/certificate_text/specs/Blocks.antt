@@ -1,4 +1,4 @@
--- The grammar of evidence text: blocks as trees of tokens, and the lines that they are.
+-- The grammar of evidence text: blocks as trees of tokens, and the lines of each.
 use Rattle.std.specs.Prelude.{◌≡◌, ⊤, ℕ, ◌+◌, ◌∷◌, ◌++◌, false, IsTrue, List, [], map, codes, if◌then◌else◌}
 use Rattle.std.specs.List.{All, flat_map}
 use Rattle.traced_rows.specs.declared.evidence.Format.{Format}
@@ -7,7 +7,7 @@ use Rattle.block_text.specs.Letters.{is_number}
 use Rattle.block_text.specs.Lines.{Line, claim_line}
 use Rattle.certificate_text.specs.Lines.{RowTokens, is_value, is_row}
 
--- scale S and the rows behind it
+-- scale S and the rows after it
 pub record ScaledTokens : Type 0 where
   pub scale : List ℕ
   pub rows : List RowTokens
@@ -65,17 +65,17 @@ abbrev pub certificate_lines : BlockTokens → List Line
 certificate_lines (plain b) = head_line Plain ∷ claim_line b.claim ∷ denominator_line b.denominator ∷ map row_line b.rows
 certificate_lines (lemmas b) = head_line Lemmas ∷ claim_line b.claim ∷ denominator_line b.denominator ∷ (flat_map lemma_lines b.lemmas ++ goal_lines b.goal)
 
--- numbers and letters stand at their places, and the row is over a generator
+-- numbers and letters are at their places, and the row is over a generator
 pub record IsPlainRow (r : RowTokens) : Type 0 where
   pub row : IsTrue (is_row r)
   pub generator : r.lemma ≡ false
 
--- a number behind scale, and rows over generators and lemmas
+-- a number after scale, and rows over generators and lemmas
 pub record IsScaled (s : ScaledTokens) : Type 0 where
   pub scale : IsTrue (is_number s.scale)
   pub rows : All (λ r. IsTrue (is_row r)) s.rows
 
--- each lemma has the number behind that of the lemma before it
+-- each lemma has the number after that of the lemma before it
 abbrev pub AreLemmas : ℕ → List LemmaTokens → Type 0
 AreLemmas number [] = ⊤
 AreLemmas number (l ∷ ls) = IsTrue (is_value number l.number) × IsScaled l.scaled × AreLemmas (number + 1) ls
@@ -93,7 +93,7 @@ pub record IsLemmasBlock (b : LemmasTokens) : Type 0 where
   pub lemmas : AreLemmas 1 b.lemmas
   pub goal : IsScaled b.goal
 
--- a block of a text in which certificates of this format and of the formats before it may stand
+-- a block of a text that may have certificates of this format and of the earlier ones
 abbrev pub IsBlock : Format → BlockTokens → Type 0
 IsBlock most (plain b) = IsPlainBlock b
 IsBlock Plain (lemmas b) = ⊥

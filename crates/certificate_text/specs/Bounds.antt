@@ -1,4 +1,4 @@
--- The bounds of evidence text, in the order in which they count, and the values of its blocks.
+-- The bounds of evidence text, in the order in which they are tested, and the values of its blocks.
 use Rattle.std.specs.Prelude.{◌≡◌, ◌≤◌, ℕ, ◌+◌, ℤ, ◌∷◌, ◌++◌, List, [], length, Some, Ok}
 use Rattle.std.specs.List.{All, AllZip, flat_map}
 use Rattle.quiver.specs.Declarations.{Declaration}
@@ -25,7 +25,7 @@ abbrev pub lemmas_in : BlockTokens → List LemmaTokens
 lemmas_in (plain b) = []
 lemmas_in (lemmas b) = b.lemmas
 
--- how many letters stand in the rows
+-- how many letters the rows have
 abbrev pub letters_in : List RowTokens → ℕ
 letters_in [] = 0
 letters_in (r ∷ rows) = length r.left + length r.right + letters_in rows
@@ -72,11 +72,11 @@ pub data Bound : Type 0 where
   rows : Bound
   letters : Bound
 
--- they count in this order
+-- they are tested in this order
 abbrev pub bounds : List Bound
 bounds = names ∷ numbers ∷ words ∷ rows ∷ letters ∷ []
 
--- what a line is told for that passes the bound
+-- the flaw of a line that exceeds the bound
 abbrev pub flaw_of : Bound → Flaw
 flaw_of names = UnknownName
 flaw_of numbers = NumberTooLarge
@@ -106,7 +106,7 @@ HasNumbersOutside (lemmas b) =
     IsWithin number_limit b.claim × IsWithin integer_limit b.denominator × All (λ l. IsWithin integer_limit l.scaled.scale) b.lemmas
     × IsWithin integer_limit b.goal.scale
 
--- the block keeps the bound
+-- the block is within the bound
 abbrev pub KeepsOne : List Declaration → Bound → BlockTokens → Type 0
 KeepsOne ds names b = All (HasNames ds) (rows_in b)
 KeepsOne ds numbers b = HasNumbersOutside b × All HasNumbers (rows_in b)

@@ -1,4 +1,4 @@
--- Evidence text: the certificates that bytes are, or the first thing that is wrong with them.
+-- Evidence text: the certificates of bytes, or their first fault.
 use Rattle.std.specs.Prelude.{◌≤◌, ℕ, ◌+◌, List, [], ◌∷◌, length, codes}
 use Rattle.std.specs.List.{All, flat_map}
 use Rattle.coef_int.specs.Range.{IsCoefficient}
@@ -24,7 +24,7 @@ use Rattle.cofactor_trace.specs.Limits.{row_limit}
 abbrev pub other_words : List (List ℕ)
 other_words = codes "model" ∷ codes "basis" ∷ []
 
--- Certificates of this format and of those before it are a kind of block.
+-- Certificates of this format and of the earlier ones are a kind of block.
 abbrev pub certificate_kind : Format → List Declaration → Kind Evidence
 certificate_kind most ds = kind_of certificate_lines (IsBlock most) other_words bounds flaw_of (KeepsOne ds) (IsCertificateOf ds)
 
@@ -32,11 +32,11 @@ certificate_kind most ds = kind_of certificate_lines (IsBlock most) other_words 
 abbrev pub HasCertificates : Format → List Declaration → List ℕ → List Evidence → Type 0
 HasCertificates most ds = HasBlocks (certificate_kind most ds)
 
--- There is one at least.
+-- There is at least one.
 abbrev pub IsEvidence : Format → List Declaration → List ℕ → List Evidence → Type 0
 IsEvidence most ds = IsBlocks (certificate_kind most ds)
 
--- the first thing that is wrong with the bytes
+-- the first fault of the bytes
 abbrev pub IsFirstFault : Format → List Declaration → List ℕ → Fault → Type 0
 IsFirstFault most ds = texts.IsFirstFault (certificate_kind most ds)
 

@@ -31,7 +31,7 @@ is_lemmas_head = is_pair (codes "certificate") (codes "2")
 abbrev pub denominator_of : List (List ℕ) → Result ℤ Flaw
 denominator_of line = asked BadLine (number_behind (codes "denominator") line) >>= integer_of
 
--- the number behind `scale`
+-- the number after `scale`
 abbrev pub scale_digits : List (List ℕ) → Option (List ℕ)
 scale_digits = number_behind (codes "scale")
 
@@ -39,20 +39,20 @@ scale_digits = number_behind (codes "scale")
 abbrev pub is_value : ℕ → List ℕ → Bool
 is_value n token = is_number token && (digits_value 10 token == n)
 
--- what stands behind the scale of the lemma with this number
+-- the tokens after the scale of the lemma with this number
 abbrev pub lemma_digits : ℕ → List (List ℕ) → Option (List ℕ)
 lemma_digits number [] = None
 lemma_digits number (word ∷ []) = None
 lemma_digits number (word ∷ k ∷ tokens) = if is (codes "lemma") word && is_value number k then scale_digits tokens else None
 
--- the scale of the lemma behind so many others; there are at most as many as rows
+-- the scale of the lemma after so many others; there are at most as many as rows
 abbrev pub lemma_scale_of : ℕ → List (List ℕ) → Result ℤ Flaw
 lemma_scale_of before line =
     asked BadLine (lemma_digits (before + 1) line) >>= λ digits.
     (integer_of digits >>= λ scale.
     if nat_le row_limit before then Err (TooMany row_limit) else Ok scale)
 
--- what stands behind `goal`
+-- the tokens after `goal`
 abbrev pub goal_digits : List (List ℕ) → Option (List ℕ)
 goal_digits [] = None
 goal_digits (word ∷ tokens) = if is (codes "goal") word then scale_digits tokens else None
@@ -61,16 +61,16 @@ goal_digits (word ∷ tokens) = if is (codes "goal") word then scale_digits toke
 abbrev pub goal_scale_of : List (List ℕ) → Result ℤ Flaw
 goal_scale_of line = asked BadLine (goal_digits line) >>= integer_of
 
--- the tokens of C, of the letters in front, of the number of the generator or lemma, and of the letters behind it
+-- the tokens of C, of the letters before the number, of the number of the generator or lemma, and of the letters after it
 pub record RowTokens : Type 0 where
   pub coefficient : List ℕ
   pub left : List (List ℕ)
-  -- whether `lemma` stands in front of the number
+  -- whether `lemma` is before the number
   pub lemma : Bool
   pub number : List ℕ
   pub right : List (List ℕ)
 
--- nothing stands behind the second bracket
+-- there is nothing after the second bracket
 abbrev pub row_end : List ℕ → List (List ℕ) → Bool → List ℕ → List (List ℕ) → List (List ℕ) → Option RowTokens
 row_end coefficient left lemma number right [] = Some (record { coefficient = coefficient; left = left; lemma = lemma; number = number; right = right })
 row_end coefficient left lemma number right (token ∷ tokens) = None
@@ -93,11 +93,11 @@ row_parts (word ∷ []) = None
 row_parts (word ∷ coefficient ∷ tokens) = if is (codes "row") word then option_and_then (λ left. origin_part coefficient left.0 left.1)
     (bracketed tokens) else None
 
--- numbers stand at the places of numbers, and letters in the brackets
+-- numbers are at the places of numbers, and letters in the brackets
 abbrev pub is_row : RowTokens → Bool
 is_row r = is_integer r.coefficient && (list_all is_letter r.left && (is_number r.number && list_all is_letter r.right))
 
--- the tokens of a row; rows over lemmas are in certificates of format 2 alone
+-- the tokens of a row; only certificates of format 2 have rows over lemmas
 abbrev pub row_tokens : Format → List (List ℕ) → Option RowTokens
 row_tokens Plain line = option_and_then (λ r. if not r.lemma && is_row r then Some r else None) (row_parts line)
 row_tokens Lemmas line = option_and_then (λ r. if is_row r then Some r else None) (row_parts line)
@@ -111,16 +111,16 @@ row_values ds r =
     (asked NumberTooLarge (number_within number_limit r.number) >>= λ number.
     Ok (record { coef = coefficient; left = left; generator = number; right = right }))))
 
--- the grammar comes first
+-- the grammar is tested first
 abbrev pub row_of : List Declaration → List (List ℕ) → Result CertRow Flaw
 row_of ds line = asked BadLine (row_tokens Plain line) >>= row_values ds
 
--- what the row is over
+-- a lemma or a generator with this number
 abbrev pub from : Bool → ℕ → CertFrom
 from true n = over.Lemma n
 from false n = over.Generator n
 
--- the same with a lemma in the generator's place
+-- the same over a lemma or a generator with the number
 abbrev pub over_lemma : Bool → CertRow → LemmaRow
 over_lemma lemma row = record { coef = row.coef; left = row.left; from = from lemma row.generator; right = row.right }
 
@@ -132,7 +132,7 @@ lemma_row_of ds line = asked BadLine (row_tokens Lemmas line) >>= λ r. (row_val
 abbrev pub no_rows : Size
 no_rows = record { rows = 0; letters = 0 }
 
--- with one row more, of these words, within the limits
+-- with one more row, of these words, within the limits
 abbrev pub grown : Size → List ℕ → List ℕ → Result Size Flaw
 grown size left right =
     if nat_lt word_limit (length left) || nat_lt word_limit (length right) then Err (TooMany word_limit)

@@ -1,4 +1,4 @@
--- What a reader makes of the lines of a certificate. Only the reader's functions and proofs use it: what an evidence text is, Evidence says.
+-- What a reader makes of the lines of a certificate. Only the reader's functions and proofs use it; evidence texts are defined in Evidence.
 use Rattle.std.specs.Prelude.{⊤, ℕ, List, [], ◌∷◌, ◌++◌, length, ℤ, Option, Some, None, Result, Ok, if◌then◌else◌, codes}
 use Rattle.quiver.specs.Declarations.{Declaration}
 use Rattle.traced_rows.specs.declared.certificate.CertRow.{CertRow}
@@ -41,12 +41,12 @@ certificate_of claim denominator rows = record { claim = claim; denominator = de
 abbrev pub opened_of : ℕ → ℤ → List Lemma → Size → Opened
 opened_of claim denominator lemmas size = record { claim = claim; denominator = denominator; lemmas = lemmas; size = size }
 
--- behind the denominator
+-- after the denominator
 abbrev pub begun : Format → ℕ → ℤ → Stage
 begun Plain claim denominator = at.Rows (certificate_of claim denominator []) no_rows
 begun Lemmas claim denominator = at.Opened (opened_of claim denominator [] no_rows)
 
--- a row more
+-- one more row
 abbrev pub in_rows : List Declaration → Certificate → Size → Line → Result Stage Flaw
 in_rows ds c size line =
     row_of ds line >>= λ row. (grown size row.left row.right >>= λ size. Ok (at.Rows (certificate_of c.claim c.denominator (c.rows ++ row ∷ [])) size))
@@ -68,7 +68,7 @@ scaled o line =
     if begins (codes "goal") line then (goal_scale_of line >>= λ scale. Ok (at.Goal o (lemma_of scale [])))
     else lemma_scale_of (length o.lemmas) line >>= λ scale. Ok (at.Lemma o (lemma_of scale []))
 
--- a row more of a lemma or of the goal, in a block of this size
+-- one more row of a lemma or of the goal, in a block of this size
 abbrev pub lemma_row : List Declaration → Size → Lemma → Line → Result (Size × Lemma) Flaw
 lemma_row ds size l line =
     lemma_row_of ds line >>= λ row. (grown size row.left row.right >>= λ larger.

@@ -1,4 +1,4 @@
--- How evidence of both formats are written.
+-- How evidence of both formats is written.
 use Rattle.std.specs.Prelude.{ℕ, suc, List, [], ◌∷◌, ◌++◌, decimal, ℤ, codes}
 use Rattle.std.specs.Fmt.{signed_decimal}
 use Rattle.std.specs.List.{All, flat_map}
@@ -28,7 +28,7 @@ abbrev pub certificate_text : List Declaration → Certificate → List ℕ
 certificate_text ds c =
     opening_text (codes "certificate 1\nclaim ") c.claim c.denominator ++ flat_map (row_text ds) c.rows ++ codes "end\n"
 
--- a generator by its number, a lemma with the word in front
+-- a generator by its number, a lemma with the word before it
 abbrev pub origin_text : CertFrom → List ℕ
 origin_text (over.Generator n) = decimal n
 origin_text (over.Lemma n) = codes "lemma " ++ decimal n
@@ -46,7 +46,7 @@ scaled_text ds l = codes " scale " ++ signed_decimal l.scale ++ codes "\n" ++ fl
 abbrev pub lemma_text : List Declaration → ℕ → Lemma → List ℕ
 lemma_text ds number l = codes "lemma " ++ decimal number ++ scaled_text ds l
 
--- what has this number, and what has the next ones, where this is the text of each
+-- the text of the first, with this number, and of the later ones, with the next numbers
 abbrev pub numbered_texts : {X : Type 0} → (ℕ → X → List ℕ) → ℕ → List X → List ℕ
 numbered_texts text_of number [] = []
 numbered_texts text_of number (x ∷ xs) = text_of number x ++ numbered_texts text_of (suc number) xs

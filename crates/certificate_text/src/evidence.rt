@@ -54,7 +54,7 @@ fn put_scaled(out: &mut Vec<u8>, quiver: &Quiver, lemma: &Lemma) -> Result<(), A
     put_lemma_rows(out, quiver, lemma.rows.as_slice())
 }
 
-/// The lemma with this number behind bytes, and a line for each of its rows. Only memory can be short.
+/// Appends the lemma with this number and a line for each of its rows. It fails only where memory is short.
 pub fn put_lemma(
     out: &mut Vec<u8>,
     quiver: &Quiver,
@@ -81,7 +81,7 @@ fn put_lemmas(out: &mut Vec<u8>, quiver: &Quiver, lemmas: &[Lemma]) -> Result<()
     Ok(())
 }
 
-/// A goal and a line for each of its rows behind bytes, and the end of the block. Only memory can be short.
+/// Appends a goal, a line for each of its rows, and the end of the block. It fails only where memory is short.
 pub fn put_goal(out: &mut Vec<u8>, quiver: &Quiver, goal: &Lemma) -> Result<(), AllocError>
     requires { IsLemmaOver quiver.now goal.now }
     ensures { OnOk result (out.new.items ≡ out.old.items ++ goal_text quiver.now goal.now) }
@@ -110,7 +110,7 @@ fn put_lemma_certificate(
     put_goal(out, quiver, &certificate.goal)
 }
 
-/// Evidence of either format behind bytes, as a block of evidence text with a line for each row, each lemma and the goal.
+/// Appends evidence of either format, as a block of evidence text with a line for each row, each lemma and the goal.
 pub fn put_evidence(
     out: &mut Vec<u8>,
     quiver: &Quiver,

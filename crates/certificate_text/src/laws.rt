@@ -11,12 +11,12 @@ pub fn each_text_is_read()
     ensures { (most : Format) (ds : List Declaration) → EachIsRead (IsEvidence most ds) (IsFirstFault most ds) }
 {}
 
-/// A text is evidence of one list of certificates.
+/// A text is evidence of at most one list of certificates.
 pub fn evidence_is_unique()
     ensures { (most : Format) (ds : List Declaration) → ValuesAreUnique (IsEvidence most ds) (IsFirstFault most ds) }
 {}
 
-/// A text has one first fault.
+/// A text has at most one first fault.
 pub fn first_fault_is_unique()
     ensures { (most : Format) (ds : List Declaration) → FaultIsUnique (IsEvidence most ds) (IsFirstFault most ds) }
 {}
@@ -26,13 +26,13 @@ pub fn evidence_has_no_fault()
     ensures { (most : Format) (ds : List Declaration) → ValuesHaveNoFault (IsEvidence most ds) (IsFirstFault most ds) }
 {}
 
-/// The law that evidence that is written is read as it is, in either format, whatever whole lines stand before it and whatever
+/// Evidence that is written is read as it is, in either format, whatever whole lines are before it and whatever
 /// follows. It has nothing to run.
 pub fn certificates_are_read_back()
     ensures { IsReadBack }
 {}
 
-/// The law that the certificates of a text of written certificates, comments and blocks of other kinds are those certificates,
+/// The certificates of a text of written certificates, comments and blocks of other kinds are those certificates,
 /// in their order. It has nothing to run.
 pub fn parts_are_read_back()
     ensures { ArePartsReadBack }

@@ -1,4 +1,4 @@
-//! The lines of certificates of both formats but for rows.
+//! The lines of certificates of both formats except rows.
 
 ghost use Rattle.std.specs.Prelude.{◌≡◌, ◌<◌, ◌^◌, IsTrue, IfSome};
 ghost use Rattle.std.specs.Option.{option_copied};
@@ -59,7 +59,7 @@ pub fn is_value(number: u128, token: &[u8]) -> bool
     }
 }
 
-// What stands behind the scale of the lemma with this number.
+// The token after the scale of the lemma with this number.
 fn lemma_digits<'a>(number: u128, line: &'a [u8]) -> Option<&'a [u8]>
     requires { number < 2 ^ 127 }
     ensures exact { option_copied result ≡ lemma_digits number (tokens_of line.now) }
@@ -74,7 +74,7 @@ fn lemma_digits<'a>(number: u128, line: &'a [u8]) -> Option<&'a [u8]>
     }
 }
 
-/// The scale of the lemma behind so many others. There are at most as many lemmas as rows.
+/// The scale of the lemma after so many others. There are at most as many lemmas as rows.
 pub fn lemma_scale_of(before: usize, line: &[u8]) -> Result<i128, Flaw>
     ensures { result ≡ lemma_scale_of before (tokens_of line.now) }
 {
@@ -88,7 +88,7 @@ pub fn lemma_scale_of(before: usize, line: &[u8]) -> Result<i128, Flaw>
     Ok(scale)
 }
 
-// What stands behind `goal scale`.
+// The token after `goal scale`.
 fn goal_digits<'a>(line: &'a [u8]) -> Option<&'a [u8]>
     ensures exact { option_copied result ≡ goal_digits (tokens_of line.now) }
     ensures number { IfSome result (λ digits. IsTrue (is_number digits.now)) }

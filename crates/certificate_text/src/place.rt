@@ -6,7 +6,7 @@ ghost use Rattle.certificate_text.specs.Reading.{lemma_certificate_of};
 use cofactor_trace::{Certificate, Format, Lemma, LemmaCertificate};
 use lists::Listing;
 
-/// How many rows a block has so far, and how many letters stand in them.
+/// How many rows a block has so far, and how many letters they have.
 #[derive(Clone, Copy)]
 pub struct Size {
     pub rows: u32,
@@ -19,7 +19,7 @@ pub const NO_ROWS: Size = Size {
     letters: 0,
 };
 
-/// What was read of a certificate with lemmas whose rows go on.
+/// What was read of a certificate with lemmas, before its goal.
 #[derive(Drop)]
 pub struct Opened {
     pub claim: u32,
@@ -44,14 +44,14 @@ impl Opened {
     }
 }
 
-/// How far a certificate was read whose lines go on.
+/// How far an open certificate was read.
 #[derive(Drop)]
 pub enum Stage {
-    /// Behind its head.
+    /// After its head.
     Headed {
         form: Format,
     },
-    /// Behind its claim.
+    /// After its claim.
     Claimed {
         form: Format,
         claim: u32,
@@ -61,7 +61,7 @@ pub enum Stage {
         certificate: Certificate,
         size: Size,
     },
-    /// Behind the denominator of a certificate with lemmas.
+    /// After the denominator of a certificate with lemmas.
     Opened {
         opened: Opened,
     },

@@ -33,11 +33,11 @@ fn plain_certificates(
     Ok(certificates)
 }
 
-/// The certificates of both formats of the text, over the letters of the quiver, or the first thing that is wrong with it.
-/// Blocks of other kinds are skipped. Want of memory is told where there is no room, whatever the text is.
+/// The certificates of both formats of the text, over the letters of the quiver, or its first fault.
+/// Blocks of other kinds are skipped. Any text can fail for want of memory.
 pub fn read_evidence(alloc: Global, bytes: &[u8], quiver: &Quiver) -> ReadText<Evidence>
     requires { length bytes.now < 4294967295 }
-    // They are those that the bytes are, or what is told is the first thing that is wrong with the bytes.
+    // They are those of the bytes, or the fault is the first one of the bytes.
     ensures exact { MatchResult result (IsEvidence Format.Lemmas quiver.now bytes.now) (ExplainsBy (IsFirstFault Format.Lemmas quiver.now bytes.now)) }
     // Each can be checked.
     ensures checkable { IfOk result (All (IsCheckableEvidence quiver.now)) }
@@ -46,12 +46,12 @@ pub fn read_evidence(alloc: Global, bytes: &[u8], quiver: &Quiver) -> ReadText<E
     read_blocks(alloc, &Certificates { most, quiver }, bytes)
 }
 
-/// The certificates of format 1 of the text, over the letters of the quiver, or the first thing that is wrong with it: a block
-/// of format 2 fits no grammar at its first line. Blocks of other kinds are skipped. Want of memory is told where there is no
-/// room, whatever the text is.
+/// The certificates of format 1 of the text, over the letters of the quiver, or its first fault: a block
+/// of format 2 fits no grammar at its first line. Blocks of other kinds are skipped. Any text can fail for
+/// want of memory.
 pub fn read_certificates(alloc: Global, bytes: &[u8], quiver: &Quiver) -> ReadText<Certificate>
     requires { length bytes.now < 4294967295 }
-    // They are those that the bytes are, or what is told is the first thing that is wrong with the bytes.
+    // They are those of the bytes, or the fault is the first one of the bytes.
     ensures exact { MatchResult result (λ cs. IsEvidence Format.Plain quiver.now bytes.now (map Evidence.Plain cs))
         (ExplainsBy (IsFirstFault Format.Plain quiver.now bytes.now)) }
     // Each can be checked.

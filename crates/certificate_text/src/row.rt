@@ -22,18 +22,18 @@ use quiver::Quiver;
 use std::alloc::Global;
 use word_core::Word;
 
-/// The tokens of C and of the number of the generator or lemma, and the letters in the brackets in front of it and behind it.
+/// The tokens of C and of the number of the generator or lemma, and the letters in the brackets before and after it.
 #[derive(Drop)]
 struct RowTokens<'a> {
     coefficient: &'a [u8],
     left: &'a [u8],
-    /// Whether `lemma` stands in front of the number.
+    /// Whether `lemma` is before the number.
     lemma: bool,
     number: &'a [u8],
     right: &'a [u8],
 }
 
-// `N ( .. )` at the end of a row, behind `lemma` or not.
+// `N ( .. )` at the end of a row, after `lemma` or not.
 fn number_part<'a>(
     coefficient: &'a [u8],
     left: &'a [u8],
@@ -78,7 +78,7 @@ fn row_parts(line: &[u8]) -> Option<RowTokens<'_>>
     origin_part(coefficient, left, behind)
 }
 
-// The word in brackets, before more letters of the row. Only from an unknown name on, letters are looked at again.
+// The word in brackets, before more letters of the row. Letters are looked at again only from an unknown name on.
 fn word_of(alloc: Global, quiver: &Quiver, letters: &[u8], later: &[u8]) -> Result<Word, LineFault>
     ensures exact { let tokens = tokens_of letters.now in
         let spelled = list_all is_letter tokens && list_all is_letter (tokens_of later.now) in
@@ -102,7 +102,7 @@ fn word_of(alloc: Global, quiver: &Quiver, letters: &[u8], later: &[u8]) -> Resu
     Ok(word)
 }
 
-// The row of these tokens, by the number of the generator or lemma. The grammar comes first.
+// The row of these tokens, by the number of the generator or lemma. The grammar is tested first.
 fn row_at(alloc: Global, quiver: &Quiver, tokens: &RowTokens<'_>) -> Result<CertRow, LineFault>
     ensures { let parts = parts_of tokens.now in
         Reads (λ row. row) result (if is_row parts then row_values quiver.now parts else Err flaw.BadLine) }
@@ -126,7 +126,7 @@ fn row_at(alloc: Global, quiver: &Quiver, tokens: &RowTokens<'_>) -> Result<Cert
     })
 }
 
-/// The row that the line is, in a certificate of format 1.
+/// The row of the line, in a certificate of format 1.
 pub fn row_of(alloc: Global, quiver: &Quiver, line: &[u8]) -> Result<CertRow, LineFault>
     ensures { Reads (λ row. row) result (row_of quiver.now (tokens_of line.now)) }
 {
@@ -153,7 +153,7 @@ fn over_lemma(lemma: bool, row: CertRow) -> LemmaRow
     }
 }
 
-/// The row that the line is, in a certificate of format 2.
+/// The row of the line, in a certificate of format 2.
 pub fn lemma_row_of(alloc: Global, quiver: &Quiver, line: &[u8]) -> Result<LemmaRow, LineFault>
     ensures { Reads (λ row. row) result (lemma_row_of quiver.now (tokens_of line.now)) }
 {

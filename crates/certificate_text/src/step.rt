@@ -15,7 +15,7 @@ use lists::Listing;
 use quiver::Quiver;
 use std::alloc::{AllocError, Global};
 
-/// Certificates of this format and of those before it, over the letters of a quiver.
+/// Certificates of this format and of the earlier ones, over the letters of a quiver.
 #[derive(Clone, Copy)]
 pub struct Certificates<'q> {
     pub most: Format,
@@ -34,7 +34,7 @@ fn lemmas_headed(most: Format) -> Option<Stage>
     }
 }
 
-// What stands behind the denominator.
+// The stage after the denominator.
 fn begun(alloc: Global, form: Format, claim: u32, denominator: i128) -> Stage
     ensures { result ≡ begun form claim denominator }
 {
@@ -58,7 +58,7 @@ fn begun(alloc: Global, form: Format, claim: u32, denominator: i128) -> Stage
     }
 }
 
-// The denominator behind the claim.
+// The denominator after the claim.
 fn divided(alloc: Global, form: Format, claim: u32, line: &[u8]) -> Result<Stage, Flaw>
     ensures { result ≡ next [] (stage.Claimed form claim) (tokens_of line.now) }
 {
@@ -66,7 +66,7 @@ fn divided(alloc: Global, form: Format, claim: u32, line: &[u8]) -> Result<Stage
     Ok(begun(alloc, form, claim, denominator))
 }
 
-// A row more of a certificate without lemmas, and the size with it.
+// One more row of a certificate without lemmas, with the size.
 fn push_row(
     alloc: Global,
     quiver: &Quiver,
@@ -120,8 +120,8 @@ fn scaled(alloc: Global, opened: Opened, line: &[u8]) -> Result<Stage, Flaw>
     })
 }
 
-/// A row more of a lemma or of the goal, and the size of the block with it. Of a line that doesn't fit, or that passes a bound,
-/// the first thing that is wrong is told.
+/// One more row of a lemma or of the goal, with the size of the block. For a line that doesn't fit, or that exceeds a bound,
+/// the first flaw is returned.
 pub fn push_lemma_row(
     alloc: Global,
     quiver: &Quiver,

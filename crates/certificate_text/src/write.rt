@@ -15,7 +15,7 @@ use quiver::Quiver;
 use std::alloc::{AllocError, Global};
 use word_core::Word;
 
-// The first half of a row, its coefficient and the word in front.
+// Appends the first half of a row, its coefficient and the word before the generator.
 pub(crate) fn put_row_front(
     out: &mut Vec<u8>,
     quiver: &Quiver,
@@ -32,7 +32,7 @@ pub(crate) fn put_row_front(
     put(out, ") ")
 }
 
-// The end of a row, the word behind.
+// Appends the end of a row, the word after the generator.
 pub(crate) fn put_row_end(
     out: &mut Vec<u8>,
     quiver: &Quiver,
@@ -65,8 +65,8 @@ fn put_rows(out: &mut Vec<u8>, quiver: &Quiver, rows: &[CertRow]) -> Result<(), 
     Ok(())
 }
 
-/// The first lines of a block behind bytes: a head, which ends with `claim`, the number of the claim, and the denominator. Only
-/// memory can be short.
+/// Appends the first lines of a block: a head, which ends with `claim`, the number of the claim, and the denominator. It fails
+/// only where memory is short.
 pub fn put_opening(
     out: &mut Vec<u8>,
     head: &str,
@@ -82,7 +82,7 @@ pub fn put_opening(
     put(out, "\n")
 }
 
-/// A certificate behind bytes, as a block of evidence text with a line for each row.
+/// Appends a certificate, as a block of evidence text with a line for each row.
 pub fn put_certificate(
     out: &mut Vec<u8>,
     quiver: &Quiver,
@@ -101,7 +101,7 @@ pub fn put_certificate(
     put(out, "end\n")
 }
 
-/// A certificate as a block of evidence text, a line for each row.
+/// A certificate as a block of evidence text, with a line for each row.
 pub fn write_certificate(
     alloc: Global,
     quiver: &Quiver,

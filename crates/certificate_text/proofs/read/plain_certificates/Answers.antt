@@ -6,7 +6,7 @@ use Rattle.traced_rows.specs.declared.evidence.Evidence.TheVariants as block
 use Rattle.certificate_text.specs.Reading.{IsPlain}
 use Rattle.certificate_text.proofs.read.plain_certificates.Goals as goal
 
--- one certificate more is taken
+-- one more certificate is taken
 pub loop-block-preserved : goal.loop-block-preserved
 loop-block-preserved c =
     let at = c.loop-block in

@@ -5,7 +5,7 @@ use Rattle.block_text.specs.Tokens.{tokens_of}
 use Rattle.block_text.proofs.Fronts.{behind}
 use Rattle.certificate_text.proofs.row.word_of.Given as goal
 
--- the letters so far, in front of those that are left
+-- the letters so far, before those that are left
 abbrev pub invariant-loop-token : goal.invariant-loop-token
 invariant-loop-token l = record {
   word : behind l.word (word_of l.quiver (tokens_of l.rest)) ≡ word_of l.quiver (tokens_of l.letters);
