@@ -27,7 +27,7 @@ pub others_stay : {X : Type 0} (xs olds : List X) (i : ℕ) (d y : X) → i < le
 others_stay xs olds i d y below long same =
     drop-set-lt (i + 1) xs i y (omega arith) ∙ same_tails (get_or xs i d) (get_or olds i d) (drop (i + 1) xs) (drop (i + 1) olds) (cons_drop xs olds i d below long same)
 
--- one item more has taken the step
+-- one more item has taken the step
 pub one_more : {X : Type 0} (R : X → X → Type 0) (xs olds : List X) (i : ℕ) (old new : X) → i < length xs → length xs ≡ length olds → drop i xs ≡ drop i olds
     → AllZip R (take i olds) (take i xs) → get_or olds i old ≡ old → R old new → AllZip R (take (i + 1) olds) (take (i + 1) (set xs i new))
 one_more R xs olds i old new below long same before is step =

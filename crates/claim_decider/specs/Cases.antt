@@ -1,4 +1,4 @@
--- Claims on their way to their outcomes.
+-- Claims before they have their outcomes, and after.
 use Rattle.std.specs.Prelude.{◌≡◌, ◌-◌, ◌<◌, ◌≤◌, ℕ, List, map, length, ⊤}
 use Rattle.definitions.specs.Poly.{Term}
 use Rattle.nc_polynomial.specs.declared.poly.Poly.{Poly}
@@ -26,18 +26,18 @@ pub record IsNumber (problem : Problem) (number : ℕ) : Type 0 where
 abbrev pub IsOfProblem : Problem → Case → Type 0
 IsOfProblem problem case = IsNumber problem case.number
 
--- after a round that was made whole there is one
+-- after a completed round there is one
 abbrev pub HasRounds : Step → ℕ → Type 0
 HasRounds step.Went rounds = 0 < rounds
 HasRounds step.Closed rounds = ⊤
 HasRounds (step.Stopped halt) rounds = ⊤
 
--- After a whole round something is left of the claim by the rules, or it has its outcome.
+-- After a completed round the claim has a rest by the rules, or its outcome.
 abbrev pub IsJudged : Setting → Format → ℕ → List Term → ℕ → RunState → Standing → Type 0
 IsJudged setting form number claim round s (Open rest) = IsLeft setting s.rules claim rest.terms
 IsJudged setting form number claim round s (Settled o) = IsDone setting form number round s claim o
 
--- An open claim, of which this is left, is judged after a whole round, closed where the run is, and halted where it stops.
+-- An open claim with this rest is judged after a completed round, closed where the run is, and halted where it stops.
 abbrev pub OpenFollows : Setting → Format → ℕ → List Term → ℕ → RunState → Poly → Step → Standing → Type 0
 OpenFollows setting form number claim round s rest step.Went new = IsJudged setting form number claim round s new
 OpenFollows setting form number claim round s rest step.Closed new = new ≡ Settled (outcome.Closed rest)
@@ -54,14 +54,14 @@ pub record Follows (form : Format) (problem : Problem) (c : Completion) (st : St
   pub standing : StandingFollows (setting_of problem c.budget) form old.number (claim_at problem old.number) (c.rounds - 1)
       (state_of c) st old.standing new.standing
 
--- the claim has got its outcome
+-- the claim has its outcome now
 pub record HasGot (setting : Setting) (form : Format) (number : ℕ) (claim : List Term) (most : ℕ) (o : Outcome) : Type 0 where
   pub rounds : ℕ
   pub state : RunState
   pub gets : GetsOutcome setting form number claim rounds state o
   pub early : rounds ≤ most
 
--- the claim is open, and this is left of it
+-- the claim is open, with this rest
 pub record IsOpenWith (setting : Setting) (claim : List Term) (rounds : ℕ) (s : RunState) (rest : List Term) : Type 0 where
   pub open_yet : IsOpen setting claim rounds s
   pub left : IsLeft setting s.rules claim rest

@@ -1,4 +1,4 @@
--- The outcomes of several claims, and the rules that are given with them.
+-- The outcomes of several claims, and the rules that are returned with them.
 use Rattle.std.specs.Prelude.{◌≡◌, ◌≤◌, ◌⊎◌, ℕ, List, map, Contains}
 use Rattle.std.specs.List.{All, AllZip}
 use Rattle.nc_polynomial.specs.declared.poly.Poly.{Poly}
@@ -14,7 +14,7 @@ use Rattle.claim_decider.specs.Outcomes.{GetsOutcome, IsOutcomeOf}
 abbrev pub AreOutcomesOf : Setting → Format → Problem → List ℕ → List Outcome → Type 0
 AreOutcomesOf setting form problem numbers outcomes = AllZip (λ n o. IsOutcomeOf setting form n (claim_at problem n) o) numbers outcomes
 
--- The claim gets its outcome when so many rounds were made whole.
+-- The claim gets its outcome after this many completed rounds.
 pub record GetsOutcomeAt (setting : Setting) (form : Format) (problem : Problem) (rounds : ℕ) (number : ℕ) : Type 0 where
   pub state : RunState
   pub outcome : Outcome
@@ -26,13 +26,13 @@ pub record GetsOutcomeBy (setting : Setting) (form : Format) (problem : Problem)
   pub gets : GetsOutcomeAt setting form problem rounds number
   pub early : rounds ≤ most
 
--- one of the claims gets its outcome when so many rounds were made whole
+-- one of the claims gets its outcome after this many completed rounds
 pub record OneGetsOutcomeAt (setting : Setting) (form : Format) (problem : Problem) (numbers : List ℕ) (rounds : ℕ) : Type 0 where
   pub number : ℕ
   pub among : Contains numbers number
   pub gets : GetsOutcomeAt setting form problem rounds number
 
--- The last of the claims gets its outcome when so many rounds were made whole; no claims need none.
+-- The last of the claims gets its outcome after this many completed rounds; no claims need none.
 pub record IsLastRound (setting : Setting) (form : Format) (problem : Problem) (numbers : List ℕ) (rounds : ℕ) : Type 0 where
   pub enough : All (GetsOutcomeBy setting form problem rounds) numbers
   pub needed : (rounds ≡ 0) ⊎ OneGetsOutcomeAt setting form problem numbers rounds
@@ -40,7 +40,7 @@ pub record IsLastRound (setting : Setting) (form : Format) (problem : Problem) (
 abbrev pub polynomials_in : List Rule → List Poly
 polynomials_in rules = map (λ g. g.poly) rules
 
--- The polynomials are the rules of the last whole round that was made before the last of the claims had its outcome, and
+-- The polynomials are the rules of the last round that was completed before the last of the claims had its outcome, and
 -- none where there was none.
 pub record AreLastRules (setting : Setting) (form : Format) (problem : Problem) (numbers : List ℕ) (polys : List Poly) : Type 0 where
   pub rounds : ℕ

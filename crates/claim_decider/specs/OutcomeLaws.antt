@@ -1,4 +1,4 @@
--- That a claim has one outcome.
+-- The law that a claim has one outcome.
 use Rattle.std.specs.Prelude.{◌≡◌, ℕ, List}
 use Rattle.definitions.specs.Poly.{Term}
 use Rattle.nc_polynomial.specs.declared.poly.Poly.{Poly}
@@ -15,7 +15,7 @@ abbrev pub OutcomesAreUnique : Type 0
 OutcomesAreUnique = (letters : ℕ) (rank : List ℕ → List ℕ) (setting : Setting) (form : Format) (number : ℕ) (claim : List Term) (one other : Outcome)
     → IsAdmissible letters setting.compare rank → IsOutcomeOf setting form number claim one → IsOutcomeOf setting form number claim other → one ≡ other
 
--- And claims have one list of last rules.
+-- Claims have one list of last rules.
 abbrev pub LastRulesAreUnique : Type 0
 LastRulesAreUnique = (letters : ℕ) (rank : List ℕ → List ℕ) (setting : Setting) (form : Format) (problem : Problem) (numbers : List ℕ) (one other : List Poly)
     → IsAdmissible letters setting.compare rank → AreLastRules setting form problem numbers one → AreLastRules setting form problem numbers other → one ≡ other

@@ -1,4 +1,4 @@
--- What becomes of a claim in a run.
+-- The outcome of a claim in a run.
 use Rattle.std.specs.Prelude.{◌≡◌, ◌<◌, ℕ, zero, suc, pos, List, [], ◌∷◌, length, true, None, Result, Ok, Err}
 use Rattle.definitions.specs.Poly.{Term}
 use Rattle.nc_polynomial.specs.declared.poly.Poly.{Poly}
@@ -28,7 +28,7 @@ use Rattle.traced_completion.specs.PlainRun.{Setting, RunState, start, went, clo
 use Rattle.claim_decider.specs.declared.outcome.Outcome.{Outcome}
 use Rattle.claim_decider.specs.declared.outcome.Outcome.TheVariants as outcome
 
--- the cause of a fault of expansion; want of memory is none
+-- the cause of a fault of expansion; want of memory has none
 abbrev pub IsCauseOfExpansion : ExpandFault → Cause → Type 0
 IsCauseOfExpansion (expand.Overflow o) c = c ≡ cause.Overflow o
 IsCauseOfExpansion (expand.Rows letters) c = c ≡ cause.Rows letters
@@ -59,12 +59,12 @@ record_of s = record { scale = s.multiplier; rows = s.rows }
 abbrev pub certificate_of : ℕ → Cofactors → Evidence
 certificate_of number c = evidence.Plain (record { claim = number; denominator = c.denominator; rows = c.rows })
 
--- with what expansion gives
+-- with the result of expansion
 abbrev pub Expands : ℕ → Place → Result Cofactors ExpandFault → Outcome → Type 0
 Expands number at (Ok c) o = o ≡ outcome.Derived (certificate_of number c)
 Expands number at (Err e) o = IsHalted (IsCauseOfExpansion e) at o
 
--- with what gathering gives
+-- with the result of gathering
 abbrev pub Gathers : Place → Result LemmaCertificate GatherFault → Outcome → Type 0
 Gathers at (Ok c) o = o ≡ outcome.Derived (evidence.Lemmas c)
 Gathers at (Err e) o = IsHalted (IsCauseOfGathering e) at o
@@ -80,14 +80,14 @@ evidence_of_zero format.Plain number = evidence.Plain (record { claim = number; 
 evidence_of_zero format.Lemmas number = evidence.Lemmas
     (record { claim = number; denominator = pos 1; lemmas = []; goal = record { scale = pos 1; rows = [] } })
 
--- What is left of the claim by the rules isn't zero.
+-- The rest of the claim by the rules isn't zero.
 pub record IsLeft (setting : Setting) (rules : List Rule) (claim rest : List Term) : Type 0 where
   pub reduced : State
   pub reduction : normal_form_of setting.compare rules claim setting.budget.steps ≡ Ok reduced
   pub rest_is : reduced.rest ≡ rest
   pub nonzero : 0 < length rest
 
--- by what is left of the claim
+-- by the rest of the claim
 abbrev pub IsDoneWith : Format → ℕ → ℕ → List Made → State → List Term → Outcome → Type 0
 IsDoneWith form number round made reduced [] o = IsProved form number (place.Certificate round) made (record_of reduced) o
 IsDoneWith form number round made reduced (t ∷ rest) o = ⊥
@@ -102,7 +102,7 @@ abbrev pub IsDone : Setting → Format → ℕ → ℕ → RunState → List Ter
 IsDone setting form number round s claim o =
     IsDoneBy form number round s.made (normal_form_of setting.compare s.rules claim setting.budget.steps) o
 
--- the state after the round with this number, which was made whole and leaves a rest of the claim
+-- the state after the round with this number, if it was completed and leaves a rest of the claim
 pub record IsOpenAfter (setting : Setting) (claim : List Term) (number : ℕ) (Before : RunState → Type 0) (s : RunState) : Type 0 where
   pub before : RunState
   pub is_before : Before before
@@ -110,22 +110,22 @@ pub record IsOpenAfter (setting : Setting) (claim : List Term) (number : ℕ) (B
   pub rest : List Term
   pub left : IsLeft setting s.rules claim rest
 
--- The claim has terms, and after each of so many rounds, which were made whole, a rest of it is left by the rules.
+-- The claim has terms, and after each of this many completed rounds it has a rest by the rules.
 abbrev pub IsOpen : Setting → List Term → ℕ → RunState → Type 0
 IsOpen setting claim zero s = (0 < length claim) × (s ≡ start)
 IsOpen setting claim (suc n) s = IsOpenAfter setting claim n (IsOpen setting claim n) s
 
--- The claim is closed with what the rules leave of it.
+-- The claim is closed with its rest by the rules.
 pub record IsClosedWith (setting : Setting) (rules : List Rule) (claim : List Term) (o : Outcome) : Type 0 where
   pub rest : Poly
   pub left : IsLeft setting rules claim rest.terms
   pub closes : o ≡ outcome.Closed rest
 
--- The claim with this number gets this outcome when so many rounds were made whole, and the run has this state.
+-- The claim with this number gets this outcome after this many completed rounds, where the run has this state.
 pub data GetsOutcome (setting : Setting) (form : Format) (number : ℕ) (claim : List Term) (rounds : ℕ) (s : RunState) (o : Outcome) : Type 0 where
   -- at once, where it has no terms
   at_once : claim ≡ [] → rounds ≡ 0 → s ≡ start → o ≡ outcome.Derived (evidence_of_zero form number) → GetsOutcome setting form number claim rounds s o
-  -- after a whole round
+  -- after a completed round
   after_round : (n : ℕ) (before : RunState) → rounds ≡ suc n → IsOpen setting claim n before → IsRound setting n before (went s)
       → IsDone setting form number n s claim o
       → GetsOutcome setting form number claim rounds s o
@@ -136,7 +136,7 @@ pub data GetsOutcome (setting : Setting) (form : Format) (number : ℕ) (claim :
   by_stop : (halt : Halt) → IsOpen setting claim rounds s → IsRound setting rounds s (stopped halt) → o ≡ outcome.Halted halt
       → GetsOutcome setting form number claim rounds s o
 
--- The outcome of the claim with this number, for itself alone.
+-- The outcome of the claim with this number, by itself.
 pub record IsOutcomeOf (setting : Setting) (form : Format) (number : ℕ) (claim : List Term) (o : Outcome) : Type 0 where
   pub rounds : ℕ
   pub state : RunState

@@ -1,4 +1,4 @@
-//! A claim on its way to its outcome.
+//! A claim before it has its outcome, and after.
 ghost use Rattle.std.specs.Prelude.{◌≡◌, ◌<◌, ◌≤◌, ◌-◌, length, IfOk};
 ghost use Rattle.std.specs.List.{All, AllZip};
 ghost use Rattle.traced_completion.specs.declared.budget.Budget.{Budget};
@@ -17,16 +17,16 @@ use nc_polynomial::Poly;
 use std::alloc::{AllocError, Global};
 use traced_completion::{Completion, Step, reduction_cause};
 
-/// How it stands with a claim.
+/// The state of a claim.
 #[derive(Drop)]
 pub enum Standing {
-    /// Something, which isn't zero, is left of it by the rules so far.
+    /// It has a nonzero rest by the rules so far.
     Open(Poly),
     /// It has its outcome.
     Settled(Outcome),
 }
 
-/// A claim by its number, and how it stands with it.
+/// A claim by its number, and its state.
 #[derive(Drop)]
 pub struct Case {
     pub number: u32,
@@ -54,7 +54,7 @@ pub(crate) fn open_case(
     Ok(Case { number, standing })
 }
 
-// How it stands with an open claim after a round that was made whole.
+// The state of an open claim after a completed round.
 fn judge(
     alloc: Global,
     problem: &Problem,
@@ -92,7 +92,7 @@ fn judge(
     Ok(Standing::Settled(outcome))
 }
 
-// How it stands with a claim after a step of the completion.
+// The state of a claim after a step of the completion.
 pub(crate) fn follow(
     alloc: Global,
     problem: &Problem,

@@ -6,7 +6,7 @@ use crate::Outcome;
 use cofactor_trace::{Cause, ExpandFault, GatherFault, Halt, Place};
 use std::alloc::AllocError;
 
-// The cause of a fault of expansion. A word that is too long is what its `Size` says.
+// The cause of a fault of expansion. A word that is too long has the cause `Size`.
 pub(crate) fn expansion_cause(fault: ExpandFault) -> Result<Cause, AllocError>
     ensures { IfOk result (IsCauseOfExpansion fault) }
 {

@@ -22,7 +22,7 @@ use std::mem;
 use std::thread::Threads;
 use traced_completion::{Budget, Completion, Step};
 
-/// What becomes of each claim of the problem, in one run of the completion for all of them. A claim leaves when it has its
+/// The outcome of each claim of the problem, in one run of the completion for all of them. A claim leaves when it has its
 /// outcome, and the run ends with the last one.
 pub fn decide_all<R: Threads + Sync, G: Gate + Sync>(
     rt: &R,
@@ -43,7 +43,7 @@ pub fn decide_all<R: Threads + Sync, G: Gate + Sync>(
     run(rt, alloc, problem, budget, format, workers, gate, cases)
 }
 
-/// What becomes of the claim with this number.
+/// The outcome of the claim with this number.
 pub fn decide<R: Threads + Sync, G: Gate + Sync>(
     rt: &R,
     alloc: Global,
@@ -111,7 +111,7 @@ fn run<R: Threads + Sync, G: Gate + Sync>(
     )
 }
 
-// What becomes of the claims, by a completion before its first round.
+// The outcomes of the claims, by a completion before its first round.
 fn decide_cases<R: Threads + Sync, G: Gate + Sync>(
     rt: &R,
     alloc: Global,

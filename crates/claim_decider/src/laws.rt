@@ -1,4 +1,4 @@
-//! That what is decided is one thing, as laws over the definitions.
+//! The laws that outcomes and last rules are unique.
 ghost use Rattle.claim_decider.specs.OutcomeLaws.{OutcomesAreUnique, LastRulesAreUnique};
 
 /// In an admissible order a claim has one outcome in each format.
@@ -6,7 +6,7 @@ pub fn outcomes_are_unique()
     ensures { OutcomesAreUnique }
 {}
 
-/// And claims have one list of last rules.
+/// Claims have one list of last rules.
 pub fn last_rules_are_unique()
     ensures { LastRulesAreUnique }
 {}

@@ -1,4 +1,4 @@
-//! What becomes of each claim of a problem: it is derived with evidence, it is closed with a rest, or it halts.
+//! The outcome of each claim of a problem: it is derived with evidence, it is closed with a rest, or it halts.
 #![tactic(auto)]
 
 mod case;
