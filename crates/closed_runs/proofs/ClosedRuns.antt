@@ -67,7 +67,7 @@ module _ (rest : Poly) (number round : ℕ) (made : List Made) where
   not_done form (Ok reduced) is = not_done_with form reduced reduced.rest is
   not_done form (Err e) halted = not_by_halt (IsCauseOf e) (place.Claim round) halted
 
--- The run closes after so many rounds, and the rules leave the rest of the claim.
+-- The run closes after this many rounds, and this is the claim's rest by the rules.
 pub record Closes (setting : Setting) (claim rest : List Term) (rounds : ℕ) (s : RunState) : Type 0 where
   pub opened : IsOpen setting claim rounds s
   pub round : IsRound setting rounds s closed
@@ -90,7 +90,7 @@ closes setting form number claim rounds s rest (by_stop halt opened round is) = 
 closed_is_not_went : (s : RunState) → closed ≡ went s → ⊥
 closed_is_not_went s is = cc
 
--- the round with this number of a run that goes on
+-- the round with this number of a run that isn't closed
 record Goes (setting : Setting) (n : ℕ) : Type 0 where
   before : RunState
   after : RunState
@@ -113,7 +113,7 @@ goes setting n (suc m) s less is = go (cases_lt n m) (λ (below : n < m). goes s
         }
 
 module _ (letters : ℕ) (rank : List ℕ → List ℕ) (setting : Setting) (laws : IsAdmissible letters setting.compare rank) where
-  -- a closed run doesn't go on
+  -- a closed run has no later rounds
   not_later : (n m : ℕ) (s t : RunState) → IsRunState setting n s → IsRound setting n s closed → IsRunState setting m t → n < m → ⊥
   not_later n m s t run round later less =
       let next = goes setting n m t less later in

@@ -1,4 +1,4 @@
--- What is read of a report as bases: the bases of the claims that aren't derivable, in their order.
+-- A report read as bases: the bases of the claims that aren't derivable, in their order.
 use Rattle.std.specs.Prelude.{◌≡◌, ◌<◌, ◌≤◌, ℕ, suc, List, [], ◌∷◌, length, IsTrue}
 use Rattle.std.specs.List.{All, list_all}
 use Rattle.nc_polynomial.specs.declared.poly.Poly.{Poly}
@@ -28,7 +28,7 @@ use Rattle.report_text.specs.Report.{report_of}
 use Rattle.report_readback.specs.ReadBack.{IsWritableVerdict, AreVerdictsOf}
 use Rattle.closed_runs.specs.Printed.{IsConfirmedWithinLimits}
 
--- The text has these bases. Where there is one at least, they are what it is read as; where there is none, that is its first fault.
+-- The text has these bases. Where there is at least one, they are what it is read as; where there is none, that is its first fault.
 pub record IsReadAsBases (ds : List Declaration) (bytes : List ℕ) (bases : List Basis) : Type 0 where
   pub has : HasBases ds bytes bases
   pub some : 0 < length bases → IsBases ds bytes bases
@@ -36,7 +36,7 @@ pub record IsReadAsBases (ds : List Declaration) (bytes : List ℕ) (bases : Lis
 
 -- reports of verdicts
 
--- the basis of a claim by the rules, with what they leave of it
+-- the basis of a claim by the rules, with its rest
 abbrev pub basis_by : List Poly → ℕ → Poly → Basis
 basis_by rules claim rest = record { claim = claim; rules = rules; rest = rest }
 
@@ -74,7 +74,7 @@ StatementReportsReadBackAsBases = (bytes : List ℕ) (statements : List Statemen
     → AreLastRules (setting_of problem budget) form problem (claim_numbers problem) rules → length rules ≤ rule_limit
     → IsReadAsBases problem.parts.quiver (report_of problem.parts.quiver rules verdicts) (closed_from rules 1 outcomes)
 
--- And each basis that is read of it is closed, or its check stops.
+-- And each basis that is read from it is closed, or its check stops.
 abbrev pub ReportedBasesAreConfirmed : Type 0
 ReportedBasesAreConfirmed = (problem : Problem) (budget : Budget) (form : Format) (outcomes : List Outcome) (rules : List Poly)
     → AreOutcomesOf (setting_of problem budget) form problem (claim_numbers problem) outcomes

@@ -1,4 +1,4 @@
--- What becomes of the bases that are printed of closed claims: they are closed, or their check stops.
+-- The bases that are printed of closed claims: they are closed, or their check stops.
 use Rattle.std.specs.Prelude.{◌⊎◌, ⊤}
 use Rattle.traced_rows.specs.declared.evidence.Format.{Format}
 use Rattle.adjoint_rules.specs.declared.problem.Problem.{Problem}
@@ -13,7 +13,7 @@ use Rattle.closed_checker.specs.declared.refusal.ClosedRefusal.{ClosedRefusal}
 use Rattle.closed_checker.specs.declared.refusal.ClosedRefusal.TheVariants as refusal
 use Rattle.closed_checker.specs.Closed.{IsClosedBasis, Refuses, IsMemory}
 
--- What is printed of a claim that is closed in the run with this budget: its number, the last rules, and what they leave of it.
+-- The basis of a claim that is closed in the run with this budget: its number, the last rules, and its rest
 pub record IsPrinted (problem : Problem) (budget : Budget) (form : Format) (b : Basis) : Type 0 where
   pub outcome : IsOutcomeAt problem budget form b.claim (outcome.Closed b.rest)
   pub rules : AreLastRules (setting_of problem budget) form problem (claim_numbers problem) b.rules
@@ -23,12 +23,12 @@ abbrev pub IsStop : ClosedRefusal → Type 0
 IsStop (refusal.Stopped p c) = ⊤
 IsStop other = ⊥
 
--- The basis is closed, or it is refused since its check stops; it is refused for nothing else but want of memory.
+-- The basis is closed, or it is refused because its check stops; it is refused for nothing else but want of memory.
 pub record IsConfirmedWithinLimits (problem : Problem) (b : Basis) : Type 0 where
   pub judged : IsClosedBasis problem b ⊎ ((r : ClosedRefusal) × Refuses problem b r × IsStop r)
   pub no_other : (r : ClosedRefusal) → Refuses problem b r → IsStop r ⊎ IsMemory r
 
--- So it is with each basis that is printed.
+-- This holds for each basis that is printed.
 abbrev pub PrintedBasesAreConfirmed : Type 0
 PrintedBasesAreConfirmed =
     (problem : Problem) (budget : Budget) (form : Format) (b : Basis) → IsPrinted problem budget form b → IsConfirmedWithinLimits problem b

@@ -10,17 +10,17 @@ use Rattle.evidence_commands.specs.Kind.{Accepts}
 use Rattle.evidence_commands.specs.Confirm.{claim_closed, bases}
 use Rattle.closed_runs.specs.Printed.{IsPrinted}
 
--- What is said of a basis that is printed and accepted ends with ` sharp`.
+-- The text of a basis that is printed and accepted ends with ` sharp`.
 abbrev pub PrintedBasesAreSharp : Type 0
 PrintedBasesAreSharp = (problem : Problem) (budget : Budget) (form : Format) (b : Basis) (text : List ℕ)
     → IsPrinted problem budget form b → Accepts bases problem b text → text ≡ claim_closed b.claim true
 
--- And what ` sharp` says holds of each basis that is printed, whatever becomes of its check.
+-- And what ` sharp` means holds of each basis that is printed, accepted or not.
 abbrev pub PrintedBasesMeanSharp : Type 0
 PrintedBasesMeanSharp = (problem : Problem) (budget : Budget) (form : Format) (b : Basis)
     → IsPrinted problem budget form b → SharpMeans problem.parts (rules_of problem b) (claim_of problem b)
 
--- So does what it says besides where the statement is starred.
+-- So does what it means besides where the statement is starred.
 abbrev pub PrintedBasesMeanStarSharp : Type 0
 PrintedBasesMeanStarSharp = (problem : Problem) (budget : Budget) (form : Format) (b : Basis)
     → IsPrinted problem budget form b → IsTrue problem.parts.starred → StarSharpMeans problem.parts (rules_of problem b) (claim_of problem b)

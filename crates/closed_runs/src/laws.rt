@@ -1,15 +1,15 @@
-//! What becomes of the bases that are printed of closed claims, as laws over the definitions.
+//! The laws of the bases that are printed of closed claims.
 ghost use Rattle.closed_runs.specs.Printed.{PrintedBasesAreConfirmed};
 ghost use Rattle.closed_runs.specs.SharpBases.{PrintedBasesAreSharp, PrintedBasesMeanSharp, PrintedBasesMeanStarSharp};
 ghost use Rattle.closed_runs.specs.BasesReadBack.{ReportsReadBackAsBases, StatementReportsReadBackAsBases, ReportedBasesAreConfirmed};
 
-/// The basis that is printed of a claim that is closed, in whatever budget, is closed, unless an S-polynomial or a reduction of
-/// its check has a fault: a limit is passed, or a number is out of range.
+/// The basis that is printed of a claim that is closed, with any budget, is closed, unless an S-polynomial or a reduction of
+/// its check has a fault: a limit is exceeded, or a number is out of range.
 pub fn printed_bases_are_confirmed()
     ensures { PrintedBasesAreConfirmed }
 {}
 
-/// The basis that is printed of a claim that is closed, in whatever budget, is said to be sharp where it is accepted; and what
+/// The basis that is printed of a claim that is closed, with any budget, is called sharp where it is accepted; and what
 /// that means holds of it, accepted or not.
 pub fn printed_bases_are_sharp()
     ensures told { PrintedBasesAreSharp }
@@ -17,7 +17,7 @@ pub fn printed_bases_are_sharp()
     ensures mean_starred { PrintedBasesMeanStarSharp }
 {}
 
-/// A report is read as the bases of its claims that aren't derivable, in their order. Where each claim is otherwise, it has no
+/// A report is read as the bases of its claims that aren't derivable, in their order. Where there is no such claim, it has no
 /// basis.
 pub fn reports_are_read_back_as_bases()
     ensures { ReportsReadBackAsBases }

@@ -1,4 +1,4 @@
-//! That the bases which a run gives of closed claims are closed and sharp, whatever its budget was, and that a report is read back as them.
+//! The bases that a run prints of closed claims are closed and sharp, with any budget, and a report is read back as them.
 #![tactic(auto)]
 
 mod laws;
