@@ -1,4 +1,4 @@
--- What the greatest common divisor of two integers is.
+-- The law of the greatest common divisor of two integers.
 use Rattle.std.specs.Prelude.{ℕ, ℤ}
 use Rattle.std.specs.Int.{◌∣◌, IsNonNegative}
 use Rattle.std.specs.Int.RustNames.{unsigned_abs}
@@ -11,6 +11,6 @@ pub record IsGreatestDivisor (x y divisor : ℤ) : Type 0 where
   pub greatest : (d : ℕ) → d ∣ unsigned_abs x → d ∣ unsigned_abs y → d ∣ unsigned_abs divisor
   pub sign : IsNonNegative divisor
 
--- The divisor that is found by division with remainder is the greatest one.
+-- The divisor that is computed by division with remainder is the greatest one.
 abbrev pub DivisorsAreGreatest : Type 0
 DivisorsAreGreatest = (x y : ℤ) → IsGreatestDivisor x y (gcd_of x y)

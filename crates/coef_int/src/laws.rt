@@ -1,4 +1,4 @@
-//! What the greatest common divisor is, as a law over its definition.
+//! The law of the greatest common divisor.
 ghost use Rattle.coef_int.specs.Laws.{DivisorsAreGreatest};
 
 /// The greatest common divisor of two integers divides both and isn't negative, and each common divisor divides it.
