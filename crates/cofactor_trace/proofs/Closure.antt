@@ -1,4 +1,4 @@
--- Each rule that the target or a needed rule names is needed, and stands before what names it.
+-- Each rule that the target or a needed rule names is needed, and comes before what names it.
 use Rattle.std.proofs.Common.{◌≡◌, ◌⊎◌, inl, inr, ℕ, suc, ◌+◌, ◌<◌, ◌≤◌, Bool, true, false, ◌||◌, cond, List, [], ◌∷◌, length, nat_eq, eqb-true, eq-eqb, Some, sym, refl, ap, subst, ◌∙◌, arith}
 use Rattle.std.proofs.lemmas.List.Elements.{recursion_from_All}
 use Rattle.std.specs.List.{AllByRecursion, list_any, slice_get}
@@ -60,7 +60,7 @@ module _ (target : Made) where
   abbrev later : ℕ → List Made → List Numbered
   later place xs = needed_from target (suc (suc place)) xs
 
-  -- a rule that is named behind the first one is needed
+  -- a rule that is named after the first one is needed
   needed_if_named : (place : ℕ) (xs : List Made) → RecordsFrom place xs → (n : ℕ) → suc place ≤ n → n ≤ place + length xs
       → is_named n (target ∷ records_of (needed_from target (suc place) xs)) ≡ true → is_numbered n (needed_from target (suc place) xs) ≡ true
   needed_if_named place [] records n above below named = absurd (omega arith)

@@ -1,4 +1,4 @@
--- Rows that stand before what is left to gather.
+-- Rows before those that are left to gather.
 use Rattle.std.proofs.Common.{◌≡◌, ℤ, zero, suc, pos, negsuc, List, [], ◌++◌, Result, Ok, Err, refl, sym, ap, append_assoc}
 use Rattle.std.specs.List.{All}
 use Rattle.std.proofs.lemmas.List.Elements.{All-nil, All-cons}

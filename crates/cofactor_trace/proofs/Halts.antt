@@ -17,14 +17,14 @@ explains-first first r (fault.Rows letters) h = ap (λ f. unless f r) h
 explains-first first r fault.Size h = ap (λ f. unless f r) h
 explains-first first r (fault.Memory e) h = tt
 
--- a part without a fault is passed over
+-- a part without a fault is skipped
 pub explains-later : {A : Type 0} (first : Option ExpandFault) (r : Result A ExpandFault) (e : ExpandFault) → first ≡ None → Explains r e → Explains (unless first r) e
 explains-later first r e none h = subst (λ f. Explains (unless f r) e) (sym none) h
 
 pub ok-later : {A : Type 0} (first : Option ExpandFault) (r : Result A ExpandFault) (x : A) → first ≡ None → r ≡ Ok x → unless first r ≡ Ok x
 ok-later first r x none h = ap (λ f. unless f r) none ∙ h
 
--- the first overflow of operations is that of the operations with more behind them
+-- the first overflow of operations is that of the operations with more after them
 pub is_first-append : (os more : List Overflow) (e : ExpandFault) → IsFirst (overflow_in os) e → IsFirst (overflow_in (os ++ more)) e
 is_first-append os more e h = subst (λ f. IsFirst (option_map fault.Overflow f) e) (sym (first-append os more)) (go (first_overflow os) e h)
   where

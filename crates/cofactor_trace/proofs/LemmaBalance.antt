@@ -56,14 +56,14 @@ module _ (generators rules : List (List (ℤ × List ℕ))) where
       go true same listed later = ap (generator_at rules) (sym (eqb-true n e.0 same))
       go false other listed later = place_behind (generator_at rules e.0) (polys done) (lemma_number n (done ++ rest)) (number_positive n (done ++ rest)) ∙ later listed
 
-  -- what stands in place of a generator or a rule is it, over the generators and the lemmas before
+  -- the replacement of a generator or a rule equals it, over the generators and the lemmas before
   abbrev StandsFor : List (List (ℤ × List ℕ)) → Origin → Replacement → Type 0
   StandsFor before o x = SamePolynomial (poly_multiple (signed x.negative (pos 1)) (cert_poly generators before x.from)) (origin_poly generators rules o)
 
   itself : (before : List (List (ℤ × List ℕ))) (p : List Term) → SamePolynomial (poly_multiple (pos 1) p) p
   itself before p = record { at = λ w. coefficient_of-multiple (pos 1) p w ∙ one-*ℤ (coefficient_of p w) }
 
-  -- a row over what stands in place
+  -- a row with its generator or rule replaced
   row_same : (before : List (List (ℤ × List ℕ))) (x : Replacement) (r : Row) (w : List ℕ) → StandsFor before r.from x
       → coefficient_of (poly_multiple (signed x.negative r.coef) (poly_between r.left (cert_poly generators before x.from) r.right)) w ≡ coefficient_of (traced_poly generators rules r) w
   row_same before x r w stands =

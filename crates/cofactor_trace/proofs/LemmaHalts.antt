@@ -11,7 +11,7 @@ explains-some first r (fault.Overflow o) h = ap (λ f. unless f r) h
 explains-some first r (fault.Rows letters) h = ap (λ f. unless f r) h
 explains-some first r (fault.Memory e) h = tt
 
--- a part without a fault is passed over
+-- a part without a fault is skipped
 pub explains-behind : {A : Type 0} (first : Option GatherFault) (r : Result A GatherFault) (e : GatherFault) → first ≡ None → Explains r e → Explains (unless first r) e
 explains-behind first r e none h = subst (λ f. Explains (unless f r) e) (sym none) h
 

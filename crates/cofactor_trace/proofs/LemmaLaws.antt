@@ -51,7 +51,7 @@ module _ (made : List Made) (target : Made) (records : AreRecords made) (is_reco
   pub lemmas_name : AllByRecursion NamesNeeded (lemma_records made target)
   lemmas_name = lemmas_among (needed_rules made target) needed_name
 
-  -- the table says what stands in place of what they name
+  -- the table has the replacements of the rules that they name
   module _ (table : List Replacement) (named : NamesRules made target table) where
     found : (es : List Numbered) → AllByRecursion (λ e. named_in table (origin.Rule e.0) ≡ naming_of made target (origin.Rule e.0)) es → (n : ℕ) → is_numbered n es ≡ true
         → named_in table (origin.Rule n) ≡ naming_of made target (origin.Rule n)

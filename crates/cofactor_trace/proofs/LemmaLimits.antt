@@ -1,4 +1,4 @@
--- Counts that stop at the greatest number say which limit a certificate with lemmas passes.
+-- Counts that stop at the greatest number say which limit a certificate with lemmas exceeds.
 use Rattle.std.proofs.Common.{◌≡◌, ℕ, ◌+◌, ◌-◌, ◌^◌, ◌≤◌, min, Bool, true, false, List, [], ◌∷◌, length, map, nat_lt, Option, Some, None, ap, ◌∙◌, arith}
 use Rattle.std.specs.Prelude.{if◌then◌else◌}
 use Rattle.std.specs.List.{fold, sum_by}

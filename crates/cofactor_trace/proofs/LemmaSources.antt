@@ -1,4 +1,4 @@
--- What stands in place of the generators and rules that a lemma or the target names: generators, direct rules, earlier lemmas.
+-- The replacements of the generators and rules that a lemma or the target names: generators, direct rules, earlier lemmas.
 use Rattle.std.proofs.Common.{◌≡◌, ◌⊎◌, inl, inr, ℕ, suc, ◌+◌, ◌-◌, ◌<◌, ◌≤◌, ℤ, pos, negsuc, Bool, true, false, ◌||◌, ◌&&◌, cond, List, [], ◌∷◌, ◌++◌, filter, length, nat_eq, eqb-true, eq-eqb, Option, Some, None, unwrap_or, is_none, sym, refl, ap, subst, ◌∙◌, arith}
 use Rattle.std.proofs.lemmas.Bool.Decides.{Decides-int_eq}
 use Rattle.std.specs.List.{AllByRecursion, slice_get}
@@ -149,11 +149,11 @@ module _ (made : List Made) (target : Made) (records : AreRecords made) (is_reco
           let r = later listed in
           record { m = r.m; positive = r.positive; item = r.item; kept = λ lemma. there (r.kept lemma) (is_lemma e.1) }
 
-  -- what a row names is needed, and a lemma that it names stands before
+  -- what a row names is needed, and a lemma that it names comes before it
   abbrev pub IsKnown : List Numbered → Origin → Type 0
   IsKnown done o = (n : ℕ) → is_rule n o ≡ true → (is_numbered n (needed_rules made target) ≡ true) × (is_numbered n (lemma_rules made target) ≡ true → is_numbered n done ≡ true)
 
-  -- what stands in place of it is the generator, or what the direct rule is, or an earlier lemma
+  -- its replacement is the generator, or the one that the direct rule is, or an earlier lemma
   pub by_source : (P : Origin → Replacement → Type 0) (done rest : List Numbered) → done ++ rest ≡ lemma_rules made target
       → ((n : ℕ) → P (origin.Generator n) (record { negative = false; from = cert.Generator n }))
       → ((n : ℕ) (m : Made) (x : Replacement) → 1 ≤ n → slice_get made (n - 1) ≡ Some m → direct_of m ≡ Some x → P (origin.Rule n) x)

@@ -1,4 +1,4 @@
--- An expansion keeps the limits, and names the generators that the records name.
+-- An expansion is within the limits, and names the generators that the records name.
 use Rattle.std.proofs.Common.{◌≡◌, ℕ, ◌+◌, ◌≤◌, ◌*ℤ◌, Bool, true, false, ◌||◌, cond, List, [], ◌∷◌, length, nat_lt, Some, None, Result, Ok, Err, refl, subst, arith}
 use Rattle.std.proofs.lemmas.Bool.Decides.{nat_tests}
 use Rattle.std.proofs.lemmas.List.Sums.{sum_by-cons}
@@ -37,7 +37,7 @@ none_long (r ∷ rows) h =
     at_most : (n : ℕ) → nat_lt 500 n ≡ false → n ≤ 500
     at_most n e = grind (arith, nat_tests)
 
--- a list that passes no limit
+-- a list that exceeds no limit
 record Passes (rows : List CertRow) : Type 0 where
   short : has_long_word rows ≡ false
   few : length rows ≤ 200000

@@ -144,7 +144,7 @@ module _ (made : List Made) (target : Made) where
     abbrev lemmas_of : List Numbered → List Numbered
     lemmas_of = filter (λ e. is_lemma e.1)
 
-    -- what is put in the rule's place stands there
+    -- the replacement of the rule is at its place
     named_here : naming_of made target (origin.Rule number) ≡ unwrap_or (direct_of m) (lemma_at (length lemmas + 1))
     named_here = ap (λ o. unwrap_or (option_and_then direct_of o) (lemma_at (lemma_number number (lemma_rules made target)))) t.item ∙ go (direct_of m) refl
       where

@@ -27,7 +27,7 @@ named_with n target m rest = go (list_any (λ r. is_rule n r.from) target.rows) 
     go false false true = refl
     go false false false = refl
 
--- the needed rules behind a place
+-- the needed rules after a place
 abbrev pub needed_behind : Made → List Made → ℕ → List Numbered
 needed_behind target made place = needed_from target (suc place) (drop place made)
 
@@ -35,7 +35,7 @@ abbrev pub records_of : List Numbered → List Made
 records_of = map (λ e. e.1)
 
 module _ (made : List Made) (target : Made) where
-  -- what is marked, and which numbers are found, once the rules behind a place are done
+  -- what is marked, and which numbers are found, once the rules after a place are done
   pub record IsMarked (place : ℕ) (named : List Bool) (numbers : List ℕ) : Type 0 where
     pub sized : length named ≡ length made
     pub marks : (k : ℕ) → k < length made → get_or named k false ≡ is_named (k + 1) (target ∷ records_of (needed_behind target made place))

@@ -72,7 +72,7 @@ module _ (known : Known) (m : Made) where
       explains-later (overflow_in (denominator_products known m)) _ e (denominator_fits rows common h)
       (explains-first (limit_fault (joined known whole m.rows)) _ e (here rows common h (λ z l. IsFirst (limit_fault (joined known z l)) e) stopped))
 
-  -- what stands behind the limits
+  -- what follows the limits
   abbrev operations : List Overflow
   operations = joined_products known whole m.rows ++ sums_of_gathering (joined known whole m.rows)
 

@@ -1,4 +1,4 @@
--- Counts that stop at the greatest number say which limit is passed.
+-- Counts that stop at the greatest number say which limit is exceeded.
 use Rattle.std.proofs.Common.{◌≡◌, ℕ, ◌+◌, ◌-◌, ◌^◌, ◌≤◌, ◌||◌, min, Bool, true, false, List, [], ◌∷◌, length, nat_lt, Option, Some, None, refl, ap, ◌∙◌, arith}
 use Rattle.std.specs.Prelude.{if◌then◌else◌}
 use Rattle.std.proofs.lemmas.Bool.Decides.{nat_tests}

@@ -212,7 +212,7 @@ none_listed q (r ∷ rows) h = go (is_eq (multiple_cmp q (multiple_of r))) h (no
     go true e later = absurd (cc)
     go false e later = later e
 
--- one row more
+-- one more row
 coefficients_more : (q : Multiple) (done : List CertRow) (r : CertRow) → coefficients_at q (done ++ r ∷ []) ≡ coefficients_at q done ++ cond (is_eq (multiple_cmp q (multiple_of r))) (r.coef ∷ []) []
 coefficients_more q [] r = go (is_eq (multiple_cmp q (multiple_of r)))
   where

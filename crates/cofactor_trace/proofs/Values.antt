@@ -73,7 +73,7 @@ module _ (generators : List (List (ℤ × List ℕ))) (w : List ℕ) where
       go true = fold_start (pos 0 +ℤ r.coef) (coefficients_at m rows) ∙ ap (λ z. z +ℤ total_at m rows) (+ℤ_idl r.coef)
       go false = refl
 
-  -- a row counts for nothing where its multiple isn't listed
+  -- a row adds nothing where its multiple isn't listed
   totals-other : (r : CertRow) (rows : List CertRow) (ms : List Multiple) → is_among ms (multiple_of r) ≡ false → totals (r ∷ rows) ms ≡ totals rows ms
   totals-other r rows [] h = refl
   totals-other r rows (m ∷ ms) h = go (is_eq (multiple_cmp (multiple_of r) m)) refl h (totals-other r rows ms)

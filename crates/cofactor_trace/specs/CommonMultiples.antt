@@ -1,4 +1,4 @@
--- What the least common multiple of an integer and others is.
+-- The least common multiple of integers.
 use Rattle.std.specs.Prelude.{ℕ, ℤ, pos, ◌<ℤ◌, List, ◌∷◌}
 use Rattle.std.specs.List.{All}
 use Rattle.std.specs.Int.{◌∣◌}
@@ -11,6 +11,6 @@ pub record IsLeastMultiple (integers : List ℤ) (multiple : ℤ) : Type 0 where
   pub least : (m : ℕ) → All (λ z. unsigned_abs z ∣ m) integers → unsigned_abs multiple ∣ m
   pub positive : All (λ z. pos 0 <ℤ z) integers → pos 0 <ℤ multiple
 
--- The multiple that is found by products and greatest common divisors, in order, is the least one.
+-- The multiple that is computed by products and greatest common divisors, in order, is the least one.
 abbrev pub MultiplesAreLeast : Type 0
 MultiplesAreLeast = (x : ℤ) (ys : List ℤ) → IsLeastMultiple (x ∷ ys) (common_multiple x ys)

@@ -1,4 +1,4 @@
--- What one record expands to, where it is known what its generators and rules expand to.
+-- The expansion of one record, by those of its generators and rules.
 use Rattle.std.specs.Prelude.{ℕ, ℤ, pos, ◌*ℤ◌, int_div, List, [], ◌∷◌, ◌++◌, map, length, ◌+◌, ◌||◌, Bool, true, false, nat_lt, Option}
 use Rattle.std.specs.Prelude.{Some, None, Result, Ok, Err, if◌then◌else◌}
 use Rattle.std.specs.List.{fold, flat_map, list_any, sum_by}
@@ -17,7 +17,7 @@ use Rattle.cofactor_trace.specs.Gathered.{gathered, sums_of_gathering}
 use Rattle.nc_polynomial.specs.Limits.{word_limit}
 use Rattle.cofactor_trace.specs.Limits.{row_limit, letter_limit}
 
--- what each generator and each rule expands to
+-- the expansion of each generator and each rule
 abbrev pub Known : Type 0
 Known = Origin → Cofactors
 
@@ -33,7 +33,7 @@ abbrev pub multiple_products : ℤ → List ℤ → List Overflow
 multiple_products x [] = []
 multiple_products x (y ∷ ys) = product_of x (int_div y (gcd_of x y)) ∷ multiple_products (lcm_of x y) ys
 
--- the denominators of what the rows name, in order
+-- the denominators of the expansions of the rows' generators and rules, in order
 abbrev pub denominators : Known → List Row → List ℤ
 denominators known rows = map (λ r. (known r.from).denominator) rows
 
@@ -45,7 +45,7 @@ common_denominator known rows = common_multiple (pos 1) (denominators known rows
 abbrev pub denominator_products : Known → Made → List Overflow
 denominator_products known m = multiple_products (pos 1) (denominators known m.rows) ++ product_of m.scale (common_denominator known m.rows) ∷ []
 
--- L divided by the denominator of what the row names
+-- L divided by the denominator of the expansion of the row's generator or rule
 abbrev pub share : Known → ℤ → Row → ℤ
 share known common r = int_div common (known r.from).denominator
 
@@ -53,7 +53,7 @@ share known common r = int_div common (known r.from).denominator
 abbrev pub joined_row : ℤ → Row → CertRow → CertRow
 joined_row k outer inner = record { coef = k *ℤ inner.coef; left = outer.left ++ inner.left; generator = inner.generator; right = inner.right ++ outer.right }
 
--- the expansion of what the row names, times its coefficient and its share, between its words
+-- the expansion of the row's generator or rule, times the row's coefficient and its share, between its words
 abbrev pub joined_rows : Known → ℤ → Row → List CertRow
 joined_rows known common r = map (joined_row (r.coef *ℤ share known common r) r) (known r.from).rows
 
@@ -77,7 +77,7 @@ has_long_word rows = list_any (λ r. nat_lt word_limit (length r.left) || nat_lt
 abbrev pub letter_count : List CertRow → ℕ
 letter_count rows = sum_by (λ r. length r.left + length r.right) rows
 
--- the first limit that is passed: 500 letters of a word, 200,000 rows, 1,000,000 letters in all
+-- the first limit that is exceeded: 500 letters of a word, 200,000 rows, 1,000,000 letters in all
 abbrev pub limit_fault : List CertRow → Option ExpandFault
 limit_fault rows = if has_long_word rows then Some fault.Size
     else (if nat_lt row_limit (length rows) then Some (fault.Rows false)
@@ -106,7 +106,7 @@ unless (Some e) r = Err e
 abbrev pub overflow_in : List Overflow → Option ExpandFault
 overflow_in os = option_map fault.Overflow (first_overflow os)
 
--- The record's expansion, unless a product of the denominator overflows, or else a limit is passed, or else a product of the
+-- The record's expansion, unless a product of the denominator overflows, or else a limit is exceeded, or else a product of the
 -- rows overflows, or else a sum of gathering.
 abbrev pub record_expansion : Known → Made → Result Cofactors ExpandFault
 record_expansion known m =

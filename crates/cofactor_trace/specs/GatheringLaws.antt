@@ -1,4 +1,4 @@
--- What a gathered certificate adds up to, how large it is, and what it names.
+-- The laws of gathered certificates: their sums, their sizes, and the generators and lemmas that they name.
 use Rattle.std.specs.Prelude.{◌≡◌, ◌≤◌, ℕ, suc, List, [], ◌∷◌, ◌++◌, map, length, Bool, IsTrue, Ok, ⊤}
 use Rattle.std.specs.List.{All}
 use Rattle.coef_int.specs.Range.{IsCoefficient}
@@ -57,7 +57,7 @@ WordsAreKept = (test : List ℕ → Bool) (claim : ℕ) (made : List Made) (targ
     → All (λ m. All (λ r. IsTrue (test r.left) × IsTrue (test r.right)) m.rows) made → All (λ r. IsTrue (test r.left) × IsTrue (test r.right)) target.rows
     → gathered_of claim made target ≡ Ok c → All (λ l. All (λ r. IsTrue (test r.left) × IsTrue (test r.right)) l.rows) (parts_of c)
 
--- one of the first generators, or one of the first lemmas, as many as the counts say
+-- one of the first generators, or one of the first lemmas, by these counts
 abbrev pub IsWithin : ℕ → ℕ → CertFrom → Type 0
 IsWithin generators lemmas (cert.Generator n) = (1 ≤ n) × (n ≤ generators)
 IsWithin generators lemmas (cert.Lemma n) = (1 ≤ n) × (n ≤ lemmas)
@@ -65,13 +65,13 @@ IsWithin generators lemmas (cert.Lemma n) = (1 ≤ n) × (n ≤ lemmas)
 abbrev pub NamesWithin : ℕ → ℕ → Lemma → Type 0
 NamesWithin generators lemmas l = All (λ r. IsWithin generators lemmas r.from) l.rows
 
--- each lemma names lemmas before it alone, where so many stand before the first one
+-- each lemma names only earlier lemmas, where so many are before the first one
 abbrev pub NameEarlier : ℕ → ℕ → List Lemma → Type 0
 NameEarlier generators before [] = ⊤
 NameEarlier generators before (l ∷ lemmas) = NamesWithin generators before l × NameEarlier generators (suc before) lemmas
 
--- Where the records name no generators but the first ones, neither do lemmas and goal; and each lemma names lemmas before it, the goal
--- lemmas that there are.
+-- Where the records name only the first generators, so do lemmas and goal; and each lemma names earlier lemmas, and the goal
+-- existing ones.
 abbrev pub LemmasAreNamed : Type 0
 LemmasAreNamed = (count claim : ℕ) (made : List Made) (target : Made) (c : LemmaCertificate) → AreRecords made → IsRecord (length made) target
     → All (NamesUpTo count) made → NamesUpTo count target → gathered_of claim made target ≡ Ok c

@@ -1,4 +1,4 @@
--- What an expansion adds up to, and how large it is.
+-- The laws of expansions: their sums and their sizes.
 use Rattle.std.specs.Prelude.{◌≡◌, ◌≤◌, ℕ, suc, List, slice_get, length, Some, Ok, ⊤}
 use Rattle.std.specs.List.{All}
 use Rattle.definitions.specs.Poly.{Poly, SamePolynomial, poly_multiple}
@@ -39,7 +39,7 @@ pub record IsWithinLimits (rows : List CertRow) : Type 0 where
 abbrev pub ExpansionsFit : Type 0
 ExpansionsFit = (made : List Made) (target : Made) (c : Cofactors) → expansion_of made target ≡ Ok c → IsWithinLimits c.rows
 
--- a rule, or one of the first generators, as many as the count says
+-- a rule, or one of the first generators, by this count
 abbrev pub IsUpTo : ℕ → Origin → Type 0
 IsUpTo count (origin.Generator n) = (1 ≤ n) × (n ≤ count)
 IsUpTo count (origin.Rule n) = ⊤
@@ -47,7 +47,7 @@ IsUpTo count (origin.Rule n) = ⊤
 abbrev pub NamesUpTo : ℕ → Made → Type 0
 NamesUpTo count m = All (λ r. IsUpTo count r.from) m.rows
 
--- Where the records name no generators but the first ones, neither does an expansion.
+-- Where the records name only the first generators, so does an expansion.
 abbrev pub GeneratorsAreNamed : Type 0
 GeneratorsAreNamed = (count : ℕ) (made : List Made) (target : Made) (c : Cofactors) → All (NamesUpTo count) made → NamesUpTo count target
     → expansion_of made target ≡ Ok c → All (λ r. (1 ≤ r.generator) × (r.generator ≤ count)) c.rows

@@ -1,4 +1,4 @@
--- A certificate with lemmas, gathered from records: its lemmas are the rules that are needed, but for those that are no more than a
+-- A certificate with lemmas, gathered from records: its lemmas are the rules that are needed, except those that are just a
 -- generator or its negative.
 use Rattle.std.specs.Prelude.{ℕ, ℤ, pos, negsuc, neg_ℤ, List, [], ◌∷◌, ◌++◌, map, filter, length, ◌+◌, ◌-◌, suc, ◌&&◌, Bool, true, false}
 use Rattle.std.specs.Prelude.{nat_eq, nat_lt, Option, Some, None, Result, Ok, if◌then◌else◌, slice_get, unwrap_or, is_none}
@@ -28,13 +28,13 @@ signed_generator coef (origin.Generator n) =
     else (if int_eq coef (negsuc 0) then Some (record { negative = true; from = cert.Generator n }) else None)
 signed_generator coef (origin.Rule n) = None
 
--- what one row alone is, where its words are empty and it is a generator or the negative of one
+-- the generator or its negative that a list of one row is, where its words are empty
 abbrev pub single_row : List Row → Option Replacement
 single_row [] = None
 single_row (r ∷ []) = if nat_eq (length r.left) 0 && nat_eq (length r.right) 0 then signed_generator r.coef r.from else None
 single_row (r ∷ (s ∷ rows)) = None
 
--- what a direct rule is: its record has scale 1 and one row, of a generator with coefficient 1 or -1 and empty words
+-- the generator or its negative that a direct rule is: its record has scale 1 and one row, with coefficient 1 or -1 and empty words
 abbrev pub direct_of : Made → Option Replacement
 direct_of m = if int_eq m.scale (pos 1) then single_row m.rows else None
 
@@ -55,7 +55,7 @@ abbrev pub lemma_number : ℕ → List Numbered → ℕ
 lemma_number n [] = 1
 lemma_number n (e ∷ rules) = if nat_eq n e.0 then 1 else suc (lemma_number n rules)
 
--- what stands in place of generators and rules
+-- what generators and rules are replaced by
 abbrev pub Naming : Type 0
 Naming = Origin → Replacement
 
@@ -63,7 +63,7 @@ Naming = Origin → Replacement
 abbrev pub lemma_at : ℕ → Replacement
 lemma_at number = record { negative = false; from = cert.Lemma number }
 
--- a generator stands for itself, a direct rule is a generator or its negative, and each other rule is its lemma
+-- a generator is kept, a direct rule becomes its generator or the negative of that, and each other rule its lemma
 abbrev pub naming_of : List Made → Made → Naming
 naming_of made target (origin.Generator n) = record { negative = false; from = cert.Generator n }
 naming_of made target (origin.Rule n) = unwrap_or (option_and_then direct_of (slice_get made (n - 1))) (lemma_at (lemma_number n (lemma_rules made target)))
@@ -72,7 +72,7 @@ naming_of made target (origin.Rule n) = unwrap_or (option_and_then direct_of (sl
 abbrev pub signed : Bool → ℤ → ℤ
 signed negative z = if negative then neg_ℤ z else z
 
--- the row, over what stands in place of its generator or rule
+-- the row, with its generator or rule replaced
 abbrev pub lemma_row : Naming → Row → LemmaRow
 lemma_row naming r = record { coef = signed (naming r.from).negative r.coef; left = r.left; from = (naming r.from).from; right = r.right }
 
@@ -86,7 +86,7 @@ row_count lemmas = sum_by (λ l. length l.rows) lemmas
 abbrev pub letter_count : List Lemma → ℕ
 letter_count lemmas = sum_by (λ l. sum_by (λ r. length r.left + length r.right) l.rows) lemmas
 
--- the first limit that is passed: 200,000 rows, 1,000,000 letters
+-- the first limit that is exceeded: 200,000 rows, 1,000,000 letters
 abbrev pub limit_fault : List Lemma → Option GatherFault
 limit_fault lemmas = if nat_lt row_limit (row_count lemmas) then Some (fault.Rows false)
     else (if nat_lt letter_limit (letter_count lemmas) then Some (fault.Rows true) else None)
@@ -95,7 +95,7 @@ limit_fault lemmas = if nat_lt row_limit (row_count lemmas) then Some (fault.Row
 abbrev pub scale_fault : List ℤ → Option GatherFault
 scale_fault scales = option_map fault.Overflow (first_overflow (multiple_products (pos 1) scales))
 
--- The lemmas and the target as their goal, unless a limit is passed, or else a product of the least common multiple of the scales,
+-- The lemmas and the target as their goal, unless a limit is exceeded, or else a product of the least common multiple of the scales,
 -- which is the denominator, overflows.
 abbrev pub gathered_of : ℕ → List Made → Made → Result LemmaCertificate GatherFault
 gathered_of claim made target =

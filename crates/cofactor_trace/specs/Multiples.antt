@@ -11,7 +11,7 @@ use Rattle.cofactor_trace.specs.declared.table.Multiple.{Multiple}
 abbrev pub multiple_of : CertRow → Multiple
 multiple_of r = record { generator = r.generator; left = r.left; right = r.right }
 
--- by the generator first, then by the word in front and then by the word behind it
+-- by the generator first, then by the word before it and then by the word after it
 abbrev pub multiple_cmp : Multiple → Multiple → Ordering
 multiple_cmp = then_cmp (on (λ m. m.generator) nat_cmp) (then_cmp (on (λ m. m.left) word_cmp) (on (λ m. m.right) word_cmp))
 

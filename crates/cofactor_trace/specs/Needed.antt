@@ -13,19 +13,19 @@ use Rattle.traced_rows.specs.declared.certificate.Cofactors.{Cofactors}
 use Rattle.cofactor_trace.specs.declared.fault.ExpandFault.{ExpandFault}
 use Rattle.cofactor_trace.specs.Expansion.{Known, record_expansion}
 
--- a generator, or one of the first rules, as many as the count says
+-- a generator, or one of the first rules, by this count
 abbrev pub IsAmongFirst : ℕ → Origin → Type 0
 IsAmongFirst count (origin.Generator n) = ⊤
 IsAmongFirst count (origin.Rule n) = (1 ≤ n) × (n ≤ count)
 
--- The scale is positive, numbers are coefficients, and the rows name generators and the first rules, as many as the count says.
+-- The scale is positive, numbers are coefficients, and the rows name generators and the first rules, by this count.
 pub record IsRecord (count : ℕ) (m : Made) : Type 0 where
   pub positive : pos 0 <ℤ m.scale
   pub scale_in : IsCoefficient m.scale
   pub coefficients_in : All (λ r. IsCoefficient r.coef) m.rows
   pub earlier : All (λ r. IsAmongFirst count r.from) m.rows
 
--- the record of each rule names generators and rules before that rule
+-- the record of each rule names only generators and earlier rules
 pub record AreRecords (made : List Made) : Type 0 where
   pub at : (place : ℕ) (m : Made) → slice_get made place ≡ Some m → IsRecord place m
 
@@ -43,7 +43,7 @@ abbrev pub Numbered : Type 0
 Numbered = ℕ × Made
 
 -- Of the rules from a number on, ascending, those that the rows of the target name, and those that the rows of a needed rule
--- name, where each rule names only rules before it.
+-- name, where each rule names only earlier rules.
 abbrev pub needed_from : Made → ℕ → List Made → List Numbered
 needed_from target number [] = []
 needed_from target number (m ∷ made) =
@@ -53,7 +53,7 @@ needed_from target number (m ∷ made) =
 abbrev pub needed_rules : List Made → Made → List Numbered
 needed_rules made target = needed_from target 1 made
 
--- what rules expand to, by their numbers
+-- the expansions of rules, by their numbers
 abbrev pub Expansions : Type 0
 Expansions = List (ℕ × Cofactors)
 
@@ -61,17 +61,17 @@ Expansions = List (ℕ × Cofactors)
 abbrev pub none : Cofactors
 none = record { denominator = pos 1; rows = [] }
 
--- a generator expands to itself, a rule to what is listed for it
+-- a generator expands to itself, a rule as the list says
 abbrev pub known_from : Expansions → Known
 known_from expansions (origin.Generator n) = record { denominator = pos 1; rows = record { coef = pos 1; left = []; generator = n; right = [] } ∷ [] }
 known_from expansions (origin.Rule n) = unwrap_or (lookup (is_at (nat_cmp n)) expansions) none
 
--- what comes after a result that is no fault
+-- the next result, of a value, or the fault
 abbrev pub and_then : {A B : Type 0} → Result A ExpandFault → (A → Result B ExpandFault) → Result B ExpandFault
 and_then (Ok x) next = next x
 and_then (Err e) next = Err e
 
--- the target's expansion behind those of the rules, one after another
+-- the target's expansion after those of the rules, one after another
 abbrev pub expansion_from : Expansions → List Numbered → Made → Result Cofactors ExpandFault
 expansion_from expansions [] target = record_expansion (known_from expansions) target
 expansion_from expansions (e ∷ rest) target =

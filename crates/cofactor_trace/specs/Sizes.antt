@@ -1,4 +1,4 @@
--- How large rows are, counted up to the greatest number of the machine.
+-- How large rows are. A count stops at the greatest number of the machine.
 use Rattle.std.specs.Prelude.{ℕ, ◌+◌, ◌-◌, ◌^◌, ◌||◌, min, true, false, List, length, Option, Some, None, nat_lt, if◌then◌else◌}
 use Rattle.std.specs.List.{fold}
 use Rattle.traced_rows.specs.declared.certificate.CertRow.{CertRow}
@@ -12,7 +12,7 @@ use Rattle.cofactor_trace.specs.Limits.{row_limit, letter_limit}
 abbrev pub counted : ℕ → ℕ → ℕ
 counted m n = min (m + n) (2 ^ 64 - 1)
 
--- with one row more
+-- with one more row
 abbrev pub measured : Size → CertRow → Size
 measured size r = record {
   long = size.long || (nat_lt word_limit (length r.left) || nat_lt word_limit (length r.right));
@@ -23,7 +23,7 @@ measured size r = record {
 abbrev pub measured_all : Size → List CertRow → Size
 measured_all = fold measured
 
--- the first limit that is passed
+-- the first limit that is exceeded
 abbrev pub limit_of : Size → Option ExpandFault
 limit_of size = if size.long then Some fault.Size
     else (if nat_lt row_limit size.rows then Some (fault.Rows false)

@@ -29,11 +29,11 @@ added (Err o) c = Err o
 abbrev pub Entries : Type 0
 Entries = List (Multiple × Sum)
 
--- the sum of a multiple, and 0 where it isn't listed
+-- the sum of a multiple, or 0 where it isn't listed
 abbrev pub sum_in : Entries → Multiple → Sum
 sum_in entries m = unwrap_or (lookup (is_at (multiple_cmp m)) entries) (Ok (pos 0))
 
--- with one row more
+-- with one more row
 abbrev pub with_row : Entries → CertRow → Entries
 with_row entries r = insert_entry multiple_cmp entries (multiple_of r) (added (sum_in entries (multiple_of r)) r.coef)
 

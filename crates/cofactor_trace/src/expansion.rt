@@ -1,4 +1,4 @@
-//! The rows over generators alone that a record stands for.
+//! The expansion of a record: rows over generators alone.
 ghost use Rattle.std.specs.Prelude.{◌≡◌, ℕ, ◌+◌, ◌<◌, ◌≤◌, ◌^◌, ◌||◌, false, length, map, reverse, slice_index_or, Ok, IfOk, MatchResult};
 ghost use Rattle.std.specs.List.{All, list_any};
 ghost use Rattle.cofactor_trace.specs.Needed.{IsAmongFirst, IsRecord, AreRecords, is_rule, needed_rules, expansion_of};
@@ -10,10 +10,10 @@ use crate::{Cofactors, ExpandFault, Made, Origin, Row};
 use std::alloc::{AllocError, Global};
 use std::collections::BTreeMap;
 
-/// The rows over generators that the target's rows over generators and rules stand for, where `made` has the records of the
+/// The expansion of the target: its rows over generators and rules become rows over generators, where `made` has the records of the
 /// rules, numbered from 1. The rules that it needs are expanded in ascending order, and then the target. A record's denominator
-/// is its scale times the least common multiple of those of what its rows name; in its rows each multiple of a generator
-/// stands once, ascending; the denominator and the coefficients have no common divisor. A fault is the first one: of a record
+/// is its scale times the least common multiple of those of its generators and rules; its rows have each multiple of a generator
+/// once, ascending; the denominator and the coefficients have no common divisor. A fault is the first one: of a record
 /// a product of the denominator that is no coefficient, then `Size`, then `Rows`, then a product or a sum of the rows.
 pub fn expand(alloc: Global, made: &[Made], target: &Made) -> Result<Cofactors, ExpandFault>
     requires records { AreRecords made.now }

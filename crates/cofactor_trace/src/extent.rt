@@ -28,7 +28,7 @@ fn measure(extent: Extent, made: &Made) -> Extent
     }
 }
 
-// Whether lemmas and goal keep the limits.
+// Whether lemmas and goal are within the limits.
 pub(crate) fn check_limits(lemmas: &[&Made], goal: &Made) -> Result<(), GatherFault>
     ensures { let first = limit_of (extended_all no_extent (records lemmas.now ++ goal.now ∷ [])) in
         MatchResult result (λ _. first ≡ None) (λ e. first ≡ Some e) }

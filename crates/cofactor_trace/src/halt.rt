@@ -5,13 +5,13 @@ use lists::Duplicate;
 use std::alloc::AllocError;
 use word_core::Word;
 
-/// What stopped a completion or the work on a claim: a budget that is spent, a limit that is passed, or a coefficient
+/// What stopped a completion or the work on a claim: a budget that is used up, a limit that is exceeded, or a coefficient
 /// that is too large.
 #[derive(Clone, Copy)]
 pub enum Cause {
-    /// As many ambiguities were treated as the budget says.
+    /// As many ambiguities were treated as the budget allows.
     Pairs { spent: u32 },
-    /// A reduction made as many steps as the budget says, and a word could still be reduced.
+    /// A reduction made as many steps as the budget allows, and a word could still be reduced.
     Steps { limit: u32 },
     /// A word has more than 500 letters, or else a polynomial more than 20,000 terms.
     Size { letters: bool },
@@ -21,7 +21,7 @@ pub enum Cause {
     Overflow(Overflow),
 }
 
-/// Where a cause came: in a round, or after it in the work on a claim or on its certificate. Rounds are numbered from 0.
+/// The place of a cause: in a round, or after it in the work on a claim or on its certificate. Rounds are numbered from 0.
 #[derive(Clone, Copy)]
 pub enum Place {
     /// Between two rounds.
@@ -41,7 +41,7 @@ pub struct Halt {
     pub cause: Cause,
     /// Where it stopped.
     pub place: Place,
-    /// The least overlap word that is pending, where the rules say something below it.
+    /// The least pending overlap word, where the rules say something below it.
     pub least: Option<Word>,
 }
 

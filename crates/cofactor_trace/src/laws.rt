@@ -1,4 +1,4 @@
-//! What an expansion and a gathered certificate add up to, how large they are, and what their common multiples are, as laws over the definitions.
+//! The laws of expansions and of gathered certificates: their sums, their sizes, and their common multiples.
 ghost use Rattle.cofactor_trace.specs.CommonMultiples.{MultiplesAreLeast};
 ghost use Rattle.cofactor_trace.specs.GatheringLaws.{GatheringsAddUp, GatheringsAreRanged, GatheringsFit, LemmasAreNamed, LemmasHaveRows, WordsAreKept};
 ghost use Rattle.cofactor_trace.specs.Laws.{ExpansionsBalance, ExpansionsFit, GeneratorsAreNamed};
@@ -14,7 +14,7 @@ pub fn expansions_fit()
     ensures { ExpansionsFit }
 {}
 
-/// Where the records name no generators but the first ones, as many as a number says, neither does an expansion.
+/// Where the records name only the first generators, by a count, so does an expansion.
 pub fn generators_are_named()
     ensures { GeneratorsAreNamed }
 {}
@@ -46,8 +46,8 @@ pub fn words_are_kept()
     ensures { WordsAreKept }
 {}
 
-/// Where the records name no generators but the first ones, as many as a number says, neither does a gathered certificate. Each
-/// lemma names lemmas before it alone, and the goal lemmas that there are.
+/// Where the records name only the first generators, by a count, so does a gathered certificate. Each
+/// lemma names only earlier lemmas, and the goal existing ones.
 pub fn lemmas_are_named()
     ensures { LemmasAreNamed }
 {}

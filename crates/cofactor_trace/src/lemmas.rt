@@ -63,7 +63,7 @@ fn common_scale(lemmas: &[&Made], goal: &Made) -> Result<i128, Overflow>
     raise(common, goal.scale)
 }
 
-// What stands in place of a generator or a rule.
+// What a generator or a rule is replaced by.
 fn named(replacements: &[Replacement], from: Origin) -> Replacement
     requires { IsAmongFirst (length replacements.now) from }
     ensures { result ≡ named_in replacements.now from }
@@ -77,7 +77,7 @@ fn named(replacements: &[Replacement], from: Origin) -> Replacement
     }
 }
 
-// The row, over what stands in place of its generator or rule.
+// The row, with its generator or rule replaced.
 fn make_row(replacements: &[Replacement], row: &Row) -> Result<LemmaRow, AllocError>
     requires from { IsAmongFirst (length replacements.now) row.now.from }
     requires coefficient_in { IsCoefficient row.now.coef }
@@ -96,7 +96,7 @@ fn make_row(replacements: &[Replacement], row: &Row) -> Result<LemmaRow, AllocEr
     })
 }
 
-// The record's scale and rows, over what stands in place of generators and rules.
+// The record's scale and rows, with generators and rules replaced.
 fn make_lemma(alloc: Global, replacements: &[Replacement], made: &Made) -> Result<Lemma, AllocError>
     requires { IsRecord (length replacements.now) made.now }
     ensures { IfOk result (λ l. l ≡ gathering.lemma_of (named_in replacements.now) made.now) }

@@ -1,4 +1,4 @@
-//! Which rules become lemmas, and what stands in place of each rule.
+//! Which rules become lemmas, and what each rule is replaced by.
 ghost use Rattle.std.specs.Prelude.{◌≡◌, ◌+◌, ◌<◌, ◌^◌, ◌++◌, ◌∷◌, [], length, filter, unwrap_or, IfOk, OnOk};
 ghost use Rattle.std.specs.List.{All};
 ghost use Rattle.cofactor_trace.specs.Needed.{IsRecord, AreRecords};
@@ -10,7 +10,7 @@ use crate::expansion::needed_numbers;
 use crate::replacement::{Replacement, direct_of, lemma_at};
 use std::alloc::{AllocError, Global};
 
-/// The lemmas, and what stands in place of each needed rule, by the rule's place.
+/// The lemmas, and what each needed rule is replaced by, by the rule's place.
 #[derive(Drop)]
 pub(crate) struct Naming<'a> {
     pub lemmas: Vec<&'a Made>,
@@ -32,7 +32,7 @@ fn name_rule<'a>(lemmas: &mut Vec<&'a Made>, made: &'a Made) -> Result<Replaceme
     }
 }
 
-// The needed rules that aren't direct are numbered, ascending.
+// Numbers the needed rules that aren't direct, ascending.
 pub(crate) fn name_rules<'a>(
     alloc: Global,
     made: &'a [Made],

@@ -21,10 +21,10 @@ use std::alloc::Global;
 use std::collections::BTreeMap;
 use word_core::Word;
 
-/// What rules expand to, by their numbers.
+/// The expansions of rules, by their numbers.
 pub(crate) type Expansions = BTreeMap<usize, Cofactors>;
 
-// The denominator of what a generator or a rule expands to.
+// The denominator of the expansion of a generator or a rule.
 fn denominator_of(expansions: &Expansions, from: Origin) -> i128
     requires { All IsRanged (values_of expansions.now.entries) }
     ensures exact { result ≡ (known_from expansions.now.entries from).denominator }
@@ -40,7 +40,7 @@ fn denominator_of(expansions: &Expansions, from: Origin) -> i128
     }
 }
 
-// The rows that a rule expands to.
+// The rows of a rule's expansion.
 fn rows_of_rule(expansions: &Expansions, number: u32) -> &[CertRow]
     requires { All IsRanged (values_of expansions.now.entries) }
     ensures exact { result.now ≡ (known_from expansions.now.entries (origin.Rule number)).rows }
@@ -64,7 +64,7 @@ fn itself(alloc: Global, generator: u32) -> CertRow
     }
 }
 
-// The least common multiple of the denominators of what the rows name, taken in order.
+// The least common multiple of the denominators of the rows' generators and rules, taken in order.
 fn common_denominator(expansions: &Expansions, rows: &[Row]) -> Result<i128, ExpandFault>
     requires { All IsRanged (values_of expansions.now.entries) }
     ensures exact { let known = known_from expansions.now.entries in
@@ -80,7 +80,7 @@ fn common_denominator(expansions: &Expansions, rows: &[Row]) -> Result<i128, Exp
     Ok(common)
 }
 
-// Whether the rows that are to be added up keep the limits.
+// Whether the rows that are to be added up are within the limits.
 fn check_limits(
     alloc: Global,
     expansions: &Expansions,
@@ -108,7 +108,7 @@ fn check_limits(
     check_size(size)
 }
 
-// Adds what one row expands to.
+// Adds the expansion of one row.
 fn add_row(
     alloc: Global,
     expansions: &Expansions,
@@ -136,7 +136,7 @@ fn add_row(
     }
 }
 
-// The sums of what the rows expand to.
+// The sums of the expansions of the rows.
 fn add_rows(
     alloc: Global,
     expansions: &Expansions,

@@ -1,4 +1,4 @@
-//! What stands in place of a rule in a certificate with lemmas.
+//! What a rule is replaced by in a certificate with lemmas.
 ghost use Rattle.std.specs.Prelude.{◌≡◌};
 ghost use Rattle.cofactor_trace.specs.Lemmas.{direct_of, signed_generator, lemma_at};
 
@@ -23,7 +23,7 @@ pub(crate) fn lemma_at(number: u32) -> Replacement
     }
 }
 
-// The generator or its negative, where that is what the rule is.
+// The generator or its negative, where the rule is one.
 pub(crate) fn direct_of(made: &Made) -> Option<Replacement>
     ensures { result ≡ direct_of made.now }
 {

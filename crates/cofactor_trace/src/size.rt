@@ -45,7 +45,7 @@ pub(crate) fn measure_joined(size: Size, outer: &Row, inner: &[CertRow]) -> Size
     size
 }
 
-// The first limit that is passed.
+// The first limit that is exceeded.
 pub(crate) fn check_size(size: Size) -> Result<(), ExpandFault>
     ensures { MatchResult result (λ _. limit_of size ≡ None) (IsFirst (limit_of size)) }
 {

@@ -1,4 +1,4 @@
-//! Rows with equal generator and words are added up in an ordered map.
+//! Adds up rows with equal generator and words, in an ordered map.
 ghost use Rattle.std.specs.Prelude.{◌≡◌, ◌++◌, refl, None, IfOk, IfErr, OnOk, MatchResult, Ok, map};
 ghost use Rattle.std.specs.BTreeMap.{insert_entry};
 ghost use Rattle.std.specs.List.{All};
@@ -74,7 +74,7 @@ impl PartialOrd for Multiple {
 /// The sum of the coefficients of each multiple so far, or the first overflow on the way to it.
 pub(crate) type Sums = BTreeMap<Multiple, Result<i128, Overflow>>;
 
-// Adds a number to the sum of a multiple. An overflow stays its sum, since another multiple may come before it in the end.
+// Adds a number to the sum of a multiple. An overflow is kept as its sum, since another multiple may come before it in the end.
 fn add(sums: &mut Sums, multiple: Multiple, coef: i128) -> Result<(), ExpandFault>
     requires coef_in { IsCoefficient coef }
     requires sums_in { All IsInRange (values_of sums.old.entries) }

@@ -31,7 +31,7 @@ denominator_positive c =
     let common_in : pos 0 <ℤ c.in_ok-common.common = c.in_ok-common.ensures.positive in
     subst (λ z. pos 0 <ℤ z) (sym product) (product_positive c.args.made.now.scale c.in_ok-common.common c.requires.positive common_in)
 
--- the limits are kept
+-- no limit is exceeded
 short : (c : In_ok-check_limits) → limit_fault (joined (known_from c.args.expansions.now.entries) c.in_ok-common.common c.as_slice-rows.result.now) ≡ None
 short c =
     let is = same_number c.in_ok-common.common c.in_ok-common.ensures.in_range in
