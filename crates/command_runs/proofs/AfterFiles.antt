@@ -1,4 +1,4 @@
--- What follows of how a run ends behind its files.
+-- What follows of how a run ends after its files.
 use Rattle.std.proofs.Common.{◌≡◌, inl, inr, ℕ, List, [], ◌∷◌, ◌++◌, refl, sym, ap, subst, arith, length, ◌<◌, ◌≤◌}
 use Rattle.std.specs.List.{AllByRecursion}
 use Rattle.flow_io.specs.Causes.{Rose}
@@ -26,7 +26,7 @@ past_loaded told limit file bytes is past loaded =
     let fits : length bytes ≤ limit = loaded.1 in
     omega arith
 
--- the count was no higher before, and as much is told of the file
+-- the count was no higher before, and the shelf tells at least as much of the file
 pub ends_earlier : (told told' : Told) (before before' now : ℕ) (name : List ℕ) (limit : ℕ) (ending : Ending) → told' ≡ told → before ≤ before'
     → EndsAtFile told' (Rose before' now) name limit ending → EndsAtFile told (Rose before now) name limit ending
 ends_earlier told told' before before' now name limit ending same order (inl (cause, is)) = inl (omega arith, is)

@@ -1,4 +1,4 @@
--- What is told of a block of evidence: why it is refused is a line, and what accepting it says is a line, and after it lines that don't begin with #.
+-- The text about a block of evidence: why it is refused is a line, and what accepting it says is a line, and after it lines that don't begin with #.
 use Rattle.std.proofs.Common.{◌≡◌, ℕ, ℤ, Bool, true, false, List, [], ◌∷◌, ◌++◌, Option, Some, refl, subst, length, get_or, codes, IsTrue}
 use Rattle.std.specs.Prelude.{decimal}
 use Rattle.std.specs.Option.{IfSome}
@@ -71,7 +71,7 @@ num n = record { is = number_is_part n }
 int : (z : ℤ) → IsPart (signed_decimal z)
 int z = record { is = integer_is_part z }
 
--- the cause that is told
+-- the cause that is printed
 pub told_is_part : (o : Option (List ℕ)) (cause : List ℕ) → IfSome o IsPart → o ≡ Some cause → lacks 10 cause ≡ true
 told_is_part o cause is same = let P : Option (List ℕ) → Type 0 = λ x. IfSome x IsPart in let part : IsPart cause = subst P same is in part.is
 

@@ -95,7 +95,7 @@ other_default [] place one other inside = absurd (omega arith)
 other_default (x ∷ xs) zero one other inside = refl
 other_default (x ∷ xs) (suc place) one other inside = other_default xs place one other (omega arith)
 
--- one that isn't there is what stands in its place
+-- an item past the end is the other one
 pub no_item : {Item : Type 0} (xs : List Item) (place : ℕ) (other : Item) → length xs ≤ place → get_or xs place other ≡ other
 no_item [] place other past = refl
 no_item (x ∷ xs) zero other past = absurd (omega arith)

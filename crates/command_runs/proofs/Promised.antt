@@ -66,7 +66,7 @@ as_many : (P : ℕ → Verdict → Type 0) (problem : Problem) (vs : List Verdic
 as_many P problem vs each = AllZip-long P (claim_numbers problem) vs each ∙ length-range_with_len 1 (length problem.parts.claims)
 
 module _ {Object Arrow : Type 0} {s : Structure Object Arrow} (equations : SaysEquations s) (bytes : List ℕ) (problem : Problem) (is : IsStated bytes problem) (evidence : List ℕ) (budget : Budget) where
-  -- a claim that isn't derivable is told from zero
+  -- a claim that isn't derivable is not zero in the normal forms
   abbrev IsToldFromZero : ℕ → Verdict → Type 0
   IsToldFromZero claim v = (rest : Poly) → v ≡ verdict.NotDerivable rest → IsSharp bytes claim
 
@@ -97,7 +97,7 @@ module _ {Object Arrow : Type 0} {s : Structure Object Arrow} (equations : SaysE
       (λ l after inner at. subst (λ (n : ℕ). IsOfVerdict ds names Unrefuted (length rules) 1 (1 + n) (λ claim v. []) (35 ∷ l) after) count
       (line_of_heads ds names Unrefuted rules vs (subst (λ (n : ℕ). AllZip Unrefuted (range_with_len 1 n) vs) (sym count) each) l after inner at)) evidence
 
-  -- where no models are looked for, no claim is refuted
+  -- where no models are searched, no claim is refuted
   none_refuted : (asked : Asked) → asked.models ≡ false → (number : ℕ) (o : Outcome) (v : Verdict) → IsVerdictOn problem asked number o v → (m : Model) → v ≡ verdict.Refuted m → ⊥
   none_refuted asked none number o v (proved e on says) m same = let P : Verdict → Type 0 = λ x. IsProof x in absurd (subst P (sym says ∙ same) tt)
   none_refuted asked none number o v (not_derivable rest on says) m same = absurd (subst IsRest (sym says ∙ same) tt)
@@ -111,7 +111,7 @@ module _ {Object Arrow : Type 0} {s : Structure Object Arrow} (equations : SaysE
   unrefuted asked none (n ∷ numbers) [] (v ∷ vs) on means = absurd on
   unrefuted asked none (n ∷ numbers) (o ∷ os) (v ∷ vs) on means = ((means.0, none_refuted asked none n o v on.0), unrefuted asked none numbers os vs on.1 means.1)
 
-  -- the last rules of a run tell a claim that isn't derivable from zero
+  -- in the normal forms of the last rules of a run a claim that isn't derivable is not zero
   module _ (asked : Asked) (rules : List Poly) (are_rules : AreLastRules (setting_of problem asked.budget) asked.form problem (claim_numbers problem) rules) where
     by_rules : (number : ℕ) (rest : Poly) → IsOutcomeAt problem asked.budget asked.form number (outcome.Closed rest) → IsSharp bytes number
     by_rules number rest at =

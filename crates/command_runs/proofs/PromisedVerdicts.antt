@@ -37,7 +37,7 @@ use Rattle.command_runs.proofs.PromisedGenerators.{is_not_derivable}
 use Rattle.command_runs.proofs.QuietTexts.{lacks, LineAt}
 use Rattle.command_runs.proofs.ReportLines.{at_start, claim_said, IsOfVerdict}
 
--- what is told of a verdict begins with a blank
+-- the text of a verdict begins with a blank
 abbrev told_of : List Declaration → ℕ → Verdict → List ℕ
 told_of ds rules v = drop 1 (said_of ds rules v)
 
@@ -167,7 +167,7 @@ module _ {Object Arrow : Type 0} {s : Structure Object Arrow} (equations : SaysE
         record { problem = problem; stated = stated; halt = h; says = ap (drop 10) says; means = means number (verdict.Undecided h) holds }
     undecided_by number text (verdict.NotRefuted candidates) holds says = absurd (differ 0 117 110 _ _ says refl refl (λ e. omega (arith, e)))
 
-    -- no line on a block stands there
+    -- there is no line on a block
     no_block : (block : ℕ) (said after : List ℕ) → HasLineBefore put (block_line block said) after → ⊥
     no_block block said after has =
         let of = find _ after has.one (at_start put (block_line block said) after has) in

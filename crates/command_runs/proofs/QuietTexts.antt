@@ -3,7 +3,7 @@ use Rattle.std.proofs.Common.{◌≡◌, ◌⊎◌, inl, inr, ℕ, Bool, true, f
 use Rattle.std.specs.List.{list_all}
 use Rattle.std.proofs.lemmas.Bool.{and_parts, eq-eqb}
 
--- whether the byte doesn't stand in the text
+-- whether the text lacks the byte
 abbrev pub lacks : ℕ → List ℕ → Bool
 lacks stop text = list_all (λ c. not (c == stop)) text
 
@@ -14,7 +14,7 @@ is_other false known = refl
 pub is_itself : (c : ℕ) → not (c == c) ≡ true → ⊥
 is_itself c known = let same : (c == c) ≡ true = eq-eqb c c refl in absurd (let wrong : not true ≡ true = subst (λ (b : Bool). not b ≡ true) same known in cc)
 
--- what stands in front of the first such byte, and what stands after it
+-- what is before the first such byte, and what is after it
 pub cut : (stop : ℕ) (xs ys rest after : List ℕ) → lacks stop xs ≡ true → lacks stop ys ≡ true → xs ++ stop ∷ rest ≡ ys ++ stop ∷ after → (xs ≡ ys) × (rest ≡ after)
 cut stop [] [] rest after left right same = (refl, tail same)
   where
@@ -34,7 +34,7 @@ cut stop (x ∷ xs) (y ∷ ys) rest after left right same =
     let both = cut stop xs ys rest after (and_parts (not (x == stop)) (lacks stop xs) left).1 (and_parts (not (y == stop)) (lacks stop ys) right).1 tails in
     ((λ i. first i ∷ both.0 i), both.1)
 
--- whether no line begins with #, where the text begins a line or goes on with one
+-- whether no line begins with #, where the text begins a line or continues one
 abbrev pub is_quiet : Bool → List ℕ → Bool
 is_quiet start [] = true
 is_quiet start (c ∷ cs) = not (start && (c == 35)) && is_quiet (c == 10) cs
@@ -69,7 +69,7 @@ pub quiet-flat_map : {X : Type 0} (text_of : X → List ℕ) → ((x : X) → Is
 quiet-flat_map text_of each [] = record { quiet = refl; ends = refl }
 quiet-flat_map text_of each (x ∷ xs) = quiet-append true true true (text_of x) (flat_map text_of xs) (each x) (quiet-flat_map text_of each xs)
 
--- The text has this line, where it begins a line or goes on with one.
+-- The text has this line, where it begins a line or continues one.
 pub record LineAt (start : Bool) (text line after : List ℕ) : Type 0 where
   pub before : List ℕ
   pub begins : ends_line start before ≡ true

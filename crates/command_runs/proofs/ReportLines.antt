@@ -169,7 +169,7 @@ module _ (ds : List Declaration) (known : IsTrue (list_all is_named ds)) where
       of_verdict P (length rules) (λ claim v. []) (λ claim v. record { quiet = refl; ends = refl }) (heads_from ds (length rules)) (λ claim. refl)
       (λ claim v others. ap (λ t. t ++ heads_from ds (length rules) (suc claim) others) (sym (append-nil (head_line ds (length rules) claim v)))) 1 vs each l after inner at
 
--- A text that is told of a block: its first line, and lines after it that don't begin with #.
+-- The text about a block: its first line, and lines after it that don't begin with #.
 pub record IsTold (text : List ℕ) : Type 0 where
   pub first : List ℕ
   pub rest : List ℕ
@@ -182,7 +182,7 @@ abbrev pub line_is_told : (text : List ℕ) → lacks 10 text ≡ true → IsTol
 line_is_told text one = record { first = text; rest = []; splits = refl; one = one; quiet = record { quiet = refl; ends = refl } }
 
 module _ {Block : Type 0} (passes : Block → Type 0) (shows : Block → List ℕ) (refuses : Block → List ℕ → Type 0) (told : (b : Block) → passes b → IsTold (shows b)) (caused : (b : Block) (cause : List ℕ) → refuses b cause → lacks 10 cause ≡ true) where
-  -- A line on a block: it is accepted, and this is the first line of what is told of it, or it is refused.
+  -- A line on a block: it is accepted, and this is the first line of the text about it, or it is refused.
   pub data IsOnBlock (number : ℕ) (blocks : List Block) (l : List ℕ) : Type 0 where
     accepts : (place : ℕ) (b : Block) (holds : passes b) → slice_get blocks place ≡ Some b → l ≡ on_block (number + place) (told b holds).first → IsOnBlock number blocks l
     refuses_one : (block : ℕ) (cause : List ℕ) → l ≡ refused_text block cause → IsOnBlock number blocks l

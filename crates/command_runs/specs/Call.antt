@@ -1,4 +1,4 @@
--- What words call for.
+-- The calls that words name.
 use Rattle.std.specs.Prelude.{List, String, string_bytes, map}
 use Rattle.std.specs.declared.alloc.Global.{Global}
 use Rattle.clap.specs.Words.{subcommand_of}
@@ -11,7 +11,7 @@ use Rattle.command_words.specs.declared.call.Call.{Call}
 abbrev pub IsTaken : List (String Global) → Type 0
 IsTaken words = set.IsTaken (map string_bytes words)
 
--- and what it gives is what the call names
+-- and its result is the call
 pub record IsCalled (words : List (String Global)) (call : Call) : Type 0 where
   pub taken : IsTaken words
   pub names : MatchesGive (subcommand_of command_set (map string_bytes words)) call

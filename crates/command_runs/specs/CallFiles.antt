@@ -1,4 +1,4 @@
--- The files of a call, and what it reads in them.
+-- The files of a call, with the statement and the evidence in them.
 use Rattle.std.specs.Prelude.{ℕ, List, [], ◌≡◌, length, get_or}
 use Rattle.command_words.specs.declared.call.Call.{Call}
 use Rattle.command_words.specs.declared.call.Call.TheVariants.{Prove, Refute, Bench, Evidence}
@@ -17,12 +17,12 @@ files_of (Evidence command p) = pair_files p.statement p.evidence
 abbrev pub AreContents : Call → List (List ℕ) → Type 0
 AreContents call contents = length contents ≡ length (files_of call)
 
--- the statement that a call without files writes
+-- the statement that a call without files makes
 abbrev pub written_by : Call → List ℕ
 written_by (Bench b) = bench_statement b.size
 written_by _ = []
 
--- the statement of a call: the first of its contents, or what it writes
+-- the statement of a call: the first of its contents, or the one that it makes
 abbrev pub statement_of : Call → List (List ℕ) → List ℕ
 statement_of call contents = get_or contents 0 (written_by call)
 

@@ -10,7 +10,7 @@ use Rattle.command_shape.specs.Ending.{Ending, usage}
 use Rattle.command_runs.specs.Files.{AfterFiles}
 use Rattle.command_runs.specs.Answers.{Answers}
 
--- Words that are no call end in the usage line. A call ends at its files, or goes on as it answers their contents.
+-- Words that are no call end in the usage line. A call ends at one of its files, or answers their contents.
 pub data EndsBy (answers : Call → List (List ℕ) → Ending → Type 0) (words : List (String Global)) (told : List ℕ → Told) (rose : List ℕ
     → Type 0) (ending : Ending) : Type 0 where
   other_words : (IsTaken words → ⊥) → ending ≡ usage usage_text → EndsBy answers words told rose ending

@@ -10,7 +10,7 @@ use Rattle.command_shape.specs.Ending.{Ending, load_failed, too_long}
 abbrev pub RoseAt : (List ℕ → ℕ) → (List ℕ → ℕ) → List ℕ → Type 0
 RoseAt before now name = Rose (before name) (now name)
 
--- the bytes that were loaded under a name of which the shelf tells so much
+-- the bytes that were loaded under a name, by what the shelf tells of it
 abbrev pub AreLoaded : Told → ℕ → List ℕ → Type 0
 AreLoaded told limit bytes = AreWhole told bytes × (length bytes ≤ limit)
 
@@ -18,7 +18,7 @@ AreLoaded told limit bytes = AreWhole told bytes × (length bytes ≤ limit)
 abbrev pub EndsAtFile : Told → Type 0 → List ℕ → ℕ → Ending → Type 0
 EndsAtFile told rose name limit ending = (rose × (ending ≡ load_failed name)) ⊎ (MayExceed told limit × (ending ≡ too_long name limit))
 
--- The files in their order: the run ends at the first that couldn't be loaded, or as the contents of all of them lead to.
+-- The files in their order: the run ends at the first that couldn't be loaded, or as `next` says of the contents of all of them.
 abbrev pub AfterFiles : (List ℕ → Told) → (List ℕ → Type 0) → List FileWord → (List (List ℕ) → Ending → Type 0) → Ending → Type 0
 AfterFiles told rose [] next ending = next [] ending
 AfterFiles told rose (file ∷ files) next ending =
@@ -29,13 +29,13 @@ AfterFiles told rose (file ∷ files) next ending =
 abbrev pub WereLoaded : (List ℕ → Told) → List FileWord → List (List ℕ) → Type 0
 WereLoaded told files contents = AllZip (λ file bytes. AreLoaded (told file.name) file.limit bytes) files contents
 
--- the shelf tells the file, within its limit, and no load of it failed
+-- the shelf holds these bytes, within the file's limit, and no load of it failed
 pub record IsHeld (told : List ℕ → Told) (rose : List ℕ → Type 0) (file : FileWord) (bytes : List ℕ) : Type 0 where
   pub held : told file.name ≡ Holds bytes
   pub fits : length bytes ≤ file.limit
   pub steady : rose file.name → ⊥
 
--- the shelf tells all of the files so, and these are their contents
+-- the shelf holds all of the files so, and these are their contents
 abbrev pub AreHeld : (List ℕ → Told) → (List ℕ → Type 0) → List FileWord → List (List ℕ) → Type 0
 AreHeld told rose files contents = AllZip (IsHeld told rose) files contents
 
@@ -56,7 +56,7 @@ pub record IsMissing (told : List ℕ → Told) (files : List FileWord) : Type 0
   pub missing : told file.name ≡ Absent
   pub short : AllByRecursion (λ other. MayExceed (told other.name) other.limit → ⊥) before
 
--- the shelf tells that this is the first file past its limit, and no load up to it failed
+-- the shelf tells that this is the first file above its limit, and no load up to it failed
 pub record IsFirstTooLong (told : List ℕ → Told) (rose : List ℕ → Type 0) (files : List FileWord) (file : FileWord) : Type 0 where
   pub before : List FileWord
   pub after : List FileWord

@@ -1,4 +1,4 @@
--- What users ask of all answers.
+-- The laws of all answers, for users.
 use Rattle.std.specs.Prelude.{ℕ, ◌≡◌, List, length}
 use Rattle.command_words.specs.declared.call.Call.{Call}
 use Rattle.command_shape.specs.Ending.{Ending}

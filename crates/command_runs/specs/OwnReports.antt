@@ -19,7 +19,7 @@ use Rattle.evidence_commands.specs.Causes.{cause_text}
 use Rattle.evidence_commands.specs.Check.{certificates}
 use Rattle.evidence_commands.specs.Model.{models}
 
--- what `prove`, whatever it is asked for, or `refute`, with whatever seed, reports on the problem of a statement
+-- a report of `prove`, with any options, or of `refute`, with any seed, on the problem of a statement
 pub data IsReportOn (problem : Problem) (ending : Ending) : Type 0 where
   of_prove : (asked : Asked) → AnswersClaims report_of asked problem ending → IsReportOn problem ending
   of_refute : (seed : ℕ) → AnswersSearch seed problem ending → IsReportOn problem ending
@@ -28,7 +28,7 @@ pub data IsReportOn (problem : Problem) (ending : Ending) : Type 0 where
 abbrev pub no_blocks : Ending
 no_blocks = refused_evidence (evidence_fault no_block.code no_block.line no_block.limit)
 
--- All certificates are accepted; or the first of which a limit is passed in adding it up is refused; or there are none.
+-- All certificates are accepted; or the first whose sum exceeds a limit is refused; or there are none.
 pub data ChecksReport (problem : Problem) (ending : Ending) : Type 0 where
   all : (es : List Evidence) → ending ≡ record { status = 0; report = accepted_lines certificates problem 1 es } → ChecksReport problem ending
   limit : (first : List Evidence) (refusal : Refusal) (cause : List ℕ) → PassesLimit refusal → cause_text problem.parts.quiver refusal ≡ Some cause
@@ -40,7 +40,7 @@ pub data ConfirmsReport (problem : Problem) (ending : Ending) : Type 0 where
   all : (ms : List Model) → ending ≡ record { status = 0; report = accepted_lines models problem 1 ms } → ConfirmsReport problem ending
   none : ending ≡ no_blocks → ConfirmsReport problem ending
 
--- So it is for each report on a statement.
+-- This holds for each report on a statement.
 abbrev pub ReportsAreChecked : Type 0
 ReportsAreChecked = (statement : List ℕ) (problem : Problem) (report ending : Ending) → IsStated statement problem → IsReportOn problem report
     → AnswersBoth certificates statement report.report ending → ChecksReport problem ending

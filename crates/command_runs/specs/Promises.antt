@@ -1,6 +1,6 @@
 -- The main theorem in short: each line that was put means what it says. Each promise has a page of its own.
--- The category is the one that is handed in to `run`, whose bound `Preadditive` gives its laws; `run` is one body for all of them.
--- Each page says that the file has no fault, as a fault is answered by status 3. Over devices that tell nothing, as the machine's, `bytes` are some bytes:
+-- The category is the one that is given to `run`, whose bound `Preadditive` gives its laws; `run` is one body for all of them.
+-- Each page says that the file has no fault, as a fault has status 3. Over devices that tell nothing, as the machine's, `bytes` are some bytes:
 -- what is put is the same as over devices in memory, as `run` can't see which of them it has.
 pub mod Lines
 pub mod Faultless
@@ -48,6 +48,6 @@ pub record IsMeant {Object Arrow : Type 0} (s : Structure Object Arrow) (words :
   pub put : run.put bytes
   pub lines : LinesAreMeant s (budget_of call) (statement_of call contents) (evidence_of contents) bytes
 
--- So it is at each status but 2 (other words), 3 (a faulty statement), 4 (a file that couldn't be loaded), 5 (a sink that failed) and 6 (nothing is put).
+-- This holds at each status but 2 (other words), 3 (a faulty statement), 4 (a file that couldn't be loaded), 5 (a sink that failed) and 6 (nothing is put).
 abbrev pub PutsWhatIsMeant : {Object Arrow : Type 0} → Structure Object Arrow → List (String Global) → Run → ℕ → Type 0
 PutsWhatIsMeant s words run status = status ≢ 2 → status ≢ 3 → status ≢ 4 → status ≢ 5 → status ≢ 6 → IsMeant s words run

@@ -12,7 +12,7 @@ use Rattle.command_runs.specs.Answers.{Answers}
 use Rattle.command_runs.specs.Ends.{MayEnd}
 use Rattle.command_runs.specs.Seen.{Run}
 
--- Every status but 5 and 6: the whole report of an ending that is allowed was put, and the sink is finished.
+-- Every status but 5 and 6: the whole report of a possible ending was put, and the sink is finished.
 abbrev pub IsReported : List (String Global) → Run → ℕ → Type 0
 IsReported words run status = status ≢ 5 → status ≢ 6 → (ending : Ending) × MayEnd words run.told run.rose ending
     × (ending.status ≡ status) × run.put ending.report × run.finished
@@ -32,14 +32,14 @@ IsUsage words status = status ≡ 2 → IsTaken words → ⊥
 abbrev pub TellsOtherWords : List (String Global) → ℕ → Type 0
 TellsOtherWords words status = (IsTaken words → ⊥) → (status ≡ 2) ⊎ (status ≡ 5) ⊎ (status ≡ 6)
 
--- a line says that a load failed, of a file whose count rose, behind files that were loaded
+-- the report says that a load failed, of a file whose count rose, after files that were loaded
 pub record SaysLoadFailed (run : Run) (files : List FileWord) : Type 0 where
   pub file : FileWord
   pub reached : IsReached run.told files file
   pub cause : run.rose file.name
   pub printed : run.put (load_failed file.name).report
 
--- a line says that a file is too long, behind files that were loaded
+-- the report says that a file is too long, after files that were loaded
 pub record SaysTooLong (run : Run) (files : List FileWord) : Type 0 where
   pub file : FileWord
   pub reached : IsReached run.told files file
@@ -60,7 +60,7 @@ abbrev pub TellsTooLong : List (String Global) → Run → ℕ → Type 0
 TellsTooLong words run status = (call : Call) (file : FileWord) → IsCalled words call → IsFirstTooLong run.told run.rose (files_of call) file → status ≢ 6
     → ((status ≡ 4) × run.put (too_long file.name file.limit).report) ⊎ (status ≡ 5)
 
--- the files of a call were loaded, and the report is that of what their contents answer, with this status
+-- the files of a call were loaded, and this is the status of the answer to their contents, whose report was put
 pub record SaysAnswer (words : List (String Global)) (run : Run) (status : ℕ) : Type 0 where
   pub call : Call
   pub is_called : IsCalled words call
@@ -71,11 +71,11 @@ pub record SaysAnswer (words : List (String Global)) (run : Run) (status : ℕ) 
   pub same_status : status ≡ ending.status
   pub printed : run.put ending.report
 
--- Every other status: all files of the call were loaded whole, and it is what their contents answer, with its report.
+-- Every other status: all files of the call were loaded whole, and it is that of the answer to their contents, whose report was put.
 abbrev pub IsAnswered : List (String Global) → Run → ℕ → Type 0
 IsAnswered words run status = status ≢ 2 → status ≢ 4 → status ≢ 5 → status ≢ 6 → SaysAnswer words run status
 
--- Where the files are held within their limits and no count rose, what their contents answer is the status, and its report is put whole.
+-- Where the files are held within their limits and no count rose, the status is that of the answer to their contents, whose report is put whole.
 abbrev pub IsComplete : List (String Global) → Run → ℕ → Type 0
 IsComplete words run status = (call : Call) (contents : List (List ℕ)) (ending : Ending) → IsCalled words call
     → AreHeld run.told run.rose (files_of call) contents

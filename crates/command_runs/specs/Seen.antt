@@ -1,12 +1,12 @@
--- What the devices tell of a run.
+-- What the devices tell about a run.
 use Rattle.std.specs.Prelude.{ℕ, List, Option, Bool, IsTrue}
 use Rattle.std.specs.Io.KnownBytes.{Appends}
 use Rattle.flow_io.specs.Causes.{Rose}
 use Rattle.flow_io.specs.Told.{Told}
 use Rattle.command_runs.specs.Files.{RoseAt}
 
--- Of each file, of the names whose count of faults rose, of the bytes that were put, of the sink that is
--- finished or whose count rose.
+-- The contents of each file, the names whose count of faults rose, the bytes that were put, and whether the sink is
+-- finished or its count rose.
 pub record Run : Type 1 where
   pub told : List ℕ → Told
   pub rose : List ℕ → Type 0

@@ -1,4 +1,4 @@
-//! What a call answers.
+//! The answer of a call.
 ghost use Rattle.std.specs.Prelude.{◌≡◌, ◌≤◌, IfOk, length};
 ghost use Rattle.std.specs.List.{AllZip};
 ghost use Rattle.command_words.specs.Calls.{IsInRange};
@@ -21,7 +21,7 @@ use stated_problem::read_statement;
 use std::alloc::{AllocError, Global};
 use std::thread::Threads;
 
-/// How a run of the call ends that has loaded the contents of its files. `bench` writes its statement itself.
+/// How a run of the call ends once the contents of its files are loaded. `bench` makes its statement itself.
 pub fn answer<R: Threads + Sync, G: Gate + Sync>(
     rt: &R,
     alloc: Global,
@@ -46,7 +46,7 @@ pub fn answer<R: Threads + Sync, G: Gate + Sync>(
     }
 }
 
-// The statement that a call without files writes.
+// The statement that a call without files makes.
 fn write_statement(alloc: Global, call: &Call) -> Result<Vec<u8>, AllocError>
     requires { IsInRange call.now }
     ensures written { IfOk result (λ text. text.items ≡ written_by call.now) }

@@ -63,7 +63,7 @@ fn answer_call<R: Threads + Sync, L: Shelf, G: Gate + Sync>(
     answer(rt, alloc, call, contents.as_slice(), gate)
 }
 
-// The answer of the call that the words are, from its files.
+// The answer of the call that the words name, from its files.
 fn answer_words<R: Threads + Sync, L: Shelf, G: Gate + Sync>(
     rt: &R,
     alloc: Global,
@@ -114,10 +114,10 @@ fn put_ending<K: Sink>(sink: &mut K, ending: &Ending) -> u8
 
 /// Runs a call: loads its files in their order, and puts the report of its answer.
 ///
-/// The clauses speak of what the devices tell. A shelf that tells of each file what it holds, and a sink that tells what was
-/// put, make each of them bite. The machine's files and its standard output tell nothing, and over them each clause on content
-/// is empty; but this is one body for all devices, which can't see which of them it has, and so does over these what it does
-/// over those. What the machine's devices give and take is tried by tests alone.
+/// The clauses are about what the devices tell. With a shelf that tells what each file holds, and a sink that tells what was
+/// put, each of them says something. The machine's files and its standard output tell nothing, and over them each clause on content
+/// is empty; but this is one body for all devices, which can't see which of them it has, and so it does the same over
+/// both. What the machine's devices read and write is only tested.
 pub fn run<R: Threads + Sync, C: Preadditive, L: Shelf, K: Sink, G: Gate + Sync>(
     rt: &R,
     alloc: Global,

@@ -1,4 +1,4 @@
--- `confirmed`: in the matrices of the model that was handed in all assumptions of the file hold, and the claim doesn't.
+-- `confirmed`: in the matrices of the given model all assumptions of the file hold, and the claim doesn't.
 use Rattle.std.specs.Prelude.{◌≡◌, ◌<◌, ℕ, suc, List, ◌++◌, codes, decimal, slice_get, Some}
 use Rattle.quiver.specs.Declarations.{Declaration}
 use Rattle.matrix_models.specs.declared.model.Model.{Model}

@@ -1,4 +1,4 @@
--- The files that the pages speak of.
+-- The files that the pages are about.
 use Rattle.std.specs.Prelude.{◌≡◌, ℕ, List, None}
 use Rattle.statement_syntax.specs.declared.tree.Statement.{Statement}
 use Rattle.statement_syntax.specs.Texts.{IsTreeOf}

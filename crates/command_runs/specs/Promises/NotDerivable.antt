@@ -21,7 +21,7 @@ abbrev pub IsPolynomialOf : List Declaration → Equation → Poly → Type 0
 IsPolynomialOf ds e p = equation_poly ds e.left e.right ≡ Ok p
 
 -- The bytes are a file without a fault with a claim of this number, of which no positive multiple is a combination of the generators: the assumptions,
--- abbreviations written out, where the file is starred their adjoints, and what it is for the identities that occur to be identities.
+-- abbreviations written out, where the file is starred their adjoints, and the equations by which the identities that occur are identities.
 pub record IsNotDerivable (bytes : List ℕ) (number : ℕ) : Type 0 where
   pub statements : List Statement
   pub file : IsFaultlessFile bytes statements

@@ -1,5 +1,5 @@
 -- `proved` and `explained`: wherever the denominator cancels and all assumptions of the file hold, the claim holds. `bytes` is the statement, `put` what
--- was put. Of the numbers of rows and of steps nothing is said here: the clause `answered` of `run` says them.
+-- was put. The numbers of rows and of steps are not promised here: they are in the clause `answered` of `run`.
 use Rattle.std.specs.Prelude.{◌≡◌, ◌<◌, ◌<ℤ◌, ℕ, ℤ, pos, List, ◌++◌, codes, decimal}
 use Rattle.std.specs.Fmt.{signed_decimal}
 use Rattle.definitions.specs.Category.{Structure}

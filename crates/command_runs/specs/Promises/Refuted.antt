@@ -21,7 +21,7 @@ pub record IsRefuted (bytes : List ℕ) (number : ℕ) (IsShown : List Declarati
   pub shown : IsShown (declarations_of statements) model
   pub refutes : RefutesClaim statements number model
 
--- what comes right after the line begins with the text of the model
+-- the text after the line begins with that of the model
 abbrev pub IsNext : List ℕ → List Declaration → Model → Type 0
 IsNext after ds m = (rest : List ℕ) × (after ≡ model_text ds m ++ rest)
 

@@ -9,7 +9,7 @@ use Rattle.normal_forms.specs.SharpMeans.{SharpMeans, StarSharpMeans}
 use Rattle.stated_problem.specs.Stated.{IsStated}
 use Rattle.command_runs.specs.Promises.Lines.{HasLine, claim_line, block_line, number_limit}
 
--- The bytes are a file without a fault, with this problem, and the normal forms of some rules tell its claim with this number from zero.
+-- The bytes are a file without a fault, with this problem, and its claim with this number is not zero in the normal forms of some rules.
 pub record IsSharp (bytes : List ℕ) (number : ℕ) : Type 0 where
   pub problem : Problem
   pub stated : IsStated bytes problem

@@ -1,4 +1,4 @@
--- `undecided`: the line names what stopped the search, and the run was so; with a least word no positive multiple of the claim is a combination below it.
+-- `undecided`: the line names what stopped the search, and that did stop it; with a least word no positive multiple of the claim is a combination below it.
 use Rattle.std.specs.Prelude.{◌≡◌, ◌<◌, ℕ, List, ◌++◌, codes}
 use Rattle.cofactor_trace.specs.declared.halt.Halt.{Halt}
 use Rattle.adjoint_rules.specs.declared.problem.Problem.{Problem}
@@ -11,7 +11,7 @@ use Rattle.report_text.specs.Heads.{cause_text, place_text, least_text}
 use Rattle.stated_problem.specs.Stated.{IsStated}
 use Rattle.command_runs.specs.Promises.Lines.{HasLine, claim_line, number_limit}
 
--- the pairs and the steps that a call may spend: those that it names, or else the defaults
+-- the pairs and the steps that a call may use: those that it names, or the defaults
 abbrev pub budget_of : Call → Budget
 budget_of (Prove p) = record { pairs = p.pairs; steps = p.steps }
 budget_of other = record { pairs = default_pairs; steps = default_steps }

@@ -10,6 +10,6 @@ returns-in_err-problem g c =
     let back : c.from_residual.result ≡ Err stop = search rules in
     refused_statement_ends c.args.statement.now (AnswersOver c.args.call.now c.args.evidence.now) c.from_residual.result stop back c.in_err-problem.ensures.stopped
 
--- its problem goes on
+-- it has a problem
 pub returns : goal.returns
 returns g c = stated_ends c.args.statement.now (AnswersOver c.args.call.now c.args.evidence.now) c.in_ok-problem.problem c.answer_problem.result c.in_ok-problem.ensures.stated c.answer_problem.ensures

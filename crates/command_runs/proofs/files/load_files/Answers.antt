@@ -9,7 +9,7 @@ use Rattle.command_shape.proofs.Stops.{stops_weaker, handed_on}
 use Rattle.command_runs.proofs.AfterFiles.{ends_earlier, after_ended, loaded_more}
 use Rattle.command_runs.proofs.files.load_files.Goals as goal
 
--- a file couldn't be loaded, behind those that were
+-- a file couldn't be loaded, after those that were
 pub returns-in_err-bytes-clause-stopped : goal.returns-in_err-bytes-clause-stopped
 returns-in_err-bytes-clause-stopped g c =
     let told : List ℕ → Told = g.L.Shelf.file c.args.shelf.now in

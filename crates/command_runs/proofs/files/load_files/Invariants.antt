@@ -2,7 +2,7 @@ use Rattle.std.proofs.Common.{◌≡◌, ◌≤◌, ℕ, List, take}
 use Rattle.command_runs.specs.Files.{WereLoaded}
 use Rattle.command_runs.proofs.files.load_files.Given as goal
 
--- the files before the place were loaded; what is told of files stays, and no count fell
+-- the files before the place were loaded; what the shelf tells of files stays, and no count fell
 abbrev pub invariant-loop-file : goal.invariant-loop-file
 invariant-loop-file g l = record {
   loaded : WereLoaded (g.L.Shelf.file l.initial.shelf) (take l.file-index l.files) l.contents;
