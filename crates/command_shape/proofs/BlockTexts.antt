@@ -21,7 +21,7 @@ pub record IsKind {Block Refusal : Type 0} (passes : Block → Type 0) (shows : 
   pub each_block : (b : Block) → passes b ⊎ ((r : Refusal) × is_refused b r × (is_memory r → ⊥))
   pub one_refusal : (b : Block) (r r' : Refusal) → is_refused b r → is_refused b r' → (is_memory r → ⊥) → (is_memory r' → ⊥) → r ≡ r'
   pub not_refused : (b : Block) (r : Refusal) → passes b → is_refused b r → is_memory r
-  -- a refusal has a text, unless it is want of memory; and what is shown of a block that passes begins as no refusal does
+  -- a refusal has a text, unless it is want of memory; and the text of a block that passes begins as that of no refusal does
   pub has_text : (r : Refusal) → (is_memory r → ⊥) → (cause : List ℕ) × (told r ≡ Some cause)
   pub no_text : (r : Refusal) (cause : List ℕ) → told r ≡ Some cause → is_memory r → ⊥
   pub other_text : (b : Block) (cause more : List ℕ) → codes "refused " ++ cause ≡ shows b ++ more → ⊥
@@ -111,12 +111,12 @@ module _ {Block Refusal : Type 0} {passes : Block → Type 0} {shows : Block →
   judge_all number [] = (record { status = 0; report = [] }, (refl, refl))
   judge_all number (b ∷ bs) = judge_one number b bs (judge_all (number + 1) bs) (kind.each_block b)
 
-  -- blocks that all pass are told so
+  -- blocks that all pass are all accepted
   passing_judged : (number : ℕ) (bs : List Block) → AllByRecursion passes bs → JudgesFrom Accepts Refuses number bs (lines_on shows number bs) 0
   passing_judged number [] all = (refl, refl)
   passing_judged number (b ∷ bs) all = accepted (shows b) (record { holds = all.0; says = refl }) (lines_on shows (number + 1) bs) (passing_judged (number + 1) bs all.1) refl
 
-  -- 0 is told of no others
+  -- 0 is the status of no others
   zero_passes : (number : ℕ) (bs : List Block) (lines : List ℕ) (status : ℕ) → JudgesFrom Accepts Refuses number bs lines status → status ≡ 0 → AllByRecursion passes bs × (lines ≡ lines_on shows number bs)
   zero_passes number [] lines status judges is_zero = (tt, judges.0)
   zero_passes number (b ∷ bs) lines status (accepted text holds rest next is) is_zero =

@@ -8,7 +8,7 @@ use Rattle.command_shape.proofs.Places.{drop-at, drop-all}
 module _ {Block : Type 0} (accepts refuses : Block → List ℕ → Type 0) where
   -- the blocks one by one
   module _ (bs : List Block) where
-    -- the report so far goes on as the rest of the blocks is judged
+    -- the report so far is continued as the rest of the blocks is judged
     abbrev pub GoesOn : ℕ → List ℕ → Type 0
     GoesOn place report = (lines : List ℕ) (status : ℕ) → JudgesFrom accepts refuses (place + 1) (drop place bs) lines status → JudgesFrom accepts refuses 1 bs (report ++ lines) status
 

@@ -1,4 +1,4 @@
--- A list up to a place, the item there, and what stands behind it.
+-- A list up to a place, the item there, and what follows it.
 use Rattle.std.proofs.Common.{◌≡◌, ℕ, zero, suc, ◌+◌, ◌<◌, ◌≤◌, List, [], ◌∷◌, ◌++◌, length, take, drop, get_or, refl, sym, ap, ◌∙◌, arith}
 
 module _ {Item : Type 0} where

@@ -1,4 +1,4 @@
--- What a stop says may say less, and it is handed on.
+-- A stop may say less, and it is returned.
 use Rattle.std.proofs.Common.{◌≡◌, List, Result, Ok, Err, IfErr, subst, sym}
 use Rattle.std.specs.Result.{IsErr, IsErrAnd}
 use Rattle.block_text.specs.Fault.{Fault}
@@ -16,7 +16,7 @@ pub ends_weaker : (P Q : Ending → Type 0) → ((ending : Ending) → P ending 
 ends_weaker P Q weaker (Ok ending) holds = weaker ending holds
 ends_weaker P Q weaker (Err stop) holds = stops_weaker P Q weaker stop holds
 
--- a stop that `?` hands on
+-- a stop that `?` returns
 pub handed_on : {A : Type 0} (P : Stop → Type 0) (result : Result A Stop) (stop : Stop) → result ≡ Err stop → P stop → IfErr result P
 handed_on {A} P result stop is holds = let F : Result A Stop → Type 0 = λ r. IfErr r P in subst F (sym is) holds
 

@@ -1,4 +1,4 @@
--- Lists of which each item stands to its fellow as is asked.
+-- Lists whose items are related pair by pair.
 use Rattle.std.proofs.Common.{◌≡◌, List, [], ◌∷◌, ◌++◌, refl, arith}
 use Rattle.std.specs.List.{All, AllZip}
 use Rattle.std.proofs.lemmas.List.Elements.{All-cons}

@@ -1,10 +1,10 @@
--- What an evidence text leads to: its first fault, or its blocks, judged one after another.
+-- The ending of an evidence text: its first fault, or its blocks, judged one after another.
 use Rattle.std.specs.Prelude.{ℕ, ◌+◌, ◌≡◌, List, [], ◌∷◌, ◌++◌, Option, Some, codes, decimal}
 use Rattle.block_text.specs.Fault.{Fault}
 use Rattle.command_shape.specs.Ending.{Ending, line, refused_evidence}
 use Rattle.command_shape.specs.Texts.{evidence_fault}
 
--- this is said of the block with this number
+-- this is the text of the block with this number
 abbrev pub block_text : ℕ → List ℕ → List ℕ
 block_text block text = codes "# block " ++ (decimal block ++ (codes " " ++ text))
 
@@ -31,8 +31,8 @@ pub record RefusesBlock {Block Refusal : Type 0} (is_refused : Block → Refusal
   pub fails : is_refused block refusal
   pub says : told refusal ≡ Some cause
 
--- A block is accepted, and the next ones follow; or it is refused, and it is the last one of the report. What accepting and refusing it
--- says is told by its text.
+-- A block is accepted, and the next ones follow; or it is refused, and it is the last one of the report. `accepts` and `refuses`
+-- say with which text.
 pub data JudgesBlock {Block : Type 0} (accepts refuses : Block → List ℕ → Type 0) (number : ℕ) (block : Block) (next : List ℕ → ℕ → Type 0)
     (lines : List ℕ) (status : ℕ) : Type 0 where
   accepted : (text : List ℕ) → accepts block text → (rest : List ℕ) → next rest status → lines ≡ line (block_text number text) ++ rest

@@ -12,7 +12,7 @@ evidence_limit = 67108864
 abbrev pub file_word : List ℕ → ℕ → FileWord
 file_word name limit = record { name = name; limit = limit }
 
--- a statement alone
+-- only a statement
 abbrev pub statement_file : List ℕ → List FileWord
 statement_file name = file_word name statement_limit ∷ []
 

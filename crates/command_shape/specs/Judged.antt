@@ -1,4 +1,4 @@
--- What judging a block comes to; for private functions.
+-- The result of judging a block. Only private functions use it.
 use Rattle.std.specs.Prelude.{ℕ, ◌≡◌, List, ◌++◌, Option, Some, None}
 use Rattle.command_shape.specs.declared.judge.Judged.{Judged}
 use Rattle.command_shape.specs.declared.judge.Judged.TheVariants.{Accepted, Refused}
@@ -8,7 +8,7 @@ abbrev pub Tells : (List ℕ → Type 0) → (List ℕ → Type 0) → Judged �
 Tells accepts refuses (Accepted text) = accepts text.items
 Tells accepts refuses (Refused cause) = refuses cause.items
 
--- the cause that is told is put behind these bytes; one that isn't told is not put
+-- there is a cause, and it is appended to these bytes
 abbrev pub Puts : Option (List ℕ) → List ℕ → List ℕ → Type 0
 Puts (Some cause) before after = after ≡ before ++ cause
 Puts None before after = ⊥

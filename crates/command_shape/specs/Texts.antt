@@ -1,11 +1,11 @@
 -- The lines of a report that say why a statement or an evidence text is refused.
 use Rattle.std.specs.Prelude.{ℕ, List, [], ◌++◌, ◌==◌, codes, decimal, if◌then◌else◌, Option, Some, None}
 
--- the limit that is passed, where a fault has one
+-- the limit that is exceeded, where a fault has one
 abbrev pub limit_text : ℕ → List ℕ
 limit_text limit = if limit == 0 then [] else codes " limit " ++ decimal limit
 
--- S1 tells a byte and S15 no place; all others tell a line and a column
+-- S1 has a byte and S15 no place; all others have a line and a column
 abbrev pub place_text : ℕ → ℕ → ℕ → List ℕ
 place_text code line column =
     if code == 1 then codes " byte " ++ decimal column
@@ -22,7 +22,7 @@ statement_fault code line column limit left right =
     codes "# refused S" ++ (decimal code
     ++ (place_text code line column ++ (limit_text limit ++ (ends_text (codes " left ") left ++ ends_text (codes " right ") right))))
 
--- K1, K6 and K7 tell no line
+-- K1, K6 and K7 have no line
 abbrev pub line_text : ℕ → List ℕ
 line_text line = if line == 0 then [] else codes " line " ++ decimal line
 

@@ -43,7 +43,7 @@ pub fn refused_evidence(
     Ending::refused_evidence(text)
 }
 
-// What is said of a fault of a statement: its code, its place, its limit, and signatures that don't fit.
+// Appends the text of a fault of a statement: its code, its place, its limit, and signatures that don't fit.
 fn put_statement_fault(
     out: &mut Vec<u8>,
     code: u32,
@@ -63,7 +63,7 @@ fn put_statement_fault(
     put_ends(out, " right ", right)
 }
 
-// What is said of a fault of an evidence text: its code, its line and its limit.
+// Appends the text of a fault of an evidence text: its code, its line and its limit.
 fn put_evidence_fault(out: &mut Vec<u8>, code: u32, line: u32, limit: u32) -> Result<(), AllocError>
     ensures { OnOk result (out.new.items ≡ out.old.items ++ (decimal code ++ (line_text line ++ limit_text limit))) }
 {

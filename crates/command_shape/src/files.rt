@@ -18,7 +18,7 @@ pub struct FileWord {
     pub limit: u32,
 }
 
-/// A statement alone.
+/// Only a statement.
 pub fn statement_file(alloc: Global, name: &Text) -> Result<Listing<FileWord>, AllocError>
     ensures { IfOk result (λ files. files ≡ statement_file name.now) }
 {

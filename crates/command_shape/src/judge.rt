@@ -13,7 +13,7 @@ use adjoint_rules::Problem;
 use block_text::{put, put_labelled};
 use std::alloc::{AllocError, Global};
 
-/// What judging a block comes to.
+/// The result of judging a block.
 #[derive(Drop)]
 pub enum Judged {
     /// It is accepted, and the text says what that shows.
@@ -30,10 +30,10 @@ pub trait Judge {
     /// Which blocks can be judged.
     ghost can_judge: { Posed → Self.Block → Type 0 };
 
-    /// What accepting a block says.
+    /// The text of an accepted block.
     ghost accepts: { Posed → Self.Block → List ℕ → Type 0 };
 
-    /// For which cause a block is refused.
+    /// The cause of a refused block.
     ghost refuses: { Posed → Self.Block → List ℕ → Type 0 };
 
     /// Judges a block.
@@ -70,7 +70,7 @@ pub fn judge_blocks<J: Judge>(
     Ok(Ending::accepted(report))
 }
 
-// The line of a block: its number, and what is said of it.
+// Appends the line of a block: its number, and its text.
 fn put_block(
     report: &mut Vec<u8>,
     block: usize,
