@@ -30,7 +30,7 @@ abbrev pub AreKnown : Shape → List Row → List Given → Type 0
 AreKnown s rows [] = ⊤
 AreKnown s rows (g ∷ given) = IsKnown s g × (has_row (given_id g) rows ≡ false) × IsNotGiven (given_id g) given × AreKnown s rows given
 
--- a walk over these words comes to these rows, without a fault
+-- a walk over these words gives these rows, without a fault
 pub record Goes (s : Shape) (w : Walk) (words : List Text) (all : List Row) (k : ℕ) : Type 0 where
   pub rows : List Row
   pub pending : Option (Text × List Text)

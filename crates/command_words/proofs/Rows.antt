@@ -213,7 +213,7 @@ word_good s p never false w position word h good e = rw (no_command w word) (go 
     go true f = (good, tt)
     go false f = other_good s.rules p w word h (long_of word) good f
 
--- a walk that goes on, with good rows
+-- a walk that isn't at its end, with good rows
 pub record GoesOn (c : List Rule) (w : Walk) : Type 0 where
   pub held : Held
   pub waiting : Waiting

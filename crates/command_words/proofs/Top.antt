@@ -9,7 +9,7 @@ use Rattle.command_words.specs.CommandSet.{command_set, IsTaken, bare_command}
 use Rattle.command_words.proofs.Steps.{between}
 use Rattle.command_words.proofs.Options.{or_nothing}
 
--- a command as it stands in the set once that is built
+-- a command as it is in the set once that is built
 abbrev pub leaf : App → Shape
 leaf a = built_leaf (inherited (with_leaf_noted (marked_built (record bare_command.top { is_leaf = false }))) a.top)
 

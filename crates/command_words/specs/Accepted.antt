@@ -39,7 +39,7 @@ abbrev pub IsNotGiven : Text → List Given → Type 0
 IsNotGiven id [] = ⊤
 IsNotGiven id (g ∷ given) = (given_id g ≢ id) × IsNotGiven id given
 
--- each is allowed, and each stands once
+-- each is allowed, and each is given once
 abbrev pub AreOptions : List Span → List Text → List Given → Type 0
 AreOptions spans flags [] = ⊤
 AreOptions spans flags (g ∷ given) = IsAllowed spans flags g × IsNotGiven (given_id g) given × AreOptions spans flags given

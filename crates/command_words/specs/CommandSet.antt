@@ -75,7 +75,7 @@ bare_command =
 abbrev pub with_evidence : App → EvidenceCommand → App
 with_evidence app command = with_subcommand app (pair_command (name_of command)).top
 
--- those that stand last
+-- the last ones
 abbrev pub last_commands : List EvidenceCommand
 last_commands = Confirm ∷ Explain ∷ Cancel ∷ []
 

@@ -1,27 +1,27 @@
--- The ranges of options, and what stands for absent ones.
+-- The ranges of options, and their defaults.
 use Rattle.std.specs.Prelude.{ℕ, ◌-◌, ◌^◌, List, codes}
 use Rattle.std.specs.Str.Parse.{digits_value}
 
--- the ambiguities that may be treated
+-- of the ambiguities that may be treated
 abbrev pub pair_limit : ℕ
 pair_limit = 1000000
 
--- the steps that a reduction may make
+-- of the steps that a reduction may make
 abbrev pub step_limit : ℕ
 step_limit = 1000000
 
 abbrev pub seed_limit : ℕ
 seed_limit = 2 ^ 64 - 1
 
--- the formats of certificates
+-- of the formats of certificates
 abbrev pub format_limit : ℕ
 format_limit = 2
 
--- the size of the statement of a bench
+-- of the size of the statement of a bench
 abbrev pub size_limit : ℕ
 size_limit = 60
 
--- the words that stand for absent options
+-- the words of the defaults
 abbrev pub default_pairs_word : List ℕ
 default_pairs_word = codes "5000"
 
@@ -37,7 +37,7 @@ default_seed_word = codes "1"
 abbrev pub default_format_word : List ℕ
 default_format_word = codes "2"
 
--- the numbers that they name
+-- the numbers of these words
 abbrev pub default_pairs : ℕ
 default_pairs = digits_value 10 default_pairs_word
 

@@ -12,6 +12,6 @@ names_after mark (name ∷ names) = mark ++ (name ++ names_after (codes "|") nam
 abbrev pub command_names : List Text
 command_names = map (λ command. command.name) command_set.subs
 
--- what the program is called with
+-- how the program is called
 abbrev pub usage_text : Text
 usage_text = codes "# usage: " ++ (command_set.top.name ++ names_after (codes " ") command_names)

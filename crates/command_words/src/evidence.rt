@@ -18,7 +18,7 @@ pub enum EvidenceCommand {
     Cancel,
 }
 
-/// The commands of evidence that stand last in the set, in their order.
+/// The commands of evidence that are last in the set, in their order.
 pub(crate) const LAST_COMMANDS: &[EvidenceCommand] = &[
     EvidenceCommand::Confirm,
     EvidenceCommand::Explain,

@@ -1,4 +1,4 @@
-//! The ranges of options, and what stands for absent ones: as a number, and as the word that clap takes.
+//! The ranges of options, and their defaults: as a number, and as the word that clap takes.
 
 /// The greatest number of ambiguities that may be treated.
 pub const PAIR_LIMIT: u64 = 1_000_000;

@@ -28,7 +28,7 @@ fn number_of(matches: &ArgMatches, id: &str) -> u64
     matches.get_one::<u64>(id).unwrap()
 }
 
-// A number that 32 bits hold.
+// A number that fits in 32 bits.
 fn small_number_of(matches: &ArgMatches, id: &str) -> u32
     requires { HasNumber id.now 0 4294967295 (rows_of (found_of matches.now)) }
     ensures { number_of id.now (rows_of (found_of matches.now)) ≡ Some result }
@@ -136,7 +136,7 @@ fn refusal_of(error: &Error) -> Refusal
     }
 }
 
-// What clap makes of the words after the program's name.
+// The matches of the words after the program's name by clap.
 fn matches_of<'a>(alloc: Global, words: &'a [String]) -> Result<ArgMatches<'a>, Refusal>
     ensures taken { IfOk result (λ m. IsTaken (map string_bytes words.entry.now)) }
     ensures rows { IfOk result (λ m. subcommand_rows_of m ≡ subcommand_of command_set (map string_bytes words.entry.now)) }
@@ -152,7 +152,7 @@ fn matches_of<'a>(alloc: Global, words: &'a [String]) -> Result<ArgMatches<'a>, 
     }
 }
 
-/// The command that the words name: what clap's matches of them give. An accepted list gives what
+/// The command that the words name: the one of clap's matches. That of an accepted list is the one that
 /// it names.
 pub fn read_words(alloc: Global, words: &[String]) -> Result<Call, Refusal>
     ensures taken { IfOk result (λ call. IsTaken (map string_bytes words.now)) }
@@ -172,8 +172,8 @@ pub fn read_words(alloc: Global, words: &[String]) -> Result<Call, Refusal>
     }
 }
 
-/// An accepted list is taken, and clap's matches of it give what it names. So an accepted list
-/// names one command alone.
+/// An accepted list is taken, and clap's matches of it give the command that it names. So an accepted list
+/// names one command only.
 pub fn accepted_lists_are_taken()
     ensures taken { (words : List (List ℕ)) (call : Call) → Names words call → IsTaken words × MatchesGive (subcommand_of command_set words) call }
     ensures single { (words : List (List ℕ)) (one : Call) (other : Call) → Names words one → Names words other → one ≡ other }

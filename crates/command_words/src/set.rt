@@ -1,4 +1,4 @@
-//! The commands as clap gets them: what `specs/CommandSet.antt` says.
+//! The commands as clap gets them, as `specs/CommandSet.antt` says.
 ghost use Rattle.std.specs.Prelude.{◌≡◌, IfOk, false};
 ghost use Rattle.std.specs.List.{fold};
 ghost use Rattle.clap.specs.Words.{App, Rule, app_of, rule_of, with_rule, with_subcommand};
@@ -71,7 +71,7 @@ fn flag_option<'a>(alloc: Global, id: &'a str) -> Arg<'a>
     Arg::new(alloc, id).long(id).action(ArgAction::SetTrue)
 }
 
-// The command with one argument more, where there was memory for the command.
+// The command with one more argument, where there was memory for the command.
 fn with_arg<'a>(
     command: Result<Command<'a>, AllocError>,
     arg: Arg<'a>,
@@ -214,7 +214,7 @@ fn with_evidence<'a>(
     set
 }
 
-/// The commands with all that `specs/CommandSet.antt` says of them.
+/// The commands as `specs/CommandSet.antt` says.
 pub fn command_set<'a>(alloc: Global) -> Result<Command<'a>, AllocError>
     ensures { IfOk result (λ c. app_of c ≡ command_set) }
 {

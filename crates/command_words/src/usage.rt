@@ -7,7 +7,7 @@ use crate::set::command_set;
 use clap::Command;
 use std::alloc::{AllocError, Global};
 
-/// What the program is called with, without the line feed: the names of the command set.
+/// How the program is called, without the line feed: the names of the command set.
 pub fn usage_text(alloc: Global) -> Result<Vec<u8>, AllocError>
     ensures { IfOk result (λ text. text.items ≡ usage_text) }
 {

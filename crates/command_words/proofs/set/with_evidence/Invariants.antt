@@ -5,7 +5,7 @@ use Rattle.clap.specs.declared.builder.command.Command.TheViews.{out-Command as 
 use Rattle.command_words.specs.CommandSet.{with_evidence}
 use Rattle.command_words.proofs.set.with_evidence.Given as goal
 
--- the commands so far stand below it
+-- the commands so far are below it
 abbrev pub invariant-loop-other : goal.invariant-loop-other
 invariant-loop-other l = record {
   app : (a : App) → IfOk l.initial.set (λ c. app_of c ≡ a) → IfOk l.set (λ c. app_of c ≡ fold with_evidence a (take l.other-index l.below));

@@ -5,7 +5,7 @@ use Rattle.command_words.proofs.usage.put_names.Given as goal
 use denote.Shadow.{shadow}
 use denote.Text.{Utf8}
 
--- what is appended so far goes on with the other names
+-- with the other names, what is appended so far is the whole
 abbrev pub invariant-loop-command : goal.invariant-loop-command
 invariant-loop-command l = record {
   goes : l.text.items ++ names_after l.mark (map (λ c. (shape_of c).name) (drop l.command-index l.commands))
