@@ -86,7 +86,7 @@ module _ {E : Type 0} {M : E → Type 0} where
       once : (e f : E) → ((x : X) × (e ≡ tell x) × (o ≡ Some x)) → ((x : X) × (f ≡ tell x) × (o ≡ Some x)) → (M e → ⊥) → (M f → ⊥) → e ≡ f
       once e f (x, is, some) (y, is', some') not not' = let same : x ≡ y = cc in (cc)
 
-  -- a value is looked for, and tested where it is found
+  -- a value is searched, and tested where it is found
   pub found_test : {X : Type 0} {Q : X → Type 0} {S : X → E → Type 0} (told : E) → (M told → ⊥) → (o : Option X) → ((x : X) → o ≡ Some x → HasOneOutcome M (Q x) (S x))
       → HasOneOutcome M ((x : X) × (o ≡ Some x) × Q x) (λ e. ((e ≡ told) × (o ≡ None)) ⊎ ((x : X) × (o ≡ Some x) × S x e))
   found_test {X = X} {Q = Q} {S = S} told exact o test = record { judged = by o refl; not_refused = passed; unique = once }
@@ -216,7 +216,7 @@ module _ {E : Type 0} {M : E → Type 0} where
           judge (inl passes) = inl (λ y is. subst Q (same x y there is) passes)
           judge (inr refused) = inr (refused.0, (x, there, refused.1), refused.2)
 
-  -- one property of each item, where the first that lacks it is told by its number, counted from 1
+  -- one property of each item, where the first that lacks it is named by its number, counted from 1
   pub each_test : {X : Type 0} (P : X → Type 0) (tell : ℕ → E) → ((n : ℕ) → M (tell n) → ⊥) → (items : List X) → ((i : ℕ) (x : X) → slice_get items i ≡ Some x → IsDecided (P x))
       → HasOneOutcome M (All P items) (λ e. (first : FirstNot P items) × (e ≡ tell (first.before + 1)))
   each_test {X = X} P tell exact items test = record { judged = by (first_not P items test); not_refused = λ each e h. absurd (not_each P items h.0 each); unique = λ e f h k not not'. once e f h k (cases_order h.0.before k.0.before) }

@@ -1,2 +1,2 @@
-//! What std lacks and several crates prove. It has no function.
+//! Lemmas that std lacks and several crates need. It has no function.
 #![tactic(auto)]
