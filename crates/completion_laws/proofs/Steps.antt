@@ -1,4 +1,4 @@
--- One generator and one ambiguity, from what is kept to what is kept.
+-- The invariant stays when one generator or one ambiguity is treated.
 use Rattle.std.proofs.Common.{◌≡◌, ◌≤◌, ℕ, zero, suc, List, [], ◌∷◌, ◌++◌, length, slice_get, Some, refl, sym, subst, append-nil}
 use Rattle.std.specs.List.{All}
 use Rattle.std.proofs.lemmas.List.Elements.{All-append, All-cons, All-nil}
@@ -40,7 +40,7 @@ made_accounts letters compare rules rest rows g m is = record {
   divided = is.divided;
 }
 
--- rows that add up, with no rules behind
+-- rows that add up, with no rules after
 generator_adds : (letters : ℕ) (compare : Compare) (generators : List (List Term)) (rules : List Rule) (n : ℕ) (s : State) → 1 ≤ n → n ≤ length generators → IsReduced letters compare rules (generator_at generators n) s → AddsUpTo generators rules s.rest (generator_rows n s)
 generator_adds letters compare generators rules n s first last reduced =
     subst (λ rs. AddsUpTo generators rs s.rest (generator_rows n s)) (append-nil rules) (generator_adds_up letters compare generators rules [] n s first last reduced)

@@ -1,4 +1,4 @@
--- One ambiguity, from what is kept to what is kept.
+-- The invariant stays when one ambiguity is treated.
 use Rattle.std.proofs.Common.{◌≡◌, ℕ, List, [], ◌∷◌, ◌++◌, length, sym, ap, ◌∙◌, subst, append_assoc}
 use Rattle.std.specs.List.{All, AllByRecursion}
 use Rattle.std.proofs.lemmas.List.Elements.{All-append, All-cons, All-nil, All-weaker, All-from_recursion, recursion_from_All}
@@ -34,7 +34,7 @@ use Rattle.completion_laws.proofs.RowSums.{traced_sum-by_rules, earlier_by_rule,
 use Rattle.completion_laws.proofs.Appending.{appended_kept}
 use Rattle.completion_laws.proofs.Steps.{made_accounts, less_adds, reduced_later}
 
--- rules in front
+-- the first rules
 all_front : (P : Rule → Type 0) (rules more : List Rule) → All P (rules ++ more) → All P rules
 all_front P rules more all = All-from_recursion P rules (front rules (recursion_from_All P (rules ++ more) all))
   where

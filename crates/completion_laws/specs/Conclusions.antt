@@ -1,4 +1,4 @@
--- What follows from what a completion keeps.
+-- What follows from the invariant of a completion.
 use Rattle.std.specs.Prelude.{◌≡◌, ◌≤◌, ℕ, List, length, Some, Contains}
 use Rattle.definitions.specs.Poly.{Term}
 use Rattle.definitions.specs.Combination.{InRationalIdeal}
@@ -18,11 +18,11 @@ use Rattle.completion_laws.specs.Kept.{HaveLettersBelow, Kept}
 abbrev pub AreAllDone : List (List Term) → List ℕ → Type 0
 AreAllDone generators done = (n : ℕ) → 1 ≤ n → n ≤ length generators → Contains done n
 
--- no ambiguity of the rules is left to treat; `between` lists the ambiguities of the rules
+-- no ambiguity of the rules is pending; `between` lists the ambiguities of the rules
 abbrev pub NothingPending : List Rule → List Ambiguity → Type 0
 NothingPending rules treated = (a : Ambiguity) → IsAmbiguity rules a → (Contains treated a → ⊥) → ⊥
 
--- none is left whose overlap word is below the word
+-- none is pending whose overlap word is below the word
 abbrev pub NothingPendingBelow : ℕ → Compare → List Rule → List Ambiguity → List ℕ → Type 0
 NothingPendingBelow letters compare rules treated word = (a : Ambiguity) → IsAmbiguity rules a → (Contains treated a → ⊥)
     → IsBelow letters compare (overlap_word_of rules a) word → ⊥
@@ -45,13 +45,13 @@ RulesAreInside = (letters : ℕ) (compare : Compare) (generators : List (List Te
     (treated : List Ambiguity) (n : ℕ) (g : Rule)
     → Kept letters compare generators rules made done treated → rule_at rules n ≡ Some g → InRationalIdeal generators g.poly.terms
 
--- And so is what is reduced to zero.
+-- And so is each polynomial that is reduced to zero.
 abbrev pub ZeroIsInside : Type 0
 ZeroIsInside = (letters : ℕ) (compare : Compare) (generators : List (List Term)) (rules : List Rule) (made : List Made) (done : List ℕ)
     (treated : List Ambiguity) (p : List Term) (s : State)
     → Kept letters compare generators rules made done treated → IsReduced letters compare rules p s → IsZero s.rest → InRationalIdeal generators p
 
--- Where nothing is pending, what is reduced to a rest that isn't zero is outside: no positive multiple of it is a combination.
+-- Where nothing is pending, a polynomial with a nonzero rest is outside: no positive multiple of it is a combination.
 abbrev pub NonzeroIsOutside : Type 0
 NonzeroIsOutside = (letters : ℕ) (compare : Compare) (rank : List ℕ → List ℕ) (generators : List (List Term)) (rules : List Rule)
     (made : List Made) (done : List ℕ) (treated : List Ambiguity) (p : List Term) (s : State)

@@ -1,4 +1,4 @@
--- What a completion keeps with each generator and each ambiguity that it treats.
+-- The invariant of a completion, which holds after each generator and each ambiguity that it treats.
 use Rattle.std.specs.Prelude.{◌≡◌, ◌≢◌, ◌<◌, ◌≤◌, ◌<ℤ◌, ℕ, ℤ, pos, List, [], ◌∷◌, ◌++◌, length, slice_get, Some}
 use Rattle.std.specs.List.{All}
 use Rattle.definitions.specs.Poly.{Term, SamePolynomial, coefficient_of}
@@ -22,7 +22,7 @@ use Rattle.completion_laws.specs.Rests.{generator_rows, rows_less, IsEarlier, Is
 pub record AreApart (rules : List Rule) : Type 0 where
   pub each : (i n : ℕ) (g h : Rule) → rule_at rules i ≡ Some g → rule_at rules n ≡ Some h → i < n → OccursNowhere h.lead g.lead
 
--- the scale is positive, and the rows are over generators and so many rules
+-- the scale is positive, and the rows are over generators and this many rules
 pub record IsRecorded (generators rules : ℕ) (m : Made) : Type 0 where
   pub positive : pos 0 <ℤ m.scale
   pub earlier : All (λ row. IsEarlier generators rules row.from) m.rows
@@ -41,7 +41,7 @@ pub record IsReached (letters : ℕ) (compare : Compare) (rules : List Rule) (p 
   pub at_most : All (λ r. (w : List ℕ) → coefficient_of (generator_at (polynomials_of rules) r.generator) w ≢ pos 0
       → IsAtMostOf letters compare p (r.left ++ (w ++ r.right))) rows
 
--- The generators with the listed numbers were reduced, and the listed ambiguities were treated.
+-- The invariant, where the generators with the listed numbers were reduced, and the listed ambiguities were treated.
 pub record Kept (letters : ℕ) (compare : Compare) (generators : List (List Term)) (rules : List Rule) (made : List Made) (done : List ℕ)
     (treated : List Ambiguity) : Type 0 where
   pub are_rules : All (IsRule letters compare) rules
@@ -50,7 +50,7 @@ pub record Kept (letters : ℕ) (compare : Compare) (generators : List (List Ter
   pub reached : All (λ n. IsReached letters compare rules (generator_at generators n)) done
   pub resolved : All (IsResolved letters compare rules) treated
 
--- It holds of no rules.
+-- It holds where there are no rules.
 abbrev pub StartIsKept : Type 0
 StartIsKept = (letters : ℕ) (compare : Compare) (generators : List (List Term)) → Kept letters compare generators [] [] [] []
 
@@ -58,8 +58,8 @@ StartIsKept = (letters : ℕ) (compare : Compare) (generators : List (List Term)
 abbrev pub HaveLettersBelow : ℕ → List (List Term) → Type 0
 HaveLettersBelow letters generators = (n : ℕ) → HasLettersBelow letters (generator_at generators n)
 
--- A generator is reduced by the rules so far, and what is left is appended.
--- The order is admissible by `WordOrder`; the letters are those that `Rules::normal_form` asks of a polynomial; its clause and
+-- A generator is reduced by the rules so far, and its rest is appended.
+-- The order is admissible by `WordOrder`; the letters are those that `Rules::normal_form` requires of a polynomial; its clause and
 -- the law `normal_forms_are_reduced` give the reduction, and the law `pushed_rules_are_made` the rule.
 abbrev pub GeneratorsAreKept : Type 0
 GeneratorsAreKept = (letters : ℕ) (compare : Compare) (rank : List ℕ → List ℕ) (generators : List (List Term)) (rules : List Rule)
@@ -91,7 +91,7 @@ AmbiguitiesAreKept = (letters : ℕ) (compare : Compare) (rank : List ℕ → Li
     → IsTreated letters compare start more made a rules_after made_after
     → Kept letters compare generators rules_after made_after done (treated ++ (a ∷ []))
 
--- Where the first reduction leaves zero, the rules stay.
+-- Where the rest of the first reduction is zero, the rules stay.
 abbrev pub ResolvedAtOnceIsKept : Type 0
 ResolvedAtOnceIsKept = (letters : ℕ) (compare : Compare) (rank : List ℕ → List ℕ) (generators : List (List Term)) (start more : List Rule)
     (made : List Made) (done : List ℕ) (treated : List Ambiguity) (a : Ambiguity) (p : List Term) (s : State)

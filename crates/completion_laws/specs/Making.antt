@@ -1,4 +1,4 @@
--- What `Rules::push` takes is a rule that is made of a rest.
+-- `Rules::push` appends a rule that is made of a rest.
 use Rattle.std.specs.Prelude.{◌≡◌, ◌<◌, ◌<ℤ◌, ℕ, pos, Bool, List, length, Some, IsSomeAnd}
 use Rattle.std.specs.List.{All}
 use Rattle.definitions.specs.Poly.{Term, poly_multiple}

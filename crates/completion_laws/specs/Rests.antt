@@ -1,4 +1,4 @@
--- What a reduction leaves, with rows that add up to it, and the rule that is made of it.
+-- The rest of a reduction, with rows that add up to it, and the rule that is made of it.
 use Rattle.std.specs.Prelude.{◌≡◌, ◌≤◌, ◌<ℤ◌, ℕ, ℤ, pos, neg_ℤ, List, [], ◌∷◌, ◌++◌, map, length, Bool, if◌then◌else◌}
 use Rattle.std.specs.List.{All}
 use Rattle.definitions.specs.Poly.{Term, SamePolynomial, poly_multiple}
@@ -29,7 +29,7 @@ generator_rows number s = record { coef = s.multiplier; left = []; from = origin
 abbrev pub rows_less : List Row → State → List Row
 rows_less rows s = map (multiplied_row s.multiplier) rows ++ negated_rows s.rows
 
--- one of so many generators, or one of so many rules
+-- one of the first generators, or of the first rules, by these counts
 abbrev pub IsEarlier : ℕ → ℕ → Origin → Type 0
 IsEarlier generators rules (origin.Generator n) = (1 ≤ n) × (n ≤ generators)
 IsEarlier generators rules (origin.Rule n) = (1 ≤ n) × (n ≤ rules)
@@ -54,7 +54,7 @@ pub record IsMadeOf (letters : ℕ) (compare : Compare) (rest : List Term) (rows
   pub divided : SamePolynomial (poly_multiple (signed negated m.scale) g.poly.terms) rest
   pub rows_are : m.rows ≡ signed_rows negated rows
 
--- Where the rest is zero the rules and their records stay, and else a rule that is made of it comes behind them.
+-- Where the rest is zero the rules and their records stay, and otherwise a rule that is made of it is appended.
 pub data IsAppended (letters : ℕ) (compare : Compare) (rest : List Term) (rows : List Row) (rules : List Rule) (made : List Made)
     (rules_after : List Rule) (made_after : List Made) : Type 0 where
   nothing_left : IsZero rest → rules_after ≡ rules → made_after ≡ made → IsAppended letters compare rest rows rules made rules_after made_after

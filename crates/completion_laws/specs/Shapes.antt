@@ -19,7 +19,7 @@ NormalFormsAreShaped = (compare : Compare) (rules : List Rule) (p : List Term) (
 abbrev pub SPolynomialsAreShaped : Type 0
 SPolynomialsAreShaped = (rules : List Rule) (a : Ambiguity) (p : List Term) → s_polynomial_of rules a ≡ Ok p → IsShaped p
 
--- Each term of the rest has letters of the polynomial's range.
+-- The letters of the rest are below the number that those of the polynomial are below.
 abbrev pub RestsHaveLettersBelow : Type 0
 RestsHaveLettersBelow = (letters : ℕ) (compare : Compare) (rules : List Rule) (p : List Term) (s : State)
     → HasLettersBelow letters p → IsReduced letters compare rules p s → IsShaped s.rest → All (λ t. IsOver letters t.1) s.rest

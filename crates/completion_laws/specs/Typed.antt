@@ -1,4 +1,4 @@
--- By typed generators in play each rule is typed of one signature and in play.
+-- Where the generators are typed and in play, each rule has one signature and is in play.
 use Rattle.std.specs.Prelude.{◌≡◌, ◌≢◌, ◌<◌, ℕ, pos, Bool, List, length, Ok}
 use Rattle.std.specs.List.{All}
 use Rattle.definitions.specs.Poly.{Term, coefficient_of}
@@ -27,7 +27,7 @@ pub record IsTypedInPlay (q : Quiver) (play : ℕ → Bool) (p : List Term) : Ty
 abbrev pub AreTypedInPlay : Quiver → (ℕ → Bool) → List Rule → Type 0
 AreTypedInPlay q play rules = All (λ g. IsTypedInPlay q play g.poly.terms) rules
 
--- What is left of a polynomial that is typed and in play, by such rules, is typed and in play.
+-- The rest of a polynomial that is typed and in play, by such rules, is typed and in play.
 abbrev pub NormalFormsStayTyped : Type 0
 NormalFormsStayTyped = (q : Quiver) (play : ℕ → Bool) (letters : ℕ) (compare : Compare) (rules : List Rule) (p : List Term) (steps : ℕ) (s : State)
     → All (IsRule letters compare) rules → AreTypedInPlay q play rules → IsShaped p → IsTypedInPlay q play p

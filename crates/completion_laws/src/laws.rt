@@ -1,4 +1,4 @@
-//! What a completion keeps and what follows, as laws over the definitions.
+//! The laws of a completion: its invariant, and what follows from it.
 ghost use Rattle.completion_laws.specs.Kept.{StartIsKept, GeneratorsAreKept, AmbiguitiesAreKept, ResolvedAtOnceIsKept};
 ghost use Rattle.completion_laws.specs.Making.{PushedRulesAreMade};
 ghost use Rattle.completion_laws.specs.Typed.{NormalFormsStayTyped, SPolynomialsStayTyped, RulesStayTyped, TypedHasNoEmptyWord};
@@ -6,23 +6,23 @@ ghost use Rattle.completion_laws.specs.Shapes.{NormalFormsAreShaped, SPolynomial
 ghost use Rattle.completion_laws.specs.Conclusions.{ResolvedWhereClosed, ResolvedBelowPending, RulesAreInside, ZeroIsInside};
 ghost use Rattle.completion_laws.specs.Conclusions.{NonzeroIsOutside, NonzeroIsNotBelow};
 
-/// Of no rules all is kept.
+/// The invariant holds where there are no rules.
 pub fn start_is_kept()
     ensures { StartIsKept }
 {}
 
-/// A generator is reduced by the rules so far, and a rule is made of what is left.
+/// A generator is reduced by the rules so far, and its rest becomes a rule.
 pub fn generators_are_kept()
     ensures { GeneratorsAreKept }
 {}
 
-/// The S-polynomial of an ambiguity is reduced by the rules from the start of the round and then by the rules so far, and a
-/// rule is made of what is left.
+/// The S-polynomial of an ambiguity is reduced by the rules from the start of the round and then by the rules so far, and its
+/// rest becomes a rule.
 pub fn ambiguities_are_kept()
     ensures { AmbiguitiesAreKept }
 {}
 
-/// The first of the two reductions leaves zero.
+/// The rest of the first of the two reductions is zero.
 pub fn resolved_at_once_is_kept()
     ensures { ResolvedAtOnceIsKept }
 {}
@@ -42,12 +42,12 @@ pub fn rules_are_inside()
     ensures { RulesAreInside }
 {}
 
-/// What is reduced to zero is in it.
+/// A polynomial that is reduced to zero is in it.
 pub fn zero_is_inside()
     ensures { ZeroIsInside }
 {}
 
-/// Where nothing is pending, what is reduced to a rest that isn't zero is outside.
+/// Where nothing is pending, a polynomial with a nonzero rest is outside.
 pub fn nonzero_is_outside()
     ensures { NonzeroIsOutside }
 {}
@@ -57,7 +57,7 @@ pub fn nonzero_is_not_below()
     ensures { NonzeroIsNotBelow }
 {}
 
-/// What is left of a polynomial that is typed and in play, by rules that are so, is typed and in play.
+/// The rest of a polynomial that is typed and in play, by such rules, is typed and in play.
 pub fn normal_forms_stay_typed()
     ensures { NormalFormsStayTyped }
 {}
@@ -87,12 +87,12 @@ pub fn s_polynomials_are_shaped()
     ensures { SPolynomialsAreShaped }
 {}
 
-/// The letters of what is left are below the number that those of the polynomial are below.
+/// The letters of the rest are below the number that those of the polynomial are below.
 pub fn rests_have_letters_below()
     ensures { RestsHaveLettersBelow }
 {}
 
-/// A rest that is divided by its content, or by the negative of that, is made a rule.
+/// A rest that is divided by its content, or by the negative of that, becomes a rule.
 pub fn pushed_rules_are_made()
     ensures { PushedRulesAreMade }
 {}

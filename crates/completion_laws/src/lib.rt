@@ -1,4 +1,4 @@
-//! What a completion keeps with each generator and each ambiguity that it treats, and what follows from it.
+//! The invariant of a completion, which holds after each generator and each ambiguity that it treats, and what follows from it.
 #![tactic(auto)]
 
 mod laws;
