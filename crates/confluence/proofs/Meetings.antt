@@ -6,8 +6,8 @@ use Rattle.ambiguities.specs.declared.ambiguity.Kind.TheVariants.{Overlap, Inclu
 use Rattle.ambiguities.specs.declared.ambiguity.Ambiguity.{Ambiguity}
 use Rattle.confluence.proofs.Led.{Led, led_at, HasLed, polys_of, Comes}
 
--- An ambiguity of the rules, with its overlap word, with what follows the first leading word there, and with what
--- stands before and after the second.
+-- An ambiguity of the rules, with its overlap word, with what follows the first leading word there, and with the
+-- letters before and after the second.
 pub data IsMeeting (rules : List Led) (a : Ambiguity) (word after before behind : List ℕ) : Type 0 where
   overlap : (s o t : List ℕ) → a.kind ≡ Overlap → HasLed rules a.i → HasLed rules a.j → 0 < length s → 0 < length o → 0 < length t → (led_at rules a.i).lead ≡ s ++ o → (led_at rules a.j).lead ≡ o ++ t → length s ≡ a.place → word ≡ s ++ (led_at rules a.j).lead → after ≡ t → before ≡ s → behind ≡ [] → IsMeeting rules a word after before behind
   inclusion : (s t : List ℕ) → a.kind ≡ Inclusion → HasLed rules a.i → HasLed rules a.j → a.i ≢ a.j → (led_at rules a.i).lead ≡ s ++ ((led_at rules a.j).lead ++ t) → length s ≡ a.place → word ≡ (led_at rules a.i).lead → after ≡ [] → before ≡ s → behind ≡ t → IsMeeting rules a word after before behind

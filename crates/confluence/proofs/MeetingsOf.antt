@@ -28,7 +28,7 @@ module _ (rules : List Rule) (a : Ambiguity) (is : IsAmbiguity rules a) where
   second_lead : (led_at (leds_of rules) a.j).lead ≡ is.second.lead
   second_lead = ap (λ r. r.lead) (led_at-is rules a.j is.second is.second_numbered)
 
-  -- the ambiguity in its word, behind the first leading word, and around the second
+  -- the ambiguity in its word, after the first leading word, and around the second
   pub meeting_of : IsMeeting (leds_of rules) a (overlap_word_of rules a) (first_row rules a).right (second_row rules a).left (second_row rules a).right
   meeting_of = by_kind a.kind refl is.meets
     where

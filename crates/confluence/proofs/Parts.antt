@@ -14,7 +14,7 @@ use Rattle.confluence.proofs.Spans.{Coefs, Span, span_bind, nothing, more}
 use Rattle.confluence.proofs.Meets.{Parted, poly, Rules, Allowed, Row}
 use Rattle.confluence.proofs.Outside.{AnyRow}
 
--- the terms whose word the test keeps
+-- the terms whose word passes the test
 abbrev pub filtered : (Word → Bool) → List Term → List Term
 filtered keep [] = []
 filtered keep (t ∷ p) = cond (keep t.1) (t ∷ filtered keep p) (filtered keep p)

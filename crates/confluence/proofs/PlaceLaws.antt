@@ -85,7 +85,7 @@ module _ (rules : List Rule) (word : Word) where
             (inclusion s t refl (has_led rules p.number p.rule is_p.numbered) (has_led rules q.number q.rule is_q.numbered) differ (p_lead ∙ splits ∙ ap (λ w. s ++ (w ++ t)) (sym q_lead)) refl refl refl refl refl)
             refl refl (is_p.splits ∙ ap (λ w. p.left ++ (w ++ p.right)) (sym p_lead)) refl refl left right)))
 
-    -- the second leading word begins where the first does, and goes on
+    -- the second leading word begins where the first does, and is longer
     longer : (t : Word) → SomeLetters t → q.rule.lead ≡ p.rule.lead ++ t → q.left ≡ p.left → p.right ≡ t ++ q.right → OneWay
     longer t some splits left right = by_number (same_nat p.number q.number)
       where

@@ -8,7 +8,7 @@ Word = List ℕ
 pub data SomeLetters : Word → Type 0 where
   some_letters : (a : ℕ) (w : Word) → SomeLetters (a ∷ w)
 
--- where two joins are one word, the one first part goes on to the other
+-- where two joins are one word, one first part is a prefix of the other
 pub data Split (a b c d : Word) : Type 0 where
   longer : (t : Word) → c ≡ a ++ t → b ≡ t ++ d → Split a b c d
   shorter : (t : Word) → SomeLetters t → a ≡ c ++ t → d ≡ t ++ b → Split a b c d

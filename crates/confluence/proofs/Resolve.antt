@@ -36,7 +36,7 @@ pub has_both : (rules : List Led) (a : Ambiguity) (O after before behind : Word)
 has_both rules a O af be bh (overlap s o t k h1 h2 ns nm nt e1 e2 pl ew ea eb ec) = (h1, h2)
 has_both rules a O af be bh (inclusion s t k h1 h2 n e pl ew ea eb ec) = (h1, h2)
 
--- both leading words stand in the overlap word
+-- both leading words occur in the overlap word
 pub tops : (rules : List Led) (a : Ambiguity) (O after before behind : Word) → IsMeeting rules a O after before behind → (O ≡ [] ++ ((led_at rules a.i).lead ++ after)) × (O ≡ before ++ ((led_at rules a.j).lead ++ behind))
 tops rules a O af be bh (overlap s o t k h1 h2 ns nm nt e1 e2 pl ew ea eb ec) = (ew ∙ ap (λ z. s ++ z) e2 ∙ sym (append_assoc s o t) ∙ ap (λ z. z ++ t) (sym e1) ∙ ap (λ z. (led_at rules a.i).lead ++ z) (sym ea), ew ∙ ap (λ z. s ++ z) (sym (append-nil (led_at rules a.j).lead)) ∙ ap (λ z. z ++ ((led_at rules a.j).lead ++ [])) (sym eb) ∙ ap (λ z. be ++ ((led_at rules a.j).lead ++ z)) (sym ec))
 tops rules a O af be bh (inclusion s t k h1 h2 n e pl ew ea eb ec) = (ew ∙ sym (append-nil (led_at rules a.i).lead) ∙ ap (λ z. (led_at rules a.i).lead ++ z) (sym ea), ew ∙ e ∙ ap (λ z. z ++ ((led_at rules a.j).lead ++ t)) (sym eb) ∙ ap (λ z. be ++ ((led_at rules a.j).lead ++ z)) (sym ec))

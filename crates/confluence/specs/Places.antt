@@ -11,14 +11,14 @@ use Rattle.ambiguities.specs.Ambiguities.{IsAmbiguity, overlap_word_of}
 use Rattle.ambiguities.specs.SPolynomials.{first_row, second_row}
 use Rattle.ambiguities.specs.Resolved.{ComesBelow}
 
--- the rule with a number, and what stands before and behind its leading word
+-- the rule with a number, and the letters before and after its leading word
 pub record Place : Type 0 where
   pub number : ℕ
   pub rule : Rule
   pub left : List ℕ
   pub right : List ℕ
 
--- the leading word stands there in the word
+-- the leading word is at that place in the word
 pub record IsPlace (rules : List Rule) (word : List ℕ) (p : Place) : Type 0 where
   pub numbered : rule_at rules p.number ≡ Some p.rule
   pub splits : word ≡ p.left ++ (p.rule.lead ++ p.right)

@@ -33,19 +33,19 @@ ReducibleBelow = (letters : ℕ) (compare : Compare) (rank : List ℕ → List �
     → IsAdmissible letters compare rank → All (IsRule letters compare) rules → ResolvedBelow letters compare rules bound
     → ComesBelow letters compare (polynomials_of rules) bound p → IsNonzero p → HasReducibleGreatest letters compare rules p
 
--- Where they are resolved, each nonzero element of their rational ideal has one. The words of its cofactors may have any letters.
+-- Where they are resolved, each nonzero element of their rational ideal has such a greatest word. The words of its cofactors may have any letters.
 abbrev pub ReducibleInIdeal : Type 0
 ReducibleInIdeal = (letters : ℕ) (compare : Compare) (rank : List ℕ → List ℕ) (rules : List Rule) (p : List Term)
     → IsAdmissible letters compare rank → All (IsRule letters compare) rules → Resolved letters compare rules
     → InRationalIdeal (polynomials_of rules) p → HasLettersBelow letters p → IsNonzero p → HasReducibleGreatest letters compare rules p
 
--- What a reduction leaves of what comes from them below the word is zero,
+-- Where the rules are resolved below a word, the rest of what comes from them below it is zero,
 abbrev pub RestsBelowAreZero : Type 0
 RestsBelowAreZero = (letters : ℕ) (compare : Compare) (rank : List ℕ → List ℕ) (rules : List Rule) (bound : List ℕ) (p : List Term) (s : State)
     → IsAdmissible letters compare rank → All (IsRule letters compare) rules → ResolvedBelow letters compare rules bound
     → ComesBelow letters compare (polynomials_of rules) bound p → IsReduced letters compare rules p s → IsZero s.rest
 
--- and of each element of their rational ideal.
+-- and where they are resolved, that of each element of their rational ideal.
 abbrev pub RestsOfIdealAreZero : Type 0
 RestsOfIdealAreZero = (letters : ℕ) (compare : Compare) (rank : List ℕ → List ℕ) (rules : List Rule) (p : List Term) (s : State)
     → IsAdmissible letters compare rank → All (IsRule letters compare) rules → Resolved letters compare rules

@@ -1,4 +1,4 @@
--- What proofs ask of a reduction.
+-- What proofs need of a reduction.
 use Rattle.std.specs.Prelude.{◌≡◌, ◌≢◌, ◌<ℤ◌, ℕ, pos, List, length, Ok}
 use Rattle.std.specs.List.{All}
 use Rattle.definitions.specs.Poly.{Term, coefficient_of}

@@ -1,4 +1,4 @@
--- What follows where reductions leave zero.
+-- What follows where the rest of a reduction is zero.
 use Rattle.std.specs.Prelude.{ℕ, List}
 use Rattle.std.specs.List.{All}
 use Rattle.definitions.specs.Poly.{Term, SamePolynomial}
@@ -12,7 +12,7 @@ use Rattle.ambiguities.specs.Ambiguities.{IsAmbiguity}
 use Rattle.ambiguities.specs.Resolved.{s_sum, IsResolved}
 use Rattle.confluence.specs.Reductions.{IsZero, IsReduced}
 
--- What is reduced to zero is in the rational ideal of the rules.
+-- A polynomial that is reduced to zero is in the rational ideal of the rules.
 abbrev pub ZeroRestsAreInside : Type 0
 ZeroRestsAreInside = (letters : ℕ) (compare : Compare) (rules : List Rule) (p : List Term) (s : State)
     → IsReduced letters compare rules p s → IsZero s.rest → InRationalIdeal (polynomials_of rules) p
@@ -24,7 +24,7 @@ ZeroRestsAreResolved = (letters : ℕ) (compare : Compare) (rank : List ℕ → 
     → IsAdmissible letters compare rank → All (IsRule letters compare) rules → IsAmbiguity rules a → SamePolynomial p (s_sum rules a)
     → IsReduced letters compare rules p s → IsZero s.rest → IsResolved letters compare rules a
 
--- Where each generator is in the rational ideal of the polynomials, so is all that is in the rational ideal of the generators.
+-- Where each generator is in the rational ideal of the polynomials, so is the rational ideal of the generators.
 abbrev pub IdealsStayInside : Type 0
 IdealsStayInside = (polys generators : List (List Term)) (p : List Term)
     → All (InRationalIdeal polys) generators → InRationalIdeal generators p → InRationalIdeal polys p

@@ -1,4 +1,4 @@
-//! Confluence, as laws over the definitions.
+//! The laws of confluence.
 ghost use Rattle.confluence.specs.Places.{PlacesOfOneWord, RowsApartDiffer};
 ghost use Rattle.confluence.specs.Reductions.{NormalFormsAreReduced};
 ghost use Rattle.confluence.specs.Reducible.{ReducibleBelow, ReducibleInIdeal, RestsBelowAreZero, RestsOfIdealAreZero};
@@ -41,7 +41,7 @@ pub fn rests_of_ideal_are_zero()
     ensures { RestsOfIdealAreZero }
 {}
 
-/// What is reduced to zero is in the rational ideal of the rules.
+/// A polynomial that is reduced to zero is in the rational ideal of the rules.
 pub fn zero_rests_are_inside()
     ensures { ZeroRestsAreInside }
 {}
@@ -51,7 +51,7 @@ pub fn zero_rests_are_resolved()
     ensures { ZeroRestsAreResolved }
 {}
 
-/// Where each generator is in the rational ideal of some polynomials, so is all that is in the rational ideal of the
+/// Where each generator is in the rational ideal of some polynomials, so is the rational ideal of the
 /// generators.
 pub fn ideals_stay_inside()
     ensures { IdealsStayInside }
