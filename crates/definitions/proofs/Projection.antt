@@ -35,7 +35,7 @@ times-one : (k : ℤ) → times (pos 0) ◌+ℤ◌ neg_ℤ k (pos 1) ≡ k
 times-one (pos n) = natural_times-one n
 times-one (negsuc n) = ap neg_ℤ (natural_times-one (suc n))
 
--- what a word counts for in the coefficient of x
+-- what a word adds to the coefficient of x
 abbrev indicator : List ℕ → List ℕ → ℤ
 indicator x w = cond (word_eq w x) (pos 1) (pos 0)
 

@@ -68,7 +68,7 @@ module _ {Object Arrow : Type 0} {s : Structure Object Arrow} (laws : Preadditiv
       next (d ∷ l) = refl
 
   module _ (u v k m : ℕ) (in_u : u < q.objects) (in_v : v < q.objects) (in_k : k < q.objects) (in_m : m < q.objects) (l r : List ℕ) where
-    -- l w r counts for what l and r make of w, where they fit
+    -- the value of l w r is that of w between those of l and r, where they fit
     word_at-fits : (w : List ℕ) → Fits q u v k m l r → is_path q k m w ≡ true → word_at laws q f rep u v (l ++ (w ++ r)) ≡ after s f l (before s f r (word_at laws q f rep k m w))
     word_at-fits [] fits e = absurd (cc)
     word_at-fits (a ∷ w) fits e =

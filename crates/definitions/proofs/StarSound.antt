@@ -66,7 +66,7 @@ module _ {Object Arrow : Type 0} {s : Structure Object Arrow} (laws : Preadditiv
       ∙ sym (involution.star_compose (f.object u) (f.object k) (f.object v) (f.arrow a) (path_value s f b w)
       (letter_is_arrow laws q f plain v a first.letter first.target) (path_value_is_arrow laws q f plain u k b w first.rest))
 
-  -- an adjoint word counts for the adjoint of what the word counts for
+  -- the value of an adjoint word is the adjoint of the word's value
   module _ (u v : ℕ) (in_u : u < q.objects) (in_v : v < q.objects) where
     adjoint_in : (a : Arrow) → IsArrow s (f.object u) (f.object v) a → IsArrow s (f.object v) (f.object u) (adjoint a)
     adjoint_in = involution.star_is_arrow (f.object u) (f.object v)

@@ -41,7 +41,7 @@ module _ {Object Arrow : Type 0} {s : Structure Object Arrow} (laws : Preadditiv
         laws.compose_is_arrow (f.object u) (f.object (source q a)) (f.object v) (f.arrow a) (path_value s f b w)
         (letter_is_arrow v a first.letter first.target) (path_value_is_arrow u (source q a) b w first.rest)
 
-    -- what a word counts for at the signature (u, v)
+    -- the value of a word at the signature (u, v)
     abbrev pub word_at : ℕ → ℕ → List ℕ → Arrow
     word_at u v w = cond (is_path q u v w) (word_value s f (s.zero (f.object u) (f.object v)) w) (s.zero (f.object u) (f.object v))
 

@@ -12,7 +12,7 @@ pub record Row : Type 0 where
   pub generator : ℕ
   pub right : List ℕ
 
--- the generator with this number, and the zero polynomial where there is none
+-- the generator with this number, or the zero polynomial where there is none
 abbrev pub generator_at : List Poly → ℕ → Poly
 generator_at generators zero = []
 generator_at generators (suc n) = get_or generators n []

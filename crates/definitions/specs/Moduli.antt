@@ -1,4 +1,4 @@
--- The moduli of the fields that models are looked for over.
+-- The moduli of the fields over which models are searched.
 use Rattle.std.specs.Prelude.{ℕ, Bool, List, [], ◌∷◌, nat_eq, IsTrue}
 use Rattle.std.specs.List.{list_any}
 

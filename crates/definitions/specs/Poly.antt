@@ -11,7 +11,7 @@ Word = List ℕ
 abbrev pub Term : Type 0
 Term = ℤ × List ℕ
 
--- a list of terms, in which a word may stand more than once
+-- a list of terms, in which a word may occur more than once
 abbrev pub Poly : Type 0
 Poly = List Term
 

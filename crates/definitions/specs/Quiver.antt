@@ -40,7 +40,7 @@ pub record IsQuiver (q : Quiver) : Type 0 where
   pub star_source : (a : ℕ) → a < letters q → source q (star q a) ≡ target q a
   pub star_target : (a : ℕ) → a < letters q → target q (star q a) ≡ source q a
 
--- whether the letters of the word fit, and lead from u to v: the first letter is the last to be applied
+-- whether the letters of the word fit, and lead from u to v: the first letter is applied last
 abbrev pub leads : Quiver → ℕ → ℕ → List ℕ → Bool
 leads q u v [] = nat_eq u v
 leads q u v (a ∷ w) = nat_lt a (letters q) && (nat_eq (target q a) v && leads q u (source q a) w)

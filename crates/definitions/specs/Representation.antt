@@ -35,7 +35,7 @@ multiple s (negsuc n) a = s.negate (natural_multiple s (suc n) a)
 pub record Cancels {Object Arrow : Type 0} (s : Structure Object Arrow) (d : ℤ) : Type 0 where
   pub at : (a : Arrow) → s.is_arrow a → multiple s d a ≡ s.zero (s.source a) (s.target a) → a ≡ s.zero (s.source a) (s.target a)
 
--- the value of the word that begins with the letter a and goes on with w
+-- the value of the word of the letter a and then the letters of w
 abbrev pub path_value : {Object Arrow : Type 0} → Structure Object Arrow → Representation Object Arrow → ℕ → List ℕ → Arrow
 path_value s f a [] = f.arrow a
 path_value s f a (b ∷ w) = s.compose (f.arrow a) (path_value s f b w)

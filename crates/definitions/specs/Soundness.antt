@@ -8,7 +8,7 @@ use Rattle.definitions.specs.Representation.{Representation, Represents, StarRep
 use Rattle.definitions.specs.Generators.{generators_of}
 use Rattle.definitions.specs.Combination.{Row, IsCombination, is_typed_row}
 
--- The polynomial is typed of some signature.
+-- The polynomial has some signature.
 pub record HasSignature (q : Quiver) (p : Poly) : Type 0 where
   pub source : ℕ
   pub target : ℕ
@@ -20,7 +20,7 @@ pub record HasSignature (q : Quiver) (p : Poly) : Type 0 where
 abbrev pub HasValueZeroAt : {Object Arrow : Type 0} → Structure Object Arrow → Quiver → Representation Object Arrow → ℕ → ℕ → Poly → Type 0
 HasValueZeroAt s q f u v p = value_at s q f u v p ≡ s.zero (f.object u) (f.object v)
 
--- The value is the zero arrow at each signature that the polynomial has: a polynomial other than zero has one at most.
+-- The value is the zero arrow at each signature that the polynomial has: a polynomial other than zero has at most one.
 pub record HasValueZero {Object Arrow : Type 0} (s : Structure Object Arrow) (q : Quiver) (f : Representation Object Arrow) (p : Poly) : Type 0 where
   pub at : (u v : ℕ) → u < q.objects → v < q.objects → IsTyped q u v p → HasValueZeroAt s q f u v p
 
@@ -47,7 +47,7 @@ pub record IsStarSound {Object Arrow : Type 0} (s : Structure Object Arrow) (adj
       → (f : Representation Object Arrow) → StarRepresents s adjoint q f → AllByRecursion (HasValueZero s q f) assumptions
       → AllByRecursion (HasValueZero s q f) (generators_of q starred marked assumptions)
 
--- Of the rows of a typed claim those of the claim's signature alone have the same sum.
+-- Of the rows of a typed claim those with the claim's signature have the same sum.
 pub record TypedRowsSuffice : Type 0 where
   pub combination : (q : Quiver) (u v : ℕ) (generators : List Poly) (rows : List Row) (d : ℤ) (claim : Poly)
       → AllByRecursion (HasSignature q) generators → IsTyped q u v claim → IsCombination generators rows d claim
