@@ -14,7 +14,7 @@ use Rattle.equation_chain.specs.Spelled.{use_by, line_by}
 pub poly_at : (ps : List Polynomial) (place : ℕ) (p : Polynomial) → place < length ps → p ≡ get_or ps place p → p.terms ≡ get_or (polynomials ps) place p.terms
 poly_at ps place p inside is = ap (λ (q : Polynomial). q.terms) is ∙ sym (get_or-map (λ (q : Polynomial). q.terms) ps place p p.terms inside)
 
--- a step and its line are put behind those before
+-- a step and its line are appended to those before
 pub step_put : (texts : List (List ℕ)) (steps : List CertRow) (lines : List Poly) (place : ℕ) (step : CertRow) (line : Poly) (before so_far used now : List ℕ)
     → place < length steps → place < length lines → step ≡ get_or steps place step → line ≡ get_or lines place line
     → so_far ≡ before ++ flat_map (λ s. use_by texts s.0 ++ line_by texts s.1) (take place (zip steps lines)) → used ≡ so_far ++ use_by texts step → now ≡ used ++ line_by texts line
@@ -26,7 +26,7 @@ step_put texts steps lines place step line before so_far used now in_steps in_li
     far
     (line_put ∙ ap (λ (t : List ℕ). t ++ line_by texts line) use_put ∙ append_assoc so_far (use_by texts step) (line_by texts line))
 
--- the opening, the lines and the end are put one behind the other
+-- the opening, the lines and the end are put one after the other
 pub chain_put : {E : Type 0} (r : Result (Unit {0}) E) (before opening lines end one two last : List ℕ) → one ≡ before ++ opening → two ≡ one ++ lines → OnOk r (last ≡ two ++ end)
     → OnOk r (last ≡ before ++ (opening ++ (lines ++ end)))
 chain_put (Ok done) before opening lines end one two last one_is two_is last_is =

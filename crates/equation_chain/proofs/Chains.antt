@@ -21,7 +21,7 @@ use Rattle.equation_chain.proofs.Generators.{generator_shaped}
 use Rattle.equation_chain.proofs.Sums.{steps_add_up}
 use Rattle.equation_chain.proofs.Lines.{less_at, line_is, is_less, first_is}
 
--- an item behind the first ones
+-- an item after the first ones
 pub there_behind : {X : Type 0} (front : List X) (x : X) (back : List X) → slice_get (front ++ x ∷ back) (length front) ≡ Some x
 there_behind [] x back = refl
 there_behind (y ∷ front) x back = there_behind front x back
@@ -34,7 +34,7 @@ module _ (problem : Problem) (c : Certificate) where
   abbrev gs : List (List Term)
   gs = polynomials problem.generators
 
-  -- the lines behind these steps, one by one
+  -- the lines after these steps, one by one
   abbrev later : List CertRow → List CertRow → List (List Term)
   later done [] = []
   later done (step ∷ steps) = line_less problem c (done ++ step ∷ []) ∷ later (done ++ step ∷ []) steps
@@ -58,7 +58,7 @@ module _ (problem : Problem) (c : Certificate) where
       let more : length steps + 1 ≡ suc (length steps) = omega arith in
       ap (λ n. map (λ k. line_less problem c (take k steps)) (range_with_len 0 n)) more ∙ ap (λ (ls : List (List Term)). line_less problem c [] ∷ ls) (later_are [] steps)
 
-  -- nothing is left behind the last step
+  -- nothing is left after the last step
   last_is_zero : IsAccepted problem c → line_less problem c (steps_of problem c) ≡ []
   last_is_zero accepted =
       let steps : List CertRow = steps_of problem c in
@@ -70,7 +70,7 @@ module _ (problem : Problem) (c : Certificate) where
       nothing : (k : ℤ) → k +ℤ negsuc 0 *ℤ k ≡ pos 0
       nothing k = omega (arith, ints)
 
-  -- the rows behind the first ones lead on
+  -- the rows after the first ones lead on
   leads : StepsPass problem c (length c.rows) → line_less problem c (steps_of problem c) ≡ [] → (front rows : List CertRow) → c.rows ≡ front ++ rows
       → LeadsToZero gs (line_less problem c (steps_in problem c.claim front)) (steps_in problem c.claim rows) (later (steps_in problem c.claim front) (steps_in problem c.claim rows))
   leads pass last front [] is = subst (λ (rows : List CertRow). line_less problem c (steps_in problem c.claim rows) ≡ []) (is ∙ append-nil front) last

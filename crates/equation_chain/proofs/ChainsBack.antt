@@ -73,7 +73,7 @@ module _ (ds : List Declaration) (declared : IsDeclared ds) (known : IsTrue (lis
     number_token : IsToken (decimal step.generator)
     number_token = name_token (decimal step.generator) (decimal_text step.generator small)
 
-    -- what stands after each part
+    -- what follows each part
     abbrev after_number : List ℕ
     after_number = codes " (" ++ (word_text ds step.right ++ codes ")")
 

@@ -11,7 +11,7 @@ use Rattle.equation_chain.specs.Back.{text_of}
 abbrev declared : List Declaration
 declared = object (codes "U") ∷ object (codes "V") ∷ arrow (codes "a") 0 1 false ∷ []
 
--- of one step; what is left behind it is zero
+-- of one step; what is left after it is zero
 abbrev chain : ChainTerms
 chain = record {
   claim = 1;

@@ -1,4 +1,4 @@
--- From the line before a row to the line behind it.
+-- From the line before a row to the line after it.
 use Rattle.std.proofs.Common.{◌≡◌, ℕ, zero, suc, ◌+◌, ◌<◌, ◌≤◌, ℤ, pos, neg_ℤ, Bool, true, false, cond, List, [], ◌∷◌, ◌++◌, take, length, get_or, slice_get, Some, Result, Ok, MatchResult, sym, refl, ap, ap₂, subst, ◌∙◌, arith}
 use Rattle.std.specs.List.{AllByRecursion}
 use Rattle.std.proofs.lemmas.List.{append-nil, take_more, take_all, length-append}
@@ -66,7 +66,7 @@ explains_then r next (poly.Overflow o) is = ap (λ (x : Result (List Term) PolyF
 explains_then r next (poly.Size s) is = ap (λ (x : Result (List Term) PolyFault). and_then x next) is
 explains_then r next (poly.Memory e) is = tt
 
--- behind a generator that is moved the step is the combination
+-- after a generator that is moved the step is the combination
 pub step_from : (line g m : List Term) (step : CertRow) (b : ℤ) (result : Result Poly PolyFault) → moved_result step.left g step.right ≡ Ok m → b ≡ neg_ℤ step.coef
     → MatchResult result (λ r. combined (pos 1) line b m ≡ Ok r.terms) (Explains (combined (pos 1) line b m))
     → MatchResult result (λ r. less_step line g step ≡ Ok r.terms) (Explains (less_step line g step))
@@ -132,7 +132,7 @@ module _ (problem : Problem) (c : Certificate) (i : ℕ) (row : CertRow) (there 
     counted : (p : List Term) → less_step line.poly.terms g row ≡ Ok p → line.letters + letters_in p ≡ letters_before problem c (i + 1)
     counted p made = ap₂ (λ m n. m + n) stands.letters (ap letters_in (made_is p made)) ∙ sym letters_are
 
-    -- the next line stands behind it,
+    -- the next line follows it,
     pub line_stands : (next : Line) → IsLineBehind line g row next → IsLineBefore problem c (i + 1) next
     line_stands next behind = record { terms = made_is next.poly.terms behind.made; letters = behind.letters ∙ counted next.poly.terms behind.made }
 

@@ -1,4 +1,4 @@
--- Letters that lead one behind the other.
+-- Letters that lead one after the other.
 use Rattle.std.proofs.Common.{◌≡◌, ◌≢◌, ℕ, suc, ◌+◌, ◌<◌, ◌≤◌, Bool, true, false, ◌&&◌, List, [], ◌∷◌, ◌++◌, drop, length, get_or, refl, sym, ap, ◌∙◌, arith, ltb, ltb-true, lt-ltb, eqb, eqb-true, eq-eqb}
 use Rattle.std.specs.Prelude.{Option, Some, None, IfSome, IfNone, nat_eq}
 use Rattle.std.proofs.Math.Seq.{drop-cons}
@@ -21,7 +21,7 @@ module _ (q : Quiver) (word : List ℕ) (place : ℕ) (below : place < length wo
       one_more : suc place ≡ place + 1
       one_more = omega arith
 
-  -- the next letter leads to the object, and the letters behind it lead on
+  -- the next letter leads to the object, and the letters after it lead on
   pub meets : (u v : ℕ) (rest : List ℕ) → letter < letters q → target q letter ≡ v → leads q u v (drop place word ++ rest) ≡ leads q u (source q letter) (drop (place + 1) word ++ rest)
   meets u v rest in_range here =
       ap (λ w. leads q u v (w ++ rest)) split
@@ -43,7 +43,7 @@ module _ (q : Quiver) (word : List ℕ) (place : ℕ) (below : place < length wo
       ∙ ap (λ b. ltb letter (letters q) && (b && leads q u (source q letter) (drop (place + 1) word ++ rest))) none
       ∙ stops (ltb letter (letters q))
 
--- three words, one behind the other
+-- three words, one after the other
 module _ (q : Quiver) (target middle inner : ℕ) (left word right : List ℕ)
     (first : (u : ℕ) (rest : List ℕ) → leads q u target (left ++ rest) ≡ leads q u middle rest) (second : (u : ℕ) (rest : List ℕ) → leads q u middle (word ++ rest) ≡ leads q u inner rest) where
   pub three_lead : (o : Option Object) → IfSome o (λ start. (u : ℕ) (rest : List ℕ) → leads q u inner (right ++ rest) ≡ leads q u start.0 rest)

@@ -80,7 +80,7 @@ module _ (problem : Problem) (c : Certificate) where
   typed_in rows =
       all_kept (λ r. is_typed problem c.claim r ≡ true) (is_step problem c.claim) (λ r is. (and_parts (counts (polynomials problem.generators) (row_of r)) (is_typed problem c.claim r) is).1) rows
 
-  -- a line behind steps
+  -- a line after steps
   less_over : (steps : List CertRow) → AllByRecursion (λ r. is_typed problem c.claim r ≡ true) steps → IsLineOver (line_less problem c steps)
   less_over steps all =
       let line : List Term = line_less problem c steps in

@@ -114,7 +114,7 @@ module _ (problem : Problem) (c : Certificate) where
       group : (a b k : ℤ) → a +ℤ (b +ℤ k) ≡ (a +ℤ b) +ℤ k
       group a b k = omega (arith, ints)
 
-  -- the line behind a step more is the line less that step
+  -- the line after a step more is the line less that step
   pub less_more : (done : List CertRow) (step : CertRow) → SamePolynomial (line_less problem c (done ++ step ∷ [])) (poly_sum (line_less problem c done) (poly_multiple (negsuc 0) (row_poly gs (row_of step))))
   less_more done step = record {
     at = λ w.
@@ -128,7 +128,7 @@ module _ (problem : Problem) (c : Certificate) where
       spread : (a b k : ℤ) → a +ℤ negsuc 0 *ℤ (b +ℤ k) ≡ (a +ℤ negsuc 0 *ℤ b) +ℤ negsuc 0 *ℤ k
       spread a b k = omega (arith, ints)
 
-  -- what a step makes of a line is the line behind it
+  -- what a step makes of a line is the line after it
   pub next_is : (done : List CertRow) (step : CertRow) (p : List Term) → next_line gs (line_less problem c done) step ≡ Ok p → p ≡ line_less problem c (done ++ step ∷ [])
   next_is done step p made =
       let line : List Term = line_less problem c done in
@@ -157,7 +157,7 @@ module _ (problem : Problem) (c : Certificate) where
       none : (k : ℤ) → k ≡ k +ℤ negsuc 0 *ℤ pos 0
       none k = omega (arith, ints)
 
-  -- what stands behind does not count
+  -- what follows makes no difference
   firsts : (xs ys : List CertRow) (a n : ℕ) → a + n ≤ length xs + 1
       → map (λ k. line_less problem c (take k (xs ++ ys))) (range_with_len a n) ≡ map (λ k. line_less problem c (take k xs)) (range_with_len a n)
   firsts xs ys a zero within = refl
@@ -168,7 +168,7 @@ module _ (problem : Problem) (c : Certificate) where
   whole [] = refl
   whole (x ∷ xs) = ap (λ (ys : List CertRow). x ∷ ys) (whole xs)
 
-  -- a step more has a line more
+  -- one more step has one more line
   pub lines_more : (done : List CertRow) (step : CertRow) → lines_by problem c (done ++ step ∷ []) ≡ lines_by problem c done ++ line_less problem c (done ++ step ∷ []) ∷ []
   lines_more done step =
       let more : List CertRow = done ++ step ∷ [] in

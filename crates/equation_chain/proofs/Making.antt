@@ -71,7 +71,7 @@ module _ (problem : Problem) (c : Certificate) where
   whole : (i : ℕ) → length c.rows ≤ i → steps_before problem c i ≡ steps_of problem c
   whole i past = ap (λ (rows : List CertRow). steps_of problem (record { claim = c.claim; denominator = c.denominator; rows = rows })) (take_all i c.rows past)
 
-  -- behind all rows
+  -- after all rows
   pub made_steps : (i : ℕ) → length c.rows ≤ i → (m : Making) → IsMaking problem c i m → m.steps ≡ steps_of problem c
   made_steps i past m making = making.steps ∙ whole i past
 

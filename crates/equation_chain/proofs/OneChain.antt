@@ -1,4 +1,4 @@
--- A text has one list of chains, and so a chain that is written is told from others by its text.
+-- A text has at most one list of chains, and so chains that are written differ if their values do.
 use Rattle.std.proofs.Common.{◌≡◌, true, false, List, [], ◌∷◌, ◌++◌, Some, Ok, refl, sym, ap, ap₂, ◌∙◌, subst, map}
 use Rattle.std.specs.List.{AllByRecursion, AllZip, flat_map}
 use Rattle.std.proofs.lemmas.List.{append_assoc}
@@ -20,7 +20,7 @@ use Rattle.equation_chain.specs.Blocks.{ChainTerms, StepTokens, ChainTokens, sai
 use Rattle.equation_chain.specs.Back.{ChainsAreUnique, TextsTellChains}
 use Rattle.equation_chain.proofs.ChainsBack.{chain_written}
 
--- Lines up to the first `end` are told from what stands after it.
+-- Lines up to the first `end` are determined by the text, and so are those after it.
 body_unique : (xs ys rest more : List Line) → AllByRecursion (λ line. is_end line ≡ false) xs → AllByRecursion (λ line. is_end line ≡ false) ys → xs ++ end_line ∷ rest ≡ ys ++ end_line ∷ more
     → (xs ≡ ys) × (rest ≡ more)
 body_unique [] [] rest more left right same = let after : rest ≡ more = cc in (refl, after)

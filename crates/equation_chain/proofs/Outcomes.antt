@@ -128,7 +128,7 @@ module _ (problem : Problem) (c : Certificate) where
       by (inl accepted) = by_steps accepted (tested accepted (length c.rows))
       by (inr refused) = inr (fault.Refused refused.0, refused.1, refused.2)
 
--- the result of a step tells the fault
+-- the fault of a step, by its result
 abbrev told_by : ℕ → Result (List Term) PolyFault → Option ChainFault
 told_by number (Ok line) = Some (fault.Long number)
 told_by number (Err (poly.Overflow o)) = Some (fault.Overflow number o)

@@ -19,7 +19,7 @@ use Rattle.block_text.specs.Written.{letter_text, gap_text, word_text, factor_te
 use Rattle.equation_chain.specs.Written.{line_text, use_text, steps_text, lines_text}
 use Rattle.equation_chain.specs.Spelled.{AreTexts, word_by, later_by, poly_by, line_by, use_by, steps_by, lines_spelled, IsStepSpelled, IsLineSpelled}
 
--- a part more behind others
+-- a part more after others
 join_behind : (x : List ℕ) (xs : List (List ℕ)) (y : List ℕ) → join_with_byte 32 ((x ∷ xs) ++ y ∷ []) ≡ join_with_byte 32 (x ∷ xs) ++ (32 ∷ []) ++ y
 join_behind x [] y = rw append_assoc refl
 join_behind x (z ∷ xs) y = rw (join_behind z xs y) (simp append_assoc refl)
@@ -37,7 +37,7 @@ word_more texts w place a within read =
     let count : length (map (λ b. get_or texts b []) (take place w)) ≡ place = rw length-map (length-take-le place w (omega (arith, within))) in
     rw (split, ← read, map-append, join_more, count) refl
 
--- the blank and then the letter are put behind what is written
+-- the blank and then the letter are appended to what is written
 pub letter_put : (texts : List (List ℕ)) (w : List ℕ) (place a : ℕ) (front before with_gap after : List ℕ)
     → before ≡ front ++ word_by texts (take place w) → with_gap ≡ before ++ gap_text place → after ≡ with_gap ++ get_or texts a []
     → place < length w → a ≡ get_or w place 0 → after ≡ front ++ word_by texts (take (place + 1) w)
@@ -121,7 +121,7 @@ steps_more ds steps lines step line same =
     ∙ flat_map-append f (zip steps lines) ((step, line) ∷ [])
     ∙ ap (λ (t : List ℕ). steps_text ds steps lines ++ t) (append-nil (use_text ds step ++ line_text ds line))
 
--- a step more is written behind the others
+-- a step more is written after the others
 pub lines_text_more : (ds : List Declaration) (steps : List CertRow) (lines : List Poly) (step : CertRow) (line : Poly) → length lines ≡ length steps + 1
     → lines_text ds (steps ++ step ∷ []) (lines ++ line ∷ []) ≡ lines_text ds steps lines ++ (use_text ds step ++ line_text ds line)
 lines_text_more ds steps [] step line long = absurd (omega (arith, long))

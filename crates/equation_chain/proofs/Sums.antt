@@ -23,7 +23,7 @@ use Rattle.equation_chain.specs.Steps.{claim_ends, is_empty, counts, is_step, st
 use Rattle.equation_chain.specs.Lines.{claim_in}
 use Rattle.equation_chain.specs.Laws.{StepsAddUp}
 
--- a row that does not count adds nothing
+-- a row that is zero adds nothing
 empty_adds_nothing : (r : Row) (g : List Term) (x : List ℕ) → is_empty g ≡ true → coefficient_of (poly_multiple r.coefficient (poly_between r.left g r.right)) x ≡ pos 0
 empty_adds_nothing r [] x e = refl
 empty_adds_nothing r (t ∷ g) x e = absurd (cc)
@@ -67,7 +67,7 @@ both_tests {X = X} {Y = Y} f one counted typed same (x ∷ xs) =
     go true false is rest = rest
     go false false is rest = rest
 
--- the claim is typed of what stands beside it
+-- the claim has the signature that is listed for it
 typed_at : (ds : List Declaration) (ps : List Poly) (sigs : List Sig) → AllZip (IsTypedOf ds) ps sigs → (n : ℕ)
     → IsTyped (quiver_of ds) (get_or (map ends_of sigs) n (0, 0)).0 (get_or (map ends_of sigs) n (0, 0)).1 (get_or (polynomials ps) n [])
 typed_at ds [] [] all n = record { at = λ w there. absurd (there refl) }

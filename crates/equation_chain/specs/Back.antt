@@ -1,4 +1,4 @@
--- What is read of chains that are written, whatever stands around them.
+-- Chains that are written are read back, whatever texts are before and after them.
 use Rattle.std.specs.Prelude.{◌≡◌, ℕ, ◌+◌, ◌<◌, ◌^◌, List, [], ◌++◌, length, IsTrue, codes}
 use Rattle.std.specs.List.{All, list_all}
 use Rattle.coef_int.specs.Range.{IsCoefficient}
@@ -29,13 +29,13 @@ pub record IsReadableStep (ds : List Declaration) (step : CertRow) : Type 0 wher
   pub generator : step.generator < 2 ^ 32
   pub letters : IsRowOver ds step
 
--- a polynomial as the program has them, in letters of the quiver and without the empty word
+-- a canonical polynomial in letters of the quiver, without the empty word
 pub record IsReadableLine (ds : List Declaration) (line : Poly) : Type 0 where
   pub canonical : IsCanonical line
   pub letters : All (λ t. IsOver (letter_count ds) t.1) line
   pub nonempty : All (λ t. 0 < length t.1) line
 
--- a line more than steps
+-- one line more than steps
 pub record IsReadable (ds : List Declaration) (c : ChainTerms) : Type 0 where
   pub claim : c.claim < 2 ^ 32
   pub denominator : IsWritableInteger c.denominator
@@ -47,7 +47,7 @@ pub record IsReadable (ds : List Declaration) (c : ChainTerms) : Type 0 where
 abbrev pub ChainsAreReadBack : Type 0
 ChainsAreReadBack = (ds : List Declaration) → IsDeclared ds → IsTrue (list_all is_named ds) → AreReadBack (HasChains ds) (text_of ds) (IsReadable ds) []
 
--- A text has one list of chains, whatever the quiver.
+-- A text has at most one list of chains, whatever the quiver.
 abbrev pub ChainsAreUnique : Type 0
 ChainsAreUnique = (ds : List Declaration) (bytes : List ℕ) (one other : List ChainTerms) → HasChains ds bytes one → HasChains ds bytes other → one ≡ other
 
@@ -60,7 +60,7 @@ TextsTellChains = (ds : List Declaration) (one other : ChainTerms) → IsDeclare
 abbrev pub chain_of : Problem → Certificate → ChainTerms
 chain_of problem c = record { claim = c.claim; denominator = c.denominator; steps = steps_of problem c; lines = lines_of problem c }
 
--- Each explained certificate has a readable chain, where its numbers and letters are such as those of a certificate that is read.
+-- Each explained certificate has a readable chain, where its numbers and letters are as in a certificate that is read.
 abbrev pub ExplainedIsReadable : Type 0
 ExplainedIsReadable = (problem : Problem) (c : Certificate) → IsCheckable problem.parts.quiver c → IsExplained problem c
     → IsReadable problem.parts.quiver (chain_of problem c)

@@ -35,7 +35,7 @@ pub record ChainTokens : Type 0 where
 abbrev pub said_line : Line → Line
 said_line polynomial = codes "line" ∷ polynomial
 
--- use C (LETTERS) G (LETTERS), which is a row but for its first word
+-- use C (LETTERS) G (LETTERS), which is a row except its first word
 abbrev pub use_line : RowTokens → Line
 use_line r = codes "use" ∷ drop 1 (row_line r)
 
@@ -64,10 +64,10 @@ pub record SaysChain (ds : List Declaration) (b : ChainTokens) (c : ChainTerms) 
   pub steps : AllZip (λ s step. row_values ds s.step ≡ Ok step) b.steps c.steps
   pub lines : AllZip (IsPolynomialLine ds) (lines_in b) c.lines
 
--- Chains are a kind of block, beside which no other kinds stand, and without bounds of its own.
+-- Chains are a kind of block, in whose texts there are no other kinds, and which has no bounds of its own.
 abbrev pub chain_kind : List Declaration → Kind ChainTerms
 chain_kind ds = kind_of {Bound = ⊥} chain_lines IsChainBlock [] [] (λ bound. absurd bound) (λ bound b. ⊤) (SaysChain ds)
 
--- The bytes are UTF-8, their lines are blocks, and these are the chains that they say, in their order.
+-- The bytes are UTF-8, their lines are blocks, and these are their chains, in order.
 abbrev pub HasChains : List Declaration → List ℕ → List ChainTerms → Type 0
 HasChains ds = HasBlocks (chain_kind ds)

@@ -14,8 +14,8 @@ use Rattle.adjoint_rules.specs.Problem.{polynomials}
 use Rattle.equation_chain.specs.Steps.{steps_of}
 use Rattle.equation_chain.specs.Lines.{claim_in}
 
--- The line less a step over this generator: it is moved between the words of the step, and that times the coefficient is taken away. The
--- first thing that goes wrong in this is the fault.
+-- The line less a step over this generator: it is multiplied by the words of the step on both sides, and that times the coefficient is subtracted.
+-- The first fault of these operations is returned.
 abbrev pub less_step : Poly → Poly → CertRow → Result Poly PolyFault
 less_step line generator step = and_then (moved_result step.left generator step.right) (λ moved. combined (pos 1) line (neg_ℤ step.coef) moved)
 

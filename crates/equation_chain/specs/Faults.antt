@@ -1,4 +1,4 @@
--- When a certificate has a chain, and else the first thing that is wrong.
+-- When a certificate has a chain, and its first fault otherwise.
 use Rattle.std.specs.Prelude.{◌≡◌, ⊤, ℕ, ◌+◌, ◌<◌, ◌≤◌, true, List, length, take, slice_get, Some, Result, Ok, Err}
 use Rattle.coef_int.specs.declared.Overflow.{Overflow}
 use Rattle.definitions.specs.Poly.{Poly}
@@ -21,7 +21,7 @@ use Rattle.equation_chain.specs.Chains.{next_line}
 abbrev pub IsAccepted : Problem → Certificate → Type 0
 IsAccepted problem c = Accepts (polynomials problem.parts.claims) (polynomials problem.generators) c
 
--- the steps among the first i rows, the line behind them, and the letters of the lines up to it
+-- the steps among the first i rows, the line after them, and the letters of the lines up to it
 abbrev pub steps_before : Problem → Certificate → ℕ → List CertRow
 steps_before problem c i = steps_in problem c.claim (take i c.rows)
 
@@ -31,11 +31,11 @@ line_before problem c i = line_less problem c (steps_before problem c i)
 abbrev pub letters_before : Problem → Certificate → ℕ → ℕ
 letters_before problem c i = letters_of (lines_by problem c (steps_before problem c i))
 
--- what making the next line comes to
+-- the next line, or why it can't be made
 abbrev pub result_at : Problem → Certificate → ℕ → CertRow → Result Poly PolyFault
 result_at problem c i row = next_line (polynomials problem.generators) (line_before problem c i) row
 
--- The step behind the first i rows passes: the next line is made, and the lines so far have at most 10,000,000 letters.
+-- The step after the first i rows passes: the next line is made, and the lines so far have at most 10,000,000 letters.
 pub record StepPasses (problem : Problem) (c : Certificate) (i : ℕ) (row : CertRow) : Type 0 where
   pub line : Poly
   pub made : result_at problem c i row ≡ Ok line
@@ -50,7 +50,7 @@ pub record IsExplained (problem : Problem) (c : Certificate) : Type 0 where
   pub accepted : IsAccepted problem c
   pub steps : StepsPass problem c (length c.rows)
 
--- The certificate is accepted. The row with this number, counted from 1, stands behind the first i ones, is a step, and each step before it passes.
+-- The certificate is accepted. The row with this number, counted from 1, follows the first i ones, is a step, and each step before it passes.
 pub record Reaches (problem : Problem) (c : Certificate) (number i : ℕ) (row : CertRow) : Type 0 where
   pub accepted : IsAccepted problem c
   pub numbered : number ≡ i + 1
@@ -58,14 +58,14 @@ pub record Reaches (problem : Problem) (c : Certificate) (number i : ℕ) (row :
   pub step : is_step problem c.claim row ≡ true
   pub earlier : StepsPass problem c i
 
--- The row is the first step that does not pass, since this operation leaves the range.
+-- The row is the first step that does not pass, because this operation overflows,
 pub record Overflows (problem : Problem) (c : Certificate) (number : ℕ) (overflow : Overflow) : Type 0 where
   pub before : ℕ
   pub row : CertRow
   pub reached : Reaches problem c number before row
   pub operation : result_at problem c before row ≡ Err (poly.Overflow overflow)
 
--- since a word of its generator between its words is too long, or else the next line has too many terms,
+-- because a word of its generator between its words is too long, or the next line has too many terms,
 pub record Outsizes (problem : Problem) (c : Certificate) (number : ℕ) : Type 0 where
   pub before : ℕ
   pub row : CertRow
@@ -73,7 +73,7 @@ pub record Outsizes (problem : Problem) (c : Certificate) (number : ℕ) : Type 
   pub size : SizeFault
   pub outsized : result_at problem c before row ≡ Err (poly.Size size)
 
--- or since the lines so far have too many letters.
+-- or because the lines so far have too many letters.
 pub record Outgrows (problem : Problem) (c : Certificate) (number : ℕ) : Type 0 where
   pub before : ℕ
   pub row : CertRow
@@ -82,7 +82,7 @@ pub record Outgrows (problem : Problem) (c : Certificate) (number : ℕ) : Type 
   pub made : result_at problem c before row ≡ Ok line
   pub letters : letter_limit < letters_before problem c (before + 1)
 
--- Each fault comes where it is the first, and want of memory can come at any time.
+-- Each fault is the first one, and want of memory can come at any time.
 abbrev pub IsFirstFault : Problem → Certificate → ChainFault → Type 0
 IsFirstFault problem c (fault.Refused refusal) = Refuses (polynomials problem.parts.claims) (polynomials problem.generators) c refusal
 IsFirstFault problem c (fault.Overflow row overflow) = Overflows problem c row overflow

@@ -1,4 +1,4 @@
--- What users ask of chains.
+-- The laws of chains, for users.
 use Rattle.std.specs.Prelude.{◌≡◌, ◌⊎◌, pos}
 use Rattle.std.specs.List.{AllByRecursion}
 use Rattle.definitions.specs.Category.{Structure}
@@ -16,11 +16,11 @@ use Rattle.equation_chain.specs.Lines.{claim_in, lines_of}
 use Rattle.equation_chain.specs.Chains.{IsChain}
 use Rattle.equation_chain.specs.Faults.{IsAccepted, IsExplained, IsFirstFault, IsMemory}
 
--- Each certificate has a chain, or something is the first that is wrong.
+-- Each certificate has a chain or a first fault.
 abbrev pub EachCertificateIsExplained : Type 0
 EachCertificateIsExplained = (problem : Problem) (c : Certificate) → IsExplained problem c ⊎ ((f : ChainFault) × IsFirstFault problem c f × (IsMemory f → ⊥))
 
--- It has one first fault at most, apart from want of memory,
+-- It has at most one first fault, apart from want of memory,
 abbrev pub FirstFaultIsUnique : Type 0
 FirstFaultIsUnique = (problem : Problem) (c : Certificate) (e f : ChainFault) → IsFirstFault problem c e → IsFirstFault problem c f
     → (IsMemory e → ⊥) → (IsMemory f → ⊥) → e ≡ f
@@ -33,7 +33,7 @@ ExplainedHasNoFault = (problem : Problem) (c : Certificate) (f : ChainFault) →
 abbrev pub StepsAreTyped : Type 0
 StepsAreTyped = (problem : Problem) (c : Certificate) → AllByRecursion (IsTypedStep problem c.claim) (steps_of problem c)
 
--- The steps of an accepted certificate alone add up to its denominator times its claim.
+-- The steps of an accepted certificate add up to its denominator times its claim.
 abbrev pub StepsAddUp : Type 0
 StepsAddUp = (problem : Problem) (c : Certificate) → IsAccepted problem c
     → IsCombination (polynomials problem.generators) (rows_of (steps_of problem c)) c.denominator (claim_in problem c)

@@ -22,7 +22,7 @@ line_less problem c steps =
     collected (poly_sum (poly_multiple c.denominator (claim_in problem c))
     (poly_multiple (negsuc 0) (row_sum (polynomials problem.generators) (rows_of steps))))
 
--- the line behind none of the steps, behind the first one, and so on to the last
+-- the line after none of the steps, after the first one, and so on to the last
 abbrev pub lines_by : Problem → Certificate → List CertRow → List Poly
 lines_by problem c steps = map (λ k. line_less problem c (take k steps)) (range_with_len 0 (length steps + 1))
 

@@ -1,4 +1,4 @@
--- A chain as it is made, and as it is handed out.
+-- A chain while it is made, and as it is returned.
 use Rattle.std.specs.Prelude.{◌≡◌, ⊤, ℕ, ◌+◌, ◌<◌, ◌≤◌, List, [], ◌∷◌, ◌++◌, true, false, Some, None, Option, Ok, Err}
 use Rattle.definitions.specs.Poly.{Poly}
 use Rattle.nc_polynomial.specs.declared.fault.PolyFault.{PolyFault}
@@ -23,7 +23,7 @@ use Rattle.equation_chain.specs.Steps.{is_step, steps_of}
 use Rattle.equation_chain.specs.Lines.{letters_in, lines_by, lines_of}
 use Rattle.equation_chain.specs.Faults.{steps_before, line_before, letters_before}
 
--- a fault of polynomials is told as that of the step in the row with this number
+-- a fault of polynomials becomes that of the step in the row with this number
 abbrev pub Tells : ℕ → PolyFault → ChainFault → Type 0
 Tells number (poly.Overflow overflow) f = f ≡ fault.Overflow number overflow
 Tells number (poly.Size size) f = f ≡ fault.Size number
@@ -45,17 +45,17 @@ StopsLine line generator step number (fault.Long row) = (row ≡ number)
     × ((next : Poly) × (less_step line.poly.terms generator step ≡ Ok next) × (letter_limit < line.letters + letters_in next))
 StopsLine line generator step number (fault.Memory failed) = ⊤
 
--- The line behind the steps among the first i rows, with the letters of the lines up to it.
+-- The line after the steps among the first i rows, with the letters of the lines up to it.
 pub record IsLineBefore (problem : Problem) (c : Certificate) (i : ℕ) (line : Line) : Type 0 where
   pub terms : line.poly.terms ≡ line_before problem c i
   pub letters : line.letters ≡ letters_before problem c i
 
--- The row is a step, and this is the line behind it; or it is none.
+-- The row is a step, and this is the line after it; or it is none.
 abbrev pub GoesOn : Problem → Certificate → ℕ → CertRow → Option Line → Type 0
 GoesOn problem c i row (Some next) = (is_step problem c.claim row ≡ true) × IsLineBefore problem c (i + 1) next
 GoesOn problem c i row None = is_step problem c.claim row ≡ false
 
--- Behind the first i rows: their steps, the lines before the present one, and this one.
+-- After the first i rows: their steps, the lines before the present one, and this one.
 pub record IsMaking (problem : Problem) (c : Certificate) (i : ℕ) (making : Making) : Type 0 where
   pub line : IsLineBefore problem c i making.line
   pub steps : making.steps ≡ steps_before problem c i

@@ -1,4 +1,4 @@
--- Words and polynomials by a table of the texts of letters; for private functions.
+-- Words and polynomials by a table of the texts of letters. Only private functions use it.
 use Rattle.std.specs.Prelude.{◌≡◌, ℕ, List, [], ◌∷◌, ◌++◌, length, map, get_or, codes, decimal, if◌then◌else◌}
 use Rattle.std.specs.Fmt.{signed_decimal}
 use Rattle.std.specs.Int.{is_negative}
@@ -41,7 +41,7 @@ use_by texts step =
     codes "use " ++ signed_decimal step.coef ++ codes " (" ++ word_by texts step.left ++ codes ") " ++ decimal step.generator ++ codes " ("
     ++ word_by texts step.right ++ codes ")\n"
 
--- each step, with the line behind it
+-- each step, with the line after it
 abbrev pub steps_by : List (List ℕ) → List CertRow → List Poly → List ℕ
 steps_by texts steps lines = flat_map (λ s. use_by texts s.0 ++ line_by texts s.1) (zip steps lines)
 

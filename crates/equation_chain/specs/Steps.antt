@@ -1,4 +1,4 @@
--- The steps of a chain: the rows of a certificate that are typed as its claim and count for something.
+-- The steps of a chain: the rows of a certificate that have the claim's signature and are not zero.
 use Rattle.std.specs.Prelude.{ℕ, zero, suc, ◌≢◌, pos, Bool, true, false, ◌&&◌, not, List, [], ◌∷◌, ◌++◌, filter, map, get_or}
 use Rattle.std.specs.List.{AllByRecursion}
 use Rattle.std.specs.Ordering.{int_eq}
@@ -13,7 +13,7 @@ use Rattle.traced_rows.specs.Rows.{row_of}
 use Rattle.adjoint_rules.specs.declared.problem.Problem.{Problem}
 use Rattle.adjoint_rules.specs.Problem.{polynomials}
 
--- the signature that stands beside the claim with this number, counted from 1: its source and its target
+-- the signature of the claim with this number, counted from 1: its source and its target
 abbrev pub claim_ends : Problem → ℕ → ℕ × ℕ
 claim_ends problem zero = (0, 0)
 claim_ends problem (suc n) = get_or (map ends_of problem.parts.claim_sigs) n (0, 0)
@@ -47,7 +47,7 @@ steps_in problem claim rows = filter (is_step problem claim) rows
 abbrev pub steps_of : Problem → Certificate → List CertRow
 steps_of problem c = steps_in problem c.claim c.rows
 
--- The step has words, each of which is a path of the claim's signature, with a coefficient other than zero.
+-- Each word of the step is a path of the claim's signature, it has at least one, and its coefficient is not zero.
 pub record IsTypedStep (problem : Problem) (claim : ℕ) (step : CertRow) : Type 0 where
   pub coefficient : step.coef ≢ pos 0
   pub generator : generator_of problem step ≢ []

@@ -16,7 +16,7 @@ use_text ds step =
     codes "use " ++ signed_decimal step.coef ++ codes " (" ++ word_text ds step.left ++ codes ") " ++ decimal step.generator ++ codes " ("
     ++ word_text ds step.right ++ codes ")\n"
 
--- each step, with the line behind it
+-- each step, with the line after it
 abbrev pub steps_text : List Declaration → List CertRow → List Poly → List ℕ
 steps_text ds steps lines = flat_map (λ s. use_text ds s.0 ++ line_text ds s.1) (zip steps lines)
 
@@ -25,6 +25,6 @@ abbrev pub lines_text : List Declaration → List CertRow → List Poly → List
 lines_text ds steps [] = []
 lines_text ds steps (line ∷ lines) = line_text ds line ++ steps_text ds steps lines
 
--- a chain, whose last line is ended by what stands behind it
+-- a chain, whose last line is ended by what follows it
 abbrev pub chain_text : List Declaration → ℕ → ℤ → List CertRow → List Poly → List ℕ
 chain_text ds claim denominator steps lines = opening_text (codes "chain 1\nclaim ") claim denominator ++ (lines_text ds steps lines ++ codes "end")

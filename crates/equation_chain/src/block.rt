@@ -14,7 +14,7 @@ use quiver::Quiver;
 use std::alloc::{AllocError, Global};
 use traced_rows::CertRow;
 
-/// A chain behind bytes, whose last line is ended by what stands behind it.
+/// Appends a chain, whose last line is ended by what follows it.
 pub fn put_chain(
     alloc: Global,
     out: &mut Vec<u8>,
@@ -31,7 +31,7 @@ pub fn put_chain(
     put(out, "end")
 }
 
-// The first line, and each step with the line behind it.
+// Appends the first line, and each step with the line after it.
 fn put_lines(
     out: &mut Vec<u8>,
     texts: &LetterTexts,
@@ -51,7 +51,7 @@ fn put_lines(
     }
 }
 
-// Each step with the line behind it.
+// Appends each step with the line after it.
 fn put_steps(
     out: &mut Vec<u8>,
     texts: &LetterTexts,

@@ -21,13 +21,13 @@ pub struct Chain {
     pub claim: u32,
     /// The positive integer by which the claim is multiplied.
     pub denominator: i128,
-    /// The rows of the certificate that are typed as the claim and count for something, in order.
+    /// The rows of the certificate that have the claim's signature and are not zero, in order.
     pub steps: Listing<CertRow>,
-    /// The denominator times the claim, and behind each step what is left of it, down to zero.
+    /// The denominator times the claim, and after each step the line, down to zero.
     pub lines: Listing<Poly>,
 }
 
-/// The chain of a certificate. Each fault comes exactly where it is the first: what `check` refuses, and then step by step the
+/// The chain of a certificate. Each fault is returned exactly where it is the first: what `check` refuses, and then step by step the
 /// faults of `left_right` and `combine`, and the limit of the letters of all lines.
 pub fn explain(
     alloc: Global,
@@ -78,7 +78,7 @@ fn made_chain(
     })
 }
 
-// A chain behind some rows: the steps among these, the present line, and the lines before it.
+// The chain up to some row: the steps so far, the present line, and the lines before it.
 #[derive(Drop)]
 struct Making {
     line: Line,
@@ -86,7 +86,7 @@ struct Making {
     lines: Listing<Poly>,
 }
 
-// The same behind the row at this place.
+// The same after the row at this place.
 fn go_on(
     problem: &Problem,
     certificate: &Certificate,

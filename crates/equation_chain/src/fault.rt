@@ -7,19 +7,19 @@ use cofactor_checker::Refusal;
 use std::alloc::{AllocError, AllocFailed};
 use thiserror::Error;
 
-/// The first thing that is wrong. Rows are numbered from 1 as the certificate numbers them, those that are no steps too.
+/// The first fault. Rows are numbered from 1 as in the certificate, those that are no steps too.
 #[derive(Debug, Drop, Error)]
 pub enum ChainFault {
     /// The certificate is not accepted.
     #[error(transparent)]
     Refused(Refusal),
-    /// A product or a sum of the step in this row leaves the range of coefficients.
+    /// A product or a sum of the step in this row overflows.
     #[error("row {row}: {overflow}")]
     Overflow { row: u32, overflow: Overflow },
-    /// A word of the step in this row has more than 500 letters, or the line behind it more than 20,000 terms.
+    /// A word of the step in this row has more than 500 letters, or the line after it more than 20,000 terms.
     #[error("the step in row {row} is too large")]
     Size { row: u32 },
-    /// The lines up to the one behind the step in this row have more than 10,000,000 letters together.
+    /// The lines up to the one after the step in this row have more than 10,000,000 letters together.
     #[error("the lines up to row {row} have more than 10,000,000 letters")]
     Long { row: u32 },
     /// Memory is short.

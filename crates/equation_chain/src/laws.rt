@@ -1,16 +1,16 @@
-//! What users ask of chains.
+//! The laws of chains, for users.
 ghost use Rattle.equation_chain.specs.Laws.{EachCertificateIsExplained, FirstFaultIsUnique, ExplainedHasNoFault};
 ghost use Rattle.equation_chain.specs.Laws.{StepsAreTyped, StepsAddUp, LinesAreAChain, LinesAreTyped, LinesVanish};
 ghost use Rattle.equation_chain.specs.Back.{ChainsAreReadBack, ChainsAreUnique, TextsTellChains, ExplainedIsReadable};
 
 use category_laws::Preadditive;
 
-/// Each certificate has a chain, or something is the first that is wrong with it.
+/// Each certificate has a chain or a first fault.
 pub fn each_certificate_is_explained()
     ensures { EachCertificateIsExplained }
 {}
 
-/// A certificate has one first fault at most, apart from want of memory.
+/// A certificate has at most one first fault, apart from want of memory.
 pub fn first_fault_is_unique()
     ensures { FirstFaultIsUnique }
 {}
@@ -25,7 +25,7 @@ pub fn steps_are_typed()
     ensures { StepsAreTyped }
 {}
 
-/// The steps of an accepted certificate alone add up to its denominator times its claim.
+/// The steps of an accepted certificate add up to its denominator times its claim.
 pub fn steps_add_up()
     ensures { StepsAddUp }
 {}
@@ -40,17 +40,17 @@ pub fn lines_are_typed()
     ensures { LinesAreTyped }
 {}
 
-/// In the category that is handed in, each line is zero wherever the generators are.
+/// In the given category, each line is zero wherever the generators are.
 pub fn lines_vanish<C: Preadditive>(category: &C)
     ensures { LinesVanish (C.structure category.now) }
 {}
 
-/// Chains that are written are read as they are, whatever stands around them, where objects and maps have names of the language.
+/// Chains that are written are read as they are, whatever texts are before and after them, where objects and maps have names of the language.
 pub fn chains_are_read_back()
     ensures { ChainsAreReadBack }
 {}
 
-/// A text has one list of chains.
+/// A text has at most one list of chains.
 pub fn chains_are_unique()
     ensures { ChainsAreUnique }
 {}
@@ -60,7 +60,7 @@ pub fn texts_tell_chains()
     ensures { TextsTellChains }
 {}
 
-/// Each explained certificate has a chain of which this holds.
+/// The chain of each explained certificate is readable.
 pub fn explained_is_readable()
     ensures { ExplainedIsReadable }
 {}

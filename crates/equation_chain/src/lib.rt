@@ -1,4 +1,4 @@
-//! A certificate of rows over generators as a chain of equations: from its denominator times its claim down to zero, each line the one before less one step.
+//! A certificate of rows over generators as a chain of equations: from its denominator times its claim to zero, each line the one before less a step.
 #![tactic(auto)]
 
 mod block;

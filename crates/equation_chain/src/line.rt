@@ -23,7 +23,7 @@ pub const LETTER_LIMIT: usize = 10_000_000;
 /// A line of a chain.
 #[derive(Drop)]
 pub struct Line {
-    /// What is left of the denominator times the claim.
+    /// The denominator times the claim less the steps so far.
     pub poly: Poly,
     /// How many letters this line and those before it have together.
     pub letters: usize,
@@ -65,7 +65,7 @@ fn less_step(line: &Poly, generator: &Poly, step: &CertRow) -> Result<Poly, Poly
     Poly::combine(1, line, negate(step.coef), &moved)
 }
 
-// The denominator times a claim, no product of which leaves the range.
+// The denominator times a claim, no product of which overflows.
 fn multiple_of(denominator: i128, claim: &Poly) -> Result<Poly, ChainFault>
     requires denominator { IsCoefficient denominator }
     requires products { first_overflow (products denominator claim.now.terms) ≡ None }
@@ -92,8 +92,8 @@ pub fn first_line(problem: &Problem, certificate: &Certificate) -> Result<Line, 
     Ok(Line { poly, letters })
 }
 
-/// The line behind the row at this place, counted from 0, where the row is a step, and none where it is no step. Before it stands
-/// the line behind the steps in front of it.
+/// The line after the row at this place, counted from 0, where the row is a step, and None where it is no step. `line` is
+/// the line after the steps before it.
 pub fn next_line(
     problem: &Problem,
     certificate: &Certificate,
@@ -122,7 +122,7 @@ pub fn next_line(
     Ok(Some(next))
 }
 
-// The line behind the step in the row with this number, whose generator is this one.
+// The line after the step in the row with this number, whose generator is this one.
 fn line_behind(
     line: &Line,
     generator: &Poly,

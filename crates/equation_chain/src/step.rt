@@ -12,7 +12,7 @@ use quiver::{Quiver, Sig};
 use traced_rows::{CertRow, Certificate};
 use word_core::{Object, Word};
 
-// The object from which the word leads to the target; none where its letters don't fit.
+// The object from which the word leads to the target, or None where its letters don't fit.
 fn start_of(quiver: &Quiver, target: Object, word: &Word) -> Option<Object>
     ensures leads { let q = quiver_of quiver.now in
         IfSome result (λ start. (u : ℕ) (rest : List ℕ) → leads q u target.0 (word.now ++ rest) ≡ leads q u start.0 rest) }
@@ -34,14 +34,14 @@ fn start_of(quiver: &Quiver, target: Object, word: &Word) -> Option<Object>
     Some(object)
 }
 
-// Whether the three words lead one behind the other from the source to the target.
+// Whether the three words lead one after another from the source to the target.
 fn leads(quiver: &Quiver, ends: Sig, left: &Word, word: &Word, right: &Word) -> bool
     ensures { result ≡ leads (quiver_of quiver.now) ends.source.0 ends.target.0 (left.now ++ (word.now ++ right.now)) }
 {
     source_of(quiver, ends.target, left, word, right) == Some(ends.source)
 }
 
-// The object from which the three words, one behind the other, lead to the target; none where they don't fit.
+// The object from which the three words, one after another, lead to the target, or None where they don't fit.
 fn source_of(
     quiver: &Quiver,
     target: Object,
@@ -59,7 +59,7 @@ fn source_of(
     start_of(quiver, inner, right)
 }
 
-// The signature that stands beside the claim with this number.
+// The signature of the claim with this number.
 fn claim_ends(problem: &Problem, claim: u32) -> Sig
     ensures { ends_of result ≡ claim_ends problem.now claim }
 {
@@ -83,7 +83,7 @@ pub(crate) fn numbered<T>(items: &[T], number: u32) -> Option<&T>
 }
 
 /// Whether the row over this generator is a step of a chain for the claim with this number. One word of the generator
-/// decides, which is not made: either all its words between those of the row are paths of the claim's signature, or none is.
+/// decides, without being made: either all its words between those of the row are paths of the claim's signature, or none is.
 pub(crate) fn is_step(problem: &Problem, claim: u32, generator: &Poly, row: &CertRow) -> bool
     requires { generator.now.terms ≡ generator_of problem.now row.now }
     ensures { result ≡ is_step problem.now claim row.now }

@@ -53,7 +53,7 @@ fn put_letter(out: &mut Vec<u8>, texts: &LetterTexts, letter: Letter) -> Result<
     out.extend_from_slice(text.as_slice())
 }
 
-// The blank in front of all letters but the first.
+// Appends the blank before each letter but the first.
 fn put_gap(out: &mut Vec<u8>, place: usize) -> Result<(), AllocError>
     ensures { OnOk result (out.new.items ≡ out.old.items ++ gap_text place) }
 {
@@ -132,7 +132,7 @@ fn put_terms(
     }
 }
 
-/// A line of a chain behind bytes.
+/// Appends a line of a chain.
 pub fn put_line(out: &mut Vec<u8>, texts: &LetterTexts, line: &Poly) -> Result<(), AllocError>
     requires { All (λ t. IsOver (length texts.now) t.1) line.now.terms }
     ensures { OnOk result (out.new.items ≡ out.old.items ++ line_by texts.now line.now.terms) }
@@ -142,7 +142,7 @@ pub fn put_line(out: &mut Vec<u8>, texts: &LetterTexts, line: &Poly) -> Result<(
     put(out, "\n")
 }
 
-// The first half of a step, its coefficient and the word in front.
+// Appends the first half of a step, its coefficient and the word before the generator.
 fn put_use_front(
     out: &mut Vec<u8>,
     texts: &LetterTexts,
@@ -159,7 +159,7 @@ fn put_use_front(
     put(out, ") ")
 }
 
-// The end of a step, the word behind.
+// Appends the end of a step, the word after the generator.
 fn put_use_end(out: &mut Vec<u8>, texts: &LetterTexts, right: &Word) -> Result<(), AllocError>
     requires { IsOver (length texts.now) right.now }
     ensures { OnOk result (out.new.items ≡ out.old.items ++ codes " (" ++ word_by texts.now right.now ++ codes ")\n") }
@@ -169,7 +169,7 @@ fn put_use_end(out: &mut Vec<u8>, texts: &LetterTexts, right: &Word) -> Result<(
     put(out, ")\n")
 }
 
-/// A step of a chain behind bytes.
+/// Appends a step of a chain.
 pub fn put_use(out: &mut Vec<u8>, texts: &LetterTexts, step: &CertRow) -> Result<(), AllocError>
     requires left { IsOver (length texts.now) step.now.left }
     requires right { IsOver (length texts.now) step.now.right }
@@ -180,7 +180,7 @@ pub fn put_use(out: &mut Vec<u8>, texts: &LetterTexts, step: &CertRow) -> Result
     put_use_end(out, texts, &step.right)
 }
 
-// The first lines of a block with this head.
+// Appends the first lines of a block with this head.
 fn put_head(out: &mut Vec<u8>, head: &str, claim: u32, denominator: i128) -> Result<(), AllocError>
     ensures { OnOk result (out.new.items ≡ out.old.items ++ opening_text head.now claim denominator) }
 {
@@ -191,7 +191,7 @@ fn put_head(out: &mut Vec<u8>, head: &str, claim: u32, denominator: i128) -> Res
     put(out, "\n")
 }
 
-/// The first lines of a chain behind bytes, with its claim and its denominator.
+/// Appends the first lines of a chain, with its claim and its denominator.
 pub fn put_opening(out: &mut Vec<u8>, claim: u32, denominator: i128) -> Result<(), AllocError>
     ensures { OnOk result (out.new.items ≡ out.old.items ++ opening_text (codes "chain 1\nclaim ") claim denominator) }
 {

@@ -2,6 +2,6 @@ use Rattle.equation_chain.specs.Faults.{StepsPass}
 use Rattle.equation_chain.specs.Made.{IsMaking}
 use Rattle.equation_chain.proofs.chain.made_chain.Given as goal
 
--- the chain behind the rows so far, whose steps pass
+-- the chain after the rows so far, whose steps pass
 abbrev pub invariant-loop-place : goal.invariant-loop-place
 invariant-loop-place l = record { making : IsMaking l.problem l.certificate l.place l.making; passed : StepsPass l.problem l.certificate l.place }
