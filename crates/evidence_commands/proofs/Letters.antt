@@ -25,7 +25,7 @@ use Rattle.adjoint_rules.specs.Problem.{polynomials}
 use Rattle.certificate_text.specs.Evidence.{IsRowOver, IsLemmaRowOver, IsCheckable, IsCheckableLemma, IsCheckableByLemmas, IsCheckableEvidence}
 use Rattle.evidence_commands.specs.Causes.{HasLetters}
 
--- a refusal that `?` hands on
+-- a refusal that `?` returns
 pub handed_on : {A E : Type 0} (P : E → Type 0) (result : Result A E) (e : E) → result ≡ Err e → P e → IfErr result P
 handed_on {A} {E} P result e is holds = let F : Result A E → Type 0 = λ r. IfErr r P in subst F (sym is) holds
 

@@ -26,7 +26,7 @@ pub record IsJudged {Block Refusal : Type 0} (kind : Kind Block Refusal) : Type 
   -- what is read can be judged
   pub IsReadable : List Declaration → Block → Type 0
   pub readable : (ds : List Declaration) (text : List ℕ) (blocks : List Block) → kind.AreBlocks ds text blocks → All (IsReadable ds) blocks
-  -- and a block that passes shows what is said, and means it
+  -- and a block that passes shows what its text says, and means it
   pub shown : (problem : Problem) (block : Block) → IsReadable problem.parts.quiver block → kind.Passes problem block → kind.Shown problem block
   pub means : {Object Arrow : Type 0} {s : Structure Object Arrow} → PreadditiveLaws s → IsSound s → IsEvidenceSound s → IsCancellationSound s
       → (problem : Problem) (block : Block) → IsReadable problem.parts.quiver block → kind.Passes problem block → kind.Means Object Arrow s problem block
@@ -68,7 +68,7 @@ module _ {Block Refusal : Type 0} (kind : Kind Block Refusal) (judged : IsJudged
       })
       (λ Object Arrow s laws sound with_lemmas cancelling ending. says laws sound with_lemmas cancelling statement text ending)
 
-  -- what users ask of it
+  -- the laws for users
   pub passing_are_answered : PassingAreAnswered kind
   passing_are_answered statement text problem blocks is are all = stated problem is (passing_answered (judged.is_kind problem text) blocks are all)
 

@@ -13,7 +13,7 @@ name_text ds a = codes " " ++ letter_text ds a.0
 abbrev pub names_text : List Declaration → List Letter → List ℕ
 names_text ds letters = flat_map (name_text ds) letters
 
--- a word and the letters that are called so, where there are any
+-- a word and the letters after it, where there are any
 abbrev pub called_text : List Declaration → List ℕ → List Letter → List ℕ
 called_text ds word [] = []
 called_text ds word (a ∷ letters) = word ++ names_text ds (a ∷ letters)

@@ -21,11 +21,11 @@ use Rattle.evidence_commands.specs.CalledLetters.{letters_text}
 use Rattle.evidence_commands.specs.Causes.{claim_text, cause_text, HasLetters}
 use Rattle.evidence_commands.specs.Kind.{Kind}
 
--- what accepting a proof says: its claim, its denominator, and the letters that it calls monic and epic
+-- the text of an accepted proof: its claim, its denominator, and the letters that it calls monic and epic
 abbrev pub accepted_text : List Declaration → Cancellation → List ℕ
 accepted_text ds p = claim_text p.claim p.denominator ++ letters_text ds p.monic p.epic
 
--- why a proof is refused: what `check` says of certificates, or at which item a letter doesn't come off; no line says that memory is short
+-- why a proof is refused: what `check` says of certificates, or at which item a letter can't be cancelled; no line says that memory is short
 abbrev pub refusal_text : List Declaration → CancelRefusal → Option (List ℕ)
 refusal_text ds (refusal.Common e) = cause_text ds e
 refusal_text ds (refusal.NoSuchItem item) = Some (codes "X1 item " ++ decimal item)
@@ -51,7 +51,7 @@ pub record CancelledMeans {Object Arrow : Type 0} (s : Structure Object Arrow) (
   -- its items, one after another, and its goal lead to the claim that it names, over the generators of the problem
   pub items : List (List Term)
   pub shows : IsCancellationOf (quiver_of problem.parts.quiver) (polynomials problem.generators) items proof (claim_at problem proof.claim)
-  -- the claim is typed of its signature
+  -- the claim has its signature
   pub typed : HasSignature (quiver_of problem.parts.quiver) (claim_at problem proof.claim)
   -- each representation in which the denominator cancels, the letters that it calls monic and epic have such arrows, and all
   -- generators of the statement have the value zero, gives the claim the value zero

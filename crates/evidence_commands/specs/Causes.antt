@@ -1,4 +1,4 @@
--- What the lines of a report say of certificates that are accepted or refused.
+-- The lines of a report on certificates that are accepted or refused.
 use Rattle.std.specs.Prelude.{⊤, ℕ, ℤ, Bool, List, ◌++◌, codes, decimal, if◌then◌else◌, Option, Some, None}
 use Rattle.std.specs.Fmt.{signed_decimal}
 use Rattle.word_core.specs.Letters.{IsOver}
@@ -12,7 +12,7 @@ use Rattle.block_text.specs.Written.{word_text}
 abbrev pub operation_text : Bool → List ℕ
 operation_text product = if product then codes " times " else codes " plus "
 
--- what accepting a certificate says
+-- the text of an accepted certificate
 abbrev pub claim_text : ℕ → ℤ → List ℕ
 claim_text claim denominator = codes "accepted claim " ++ (decimal claim ++ (codes " denominator " ++ signed_decimal denominator))
 

@@ -24,11 +24,11 @@ use Rattle.normal_forms.specs.SharpMeans.{SharpMeans, StarSharpMeans}
 use Rattle.normal_category.specs.Tests.{is_sharp}
 use Rattle.evidence_commands.specs.Kind.{Kind}
 
--- what ends the line on a basis that is sharp
+-- the end of the line on a basis: ` sharp`, or nothing
 abbrev pub sharp_ending : Bool → List ℕ
 sharp_ending sharp = if sharp then codes " sharp" else []
 
--- what accepting a basis says of the claim that it names, and whether it is sharp
+-- the text of a closed basis: the claim that it names, and whether it is sharp
 abbrev pub claim_closed : ℕ → Bool → List ℕ
 claim_closed claim sharp = (codes "closed claim " ++ decimal claim) ++ sharp_ending sharp
 
@@ -81,7 +81,7 @@ HasRefusalLetters ds other = ⊤
 abbrev pub closed_text : Problem → Basis → List ℕ
 closed_text problem b = claim_closed b.claim (is_sharp problem.parts (polynomials b.rules))
 
--- What a closed basis means: no positive multiple of the claim is a combination of the generators. Where ` sharp` is said, there is a preadditive
+-- What a closed basis means: no positive multiple of the claim is a combination of the generators. Where the line says ` sharp`, there is a preadditive
 -- category in which each positive integer cancels, with a representation in which all generators are zero and the claim isn't; and where the statement
 -- is starred, one with an involution, and a star representation.
 pub record BasisMeans (problem : Problem) (b : Basis) : Type 0 where

@@ -33,7 +33,7 @@ abbrev pub IsExplained : Problem → Evidence → Type 0
 IsExplained problem (Plain c) = chain.IsExplained problem c
 IsExplained problem (Lemmas c) = ⊥
 
--- A block with lemmas is refused for these, whatever else is wrong with it. A certificate is refused for its first fault.
+-- A block with lemmas is refused for them, even if it has another fault. A certificate is refused for its first fault.
 abbrev pub IsRefused : Problem → Evidence → ExplainRefusal → Type 0
 IsRefused problem (Plain c) (HasFault f) = chain.IsFirstFault problem c f
 IsRefused problem (Lemmas c) HasLemmas = ⊤
@@ -44,7 +44,7 @@ abbrev pub IsMemory : ExplainRefusal → Type 0
 IsMemory HasLemmas = ⊥
 IsMemory (HasFault f) = chain.IsMemory f
 
--- what is said of the first fault of a certificate: what `check` says of it, or which step fails and why; no line says that memory is short
+-- the text of the first fault of a certificate: what `check` says of it, or which step fails and why; no line says that memory is short
 abbrev pub fault_text : List Declaration → ChainFault → Option (List ℕ)
 fault_text ds (fault.Refused refusal) = cause_text ds refusal
 fault_text ds (fault.Overflow row o) =
@@ -79,12 +79,12 @@ certificate_explained problem c =
     head_text c.claim c.denominator (length (steps_of problem c)) ++ chain_text problem.parts.quiver c.claim c.denominator
     (steps_of problem c) (lines_of problem c)
 
--- what explaining a block says; of one with lemmas, which is never explained, that line alone
+-- the text of an explained block; of one with lemmas, which is never explained, that line alone
 abbrev pub explained_text : Problem → Evidence → List ℕ
 explained_text problem (Plain c) = certificate_explained problem c
 explained_text problem (Lemmas c) = head_text c.claim c.denominator 0
 
--- the lines after the first i rows, with the steps between them; for private functions
+-- the lines after the first i rows, with the steps between them; only private functions use it
 abbrev pub text_before : Problem → Certificate → ℕ → List ℕ
 text_before problem c i = lines_text problem.parts.quiver (chain.steps_before problem c i) (lines_by problem c (chain.steps_before problem c i))
 

@@ -11,13 +11,13 @@ use Rattle.stated_problem.specs.Statement.{OverStatement}
 use Rattle.stated_problem.specs.Stated.{IsStated}
 
 pub record Kind (Block Refusal : Type 0) : Type 1 where
-  -- the blocks that a text has over the letters of a quiver, or the first thing that is wrong with it
+  -- the blocks of a text over the letters of a quiver, or its first fault
   pub AreBlocks : List Declaration → List ℕ → List Block → Type 0
   pub IsFirstFault : List Declaration → List ℕ → Fault → Type 0
   -- a block passes all tests, or this one is the first that fails
   pub Passes : Problem → Block → Type 0
   pub IsRefused : Problem → Block → Refusal → Type 0
-  -- what is printed of a block that passes, and why another is refused; no line says that memory is short
+  -- the text of a block that passes, and why another is refused; no line says that memory is short
   pub shows : Problem → Block → List ℕ
   pub cause : List Declaration → Refusal → Option (List ℕ)
   -- what a block that passes shows by itself, and what it means in a category

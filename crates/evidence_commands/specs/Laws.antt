@@ -1,4 +1,4 @@
--- What users ask of each command of evidence.
+-- The laws of each command of evidence, for users.
 use Rattle.std.specs.Prelude.{ℕ, ◌≡◌, List}
 use Rattle.std.specs.List.{AllByRecursion}
 use Rattle.definitions.specs.Category.{Structure}
@@ -25,7 +25,7 @@ module _ {Block Refusal : Type 0} (kind : Kind Block Refusal) where
     pub shown : AllByRecursion (kind.Shown problem) blocks
     pub report : ending.report ≡ accepted_lines kind problem 1 blocks
 
-  -- 0 is answered to no others
+  -- 0 is the answer to no others
   abbrev pub ZeroIsPassing : Type 0
   ZeroIsPassing = (statement text : List ℕ) (ending : Ending) → AnswersBoth kind statement text ending → ending.status ≡ 0 → AllPass statement text ending
 
@@ -46,7 +46,7 @@ module _ {Block Refusal : Type 0} (kind : Kind Block Refusal) where
   abbrev pub FaultsAreAnswered : Type 0
   FaultsAreAnswered = (statement text refusal : List ℕ) → IsRefusedStatement statement refusal → AnswersBoth kind statement text (refused_statement refusal)
 
-  -- 3 is answered to no others
+  -- 3 is the answer to no others
   abbrev pub ThreeIsFaulty : Type 0
   ThreeIsFaulty = (statement text : List ℕ) (ending : Ending) → AnswersBoth kind statement text ending → ending.status ≡ 3
       → (refusal : List ℕ) × IsRefusedStatement statement refusal × (ending ≡ refused_statement refusal)

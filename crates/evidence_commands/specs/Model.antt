@@ -11,7 +11,7 @@ use Rattle.model_checker.specs.RefutedMeans.{RefutedMeans}
 use Rattle.model_text.specs.Models.{IsModels, IsFirstFault}
 use Rattle.evidence_commands.specs.Kind.{Kind}
 
--- what confirming a model says
+-- the text of a confirmed model
 abbrev pub claim_confirmed : ℕ → List ℕ
 claim_confirmed claim = codes "confirmed claim " ++ decimal claim
 

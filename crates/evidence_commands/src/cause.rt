@@ -1,4 +1,4 @@
-//! Why a certificate is refused, and what is said of one that is accepted.
+//! Why a certificate is refused, and the text of one that is accepted.
 ghost use Rattle.std.specs.Prelude.{◌≡◌, ◌++◌, OnOk, codes, decimal};
 ghost use Rattle.std.specs.Fmt.{signed_decimal};
 ghost use Rattle.quiver.specs.Declarations.{letter_count};
@@ -41,7 +41,7 @@ pub(crate) fn put_cause(
     }
 }
 
-/// Appends a place, and the limit that is passed there.
+/// Appends a place, and the limit that is exceeded there.
 pub(crate) fn put_past(
     out: &mut Vec<u8>,
     place: &str,
@@ -54,7 +54,7 @@ pub(crate) fn put_past(
     put_labelled(out, " limit ", limit as u128)
 }
 
-/// Appends a place, and the operation that leaves the range there.
+/// Appends a place, and the operation that overflows there.
 pub(crate) fn put_overflow(
     out: &mut Vec<u8>,
     place: &str,

@@ -1,4 +1,4 @@
-//! A certificate as the text of its chain. Each line is written as it is made, and the present one alone is kept.
+//! A certificate as the text of its chain. Each line is written as it is made, and only the present one is kept.
 ghost use Rattle.std.specs.Prelude.{◌≡◌, ℕ, ◌+◌, ◌<◌, List, ◌++◌, length, IfOk, IfErr, OnOk};
 ghost use Rattle.certificate_text.specs.Evidence.{IsCheckable};
 ghost use Rattle.equation_chain.specs.Steps.{steps_of};
@@ -19,7 +19,7 @@ use equation_chain::{
 };
 use std::alloc::{AllocError, Global};
 
-/// What explaining a certificate says. Each fault comes exactly where it is the first.
+/// The text of an explained certificate. Each fault is returned exactly where it is the first.
 pub(crate) fn write_chain(
     alloc: Global,
     problem: &Problem,

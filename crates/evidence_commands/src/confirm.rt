@@ -96,14 +96,14 @@ fn is_sharp(problem: &Problem, basis: &Basis, rules: &Rules<AnyOrder>) -> bool
     normal_forms(problem, rules, basis.claim).is_ok()
 }
 
-// What ends the line on a basis that is sharp.
+// Appends the end of the line on a basis: ` sharp`, or nothing.
 fn put_ending(out: &mut Vec<u8>, is_sharp: bool) -> Result<(), AllocError>
     ensures { OnOk result (out.new.items ≡ out.old.items ++ sharp_ending is_sharp) }
 {
     if is_sharp { put(out, " sharp") } else { Ok(()) }
 }
 
-// The code of the test, the part, and what is left of it.
+// Appends the code of the test, the part, and what is left of it.
 fn put_left(
     out: &mut Vec<u8>,
     quiver: &Quiver,
@@ -120,7 +120,7 @@ fn put_left(
     put_poly(out, quiver, rest)
 }
 
-// What is left of the claim.
+// Appends what is left of the claim.
 fn put_got(out: &mut Vec<u8>, quiver: &Quiver, got: &Poly) -> Result<(), AllocError>
     requires { IsPolyOver quiver.now got.now }
     ensures { OnOk result (out.new.items ≡ out.old.items ++ got_text quiver.now got.now) }
@@ -129,7 +129,7 @@ fn put_got(out: &mut Vec<u8>, quiver: &Quiver, got: &Poly) -> Result<(), AllocEr
     put_poly(out, quiver, got)
 }
 
-// The part that has a fault, and which.
+// Appends the part that has a fault, and which.
 fn put_stop(out: &mut Vec<u8>, part: Part, cause: &Cause) -> Result<(), AllocError>
     ensures { OnOk result (out.new.items ≡ out.old.items ++ stop_text part cause.now) }
 {

@@ -77,7 +77,7 @@ impl EvidenceKind for Chains {
     }
 }
 
-// What is said of the first fault of a certificate.
+// Appends the text of the first fault of a certificate.
 fn put_fault(out: &mut Vec<u8>, quiver: &Quiver, fault: &ChainFault) -> Result<(), AllocError>
     requires { HasFaultLetters quiver.now fault.now }
     ensures { OnOk result (Puts (fault_text quiver.now fault.now) out.old.items out.new.items) }

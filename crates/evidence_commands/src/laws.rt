@@ -1,4 +1,4 @@
-//! What users ask of each command of evidence.
+//! The laws of each command of evidence, for users.
 ghost use Rattle.command_words.specs.declared.evidence.EvidenceCommand.{EvidenceCommand};
 ghost use Rattle.evidence_commands.specs.Commands.{judged_by};
 ghost use Rattle.evidence_commands.specs.Laws.{PassingAreAnswered, ZeroIsPassing, ZeroMeans, FaultsAreAnswered, ThreeIsFaulty};
@@ -11,8 +11,8 @@ pub fn passing_blocks_are_answered_by_0()
     ensures no_others { (command : EvidenceCommand) → ZeroIsPassing (judged_by command).kind }
 {}
 
-/// Where the main theorem is said of an ending with status 0, each block of the text has its meaning in the category that is
-/// handed in.
+/// Where the main theorem holds of an ending with status 0, each block of the text has its meaning in the given
+/// category.
 pub fn status_0_means_what_blocks_mean<C: Preadditive>(category: &C)
     ensures { (command : EvidenceCommand) → ZeroMeans (judged_by command).kind (C.structure category.now) }
 {}
