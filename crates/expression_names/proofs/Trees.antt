@@ -22,7 +22,7 @@ has_identity_in_factor ds v f = has_identity_in_primary ds v f.primary
 
 -- sums and terms
 module _ {X : Type 0} where
-  -- what is said of the list that a row stands for is said of the list of the sum or the term
+  -- what holds of the list of a row holds of the list of the sum or the term
   pub of_sum : (g : List Term → X) (at : _) (shape : _) (terms : _) → g (items-the_row-Term _ terms) ≡ g (out-Sum (Sum' at shape terms)).terms
   of_sum g at shape terms = ap g (sym (items_shown-the_row-Term-0 shape terms)) ∙ ap (λ r. g r.terms) (sym (outs-Sum' at shape terms))
 

@@ -18,7 +18,7 @@ is_object None = false
 is_object (Some (Object v)) = true
 is_object (Some (Map a)) = false
 
--- the number of a letter and of an object; 0 stands where there is none
+-- the number of a letter and of an object; 0 where there is none
 abbrev pub letter_number : Option Named → ℕ
 letter_number None = 0
 letter_number (Some (Object v)) = 0

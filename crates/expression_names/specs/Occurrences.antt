@@ -40,7 +40,7 @@ is_the_object v None = false
 is_the_object v (Some (Object u)) = nat_eq u.0 v
 is_the_object v (Some (Map a)) = false
 
--- whether the name of the object v stands in square brackets
+-- whether the name of the object v is in square brackets
 abbrev mutual
   pub has_identity : List Declaration → ℕ → Sum → Bool
   has_identity ds v (Sum' at shape terms) = has_identity_in_terms ds v terms
