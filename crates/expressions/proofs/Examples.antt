@@ -72,7 +72,7 @@ open_side = refl
 sides : sides_signature (at 7) (at 11) (Some (from_to 0 1)) (Some (from_to 1 0)) ≡ Err (SumMismatch (at 11) (from_to 0 1) (from_to 1 0))
 sides = refl
 
--- x a leads from 0 to itself; the caret stands at 12
+-- x a leads from 0 to itself; the caret is at 12
 abbrev caret : ℕ → Mark
 caret exponent = Power (at 12) (record { value = pos exponent; at = at 13 })
 

@@ -1,4 +1,4 @@
--- The loops over the terms of a sum, the factors of a term and the marks of a factor, which come to their polynomial.
+-- The loops over the terms of a sum, the factors of a term and the marks of a factor compute their polynomial.
 use Rattle.std.proofs.Common.{◌≡◌, ◌<◌, ◌≤◌, ◌+◌, ℕ, List, [], ◌∷◌, ◌++◌, length, map, drop, get_or, Bool, Result, Ok, Err, MatchResult, refl, sym, ap, subst, ◌∙◌, arith}
 use Rattle.std.proofs.lemmas.List.{map-append}
 use Rattle.definitions.specs.Poly.{Poly}

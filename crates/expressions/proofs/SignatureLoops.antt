@@ -1,4 +1,4 @@
--- The loops over the terms of a sum and the factors of a term, which come to their signature.
+-- The loops over the terms of a sum and the factors of a term compute their signature.
 use Rattle.std.proofs.Common.{◌≡◌, ◌≢◌, ◌<◌, ◌≤◌, ◌+◌, ℕ, List, [], ◌∷◌, length, drop, get_or, Option, None, Result, Ok, Err, refl, sym, ap, ◌∙◌, arith}
 use Rattle.quiver.specs.declared.named.Sig.{Sig}
 use Rattle.quiver.specs.Declarations.{Declaration}

@@ -27,7 +27,7 @@ module _ (t : Term) (canonical : IsCanonical (t ∷ [])) where
   pub short-alone : length t.1 ≤ 500
   short-alone = (recursion_from_All (λ (u : Term). length u.1 ≤ 500) (t ∷ []) canonical.short).0
 
--- one time more
+-- one more time
 pub repeated-next : (i : ℕ) (w : List ℕ) → repeated_word (i + 1) w ≡ repeated_word i w ++ w
 repeated-next i w = ap (λ k. repeated_word k w) next
   where

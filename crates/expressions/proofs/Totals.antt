@@ -25,7 +25,7 @@ canonical-signed : (s : Summand) → IsCanonical s.1 → IsCanonical (signed s)
 canonical-signed (false, p) h = h
 canonical-signed (true, p) h = canonical-negated p h
 
--- one summand more
+-- one more summand
 from-next : (ss : List Summand) (s : Summand) (sum : Poly) → sum_from sum (ss ++ s ∷ []) ≡ (sum_from sum ss >>= λ p. sum_step p s)
 from-next [] s sum = alone (sum_step sum s)
   where

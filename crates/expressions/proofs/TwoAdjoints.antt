@@ -184,6 +184,6 @@ module _ (ds : List Declaration) (declared : IsDeclared ds) where
   due-turned p false = refl
   due-turned p true = sym (adjoint-back p.terms p.canonical)
 
--- the marks that are left, behind a polynomial with one mark more
+-- the marks that are left, after a polynomial with one more mark
 pub due-next : (q : Quiver) (m next : Marked) (mark : Mark) (more : List Mark) → due_poly q next ≡ due_marked q m mark → (due_poly q next >>= marked_poly q more) ≡ (due_poly q m >>= marked_poly q (mark ∷ more))
 due-next q m next mark more is = ap (λ r. r >>= marked_poly q more) is ∙ bind-assoc (due_poly q m) (mark_poly q mark) (marked_poly q more)

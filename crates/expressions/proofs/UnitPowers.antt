@@ -82,7 +82,7 @@ module _ (t : Term) (canonical : IsCanonical (t ∷ [])) (unit : unsigned_abs t.
   abbrev whole : Result Poly PolyFault
   whole = product_poly (replicate n (t ∷ []))
 
-  -- the factors that are left, behind the power so far, make the whole power
+  -- the factors that are left, after the power so far, make the whole power
   abbrev Leads : ℕ → Type 0
   Leads i = product_from (after i) (replicate (n - i) (t ∷ [])) ≡ whole
 
@@ -99,7 +99,7 @@ module _ (t : Term) (canonical : IsCanonical (t ∷ [])) (unit : unsigned_abs t.
     canonical-after : IsCanonical (after (i + 1))
     canonical-after = subst IsCanonical (next_is i) (canonical-next t canonical n i (unit_after t.0 i) leads so_far inside short (fits i))
 
-  -- the letters of a part of the power and of one factor more
+  -- the letters of a part of the power and of one more factor
   part : (i k : ℕ) → n ≡ i + suc k → length (repeated_word i t.1) + length t.1 ≤ n * length t.1
   part i k e = subst (λ m. length (repeated_word i t.1) + length t.1 ≤ m * length t.1) (sym e) (go (length-repeated i t.1))
     where

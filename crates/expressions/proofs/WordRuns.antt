@@ -34,7 +34,7 @@ sized-canonical p canonical =
     by_words p canonical.few
     ∙ ap (λ b. cond b (Err (size_fault true)) (Ok p)) (not_long p (recursion_from_All (λ (t : Term). length t.1 ≤ word_limit) p canonical.short))
 
--- a word behind
+-- a word after
 abbrev one : List ℕ → Term
 one w = (pos 1, w)
 
@@ -92,7 +92,7 @@ module _ (w : List ℕ) where
       (λ within done. each_step (front ++ t ∷ []) more (subst IsCanonical (sym (append_assoc front (t ∷ []) more)) left) done)
       (nat_lt word_limit (length (t.1 ++ w))) refl
 
-  -- the product with the word moves each word in front of it
+  -- the product with the word moves each word before it
   pub word-behind : (p : List Term) → IsCanonical p → product_result p ((pos 1, w) ∷ []) ≡ sized (poly_between [] p w)
   word-behind p canonical =
       let count : length (times_term y p) ≡ length p = length-map p (behind y) in
@@ -105,7 +105,7 @@ between-twice : (u v : List ℕ) (p : List Term) → poly_between [] (poly_betwe
 between-twice u v [] = refl
 between-twice u v (t ∷ p) = ap₂ (λ x ts. (t.0, x) ∷ ts) (append_assoc t.1 u v) (between-twice u v p)
 
--- a word that is too long is so with more behind it
+-- a word that is too long is so with more after it
 longer : (u v : List ℕ) (p : List Term) → has_long_word (poly_between [] p u) ≡ true → has_long_word (poly_between [] p (u ++ v)) ≡ true
 longer u v [] h = absurd (cc)
 longer u v (t ∷ p) h = go (nat_lt word_limit (length (t.1 ++ u))) refl h (longer u v p)
@@ -154,7 +154,7 @@ module _ (u v : List ℕ) (p : List Term) (canonical : IsCanonical p) where
           ∙ word-behind v moved (canonical_sized moved moved (shaped-between [] u p canonical.shaped) within)
           ∙ ap sized (between-twice u v p)
 
--- no word behind
+-- no word after
 pub no-word : (p : List Term) → IsCanonical p → sized (poly_between [] p []) ≡ Ok p
 no-word p canonical = ap sized (same p) ∙ sized-canonical p canonical
   where

@@ -6,7 +6,7 @@ use Rattle.nc_polynomial.specs.Product.{moved_result, product_result}
 use Rattle.expressions.specs.Results.{◌>>=◌}
 use Rattle.expressions.specs.declared.polynomial.Begun.{Begun}
 
--- the product that it stands for
+-- the product that it represents
 abbrev pub product_begun : Begun → Result Poly PolyFault
 product_begun b = moved_result [] b.product.terms b.word
 

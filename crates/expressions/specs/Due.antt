@@ -1,4 +1,4 @@
--- A polynomial with marks behind it, of which the last adjoint isn't taken yet.
+-- A polynomial with marks after it, of which the last adjoint isn't taken yet.
 use Rattle.std.specs.Prelude.{Result, Ok, if◌then◌else◌}
 use Rattle.definitions.specs.Poly.{Poly}
 use Rattle.definitions.specs.Quiver.{Quiver}
@@ -10,7 +10,7 @@ use Rattle.expressions.specs.Polynomials.{mark_poly}
 use Rattle.expressions.specs.Results.{◌>>=◌}
 use Rattle.expressions.specs.declared.powers.Marked.{Marked}
 
--- the polynomial that it stands for
+-- the polynomial that it represents
 abbrev pub due_poly : Quiver → Marked → Result Poly PolyFault
 due_poly q m = if m.due then collection_result (adjoint_poly q m.poly.terms) else Ok m.poly.terms
 

@@ -1,4 +1,4 @@
--- The polynomial of an equation is typed as its signature says, and its letters are those that the equation writes.
+-- The polynomial of an equation has the equation's signature, and its letters are those that the equation writes.
 use Rattle.std.specs.Prelude.{◌≡◌, ℕ, ◌<◌, ◌||◌, List, Ok, IsTrue}
 use Rattle.std.specs.List.{All}
 use Rattle.definitions.specs.Poly.{Poly}
@@ -11,7 +11,7 @@ use Rattle.expression_names.specs.Occurrences.{has_quote, has_identity}
 use Rattle.expressions.specs.Signatures.{equation_signature}
 use Rattle.expressions.specs.Polynomials.{equation_poly}
 
--- Each word that the polynomial of an equation has is a path of the equation's signature.
+-- Each word of the polynomial of an equation is a path of the equation's signature.
 abbrev pub EquationsAreTyped : Type 0
 EquationsAreTyped = (ds : List Declaration) (left right : Sum) (s : Sig) (p : Poly)
     → IsDeclared ds → ObjectsFirst ds → AreNames ds left → AreNames ds right

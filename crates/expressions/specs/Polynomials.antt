@@ -22,7 +22,7 @@ use Rattle.expression_names.specs.Names.{letter_of, object_of}
 abbrev pub letter_poly : ℕ → Poly
 letter_poly a = (pos 1, a ∷ []) ∷ []
 
--- factors from the left, after this part
+-- the product of this part and the factors, from the left
 abbrev pub product_from : Poly → List Poly → Result Poly PolyFault
 product_from so_far [] = Ok so_far
 product_from so_far (p ∷ polys) = product_result so_far p >>= λ next. product_from next polys
@@ -32,13 +32,13 @@ abbrev pub product_poly : List Poly → Result Poly PolyFault
 product_poly [] = Ok []
 product_poly (p ∷ polys) = product_from p polys
 
--- so many times the polynomial; an exponent below 1, which no statement has, leaves it as it is
+-- the power of the polynomial; an exponent below 1, which no statement has, leaves it as it is
 abbrev pub power_poly : ℤ → Poly → Result Poly PolyFault
 power_poly (pos (suc n)) p = product_poly (replicate (suc n) p)
 power_poly (pos zero) p = Ok p
 power_poly (negsuc n) p = Ok p
 
--- a quote reverses the words and takes the adjoints of their letters, a caret repeats what stands before it
+-- a quote reverses the words and takes the adjoints of their letters, a caret takes the power of what is before it
 abbrev pub mark_poly : Quiver → Mark → Poly → Result Poly PolyFault
 mark_poly q Adjoint p = collection_result (adjoint_poly q p)
 mark_poly q (Power at exponent) p = power_poly exponent.value p

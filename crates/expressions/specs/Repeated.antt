@@ -1,4 +1,4 @@
--- A word so many times.
+-- A power of a word.
 use Rattle.std.specs.Prelude.{ℕ, zero, suc, List, [], ◌++◌}
 
 abbrev pub repeated_word : ℕ → List ℕ → List ℕ

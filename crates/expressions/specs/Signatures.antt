@@ -30,12 +30,12 @@ same_ends s t = nat_eq s.source.0 t.source.0 && nat_eq s.target.0 t.target.0
 abbrev pub turned : Sig → Sig
 turned s = record { source = s.target; target = s.source }
 
--- whether an exponent repeats its base
+-- whether an exponent is above 1
 abbrev pub is_repeated : ℤ → Bool
 is_repeated (pos (suc (suc n))) = true
 is_repeated exponent = false
 
--- what is repeated leads from an object to itself; the primary and the caret are at these places
+-- the base of such a power leads from an object to itself; the primary and the caret are at these places
 abbrev pub repeated : Spot → Spot → Option Sig → Result (Option Sig) SignatureFault
 repeated first caret None = Err (OpenZero first)
 repeated first caret (Some s) = if nat_eq s.source.0 s.target.0 then Ok (Some s) else Err (NotComposable caret s s)
@@ -45,7 +45,7 @@ abbrev pub mark_signature : Spot → Mark → Option Sig → Result (Option Sig)
 mark_signature first Adjoint s = Ok (option_map turned s)
 mark_signature first (Power caret exponent) s = if is_repeated exponent.value then repeated first caret s else Ok s
 
--- the marks from the left, behind the primary at this place
+-- the marks from the left, after the primary at this place
 abbrev pub marked_signature : Spot → List Mark → Option Sig → Result (Option Sig) SignatureFault
 marked_signature first [] s = Ok s
 marked_signature first (m ∷ marks) s = mark_signature first m s >>= marked_signature first marks
@@ -80,7 +80,7 @@ product_signature [] = Ok None
 product_signature (p ∷ []) = Ok p.1
 product_signature (p ∷ r ∷ parts) = product_from (Ok None) (p ∷ r ∷ parts)
 
--- two signatures that must be the same, of which the second one is at this place
+-- two signatures that have to be the same, of which the second one is at this place
 abbrev pub matched : Spot → Sig → Sig → Result (Option Sig) SignatureFault
 matched at before s = if same_ends before s then Ok (Some before) else Err (SumMismatch at before s)
 

@@ -1,4 +1,4 @@
-//! Sums of two polynomials: one term is put in its place among the others, and more are merged with them.
+//! Sums of two polynomials: one term is inserted at its place, and more are merged.
 ghost use Rattle.std.specs.Prelude.{◌≡◌, ◌<◌, [], ◌∷◌, length, MatchResult, Ok};
 ghost use Rattle.std.specs.List.{HoldsAt};
 ghost use Rattle.std.specs.List.Sorted.{IsBinarySearchResult, IsSearchInRange};
@@ -40,7 +40,7 @@ fn add_terms(
     add_term(left.into_vec(), term)
 }
 
-// The terms and one term more: its word is looked up, and the terms behind it are moved as a whole.
+// The terms and one more: its word is looked up, and the terms after it are moved as a whole.
 fn add_term(
     mut terms: Vec<(i128, Word)>,
     term: (i128, Word),
@@ -59,7 +59,7 @@ fn add_term(
     }
 }
 
-// The place of the word, or else the one at which it would stand.
+// The place of the word, or the one where it would be inserted.
 fn place_of(terms: &[(i128, Word)], word: &Word) -> Result<usize, usize>
     ensures in_range { IsSearchInRange result (length terms.now) }
     ensures place { IsBinarySearchResult (λ t. word_cmp word.now t.1) terms.now result }
@@ -67,7 +67,7 @@ fn place_of(terms: &[(i128, Word)], word: &Word) -> Result<usize, usize>
     terms.binary_search_by(|term| word.cmp_degree(&term.1))
 }
 
-// The terms of which the one at this place has the word: its coefficient changes, and it goes where that becomes zero.
+// The terms with this added to the coefficient of the one at this place, which is removed where that becomes zero.
 fn add_at(
     mut terms: Vec<(i128, Word)>,
     place: usize,

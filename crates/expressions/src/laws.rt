@@ -1,13 +1,13 @@
-//! Laws on expressions, which have nothing to run.
+//! The laws of expressions, which have nothing to run.
 ghost use Rattle.expressions.specs.Laws.{EquationsAreTyped, LettersAreWritten};
 
-/// The law that an equation with a signature and a polynomial has a typed one: each word is a path of the signature.
+/// The polynomial of an equation with a signature is typed: each word is a path of the signature.
 /// It has nothing to run.
 pub fn equations_are_typed()
     ensures { EquationsAreTyped }
 {}
 
-/// The law that the letters of an equation's polynomial are those that the equation writes: maps, identities of the
+/// The letters of an equation's polynomial are those that the equation writes: maps, identities of the
 /// objects in square brackets, and adjoints where there is a quote. It has nothing to run.
 pub fn letters_are_written()
     ensures { LettersAreWritten }

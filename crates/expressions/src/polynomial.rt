@@ -78,7 +78,7 @@ fn merged_total(alloc: Global, summands: Vec<(bool, Poly)>) -> Result<Poly, Poly
     Ok(sum)
 }
 
-// The terms of a sum added up from the left. Each is moved into the sum so far, by a look-up, and gone then. A fault of
+// The terms of a sum added up from the left. Each is moved into the sum so far by a look-up, and then dropped. A fault of
 // a later term comes before a fault of the sum so far.
 #[cycle(polys)]
 fn running_total(alloc: Global, quiver: &Quiver, sum: &Sum) -> Result<Poly, PolyFault>
@@ -94,7 +94,7 @@ fn running_total(alloc: Global, quiver: &Quiver, sum: &Sum) -> Result<Poly, Poly
     Ok(so_far?.into_poly(alloc)?)
 }
 
-// The sum so far and a summand, which is added or subtracted, or the fault so far, which stays. Both are given away.
+// The sum so far plus or minus a summand, or the fault so far, which is kept. Both are consumed.
 fn with_summand(
     alloc: Global,
     so_far: Result<RunningSum, PolyFault>,
@@ -124,7 +124,7 @@ fn signed(alloc: Global, negative: bool, poly: Poly) -> Result<Poly, AllocError>
     Ok(Poly { terms })
 }
 
-// The sum so far and a summand, which is added or subtracted. Both are given away.
+// The sum so far plus or minus a summand. Both are consumed.
 fn add_summand(alloc: Global, sum: Poly, negative: bool, poly: Poly) -> Result<Poly, PolyFault>
     ensures { MatchResult result (λ p. sum_step sum.terms (negative, poly.terms) ≡ Ok p.terms) (Explains (sum_step sum.terms (negative, poly.terms))) }
 {
@@ -170,15 +170,15 @@ fn product(alloc: Global, polys: Vec<Poly>) -> Result<Poly, PolyFault>
     Ok(begun.product)
 }
 
-// A product of which the last factors are letters: the word that they are isn't multiplied in yet, so that a run of
-// letters moves what stands in front of it once.
+// A product whose last factors are letters: their word isn't multiplied in yet, so that a run of
+// letters moves what is before it once.
 #[derive(Drop)]
 struct Begun {
     product: Poly,
     word: Word,
 }
 
-// The product with one factor more.
+// The product with one more factor.
 fn follow(alloc: Global, begun: &mut Begun, next: &Poly) -> Result<(), PolyFault>
     ensures { MatchResult result (λ _. product_begun begun.new ≡ product_followed begun.old next.now.terms)
         (Explains (product_followed begun.old next.now.terms)) }
@@ -204,7 +204,7 @@ fn word_in(poly: &Poly) -> Option<&Word>
     }
 }
 
-// Multiplies the word into the product, behind which is none then.
+// Multiplies the word into the product, and leaves none.
 fn multiply(alloc: Global, begun: &mut Begun) -> Result<(), PolyFault>
     ensures product { MatchResult result (λ _. product_begun begun.old ≡ Ok begun.new.product.terms) (Explains (product_begun begun.old)) }
     ensures word { OnOk result (begun.new.word ≡ []) }

@@ -1,4 +1,4 @@
-//! Marks behind a polynomial: adjoints and powers.
+//! Marks after a polynomial: adjoints and powers.
 ghost use Rattle.std.specs.Prelude.{◌≡◌, ◌≤◌, [], ◌∷◌, replicate, unsigned_abs, MatchResult, IfOk, Ok};
 ghost use Rattle.std.specs.List.{All};
 ghost use Rattle.definitions.specs.Generators.{adjoint_poly};
@@ -19,7 +19,7 @@ use statement_syntax::Mark;
 use std::alloc::{AllocError, Global};
 use word_core::Word;
 
-/// The polynomial with these marks behind it, or the first fault.
+/// The polynomial with these marks after it, or the first fault.
 pub(crate) fn with_marks(
     alloc: Global,
     quiver: &Quiver,
@@ -38,7 +38,7 @@ pub(crate) fn with_marks(
     take_due(alloc, quiver, marked)
 }
 
-// A polynomial with marks behind it, and whether its adjoint is meant. The adjoint isn't taken before a power needs it:
+// A polynomial with marks after it, and whether its adjoint is meant. The adjoint isn't taken until a power needs it:
 // where another quote comes first, the polynomial itself is meant again.
 #[derive(Drop)]
 struct Marked {
@@ -46,7 +46,7 @@ struct Marked {
     due: bool,
 }
 
-// The polynomial with one mark more.
+// The polynomial with one more mark.
 fn with_mark(
     alloc: Global,
     quiver: &Quiver,
@@ -167,7 +167,7 @@ fn coefficient_of_power(term: &(i128, Word), factors: u128) -> Result<i128, Poly
     Ok(coefficient)
 }
 
-// The word so many times, of which one half is copied for the other.
+// The power of the word, of which one half is copied for the other.
 fn repeated_word(word: &Word, times: u128) -> Result<Word, AllocError>
     requires { 1 ≤ times }
     ensures { IfOk result (λ w. w ≡ repeated_word times word.now) }
@@ -183,7 +183,7 @@ fn repeated_word(word: &Word, times: u128) -> Result<Word, AllocError>
     }
 }
 
-// The power of several terms: the product of so many factors, from the left.
+// The power of several terms: the product of this many factors, from the left.
 fn power_of_sum(base: &Poly, factors: u128) -> Result<Poly, PolyFault>
     requires { 1 ≤ factors }
     ensures { let power = product_poly (replicate factors base.now.terms) in

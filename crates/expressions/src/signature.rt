@@ -147,7 +147,7 @@ fn primary_signature(quiver: &Quiver, primary: &Primary) -> Result<Option<Sig>, 
     }
 }
 
-// The signature with these marks behind the primary at this place.
+// The signature with these marks after the primary at this place.
 fn marked_signature(
     first: Spot,
     marks: &[Mark],
@@ -186,7 +186,7 @@ fn turned(signature: Sig) -> Sig
     }
 }
 
-// What is repeated leads from an object to itself.
+// The base of a power leads from an object to itself.
 fn repeated(first: Spot, caret: Spot, signature: Option<Sig>) -> Result<Option<Sig>, SignatureFault>
     ensures { result ≡ repeated first caret signature }
 {

@@ -7,7 +7,7 @@ use Rattle.expressions.specs.Results.{◌>>=◌}
 use Rattle.expressions.proofs.WordRuns.{words-behind, no-word}
 use Rattle.expressions.proofs.polynomial.follow.Goals as goal
 
--- one letter more is behind the word
+-- one more letter is appended to the word
 pub returns-then-saturating_add-le-WORD_LIMIT : goal.returns-then-saturating_add-le-WORD_LIMIT
 returns-then-saturating_add-le-WORD_LIMIT c =
     let begun = c.args.begun.now in

@@ -8,7 +8,7 @@ use Rattle.expressions.proofs.PolynomialLoops.{polys_of}
 use Rattle.expressions.proofs.WordRuns.{no-word}
 use Rattle.expressions.proofs.polynomial.product.Goals as goal
 
--- no word stands behind the first factor
+-- no word follows the first factor
 pub loop-next-init : goal.loop-next-init
 loop-next-init c =
     let first = c.in-Some.first in

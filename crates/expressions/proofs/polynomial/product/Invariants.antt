@@ -6,7 +6,7 @@ use Rattle.expressions.specs.Results.{◌>>=◌}
 use Rattle.expressions.proofs.PolynomialLoops.{polys_of}
 use Rattle.expressions.proofs.polynomial.product.Given as goal
 
--- the factors that are left, behind the product so far, make the whole product
+-- the factors that are left, after the product so far, make the whole product
 abbrev pub invariant-loop-next : goal.invariant-loop-next
 invariant-loop-next l = record {
   left : into_iter_len l.next-iterator ≡ length (into_iter_items l.next-iterator);

@@ -4,7 +4,7 @@ use Rattle.expressions.specs.Polynomials.{product_from, product_poly}
 use Rattle.expressions.specs.Repeated.{repeated_word}
 use Rattle.expressions.proofs.powers.coefficient_of_power.Given as goal
 
--- the factors that are left, behind the power so far, make the whole power
+-- the factors that are left, after the power so far, make the whole power
 abbrev pub invariant-loop : goal.invariant-loop
 invariant-loop l = record {
   rest : product_from ((l.coefficient, repeated_word l.counter l.term.1) ∷ []) (replicate (l.factors - l.counter) (l.term ∷ [])) ≡ product_poly (replicate l.factors (l.term ∷ []));

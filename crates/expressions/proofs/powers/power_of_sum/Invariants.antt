@@ -2,7 +2,7 @@ use Rattle.std.proofs.Common.{◌≡◌, ◌≤◌, ◌-◌, replicate}
 use Rattle.expressions.specs.Polynomials.{product_from, product_poly}
 use Rattle.expressions.proofs.powers.power_of_sum.Given as goal
 
--- the factors that are left, behind the power so far, make the whole power
+-- the factors that are left, after the power so far, make the whole power
 abbrev pub invariant-loop : goal.invariant-loop
 invariant-loop l = record {
   rest : product_from l.power.terms (replicate (l.factors - l.counter) l.base.terms) ≡ product_poly (replicate l.factors l.base.terms);

@@ -7,7 +7,7 @@ use Rattle.expressions.specs.Polynomials.{marked_poly}
 use Rattle.expressions.specs.Results.{◌>>=◌}
 use Rattle.expressions.proofs.powers.with_marks.Given as goal
 
--- the marks that are left come to the same
+-- the marks that are left give the same
 abbrev pub invariant-loop-mark : goal.invariant-loop-mark
 invariant-loop-mark l = record {
   rest : (due_poly (quiver_of l.quiver) l.marked >>= marked_poly (quiver_of l.quiver) (drop l.mark-index l.marks)) ≡ marked_poly (quiver_of l.quiver) l.marks l.fn.poly.terms;
