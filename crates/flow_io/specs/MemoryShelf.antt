@@ -1,4 +1,4 @@
--- A shelf in memory, by what it keeps.
+-- A shelf in memory, by its state.
 use Rattle.std.specs.Prelude.{ℕ, ◌≡◌, ◌+◌, ◌≤◌, ◌⊎◌, List, length, replicate, set, slice_index, Contains, Result, Ok, Err, Vec}
 use Rattle.std.specs.declared.alloc.Global.{Global}
 use Rattle.flow_io.specs.declared.shelf.ShelfFault.{ShelfFault}
@@ -15,11 +15,11 @@ pub record ShelfState : Type 0 where
   pub loads : ℕ
   pub counts : List ℕ
 
--- a shelf of which nothing was loaded
+-- a shelf from which nothing was loaded
 abbrev pub new_shelf : Files → List ℕ → ShelfState
 new_shelf files failing = record { files = files; failing = failing; loads = 0; counts = replicate (length files + 1) 0 }
 
--- the shelf with one load more; the new count is the number of that load
+-- the shelf with one more load; the new count is the number of that load
 abbrev pub with_load : ShelfState → ShelfState
 with_load s = record s { loads = next_count s.loads }
 
@@ -27,7 +27,7 @@ with_load s = record s { loads = next_count s.loads }
 abbrev pub count_of : ShelfState → List ℕ → ℕ
 count_of s name = slice_index s.counts (place_of s.files name)
 
--- the shelf with one fault more of a name
+-- the shelf with one more fault of a name
 abbrev pub with_fault : ShelfState → List ℕ → ShelfState
 with_fault s name = record s { counts = set s.counts (place_of s.files name) (next_count (count_of s name)) }
 
@@ -35,7 +35,7 @@ with_fault s name = record s { counts = set s.counts (place_of s.files name) (ne
 abbrev pub LoadFails : ShelfState → List ℕ → Type 0
 LoadFails s name = Contains s.failing (next_count s.loads) ⊎ (file_under s.files name ≡ Absent)
 
--- what a load answers, and the shelf after it
+-- the result of a load, and the shelf after it
 abbrev pub LoadGives : ShelfState → List ℕ → ℕ → Result (Vec ℕ Global) ShelfFault → ShelfState → Type 0
 LoadGives old name most (Ok bytes) new =
     ¬ LoadFails old name × (file_under old.files name ≡ Holds bytes.items) × (length bytes.items ≤ most) × (new ≡ with_load old)

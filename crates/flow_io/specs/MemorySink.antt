@@ -1,4 +1,4 @@
--- A sink in memory, by what it keeps.
+-- A sink in memory, by its state.
 use Rattle.std.specs.Prelude.{ℕ, ◌≡◌, ◌+◌, ◌<◌, ◌⊎◌, min, List, [], ◌++◌, length, take, Bool, true, false, Contains, Result, MatchResult}
 use Rattle.flow_io.specs.declared.sink.SinkFault.{SinkFault}
 use Rattle.flow_io.specs.Causes.{next_count}
@@ -26,11 +26,11 @@ new_sink most_per_put room failing = record {
   finished = false;
 }
 
--- the sink with one call more; the new count is the number of that call
+-- the sink with one more call; the new count is the number of that call
 abbrev pub with_call : SinkState → SinkState
 with_call s = record s { calls = next_count s.calls }
 
--- the sink with one fault more
+-- the sink with one more fault
 abbrev pub with_fault : SinkState → SinkState
 with_fault s = record s { faults = next_count s.faults }
 
@@ -42,11 +42,11 @@ IsToFail s = Contains s.failing (next_count s.calls)
 abbrev pub at_once : SinkState → List ℕ → ℕ
 at_once s piece = min (length piece) s.most_per_put
 
--- the next put fails: its number is listed, or it goes past the room
+-- the next put fails: its number is listed, or there is no room for it
 abbrev pub PutFails : SinkState → List ℕ → Type 0
 PutFails s piece = IsToFail s ⊎ (s.room < length s.bytes + at_once s piece)
 
--- what a put answers, and the sink after it
+-- the result of a put, and the sink after it
 abbrev pub PutGives : SinkState → List ℕ → Result ℕ SinkFault → SinkState → Type 0
 PutGives old piece result new =
     MatchResult result
@@ -54,7 +54,7 @@ PutGives old piece result new =
     × (new ≡ record (with_call old) { bytes = old.bytes ++ take count piece; finished = false }))
     (λ _. PutFails old piece × (new ≡ with_fault (with_call old)))
 
--- what a finish answers, and the sink after it
+-- the result of a finish, and the sink after it
 abbrev pub FinishGives : SinkState → Result (Unit {0}) SinkFault → SinkState → Type 0
 FinishGives old result new =
     MatchResult result

@@ -1,4 +1,4 @@
--- What a sink has taken of bytes that it didn't take whole.
+-- How many bytes a sink took that didn't take them all.
 use Rattle.std.specs.Prelude.{ℕ}
 use Rattle.flow_io.specs.declared.sink.PutFault.{PutFault}
 use Rattle.flow_io.specs.declared.sink.PutFault.TheVariants.{Failed}

@@ -1,4 +1,4 @@
--- Devices that never fail, by what they keep.
+-- Devices that never fail, by their states.
 use Rattle.std.specs.Prelude.{ℕ, List, Bool, false, if◌then◌else◌}
 use Rattle.std.specs.Str.{bytes_eq}
 

@@ -110,7 +110,7 @@ impl Shelf for MemoryShelf {
     fn load(&mut self, alloc: Global, name: &str, most: usize) -> Result<Vec<u8>, ShelfFault>
         requires { most < usize.MAX }
         ensures exact { LoadGives self.old name.now most result self.new }
-        // as of the trait
+        // by the trait
         ensures answer { LoadAnswers (file_under self.old.files name.now) most
             (count_of self.old name.now) (count_of self.new name.now) result }
         ensures counts { (other : List ℕ) → count_of self.old other ≤ count_of self.new other }

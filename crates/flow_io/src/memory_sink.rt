@@ -1,4 +1,4 @@
-//! Output that is kept in memory, with puts and finishes that are made to fail.
+//! Output that is stored in memory, with puts and finishes that are made to fail.
 
 ghost use Rattle.std.specs.Prelude.{◌≡◌, ◌<◌, ◌≤◌, Some, IfOk, OnErr, length};
 ghost use Rattle.flow_io.specs.Causes.{Rose};
@@ -9,7 +9,7 @@ use lists::Listing;
 use std::alloc::{AllocError, Global};
 use std::marker::Model;
 
-/// A sink in memory, of fixed room, for tests. Its puts and finishes are numbered together from 1, and
+/// A sink in memory, with limited room, for tests. Its puts and finishes are numbered together from 1, and
 /// those with a number in the list `failing` fail.
 #[derive(Drop)]
 pub struct MemorySink {
@@ -93,11 +93,11 @@ impl Sink for MemorySink {
     ghost faults = { λ sink. sink.faults };
 
     /// Appends as many bytes as it takes at once. It fails exactly where the call's number is listed or those
-    /// bytes go past the room.
+    /// bytes exceed the room.
     fn put(&mut self, bytes: &[u8]) -> Result<usize, SinkFault>
         requires { 0 < length bytes.now }
         ensures exact { PutGives self.old bytes.now result self.new }
-        // as of the trait
+        // by the trait
         ensures some { IfOk result (λ count. 0 < count) }
         ensures cause { OnErr result (Rose self.old.faults self.new.faults) }
         ensures count { self.old.faults ≤ self.new.faults }
@@ -116,7 +116,7 @@ impl Sink for MemorySink {
     /// It fails exactly where the call's number is listed.
     fn finish(&mut self) -> Result<(), SinkFault>
         ensures exact { FinishGives self.old result self.new }
-        // as of the trait
+        // by the trait
         ensures cause { OnErr result (Rose self.old.faults self.new.faults) }
         ensures count { self.old.faults ≤ self.new.faults }
     {

@@ -30,7 +30,7 @@ impl<R: Files + Drop> RealShelf<R> {
     }
 }
 
-// Reads to the end, or past the limit by one byte.
+// Reads to the end, or to one byte past the limit.
 fn read_whole<F: Read>(alloc: Global, file: &mut F, most: usize) -> Result<Vec<u8>, ShelfFault>
     requires { most < usize.MAX }
     ensures { LoadAnswers (told_by (F.remaining file.old)) most 0 1 result }
@@ -72,11 +72,11 @@ impl<R: Files + Drop> Shelf for RealShelf<R> {
 
     ghost faults = { λ shelf _. shelf.faults };
 
-    /// The count goes up by one where it answers `Failed`, and stays else.
+    /// The count goes up by one where it returns `Failed`, and is unchanged otherwise.
     fn load(&mut self, alloc: Global, name: &str, most: usize) -> Result<Vec<u8>, ShelfFault>
         requires { most < usize.MAX }
         ensures counted { CountsLoad self.old.faults self.new.faults result }
-        // as of the trait
+        // by the trait
         ensures answer { LoadAnswers Untold most self.old.faults self.new.faults result }
         ensures counts { self.old.faults ≤ self.new.faults }
     {

@@ -34,11 +34,11 @@ impl<R: Print + Drop> Sink for RealSink<R> {
 
     ghost faults = { λ sink. sink.faults };
 
-    /// A write that takes nothing of the piece is a fault. The count goes up by one where the put failed, and stays else.
+    /// A write that takes nothing of the piece is a fault. The count goes up by one where the put failed, and is unchanged otherwise.
     fn put(&mut self, bytes: &[u8]) -> Result<usize, SinkFault>
         requires { 0 < length bytes.now }
         ensures counted { CountsFault self.old.faults self.new.faults result }
-        // as of the trait
+        // by the trait
         ensures some { IfOk result (λ count. 0 < count) }
         ensures bound { IfOk result (λ count. count ≤ length bytes.now) }
         ensures unfinished { OnOk result (self.new.is_finished ≡ false) }
@@ -60,7 +60,7 @@ impl<R: Print + Drop> Sink for RealSink<R> {
     /// Each put has written its bytes, so that nothing is left to write.
     fn finish(&mut self) -> Result<(), SinkFault>
         ensures counted { CountsFault self.old.faults self.new.faults result }
-        // as of the trait
+        // by the trait
         ensures finished { OnOk result (IsTrue self.new.is_finished) }
         ensures cause { OnErr result (Rose self.old.faults self.new.faults) }
         ensures count { self.old.faults ≤ self.new.faults }

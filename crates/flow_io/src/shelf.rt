@@ -1,4 +1,4 @@
-//! Where files come from, and why a load gives none.
+//! Where files come from, and why a load returns none.
 
 ghost use Rattle.std.specs.Prelude.{◌≡◌, ◌<◌, ◌≤◌, List, ℕ};
 ghost use Rattle.flow_io.specs.Shelf.{LoadAnswers};

@@ -37,7 +37,7 @@ pub trait Sink {
     /// How many puts and finishes failed. The count never falls, and stays at the greatest u64.
     ghost faults: { Self → ℕ };
 
-    /// Appends the first bytes of a piece, at least one, and answers how many. Where it fails it appends
+    /// Appends the first bytes of a piece, at least one, and returns how many. Where it fails it appends
     /// nothing, and the count of faults rises.
     fn put(&mut self, bytes: &[u8]) -> Result<usize, SinkFault>
         requires { 0 < length bytes.now }

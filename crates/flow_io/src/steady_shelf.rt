@@ -61,11 +61,11 @@ impl Shelf for SteadyShelf {
 
     ghost faults = { λ _ _. 0 };
 
-    /// It answers the file, that it is too long, or that memory ran out. The shelf stays as it was.
+    /// It returns the file, that it is too long, or that memory ran out. The shelf is unchanged.
     fn load(&mut self, alloc: Global, name: &str, most: usize) -> Result<Vec<u8>, ShelfFault>
         requires { most < usize.MAX }
         ensures kept { self.new ≡ self.old }
-        // as of the trait
+        // by the trait
         ensures answer { LoadAnswers (Holds (held_under self.old name.now)) most 0 0 result }
     {
         within(alloc, self.file(name), most)

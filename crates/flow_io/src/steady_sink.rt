@@ -1,4 +1,4 @@
-//! Output of which only the number of bytes is kept, and of which no put or finish fails.
+//! Output of which only the number of bytes is stored, and of which no put or finish fails.
 
 ghost use Rattle.std.specs.Prelude.{◌≡◌, ◌+◌, ◌<◌, None, Ok, true, false, min, length};
 ghost use Rattle.flow_io.specs.Steady.{nothing_taken};
