@@ -3,7 +3,7 @@ use Rattle.std.proofs.Common.{◌≡◌, ℕ, ◌<◌, ◌≤◌, ◌+◌, ◌-�
 use Rattle.std.proofs.Math.Nat.{div-add-mod', mul-add, mul_comm, le-mul_of_pos_right}
 use Rattle.std.proofs.lemmas.Nat.{le-div}
 
--- where there are as many items as workers, the workers behind the first ones have one each at least
+-- where there are as many items as workers, the workers after the first ones have one each at least
 pub back_is_busy : (front workers items : ℕ) → front < workers → workers ≤ items → workers - front ≤ items - (items / workers * front + min (items % workers) front)
 back_is_busy front workers items fewer enough =
     let each = items / workers in

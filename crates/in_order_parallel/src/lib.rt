@@ -1,4 +1,4 @@
-//! A job at each item of a slice, on several threads, with the answers in the order of the items.
+//! A job at each item of a slice, on several threads, with the results in the order of the items.
 #![tactic(auto)]
 
 mod gate;

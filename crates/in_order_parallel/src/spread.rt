@@ -1,4 +1,4 @@
-//! The spread of items over threads, with the answers in the order of the items.
+//! The spread of items over threads, with the results in the order of the items.
 
 ghost use Rattle.std.specs.Prelude.{◌≡◌, ◌<◌, ◌≤◌, ◌+◌, ◌-◌, ◌*◌, ◌/◌, ◌%◌, ◌^◌, min, length, IfOk};
 ghost use Rattle.std.specs.List.{All, AllZip};
@@ -12,7 +12,7 @@ use std::thread::{Threads, join};
 /// The greatest number of workers.
 pub const WORKER_LIMIT: u32 = 64;
 
-// The answers to a part of the items, of which the first has the place `first`, on this thread.
+// The results of a part of the items, of which the first has the place `first`, on this thread.
 fn in_turn<J: Job, G: Gate>(
     alloc: Global,
     items: &[J::In],
@@ -35,7 +35,7 @@ where
 }
 
 // How many of the items the first `front` of the workers have: the same number each, and the first of them
-// one more where the items don't come out even.
+// one more where the items can't be shared evenly.
 fn share_of(front: usize, workers: usize, items: usize) -> usize
     requires { front < workers }
     ensures exact { result ≡ items / workers * front + min (items % workers) front }
@@ -46,8 +46,8 @@ fn share_of(front: usize, workers: usize, items: usize) -> usize
     items / workers * front + (items % workers).min(front)
 }
 
-// The answers to a part of the items, of which the first has the place `first`, on as many threads as there
-// are workers. Each worker has an item at least.
+// The results of a part of the items, of which the first has the place `first`, on as many threads as there
+// are workers. Each worker has at least one item.
 #[cycle(spread)]
 fn spread<R: Threads + Sync, J: Job + Sync, G: Gate + Sync>(
     rt: &R,
@@ -92,9 +92,9 @@ where
     Ok(answers)
 }
 
-/// One answer for each item, in the order of the items and each as the job gives it, on at most as many
+/// One result for each item, in the order of the items and each as the job gives it, on at most as many
 /// threads as there are workers, from 1 to 64. The items are spread evenly over the threads, of which each
-/// has one at least. `gate.pass(n)` is called before the item with the place n, counted from 0.
+/// has at least one. `gate.pass(n)` is called before the item with the place n, counted from 0.
 pub fn map_in_order<R: Threads + Sync, J: Job + Sync, G: Gate + Sync>(
     rt: &R,
     alloc: Global,

@@ -3,7 +3,7 @@ use Rattle.std.specs.List.{AllZip}
 use Rattle.in_order_parallel.proofs.Zips.{AllZip-halves}
 use Rattle.in_order_parallel.proofs.spread.+spread.Goals as goal
 
--- the answers of the items in front, and then those of the items behind them
+-- the results of the first items, and then those of the items after them
 pub returns : goal.returns
 returns g t c =
     let agrees = g.J.Job.gives c.args.job.now in
@@ -15,7 +15,7 @@ returns g t c =
     let back : AllZip agrees c.split_at.result.1.now right = subst (λ r. IfOk r (λ v. AllZip agrees c.split_at.result.1.now v.items)) {x = c.join-left.result.1} c.in_ok-more.was c.join-left.ensures.second in
     rw c.in_ok-append.ensures.items (AllZip-halves agrees items left right place (subst (λ l. AllZip agrees l left) {y = take place items} c.split_at.ensures.front front) (subst (λ l. AllZip agrees l right) {y = drop place items} c.split_at.ensures.back back))
 
--- the workers in front have no more items than there are
+-- the first workers have no more items than there are
 pub split_at-requires : goal.split_at-requires
 split_at-requires g t c = c.share_of.ensures.within
 
