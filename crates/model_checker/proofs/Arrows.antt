@@ -14,7 +14,7 @@ use Rattle.matrix_models.specs.declared.model.Model.{Model}
 use Rattle.model_checker.specs.Models.{IsModel, IsMap, HaveMatrices}
 use Rattle.model_checker.specs.Representations.{side_of, map_at, matrix_or_zero, arrow_of, representation_of}
 
--- the side that stands at the place of an object
+-- the side at the place of an object
 pub side_read : (m : Model) (place v x : ℕ) → slice_get m.sides place ≡ Some x → place ≡ v → x ≡ side_of m v
 side_read m place v x read here = sym (get_or_from_slice_get m.sides place x 1 read) ∙ ap (λ n. get_or m.sides n 1) here
 
@@ -110,7 +110,7 @@ module _ (q : Quiver) (quiver : IsQuiver q) (m : Model) (model : IsModel q m) wh
     pub star_represents : StarRepresents (matrices m.modulus) (transpose m.modulus) q (representation_of q m)
     star_represents = record { represents = represents; adjoints = adjoints }
 
-  -- past the letters stands a zero matrix
+  -- after the letters comes a zero matrix
   pub arrow_of-past : (a : ℕ) → letters q ≤ a → arrow_of q m a ≡ matrix_or_zero m.modulus None
   arrow_of-past a past =
       let itself : star q a ≡ a = get_or_past q.stars a a (omega (arith, quiver.star_of_each)) in

@@ -1,4 +1,4 @@
--- A model that refutes the claim that it names means what is said of it.
+-- A model that refutes the claim that it names has the meaning of `refuted`.
 use Rattle.std.proofs.Common.{◌≡◌, ℕ, subst}
 use Rattle.definitions.proofs.StarSound.{star_sound}
 use Rattle.quiver.specs.Declarations.{quiver_of}

@@ -1,4 +1,4 @@
--- The lists that hold a model's representation, and values in it: the value at one signature tells whether a polynomial is zero.
+-- The lists of a model's representation, and values in it: the value at one signature decides whether a polynomial is zero.
 use Rattle.std.proofs.Common.{◌≡◌, ℕ, ◌<◌, ◌≤◌, ℤ, true, List, [], ◌∷◌, length, get_or, Option, Some, ◌⊎◌, inl, inr, sym, refl, ap, subst, ◌∙◌, arith}
 use Rattle.std.proofs.lemmas.Bool.{cases_lt}
 use Rattle.std.proofs.lemmas.List.{get_or_past}
@@ -21,7 +21,7 @@ use Rattle.model_checker.specs.Representations.{side_of, arrow_of, representatio
 use Rattle.model_checker.specs.Listed.{AreOfModel}
 use Rattle.model_checker.proofs.Arrows.{represents, side_object, arrow_of-past}
 
--- one signature tells
+-- one signature decides
 some_is : (x y : ℕ × ℕ) → ◌≡◌ {A = Option (ℕ × ℕ)} (Some x) (Some y) → x ≡ y
 some_is x y e = cc
 

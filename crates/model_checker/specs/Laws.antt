@@ -1,4 +1,4 @@
--- What a model that refutes a claim is, and that each model has one outcome.
+-- The laws of models that refute a claim, and that each model has one outcome.
 use Rattle.std.specs.Prelude.{◌≡◌, ◌⊎◌, ℕ, ℤ, ◌<◌, List}
 use Rattle.std.specs.List.{AllByRecursion}
 use Rattle.definitions.specs.Poly.{Poly}
@@ -37,18 +37,18 @@ pub record IsCounterexample (problem : Problem) (m : Model) : Type 0 where
 abbrev pub RefutingModelsAreCounterexamples : Type 0
 RefutingModelsAreCounterexamples = (problem : Problem) (m : Model) → IsModel (quiver_of problem.parts.quiver) m → Refutes problem m → IsCounterexample problem m
 
--- The claim isn't what rows over the generators add up to, with a denominator that cancels in the matrices of the modulus.
+-- The claim isn't the sum of rows over the generators, with a denominator that cancels in the matrices of the modulus.
 abbrev pub RefutedClaimsDoNotFollow : Type 0
 RefutedClaimsDoNotFollow =
     (problem : Problem) (m : Model) (rows : List Row) (d : ℤ) → IsModel (quiver_of problem.parts.quiver) m → Refutes problem m → Cancels (matrices m.modulus) d
     → IsCombination (polynomials problem.generators) rows d (claim_polynomial problem m.claim) → ⊥
 
--- Of one model there is one refusal at most, apart from want of memory.
+-- A model has at most one refusal, apart from want of memory.
 abbrev pub ModelRefusalIsUnique : Type 0
 ModelRefusalIsUnique =
     (problem : Problem) (m : Model) (e f : ModelRefusal) → RefusesModel problem m e → RefusesModel problem m f → (IsMemory e → ⊥) → (IsMemory f → ⊥) → e ≡ f
 
--- A model that refutes its claim is refused for want of memory alone.
+-- A model that refutes its claim is refused only for want of memory.
 abbrev pub RefutingModelIsNotRefused : Type 0
 RefutingModelIsNotRefused = (problem : Problem) (m : Model) (e : ModelRefusal) → Refutes problem m → RefusesModel problem m e → IsMemory e
 

@@ -1,4 +1,4 @@
--- The lists that hold the representation of a model.
+-- The lists of the representation of a model.
 use Rattle.std.specs.Prelude.{◌≡◌, ℕ, List, map}
 use Rattle.std.specs.List.{range_with_len}
 use Rattle.definitions.specs.Quiver.{Quiver, letters}

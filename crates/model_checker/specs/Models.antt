@@ -13,7 +13,7 @@ use Rattle.adjoint_rules.specs.declared.problem.Problem.{Problem}
 use Rattle.adjoint_rules.specs.Problem.{polynomials}
 use Rattle.model_checker.specs.Representations.{side_of, map_at, representation_of}
 
--- a modulus, a side for each object, and a place for each letter
+-- a modulus, a side for each object, and an entry for each letter
 pub record IsModel (q : Quiver) (m : Model) : Type 0 where
   pub modulus : IsModulus m.modulus
   pub side_of_each : length m.sides ≡ q.objects
@@ -37,7 +37,7 @@ pub record HasEnds (q : Quiver) (m : Model) (a : ℕ) (x : Matrix) : Type 0 wher
 pub record IsSelfTransposed (q : Quiver) (m : Model) (a : ℕ) (x : Matrix) : Type 0 where
   pub same : star q a ≡ a → transpose m.modulus x ≡ x
 
--- The map has a matrix, with its ends, and the matrix is as the map is declared.
+-- The map has a matrix, with its ends, which is its own transpose where the map is its own adjoint.
 pub record HasMatrix (q : Quiver) (m : Model) (a : ℕ) : Type 0 where
   pub matrix : Matrix
   pub there : map_at m a ≡ Some matrix

@@ -1,4 +1,4 @@
--- The first thing for which a model doesn't refute its claim.
+-- The first test that a model fails for its claim.
 use Rattle.std.specs.Prelude.{◌≡◌, ⊤, ℕ, ◌+◌, ◌<◌, take, Some, None, length}
 use Rattle.std.specs.List.{AllByRecursion}
 use Rattle.definitions.specs.Combination.{generator_at}
@@ -24,7 +24,7 @@ pub record LacksMatrix (q : Quiver) (m : Model) (a : ℕ) : Type 0 where
   pub at : IsAtMap q m a
   pub none : map_at m a ≡ None
 
--- its matrix is none modulo the model's modulus, or has other sides
+-- its matrix has another modulus, or other sides
 pub record HasOtherEnds (q : Quiver) (m : Model) (a : ℕ) : Type 0 where
   pub at : IsAtMap q m a
   pub matrix : Matrix
@@ -39,7 +39,7 @@ pub record IsNotSelfTransposed (q : Quiver) (m : Model) (a : ℕ) : Type 0 where
   pub ends : HasEnds q m a matrix
   pub other : IsSelfTransposed q m a matrix → ⊥
 
--- The first declared map that hasn't its matrix, with what is wrong.
+-- The first declared map that lacks its matrix, with the test that fails.
 abbrev pub RefusesMap : Quiver → Model → ModelRefusal → Type 0
 RefusesMap q m (refusal.MissingMap letter) = LacksMatrix q m letter.0
 RefusesMap q m (refusal.BadShape letter) = HasOtherEnds q m letter.0
@@ -66,7 +66,7 @@ pub record MakesClaimZero (problem : Problem) (m : Model) : Type 0 where
 abbrev pub RefusesItsMap : Problem → Model → ModelRefusal → Type 0
 RefusesItsMap problem m e = IsClaimNumber problem m.claim × RefusesMap (quiver_of problem.parts.quiver) m e
 
--- Each refusal comes where its test is the first that fails, and want of memory can come at any time.
+-- Each refusal is that of the first test that fails, and want of memory can come at any time.
 abbrev pub RefusesModel : Problem → Model → ModelRefusal → Type 0
 RefusesModel problem m refusal.NoSuchClaim = IsClaimNumber problem m.claim → ⊥
 RefusesModel problem m (refusal.MissingMap letter) = RefusesItsMap problem m (refusal.MissingMap letter)

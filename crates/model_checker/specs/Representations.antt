@@ -10,11 +10,11 @@ use Rattle.matrix_models.specs.declared.model.Model.{Model}
 abbrev pub side_of : Model → ℕ → ℕ
 side_of m v = get_or m.sides v 1
 
--- the matrix at the place of the letter with this number
+-- the matrix in the entry of the letter with this number
 abbrev pub map_at : Model → ℕ → Option Matrix
 map_at m a = get_or m.maps a None
 
--- a zero matrix stands where there is none
+-- a zero matrix where there is none
 abbrev pub matrix_or_zero : ℕ → Option Matrix → Matrix
 matrix_or_zero modulus None = zero_matrix modulus 1 1
 matrix_or_zero modulus (Some x) = x

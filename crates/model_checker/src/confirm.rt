@@ -19,9 +19,9 @@ use std::alloc::{AllocError, Global};
 
 /// Whether the model refutes the claim that it names: each declared map has a matrix of the model's modulus, with the
 /// sides of its ends, and its own transpose where the map is its own adjoint; the assumptions of the statement are zero
-/// in it, and the claim isn't. The model has a modulus, a side for each object and a place for each letter.
+/// in it, and the claim isn't. The model has a modulus, a side for each object and an entry for each letter.
 ///
-/// Each refusal comes exactly where its test is the first that fails; `Memory` can come at any time.
+/// Each refusal is returned exactly where its test is the first that fails; `Memory` can come at any time.
 pub fn confirm_model(alloc: Global, problem: &Problem, model: &Model) -> Result<(), ModelRefusal>
     requires { IsModel (quiver_of problem.now.parts.quiver) model.now }
     ensures confirmed { OnOk result (Refutes problem.now model.now) }
@@ -50,7 +50,7 @@ pub fn refutes(alloc: Global, problem: &Problem, model: &Model) -> Result<bool, 
     }
 }
 
-// The assumptions are zero in the model and its claim isn't, or it is told what else is so.
+// The assumptions are zero in the model and its claim isn't, or the first test that fails is returned.
 fn check_model(alloc: Global, problem: &Problem, model: &Model) -> Result<(), ModelRefusal>
     requires model { IsModel (quiver_of problem.now.parts.quiver) model.now }
     requires fitting { IsFitting problem.now model.now }

@@ -14,7 +14,7 @@ use quiver::Quiver;
 use std::alloc::{AllocError, Global};
 use word_core::Letter;
 
-/// Each declared map has its matrix, or the first that hasn't is told with what is wrong.
+/// Each declared map has its matrix, or the refusal is that of the first that lacks it.
 pub(crate) fn check_maps(alloc: Global, quiver: &Quiver, model: &Model) -> Result<(), ModelRefusal>
     requires quiver { IsQuiver (quiver_of quiver.now) }
     requires model { IsModel (quiver_of quiver.now) model.now }
