@@ -17,7 +17,7 @@ at_place R (y ∷ ys) first (suc n) zipped (suc j) d within =
     subst (λ k. R k (get_or ys j d)) (omega arith) (at_place R ys (first + 1) n zipped.1 j d (omega (arith, within)))
 
 module _ {E : Type 0} (problem : Problem) (seed number : ℕ) where
-  -- what is told of a claim
+  -- the answers about a claim
   pub told_from_tested : (claims : List ℕ) (found : List (Option Found)) (first place : ℕ) (answers : List (Result (Option (List Bool)) E))
       → AreTested problem seed number claims found first (length answers) answers
       → place < length claims → IsNone (get_or found place None) → AreTold problem (get_or claims place 0) seed number first place answers

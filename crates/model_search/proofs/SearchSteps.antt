@@ -1,4 +1,4 @@
--- What is known of claims behind each block of a shape, and behind each shape.
+-- What is known of claims after each block of a shape, and after each shape.
 use Rattle.std.proofs.Common.{◌≡◌, ℕ, ◌+◌, ◌<◌, ◌≤◌, List, [], ◌∷◌, ◌++◌, length, get_or, replicate, Option, Some, None, IfSome, IfNone, IsNone, MatchOption, ◌⊎◌, inl, inr, refl, sym, ap, subst, ◌∙◌, arith, suc, set, not, false, true≢false, is_none}
 use Rattle.std.specs.List.{AllZip, list_any}
 use Rattle.std.proofs.lemmas.List.{length-replicate, get_or-replicate, length-set, get_or-set_same, get_or-set_other}
@@ -72,7 +72,7 @@ module _ (problem : Problem) (claim seed : ℕ) where
               let there : IsShapeOf problem number b.shape = subst (λ n. IsShapeOf problem n b.shape) same b.numbered in
               is i j (inr (same, subst (λ n. j < n) (sym (exact b.shape there)) b.in_range)) m b
 
-  -- before all shapes, and behind them
+  -- before all shapes, and after them
   pub none_searched : IsSearchedTo problem claim seed 1 0 None
   none_searched i j (inr same) m b = absurd (omega (arith, same.1))
   none_searched i j (inl earlier) m b = absurd (omega (arith, earlier, b.numbered.numbered))

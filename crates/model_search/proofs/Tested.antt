@@ -1,4 +1,4 @@
--- What the test of a candidate tells of claims, by its model.
+-- The result of the test of a candidate for claims, by its model.
 use Rattle.std.proofs.Common.{◌≡◌, ◌+◌, ◌<◌, ◌≤◌, ◌↔◌, ◌⊎◌, inl, inr, ℕ, Bool, true, false, not, List, [], ◌∷◌, ◌++◌, length, get_or, Option, Some, None, IsNone, IsTrue, refl, ap, subst, true≢false, sym, ◌∙◌, arith}
 use Rattle.std.specs.List.{All, AllByRecursion}
 use Rattle.std.proofs.lemmas.List.Elements.{All-get_or}
@@ -50,7 +50,7 @@ module _ (problem : Problem) (seed number k : ℕ) (s : Shape) (of : IsShapeOf p
           );
     }
 
--- what is told of the first claims
+-- the flags of the first claims
 pub record TellFirst (problem : Problem) (m : Model) (claims : List ℕ) (found : List (Option Found)) (count : ℕ) (flags : List Bool) : Type 0 where
   pub size : length flags ≡ count
   pub each : (place : ℕ) → place < count → IsNone (get_or found place None)

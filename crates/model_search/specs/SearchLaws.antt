@@ -1,4 +1,4 @@
--- What a search for a breaking candidate can answer, and what a breaking candidate is.
+-- The results of a search for a breaking candidate, and what a breaking candidate is.
 use Rattle.std.specs.Prelude.{◌≡◌, ◌⊎◌, ℕ, length}
 use Rattle.quiver.specs.Declarations.{object_count, letter_count, quiver_of}
 use Rattle.matrix_models.specs.declared.model.Model.{Model}
@@ -6,7 +6,7 @@ use Rattle.adjoint_rules.specs.declared.problem.Problem.{Problem}
 use Rattle.model_checker.specs.Models.{IsModel, Refutes}
 use Rattle.model_candidates.specs.Candidates.{Breaks, IsLeastBreaking, NoneBreaks}
 
--- Of all candidates one at most is the least that breaks the claim.
+-- At most one candidate is the least that breaks the claim.
 abbrev pub LeastBreakingIsUnique : Type 0
 LeastBreakingIsUnique =
     (problem : Problem) (claim seed number k number' k' : ℕ) (m m' : Model) → IsLeastBreaking problem claim seed number k m
@@ -29,7 +29,7 @@ pub record HasLeastBreaking (problem : Problem) (claim seed : ℕ) : Type 0 wher
 abbrev pub EachSearchHasAnAnswer : Type 0
 EachSearchHasAnAnswer = (problem : Problem) (claim seed : ℕ) → HasLeastBreaking problem claim seed ⊎ NoneBreaks problem claim seed
 
--- A model of this claim, with a side for each object and a place for each letter, that refutes it.
+-- A model of this claim, with a side for each object and an entry for each letter, that refutes it.
 pub record IsRefutingModel (problem : Problem) (claim : ℕ) (m : Model) : Type 0 where
   pub model : IsModel (quiver_of problem.parts.quiver) m
   pub sides : length m.sides ≡ object_count problem.parts.quiver

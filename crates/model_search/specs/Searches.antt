@@ -1,4 +1,4 @@
--- What the parts of a search for breaking candidates find, for private functions.
+-- What the parts of a search for breaking candidates find. Only private functions use it.
 use Rattle.std.specs.Prelude.{◌≡◌, ◌<◌, ◌≤◌, ◌+◌, ◌↔◌, ℕ, Bool, true, false, List, length, get_or}
 use Rattle.std.specs.Prelude.{Option, Some, None, IfSome, IsNone, IsTrue, MatchOption, Result, Ok, Err, IfOk}
 use Rattle.std.specs.List.{All, AllByRecursion, AllZip, range_with_len}
@@ -32,61 +32,61 @@ abbrev pub TellsBreaks : Problem → ℕ → ℕ → ℕ → ℕ → Bool → Ty
 TellsBreaks problem claim seed number k true = BreaksAt problem claim seed number k
 TellsBreaks problem claim seed number k false = NoneBreaksAt problem claim seed number k
 
--- For each claim that has no candidate yet it is told whether it isn't zero in the model.
+-- For each claim that has no candidate yet, whether it isn't zero in the model.
 pub record AreOfClaims (problem : Problem) (m : Model) (claims : List ℕ) (found : List (Option Found)) (flags : List Bool) : Type 0 where
   pub one_each : length flags ≡ length claims
   pub each : (place : ℕ) → place < length claims → IsNone (get_or found place None)
       → IsTrue (get_or flags place false) ↔ (¬ IsZeroIn problem m (claim_polynomial problem (get_or claims place 0)))
 
--- For each claim that has no candidate yet it is told whether the model refutes it.
+-- For each claim that has no candidate yet, whether the model refutes it.
 pub record AreFlags (problem : Problem) (m : Model) (claims : List ℕ) (found : List (Option Found)) (flags : List Bool) : Type 0 where
   pub one_each : length flags ≡ length claims
   pub each : (place : ℕ) → place < length claims → IsNone (get_or found place None)
       → IsTrue (get_or flags place false) ↔ Refutes problem (naming (get_or claims place 0) m)
 
--- it is told so, or some assumption isn't zero in the model
+-- these are the flags, or some assumption isn't zero in the model
 abbrev pub AreBroken : Problem → Model → List ℕ → List (Option Found) → Option (List Bool) → Type 0
 AreBroken problem m claims found None = ¬ AllByRecursion (IsZeroIn problem m) (assumptions_of problem)
 AreBroken problem m claims found (Some flags) = AreFlags problem m claims found flags
 
--- what is told of the claim at this place
+-- the flag of the claim at this place
 abbrev pub flag_at : ℕ → Option (List Bool) → Bool
 flag_at place None = false
 flag_at place (Some flags) = get_or flags place false
 
--- For each claim that has no candidate yet it is told whether the candidate with this number breaks it.
+-- For each claim that has no candidate yet, whether the candidate with this number breaks it.
 pub record IsTested (problem : Problem) (seed number : ℕ) (claims : List ℕ) (found : List (Option Found)) (k : ℕ)
     (broken : Option (List Bool)) : Type 0 where
   pub one_each : IfSome broken (λ flags. length flags ≡ length claims)
   pub each : (place : ℕ) → place < length claims → IsNone (get_or found place None)
       → TellsBreaks problem (get_or claims place 0) seed number k (flag_at place broken)
 
--- so many candidates are tested, from this number on
+-- the answers for this many candidates, from this number on
 abbrev pub AreTested : {E : Type 0} → Problem → ℕ → ℕ → List ℕ → List (Option Found) → ℕ → ℕ
     → List (Result (Option (List Bool)) E) → Type 0
 AreTested problem seed number claims found first count answers =
     AllZip (λ k answer. IfOk answer (IsTested problem seed number claims found k)) (range_with_len first count) answers
 
--- the answer has something for each claim up to this place
+-- the answer has a flag for each claim up to this place
 abbrev pub HasFlag : {E : Type 0} → ℕ → Result (Option (List Bool)) E → Type 0
 HasFlag place answer = IfOk answer (λ broken. IfSome broken (λ flags. place < length flags))
 
--- this is what it tells of the claim at this place
+-- this is its flag of the claim at this place
 abbrev pub IsFlag : {E : Type 0} → ℕ → Bool → Result (Option (List Bool)) E → Type 0
 IsFlag place flag (Ok broken) = flag_at place broken ≡ flag
 IsFlag place flag (Err e) = ⊥
 
--- by the first answers, so many, the claim at this place isn't broken
+-- by the first answers the claim at this place isn't broken
 abbrev pub AreUnbroken : {E : Type 0} → ℕ → ℕ → List (Result (Option (List Bool)) E) → Type 0
 AreUnbroken place count answers = (j : ℕ) → j < count → IsFlag place false (get_or answers j (Ok None))
 
--- This is the first answer by which it is.
+-- This is the first answer by which the claim is broken.
 pub record IsFirstBroken {E : Type 0} (place : ℕ) (answers : List (Result (Option (List Bool)) E)) (number : ℕ) : Type 0 where
   pub within : number < length answers
   pub broken : IsFlag place true (get_or answers number (Ok None))
   pub earlier : AreUnbroken place number answers
 
--- The answers tell of the candidates from this number on whether they break the claim at this place.
+-- By the answers the candidates from this number on break the claim at this place or don't.
 pub record AreTold {E : Type 0} (problem : Problem) (claim seed number first place : ℕ)
     (answers : List (Result (Option (List Bool)) E)) : Type 0 where
   pub flags : All (HasFlag place) answers
@@ -99,7 +99,7 @@ pub record IsFoundAt (problem : Problem) (claim seed number k : ℕ) (f : Found)
   pub candidate_is : f.candidate ≡ k
   pub breaks : Breaks problem claim seed number k f.model
 
--- Of the candidates of the shape from this number on it is the first that breaks the claim.
+-- It is the first of the candidates of the shape from this number on that breaks the claim.
 pub record IsFirstFrom (problem : Problem) (claim seed number first : ℕ) (f : Found) : Type 0 where
   pub found : IsFoundAt problem claim seed number f.candidate f
   pub least : first ≤ f.candidate
@@ -114,7 +114,7 @@ abbrev pub IsSearchedTo : Problem → ℕ → ℕ → ℕ → ℕ → Option Fou
 IsSearchedTo problem claim seed number k found = MatchOption found (NoneBefore problem claim seed number k)
     (λ f. IsLeastBreaking problem claim seed f.shape f.candidate f.model)
 
--- Each claim is searched for so far.
+-- Each claim was searched up to this candidate.
 pub record AreSearchedTo (problem : Problem) (seed number k : ℕ) (claims : List ℕ) (found : List (Option Found)) : Type 0 where
   pub one_each : length found ≡ length claims
   pub each : (place : ℕ) → place < length claims → IsSearchedTo problem (get_or claims place 0) seed number k (get_or found place None)

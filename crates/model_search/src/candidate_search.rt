@@ -21,10 +21,10 @@ use model_candidates::{
 use std::alloc::{AllocError, Global};
 use std::thread::Threads;
 
-// So many candidates are tested before the next ones are begun.
+// How many candidates are tested in one block.
 const BLOCK: u32 = 256;
 
-// The claims that are looked at, and the shape whose candidates are tested.
+// The claims that are searched, and the shape whose candidates are tested.
 #[derive(Clone, Copy)]
 struct Pass<'a> {
     alloc: Global,
@@ -34,7 +34,7 @@ struct Pass<'a> {
     claims: &'a [u32],
 }
 
-// The test of candidates for the claims that none was found for.
+// The test of candidates for the claims for which none was found.
 #[derive(Clone, Copy)]
 struct Tester<'a> {
     pass: Pass<'a>,
@@ -115,7 +115,7 @@ fn is_broken(pass: &Pass, found: &Option<Found>, values: &[u32], claim: u32) -> 
     !is_claim_zero(pass.problem, pass.plan, values, claim)
 }
 
-// So many numbers, from `first` on.
+// `count` numbers, from `first` on.
 fn numbers_from(alloc: Global, first: u32, count: u32) -> Result<Vec<u32>, AllocError>
     requires { first + count < 2 ^ 32 }
     ensures { IfOk result (λ numbers. numbers.items ≡ range_with_len first count) }
@@ -123,7 +123,7 @@ fn numbers_from(alloc: Global, first: u32, count: u32) -> Result<Vec<u32>, Alloc
     (first..first + count).collect(alloc)
 }
 
-// The answers to the tests of so many candidates, from `first` on.
+// The answers to the tests of `count` candidates, from `first` on.
 fn answers_of<R: Threads + Sync, G: Gate + Sync>(
     rt: &R,
     tester: &Tester,
@@ -152,7 +152,7 @@ fn answers_of<R: Threads + Sync, G: Gate + Sync>(
     )
 }
 
-// Whether the answer is that the claim at this place is broken.
+// Whether the claim at this place is broken by the answer.
 fn has_broken(answer: &Result<Broken, AllocError>, place: usize) -> Result<bool, AllocError>
     requires { HasFlag place answer.now }
     ensures { IfOk result (λ broken. IsFlag place broken answer.now) }
@@ -164,7 +164,7 @@ fn has_broken(answer: &Result<Broken, AllocError>, place: usize) -> Result<bool,
     }
 }
 
-// The first of the answers by which the claim at this place is broken. Memory that was short for a later one doesn't matter.
+// The first of the answers by which the claim at this place is broken. Want of memory for a later one doesn't matter.
 fn first_broken(
     answers: &[Result<Broken, AllocError>],
     place: usize,
@@ -223,7 +223,7 @@ fn found_among(
     }
 }
 
-// Puts candidates in the places of claims that had none, by the answers to the tests from `first` on.
+// Stores the first candidates for claims that had none, by the answers to the tests from `first` on.
 fn note(
     pass: &Pass,
     answers: &[Result<Broken, AllocError>],
@@ -253,7 +253,7 @@ fn is_open(found: &[Option<Found>]) -> bool
     found.iter().any(|one| one.is_none())
 }
 
-// Puts the first candidates of the shape that break claims in the places of those that had none.
+// Stores the first candidates of the shape that break claims that had none.
 fn search_shape<R: Threads + Sync, G: Gate + Sync>(
     rt: &R,
     pass: &Pass,
@@ -285,8 +285,8 @@ fn search_shape<R: Threads + Sync, G: Gate + Sync>(
 }
 
 /// The candidate of least shape and then least number that breaks the claim, with the claim's number; None exactly where no
-/// candidate of any shape does. The candidates of a shape go in blocks of 256 on at most as many threads as there are
-/// workers, and behind a block that has one no other is begun.
+/// candidate of any shape does. The candidates of a shape are tested in blocks of 256 on at most as many threads as there are
+/// workers, and after a block that has one no other is begun.
 ///
 /// It fails only where memory is short.
 pub fn search<R: Threads + Sync, G: Gate + Sync>(
@@ -311,8 +311,8 @@ pub fn search<R: Threads + Sync, G: Gate + Sync>(
     }
 }
 
-/// What `search` finds for each of these claims, in order. All of them are looked at in one pass of the candidates, each until a
-/// candidate breaks it, and behind a block with which each has one no other is begun.
+/// The result of `search` for each of these claims, in order. All of them are tested in one pass over the candidates, each until a
+/// candidate breaks it, and after a block by which each has one no other is begun.
 ///
 /// It fails only where memory is short.
 pub fn search_each<R: Threads + Sync, G: Gate + Sync>(
@@ -346,7 +346,7 @@ pub fn search_each<R: Threads + Sync, G: Gate + Sync>(
     Ok(Listing::from_vec(found))
 }
 
-// No candidate for so many claims.
+// No candidate for `count` claims.
 fn no_candidates(alloc: Global, count: usize) -> Result<Vec<Option<Found>>, AllocError>
     ensures { IfOk result (λ found. found.items ≡ replicate count None) }
 {

@@ -9,6 +9,6 @@ pub struct Found {
     pub shape: u32,
     /// Its own number, from 0.
     pub candidate: u32,
-    /// The model that it is, with the number of the claim.
+    /// Its model, with the number of the claim.
     pub model: Model,
 }
