@@ -28,7 +28,7 @@ KeepsEntry ds m names e = HasName ds e
 KeepsEntry ds m numbers e = IsBelow m e
 KeepsEntry ds m sizes e = IsSmall e
 
--- the bounds that count before it
+-- the bounds that are tested before it
 abbrev pub before : Bound → List Bound
 before bound = listed.before flaw_of bounds bound
 

@@ -32,7 +32,7 @@ module _ (sign : List ℕ) (body : ℕ → List ℕ) where
   later a zero some = refl
   later a (suc n) some = ap₂ (λ (one : List ℕ) more. one ++ body a ++ more) (between_later sign a some) (later (a + 1) n (omega arith))
 
-  -- the first part has none in front
+  -- the first part has none before it
   parts_are : (n : ℕ) → flat_map (λ p. between sign p ++ body p) (range_with_len 0 (suc n)) ≡ body 0 ++ flat_map (λ p. sign ++ body p) (range_with_len 1 n)
   parts_are n = ap (λ text. body 0 ++ text) (later 1 n (omega arith))
 
@@ -48,7 +48,7 @@ flat_line f each (p ∷ ps) = line_text-append (f p) (flat_map f ps) (each p) (f
 abbrev pub row_tokens : Matrix → ℕ → Line
 row_tokens x row = map (λ column. decimal (entry_at x row column)) (range_with_len 0 x.columns)
 
--- the rows behind the first one
+-- the rows after the first one
 abbrev pub later_rows : Matrix → List Line
 later_rows x = map (row_tokens x) (drop 1 (range_with_len 0 x.rows))
 
@@ -56,7 +56,7 @@ module _ (x : Matrix) (small : (row column : ℕ) → entry_at x row column < 10
   entry_token : (row column : ℕ) → IsToken (decimal (entry_at x row column))
   entry_token row column = name_token (decimal (entry_at x row column)) (decimal_text (entry_at x row column) (small row column))
 
-  -- entries, each behind a blank
+  -- entries, each after a blank
   abbrev entries_text : ℕ → List ℕ → List ℕ
   entries_text row columns = flat_map (λ column. codes " " ++ decimal (entry_at x row column)) columns
 
@@ -88,7 +88,7 @@ module _ (x : Matrix) (small : (row column : ℕ) → entry_at x row column < 10
     row_read : (row : ℕ) (rest : List ℕ) → goes_on rest ≡ false → tokens_of (row_text x row ++ rest) ≡ row_tokens x row ++ tokens_of rest
     row_read row rest stops = row_read_of row x.columns rest wide stops
 
-    -- rows, each behind a ;
+    -- rows, each after a ;
     abbrev behind_text : List ℕ → List ℕ
     behind_text rows = flat_map (λ row. codes " ; " ++ row_text x row) rows
 

@@ -39,7 +39,7 @@ module _ (K : Bound → Type 0) (ds : List Declaration) where
   abbrev pub LinesKeep : ℕ → List EntryTokens → Type 0
   LinesKeep m es = (bound : Bound) → K bound → All (KeepsEntry ds m bound) es
 
-  -- the line is behind the others
+  -- the line is after the others
   abbrev IsGrown : Begun → EntryTokens → Begun → Type 0
   IsGrown b e next = (value : Entry) × (entry_value ds b.modulus e ≡ Ok value) × (next ≡ begun_of b.claim b.modulus (b.names ++ name_of e ∷ []) (b.entries ++ value ∷ []))
 
@@ -58,7 +58,7 @@ module _ (K : Bound → Type 0) (ds : List Declaration) where
     each : AllZip (IsEntryOf ds b.modulus) es values
     is : m ≡ model_of ds (begun_of b.claim b.modulus (b.names ++ map name_of es) (b.entries ++ values))
 
-  -- the line is behind the others
+  -- the line is after the others
   abbrev IsGrownTo : Begun → EntryTokens → Stage → Type 0
   IsGrownTo b e s = (value : Entry) × (entry_value ds b.modulus e ≡ Ok value) × (s ≡ at.Inside (begun_of b.claim b.modulus (b.names ++ name_of e ∷ []) (b.entries ++ value ∷ [])))
 

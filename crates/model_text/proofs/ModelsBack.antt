@@ -1,4 +1,4 @@
--- A model that is written is read back, whatever stands around it.
+-- A model that is written is read back, whatever texts are before and after it.
 use Rattle.std.proofs.Common.{◌≡◌, ◌<◌, ◌≤◌, ◌+◌, ◌*◌, ◌^◌, ℕ, zero, suc, Bool, true, false, List, [], ◌∷◌, ◌++◌, Option, Some, None, arith, refl, sym, ap, ◌∙◌, subst, length, map, get_or, nat_eq, nat_lt, nat_le, drop, codes, IsTrue, eq-eqb}
 use Rattle.std.specs.Prelude.{decimal}
 use Rattle.std.specs.List.{All, flat_map, list_all, range_with_len}

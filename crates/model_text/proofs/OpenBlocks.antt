@@ -1,4 +1,4 @@
--- The first lines of a block, by the place that stands behind them, and the blocks that go on with them.
+-- The first lines of a block, by the place after them, and the blocks that continue them.
 use Rattle.std.proofs.Common.{◌≡◌, ◌≤◌, ℕ, false, ◌&&◌, List, [], ◌∷◌, ◌++◌, Some, Ok, Err, IsTrue, arith, refl, sym, ap, ap₂, ◌∙◌, subst, map, nat_le, codes}
 use Rattle.std.specs.List.{All, AllZip, list_any}
 use Rattle.std.specs.Str.{bytes_eq}
@@ -32,7 +32,7 @@ use Rattle.model_text.proofs.EntryLines.{entry_is}
 use Rattle.model_text.proofs.EntryValues.{before, KeepsEntry, IsJudged, fine, fails, entry_judged, IsEntryOf}
 use Rattle.model_text.proofs.Names.{distinct_push}
 
--- behind the claim
+-- after the claim
 pub record IsClaimed (n : ℕ) (front : List Line) : Type 0 where
   pub claim : List ℕ
   pub number : IsTrue (is_number claim)
@@ -40,7 +40,7 @@ pub record IsClaimed (n : ℕ) (front : List Line) : Type 0 where
   pub within : value_of claim ≤ number_limit
   pub are : front ≡ head_line ∷ claim_line claim ∷ []
 
--- behind the modulus
+-- after the modulus
 pub record IsInside (ds : List Declaration) (b : Begun) (front : List Line) : Type 0 where
   pub tokens : ModelTokens
   pub is_block : IsModelBlock tokens
@@ -134,7 +134,7 @@ next_headed front line n headed read =
     let known = number_read (codes "claim") number_limit line n read in
     record { claim = known.there.digits; number = known.there.number; value = known.value; within = known.within; are = ap₂ (λ (ls : List Line) (l : Line). ls ++ l ∷ []) headed known.there.is }
 
--- a line more
+-- one more line
 abbrev pub pushed : ModelTokens → EntryTokens → ModelTokens
 pushed b e = record { claim = b.claim; modulus = b.modulus; entries = b.entries ++ e ∷ [] }
 

@@ -14,7 +14,7 @@ range_more a (suc n) =
     let count : suc n + 1 ≡ suc (n + 1) = omega arith in
     rw count (ap (λ xs. a ∷ xs) (range_more (a + 1) n ∙ ap (λ b. range_with_len (a + 1) n ++ b ∷ []) next))
 
--- the text of the next number is put behind what is written
+-- the text of the next number is appended to what is written
 pub text_put : (f : ℕ → List ℕ) (n : ℕ) (front before after : List ℕ) → before ≡ front ++ flat_map f (range_with_len 0 n) → after ≡ before ++ f n
     → after ≡ front ++ flat_map f (range_with_len 0 (n + 1))
 text_put f n front before after before_is after_is =
@@ -22,7 +22,7 @@ text_put f n front before after before_is after_is =
     rw (after_is, before_is, more, flat_map-append f (range_with_len 0 n) (n ∷ []), append-nil (f n))
     (append_assoc front (flat_map f (range_with_len 0 n)) (f n))
 
--- numbers behind others
+-- numbers after others
 pub range-append : (a n m : ℕ) → range_with_len a n ++ range_with_len (a + n) m ≡ range_with_len a (n + m)
 range-append a zero m =
     let same : a + 0 ≡ a = omega arith in

@@ -24,7 +24,7 @@ one_row : (row : Line) → AllByRecursion IsInRow row → rows_in row ≡ (row, 
 one_row [] each = refl
 one_row (token ∷ row) each = rw (each.0, one_row row each.1) refl
 
--- the rows where a ; stands behind so many characters
+-- the rows where a ; follows so many characters
 abbrev HasCut : List ℕ → List ℕ → List ℕ → Type 0
 HasCut text front rest = rows_in (tokens_of text) ≡ (tokens_of front, (rows_in (tokens_of rest)).0 ∷ (rows_in (tokens_of rest)).1)
 

@@ -56,7 +56,7 @@ with_first : (first : Option ℕ) (front rest : Option (List ℕ))
 with_first None front rest = refl
 with_first (Some n) front rest = one_more n front rest
 
--- those of the first numbers stand in front of those of the others
+-- those of the first numbers are before those of the others
 pub values_joined : (m : ℕ) (front rest : Line) → values_below m (front ++ rest) ≡ option_and_then (λ vs. after vs (values_below m rest)) (values_below m front)
 values_joined m [] rest = no_values (values_below m rest)
 values_joined m (number ∷ front) rest = rw (values_joined m front rest) (with_first (number_within (m - 1) number) (values_below m front) (values_below m rest))

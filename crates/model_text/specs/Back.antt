@@ -1,4 +1,4 @@
--- What is read of models that are written, whatever stands around them.
+-- Models that are written are read back, whatever texts are before and after them.
 use Rattle.std.specs.Prelude.{◌<◌, ◌^◌, List, IsTrue}
 use Rattle.std.specs.List.{list_all}
 use Rattle.quiver.specs.Declarations.{Declaration, IsDeclared}
@@ -13,7 +13,7 @@ pub record IsWritableModel (ds : List Declaration) (m : Model) : Type 0 where
   pub claim : m.claim < 2 ^ 32
   pub model : IsModel ds m
 
--- A model that is written between whole lines and other lines is read as it is, behind the models that those before it have and
--- before those that the others have.
+-- A model that is written between whole lines and other lines is read as it is, after the models of the lines before it
+-- and before those of the lines after it.
 abbrev pub ModelsAreReadBack : Type 0
 ModelsAreReadBack = (ds : List Declaration) → IsDeclared ds → IsTrue (list_all is_named ds) → IsReadBetween (HasModels ds) (model_text ds) (IsWritableModel ds)

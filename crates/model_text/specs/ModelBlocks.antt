@@ -1,11 +1,11 @@
--- The grammar of models in evidence text: blocks as trees of tokens, and the lines that they are.
+-- The grammar of models in evidence text: blocks as trees of tokens, and the lines of each.
 use Rattle.std.specs.Prelude.{◌≢◌, ℕ, ◌∷◌, ◌++◌, ◌&&◌, Bool, IsTrue, List, [], map, AllPairs, length, nat_eq, nat_lt, nat_le, codes}
 use Rattle.std.specs.List.{All, flat_map, list_all}
 use Rattle.std.specs.Str.Parse.{digits_value}
 use Rattle.block_text.specs.Letters.{is_name, is_number}
 use Rattle.block_text.specs.Lines.{Line, claim_line}
 
--- `side NAME S`, or `map NAME = ..` with the numbers of the first row and of the rows behind it
+-- `side NAME S`, or `map NAME = ..` with the numbers of the first row and of the rows after it
 pub data EntryTokens : Type 0 where
   side : List ℕ → List ℕ → EntryTokens
   matrix : List ℕ → List (List ℕ) → List (List (List ℕ)) → EntryTokens
@@ -24,7 +24,7 @@ head_line = codes "model" ∷ codes "1" ∷ []
 abbrev pub modulus_line : List ℕ → Line
 modulus_line m = codes "modulus" ∷ m ∷ []
 
--- rows, each behind a ;
+-- rows, each after a ;
 abbrev pub more_rows : List (List (List ℕ)) → Line
 more_rows rows = flat_map (λ row. codes ";" ∷ row) rows
 
@@ -58,7 +58,7 @@ is_entry (matrix name first rest) = is_name name && (is_row first && list_all (i
 abbrev pub is_modulus : List ℕ → Bool
 is_modulus m = is_number m && nat_le 2 (digits_value 10 m)
 
--- numbers, sides and rows stand at their places, and no name stands in two lines
+-- numbers, sides and rows are at their places, and no two lines have the same name
 pub record IsModelBlock (b : ModelTokens) : Type 0 where
   pub claim : IsTrue (is_number b.claim)
   pub modulus : IsTrue (is_modulus b.modulus)

@@ -1,4 +1,4 @@
--- The bounds of models in evidence text, in the order in which they count, and the values of its blocks.
+-- The bounds of models in evidence text, in the order in which they are tested, and the values of its blocks.
 use Rattle.std.specs.Prelude.{◌≡◌, ◌<◌, ◌≤◌, ⊤, ℕ, ◌∷◌, Bool, false, List, [], length, map, nat_eq, Option, Some, None, if◌then◌else◌}
 use Rattle.std.specs.List.{All, flat_map, range_with_len}
 use Rattle.std.specs.Str.Parse.{digits_value}
@@ -24,7 +24,7 @@ is_object_named v (Some (Object w)) = nat_eq w.0 v
 is_object_named v (Some (Map b)) = false
 is_object_named v None = false
 
--- the side of an object, 1 where no line says one
+-- the side of an object, 1 where no line has one
 abbrev pub side_of : List Declaration → List EntryTokens → ℕ → ℕ
 side_of ds [] v = 1
 side_of ds (side name number ∷ entries) v = if is_object_named v (named_in ds name) then value_of number else side_of ds entries v
@@ -61,11 +61,11 @@ pub data Bound : Type 0 where
   numbers : Bound
   sizes : Bound
 
--- they count in this order
+-- they are tested in this order
 abbrev pub bounds : List Bound
 bounds = names ∷ numbers ∷ sizes ∷ []
 
--- what a line is told for that passes the bound
+-- the flaw of a line that exceeds the bound
 abbrev pub flaw_of : Bound → Flaw
 flaw_of names = UnknownName
 flaw_of numbers = NumberTooLarge
@@ -92,7 +92,7 @@ pub record HasNumbers (b : ModelTokens) : Type 0 where
   pub modulus : value_of b.modulus ≤ modulus_limit
   pub entries : All (IsBelow (value_of b.modulus)) b.entries
 
--- the model keeps the bound
+-- the model is within the bound
 abbrev pub KeepsOne : List Declaration → Bound → ModelTokens → Type 0
 KeepsOne ds names b = All (HasName ds) b.entries
 KeepsOne ds numbers b = HasNumbers b

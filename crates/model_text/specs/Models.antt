@@ -1,4 +1,4 @@
--- Models in evidence text: those that bytes are, or the first thing that is wrong with the bytes.
+-- Models in evidence text: those of bytes, or the first fault of the bytes.
 use Rattle.std.specs.Prelude.{◌≡◌, ◌<◌, ⊤, ℕ, List, [], ◌∷◌, length, get_or, Option, Some, None, codes}
 use Rattle.std.specs.List.{All}
 use Rattle.quiver.specs.declared.named.Named.TheVariants.{Map}
@@ -24,11 +24,11 @@ model_kind ds = kind_of model_front IsModelBlock other_words bounds flaw_of (Kee
 abbrev pub HasModels : List Declaration → List ℕ → List Model → Type 0
 HasModels ds = HasBlocks (model_kind ds)
 
--- There is one at least.
+-- There is at least one.
 abbrev pub IsModels : List Declaration → List ℕ → List Model → Type 0
 IsModels ds = IsBlocks (model_kind ds)
 
--- the first thing that is wrong with the bytes
+-- the first fault of the bytes
 abbrev pub IsFirstFault : List Declaration → List ℕ → Fault → Type 0
 IsFirstFault ds = texts.IsFirstFault (model_kind ds)
 
@@ -41,7 +41,7 @@ abbrev pub IsPlaced : List Declaration → ℕ → ℕ → Option Matrix → Typ
 IsPlaced ds modulus a None = ⊤
 IsPlaced ds modulus a (Some x) = HasMap ds a × IsMatrix modulus x
 
--- The modulus is one, each object has a side, and there is a place for each letter, with a matrix at declared maps alone.
+-- The modulus is one, each object has a side, and there is an entry for each letter, with a matrix only for declared maps.
 pub record IsModel (ds : List Declaration) (m : Model) : Type 0 where
   pub modulus : IsModulus m.modulus
   pub objects : length m.sides ≡ object_count ds

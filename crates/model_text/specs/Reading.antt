@@ -1,5 +1,5 @@
 -- How a reader of models goes over the lines of evidence text, and what it has made of the first ones. Only the reader's functions and
--- proofs use it: what the models of a text are, Models says.
+-- proofs use it; the models of a text are defined in Models.
 use Rattle.std.specs.Prelude.{⊤, ℕ, ◌-◌, ◌&&◌, List, [], ◌∷◌, ◌++◌, length, map, nat_eq, nat_le, Option, Some, None, Result, Ok, Err}
 use Rattle.std.specs.Prelude.{IsTrue, if◌then◌else◌, codes}
 use Rattle.std.specs.List.{flat_map, list_all, list_any, range_with_len}
@@ -31,7 +31,7 @@ abbrev pub rows_in : Line → Line × List Line
 rows_in [] = ([], [])
 rows_in (token ∷ tokens) = if is (codes ";") token then ([], (rows_in tokens).0 ∷ (rows_in tokens).1) else (token ∷ (rows_in tokens).0, (rows_in tokens).1)
 
--- the rows behind the first one, where a ; stands in front of them
+-- the rows after the first one, where a ; is before them
 abbrev pub rows_behind : Option Line → List Line
 rows_behind None = []
 rows_behind (Some line) = (rows_in line).0 ∷ (rows_in line).1
@@ -52,14 +52,14 @@ map_tokens [] = None
 map_tokens (word ∷ []) = None
 map_tokens (word ∷ name ∷ []) = None
 
--- numbers and names stand at their places
+-- numbers and names are at their places
 abbrev pub if_entry : EntryTokens → Option EntryTokens
 if_entry e = if is_entry e then Some e else None
 
 abbrev pub entry_tokens : Line → Option EntryTokens
 entry_tokens line = if begins (codes "side") line then option_and_then if_entry (side_tokens line) else option_and_then if_entry (map_tokens line)
 
--- rows of numbers, one at least and as many in each
+-- rows of numbers, all of the same length, at least 1
 pub record AreRows (first : List (List ℕ)) (rest : List (List (List ℕ))) : Type 0 where
   pub first_row : IsTrue (is_row first)
   pub more : IsTrue (list_all (is_row_of (length first)) rest)
@@ -69,11 +69,11 @@ abbrev pub values_below : ℕ → Line → Option (List ℕ)
 values_below modulus [] = Some []
 values_below modulus (number ∷ numbers) = option_and_then (λ n. option_map (λ ns. n ∷ ns) (values_below modulus numbers)) (number_within (modulus - 1) number)
 
--- values, and those that stand behind them, if these are all there
+-- values, and those that follow them, if these exist
 abbrev pub after : List ℕ → Option (List ℕ) → Option (List ℕ)
 after front rest = option_map (λ ns. front ++ ns) rest
 
--- values, and behind them those of the numbers in rows
+-- values, and after them those of the numbers in rows
 abbrev pub values_in : ℕ → List ℕ → List Line → Option (List ℕ)
 values_in modulus values [] = Some values
 values_in modulus values (row ∷ rows) = option_and_then (λ more. values_in modulus more rows) (after values (values_below modulus row))
@@ -137,7 +137,7 @@ modulus_of line = said modulus_digits (number_within modulus_limit) NumberTooLar
 abbrev pub begun_of : ℕ → ℕ → List (List ℕ) → List Entry → Begun
 begun_of claim modulus names entries = record { claim = claim; modulus = modulus; names = names; entries = entries }
 
--- a line more of a model, whose name stands in no line before it
+-- one more line of a model, whose name is in no line before it
 abbrev pub grown : List Declaration → Begun → EntryTokens → Result Begun Flaw
 grown ds b e =
     if list_any (bytes_eq (name_of e)) b.names then Err BadLine
@@ -159,7 +159,7 @@ finish ds (at.Inside b) = Some (model_of ds b)
 abbrev pub model_steps : List Declaration → Steps Stage Model
 model_steps ds = record { others = other_words; begin = begin; next = next ds; finish = finish ds }
 
--- in a model, its modulus is one
+-- the modulus of a model is one
 abbrev pub HasModulus : Stage → Type 0
 HasModulus at.Headed = ⊤
 HasModulus (at.Claimed n) = ⊤

@@ -13,7 +13,7 @@ use Rattle.model_text.specs.Reading.{rows_behind}
 abbrev pub ends_row : ℕ → Bool
 ends_row c = c == 59
 
--- a line that may be there
+-- the tokens of an optional line
 abbrev pub line_in : Option (Bor (List ℕ)) → Option Line
 line_in found = option_map (λ line. tokens_of line.now) found
 

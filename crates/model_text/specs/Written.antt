@@ -13,7 +13,7 @@ is_map_named a (Some (Map b)) = nat_eq b.0 a
 is_map_named a (Some (Object w)) = false
 is_map_named a None = false
 
--- what stands in front of the part at a place: nothing in front of the first one
+-- the text before the part at a place: none before the first one
 abbrev pub between : List ℕ → ℕ → List ℕ
 between sign place = if place == 0 then [] else sign
 
@@ -63,7 +63,7 @@ head_text m = codes "model 1\n" ++ numbered_text (codes "claim ") m.claim ++ num
 abbrev pub model_text : List Declaration → Model → List ℕ
 model_text ds m = head_text m ++ sides_text ds m.sides ++ maps_text ds m.maps ++ codes "end\n"
 
--- A side for each object, and a place for each letter.
+-- A side for each object, and an entry for each letter.
 pub record HasPlaces (ds : List Declaration) (m : Model) : Type 0 where
   pub sides : length m.sides ≡ object_count ds
   pub maps : length m.maps ≡ letter_count ds

@@ -22,7 +22,7 @@ pub enum EntryTokens<'a> {
         name: &'a [u8],
         number: &'a [u8],
     },
-    /// The numbers of the first row, and what stands behind the first `;`.
+    /// The numbers of the first row, and what follows the first `;`.
     Matrix {
         name: &'a [u8],
         first: &'a [u8],
@@ -66,7 +66,7 @@ fn sign_place(line: &[u8]) -> Option<usize>
     line.iter().position(|byte| *byte == b';')
 }
 
-/// What stands before the first `;`, and what stands behind it where there is one.
+/// The text before the first `;`, and what follows that where there is one.
 pub fn first_row(line: &[u8]) -> (&[u8], Option<&[u8]>)
     ensures row { tokens_of result.0.now ≡ (rows_in (tokens_of line.now)).0 }
     ensures rest { rows_behind (line_in result.1) ≡ (rows_in (tokens_of line.now)).1 }
@@ -91,7 +91,7 @@ pub fn row_length(row: &[u8]) -> usize
     count
 }
 
-// Whether the row has numbers alone, and one at least.
+// Whether the row has only numbers, and at least one.
 fn is_row(row: &[u8]) -> bool
     ensures { result ≡ is_row (tokens_of row.now) }
 {
@@ -123,14 +123,14 @@ fn map_tokens(line: &[u8]) -> Option<EntryTokens<'_>>
     Some(EntryTokens::Matrix { name, first, rest })
 }
 
-// Whether the row has so many numbers, and one at least.
+// Whether the row is this many numbers, and at least one.
 fn is_row_of(columns: usize, row: &[u8]) -> bool
     ensures { result ≡ is_row_of columns (tokens_of row.now) }
 {
     is_row(row) && row_length(row) == columns
 }
 
-// Whether the rows behind the first one have so many numbers.
+// Whether each row after the first one has this many numbers.
 fn are_rows(columns: usize, rest: Option<&[u8]>) -> bool
     ensures { result ≡ list_all (is_row_of columns) (rows_behind (line_in rest.entry)) }
 {
@@ -164,7 +164,7 @@ fn is_entry(entry: &EntryTokens<'_>) -> bool
     }
 }
 
-/// The tokens of a line `side` or `map`, where names and numbers stand at their places.
+/// The tokens of a line `side` or `map`, where names and numbers are at their places.
 pub fn entry_tokens(line: &[u8]) -> Option<EntryTokens<'_>>
     ensures exact { option_map tokens_in result ≡ entry_tokens (tokens_of line.now) }
     ensures entry { IfSome result (λ e. IsTrue (is_entry (tokens_in e))) }

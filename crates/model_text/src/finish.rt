@@ -10,7 +10,7 @@ use matrix_models::{Matrix, Model};
 use quiver::Quiver;
 use std::alloc::{AllocError, Global};
 
-// The side of an object, 1 where no line says one.
+// The side of an object, 1 where no line has one.
 fn side_in(entries: &[Entry], object: u32) -> u32
     ensures { result ≡ side_in entries.now object }
 {
@@ -26,7 +26,7 @@ fn side_in(entries: &[Entry], object: u32) -> u32
     1
 }
 
-// The matrix of a letter, where a line says one.
+// The matrix of a letter, where a line has one.
 fn matrix_in(entries: &[Entry], letter: u32) -> Option<&Matrix>
     ensures { option_copied result ≡ matrix_in entries.now letter }
 {
@@ -65,7 +65,7 @@ fn sides_in(alloc: Global, quiver: &Quiver, entries: &[Entry]) -> Result<Listing
     Ok(sides)
 }
 
-// A place for each letter.
+// An entry for each letter.
 fn maps_in(
     alloc: Global,
     quiver: &Quiver,

@@ -10,12 +10,12 @@ pub fn each_text_is_read()
     ensures { (ds : List Declaration) → EachIsRead (IsModels ds) (IsFirstFault ds) }
 {}
 
-/// A text has one list of models.
+/// A text has at most one list of models.
 pub fn models_are_unique()
     ensures { (ds : List Declaration) → ValuesAreUnique (IsModels ds) (IsFirstFault ds) }
 {}
 
-/// A text has one first fault.
+/// A text has at most one first fault.
 pub fn first_fault_is_unique()
     ensures { (ds : List Declaration) → FaultIsUnique (IsModels ds) (IsFirstFault ds) }
 {}
@@ -25,7 +25,7 @@ pub fn models_have_no_fault()
     ensures { (ds : List Declaration) → ValuesHaveNoFault (IsModels ds) (IsFirstFault ds) }
 {}
 
-/// The law that a model that is written is read as it is, whatever whole lines stand before it and whatever follows. It has
+/// A model that is written is read as it is, whatever whole lines are before it and whatever follows. It has
 /// nothing to run.
 pub fn models_are_read_back()
     ensures { ModelsAreReadBack }

@@ -13,7 +13,7 @@ pub enum Entry {
     Map { letter: Letter, matrix: Matrix },
 }
 
-/// What was read of a model whose lines go on.
+/// What was read of an open model.
 #[derive(Drop)]
 pub struct Begun {
     pub claim: u32,
@@ -23,13 +23,13 @@ pub struct Begun {
     pub entries: Listing<Entry>,
 }
 
-/// How far a model was read whose lines go on.
+/// How far an open model was read.
 #[derive(Drop)]
 pub enum Stage {
-    /// Behind its head.
+    /// After its head.
     Headed,
-    /// Behind its claim.
+    /// After its claim.
     Claimed { claim: u32 },
-    /// Behind its modulus.
+    /// After its modulus.
     Inside { begun: Begun },
 }

@@ -43,7 +43,7 @@ fn modulus_of(line: &[u8]) -> Result<u32, Flaw>
     }
 }
 
-// The modulus behind the claim.
+// The modulus after the claim.
 fn opened(alloc: Global, claim: u32, line: &[u8]) -> Result<Stage, Flaw>
     ensures exact { result ≡ next [] (stage.Claimed claim) (tokens_of line.now) }
     ensures modulus { IfOk result HasModulus }
@@ -63,7 +63,7 @@ fn is_known(names: &[Text], name: &str) -> bool
     names.iter().any(|known| known.as_str() == name)
 }
 
-// A line more of a model.
+// One more line of a model.
 fn grown(
     alloc: Global,
     quiver: &Quiver,

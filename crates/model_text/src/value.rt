@@ -29,7 +29,7 @@ pub fn name_text(token: &[u8]) -> &str
     }
 }
 
-// The values with those of the numbers of a row behind them, all of those below the modulus.
+// The values, and after them those of the numbers of a row, each below the modulus.
 fn with_row(mut values: Vec<u32>, modulus: u32, row: &[u8]) -> Result<Vec<u32>, LineFault>
     requires modulus { 1 ≤ modulus }
     requires numbers { IsTrue (list_all is_number (tokens_of row.now)) }
@@ -46,7 +46,7 @@ fn with_row(mut values: Vec<u32>, modulus: u32, row: &[u8]) -> Result<Vec<u32>, 
     Ok(values)
 }
 
-// The values with those of the numbers in rows behind them, all of those below the modulus.
+// The values, and after them those of the numbers in rows, each below the modulus.
 fn with_rows(
     values: Vec<u32>,
     modulus: u32,
@@ -83,7 +83,7 @@ fn values_of(
     with_rows(Vec::new(alloc), modulus, first, rest)
 }
 
-// How many rows there are behind the first one.
+// How many rows there are after the first one.
 fn rows_left(rest: Option<&[u8]>) -> usize
     ensures { result ≡ length (rows_behind (line_in rest.entry)) }
 {

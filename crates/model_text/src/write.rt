@@ -11,7 +11,7 @@ use quiver::{Named, Quiver};
 use std::alloc::{AllocError, Global};
 use word_core::{Letter, Object};
 
-// What stands in front of all parts but the first.
+// Appends the text before each part but the first.
 fn put_between(out: &mut Vec<u8>, sign: &str, place: u32) -> Result<(), AllocError>
     ensures { OnOk result (out.new.items ≡ out.old.items ++ between sign.now place) }
 {
@@ -27,7 +27,7 @@ fn put_entry(out: &mut Vec<u8>, matrix: &Matrix, row: u32, column: u32) -> Resul
     put_number(out, u128::from(matrix.entry(row, column)))
 }
 
-// The entries of a row with one blank between them.
+// Appends the entries of a row with one blank between them.
 fn put_row(out: &mut Vec<u8>, matrix: &Matrix, row: u32) -> Result<(), AllocError>
     requires { row < matrix.now.rows }
     ensures { OnOk result (out.new.items ≡ out.old.items ++ row_text matrix.now row) }
@@ -38,7 +38,7 @@ fn put_row(out: &mut Vec<u8>, matrix: &Matrix, row: u32) -> Result<(), AllocErro
     Ok(())
 }
 
-// A row behind those before it.
+// Appends a row after those before it.
 fn put_part(out: &mut Vec<u8>, matrix: &Matrix, row: u32) -> Result<(), AllocError>
     requires { row < matrix.now.rows }
     ensures { OnOk result (out.new.items ≡ out.old.items ++ part_text matrix.now row) }
@@ -47,7 +47,7 @@ fn put_part(out: &mut Vec<u8>, matrix: &Matrix, row: u32) -> Result<(), AllocErr
     put_row(out, matrix, row)
 }
 
-// The rows with `;` between them.
+// Appends the rows with `;` between them.
 fn put_rows(out: &mut Vec<u8>, matrix: &Matrix) -> Result<(), AllocError>
     ensures { OnOk result (out.new.items ≡ out.old.items ++ rows_text matrix.now) }
 {
@@ -68,7 +68,7 @@ fn put_side(out: &mut Vec<u8>, quiver: &Quiver, object: Object, side: u32) -> Re
     put(out, "\n")
 }
 
-// A line for each object.
+// Appends a line for each object.
 fn put_sides(out: &mut Vec<u8>, quiver: &Quiver, sides: &[u32]) -> Result<(), AllocError>
     requires { length sides.now ≡ object_count quiver.now }
     ensures { OnOk result (out.new.items ≡ out.old.items ++ sides_text quiver.now sides.now) }
@@ -111,7 +111,7 @@ fn put_map(
     }
 }
 
-// A line for each declared map that has a matrix.
+// Appends a line for each declared map that has a matrix.
 fn put_maps(out: &mut Vec<u8>, quiver: &Quiver, maps: &[Option<Matrix>]) -> Result<(), AllocError>
     requires { length maps.now ≡ letter_count quiver.now }
     ensures { OnOk result (out.new.items ≡ out.old.items ++ maps_text quiver.now maps.now) }
@@ -130,7 +130,7 @@ fn put_numbered(out: &mut Vec<u8>, word: &str, number: u32) -> Result<(), AllocE
     put(out, "\n")
 }
 
-// The first lines of a model.
+// Appends the first lines of a model.
 fn put_head(out: &mut Vec<u8>, model: &Model) -> Result<(), AllocError>
     ensures { OnOk result (out.new.items ≡ out.old.items ++ head_text model.now) }
 {
@@ -139,8 +139,8 @@ fn put_head(out: &mut Vec<u8>, model: &Model) -> Result<(), AllocError>
     put_numbered(out, "modulus ", model.modulus)
 }
 
-/// A model behind bytes, as a block of evidence text with a line for each object and for each declared map that has a matrix.
-/// Only memory can be short.
+/// Appends a model, as a block of evidence text with a line for each object and for each declared map that has a matrix.
+/// It fails only where memory is short.
 pub fn put_model(out: &mut Vec<u8>, quiver: &Quiver, model: &Model) -> Result<(), AllocError>
     requires { HasPlaces quiver.now model.now }
     ensures { OnOk result (out.new.items ≡ out.old.items ++ model_text quiver.now model.now) }
@@ -151,8 +151,8 @@ pub fn put_model(out: &mut Vec<u8>, quiver: &Quiver, model: &Model) -> Result<()
     put(out, "end\n")
 }
 
-/// A model as a block of evidence text, a line for each object and for each declared map that has a matrix. Only memory can be
-/// short.
+/// A model as a block of evidence text, with a line for each object and for each declared map that has a matrix. It fails only
+/// where memory is short.
 pub fn write_model(alloc: Global, quiver: &Quiver, model: &Model) -> Result<Vec<u8>, AllocError>
     requires { HasPlaces quiver.now model.now }
     ensures { IfOk result (λ text. text.items ≡ model_text quiver.now model.now) }

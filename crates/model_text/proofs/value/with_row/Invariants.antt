@@ -5,7 +5,7 @@ use Rattle.block_text.specs.Tokens.{tokens_of}
 use Rattle.model_text.specs.Reading.{after, values_below}
 use Rattle.model_text.proofs.value.with_row.Given as goal
 
--- the values so far, in front of those that are left
+-- the values so far, before those that are left
 abbrev pub invariant-loop-number : goal.invariant-loop-number
 invariant-loop-number l = record {
   same : after l.values.items (values_below l.modulus (tokens_of l.rest)) ≡ after l.fn.values.items (values_below l.modulus (tokens_of l.row));

@@ -5,7 +5,7 @@ use Rattle.model_text.specs.Views.{line_in}
 use Rattle.model_text.proofs.Values.{HaveNumbers}
 use Rattle.model_text.proofs.value.with_rows.Given as goal
 
--- the values of the rows so far, in front of those that are left
+-- the values of the rows so far, before those that are left
 abbrev pub invariant-loop-left : goal.invariant-loop-left
 invariant-loop-left l = record {
   same : values_in l.modulus l.more.items (rows_behind (line_in l.left)) ≡ values_in l.modulus l.fn.values.items (tokens_of l.first ∷ rows_behind (line_in l.rest));
