@@ -98,7 +98,7 @@ passed a p b q l r h k =
 pub passed_sum : (a : ℤ) (p : List Term) (b : ℤ) (q l r : List Term) → checked (products a p) (scaled a p) ≡ Ok l → checked (products b q) (scaled b q) ≡ Ok r → combined a p b q ≡ sum_result l r
 passed_sum a p b q l r h k = passed a p b q l r h k ∙ ap₂ sum_result (value_is (products a p) (scaled a p) l h) (value_is (products b q) (scaled b q) r k)
 
--- a polynomial within the limits is handed back
+-- a polynomial within the limits is returned
 pub sized-value : (x v : List Term) → sized x ≡ Ok v → x ≡ v
 sized-value x v h = go (list_any (λ t. nat_lt 500 (length t.1)) x) (nat_lt 20000 (length x)) h
   where

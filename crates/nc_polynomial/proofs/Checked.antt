@@ -10,7 +10,7 @@ use Rattle.definitions.specs.Poly.{Term}
 use Rattle.nc_polynomial.specs.Terms.{Pair, keep, scaled, products, multiplied, multiplications, shifted, totals, total_operations}
 use Rattle.nc_polynomial.specs.Faults.{checked, unless_overflow}
 
--- terms that stand before what a call returns
+-- terms before what a call returns
 abbrev pub join : List Term → Result (List Term) PolyFault → Result (List Term) PolyFault
 join out (Ok xs) = Ok (out ++ xs)
 join out (Err e) = Err e

@@ -35,7 +35,7 @@ module _ (terms : List Term) (i : ℕ) (t : Term) (front : take (i + 1) terms �
       ap (additions (take i terms)) back
       ∙ ap (λ done. sum_of (coefficient_of (take i terms) t.1) t.0 ∷ additions done (drop (i + 1) terms)) (sym front)
 
-  -- with the next term the coefficients are those of one term more
+  -- with the next term the coefficients are those of one more term
   pub coefficients-next : (old new : List ℕ → ℤ) → ((w : List ℕ) → old w ≡ coefficient_of (take i terms) w) → ((w : List ℕ) → new w ≡ coefficient_of (t ∷ []) w +ℤ old w)
       → (w : List ℕ) → new w ≡ coefficient_of (take (i + 1) terms) w
   coefficients-next old new before written w =
@@ -55,7 +55,7 @@ in_range-written old new t before fits written w = subst IsCoefficient (sym (wri
         let none : old w ≡ (pos 0 +ℤ pos 0) +ℤ old w = omega (arith, ints) in
         subst IsCoefficient none (before w)
 
--- where all sums fit, what is left to ask is the size
+-- where all sums fit, only the size is left to test
 pub collected-end : (terms out : List Term) → first_overflow (additions [] terms) ≡ None → Descends out → AllByRecursion (λ t. t.0 ≢ pos 0) out → ((w : List ℕ) → coefficient_of out w ≡ coefficient_of terms w) → collection_result terms ≡ sized out
 collected-end terms out fit descends nonzero same =
     ap (λ o. unless_overflow o (sized (collected terms))) fit

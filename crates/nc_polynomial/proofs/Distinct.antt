@@ -11,12 +11,12 @@ use Rattle.coef_int.specs.Range.{IsCoefficient}
 use Rattle.definitions.specs.Poly.{Term, word_eq, coefficient_of}
 use Rattle.definitions.proofs.Linear.{word_eq-same, word_eq-true, coefficient_at, coefficient_other}
 
--- no word stands twice
+-- no word occurs twice
 abbrev pub AreDistinct : List Term → Type 0
 AreDistinct [] = Unit {0}
 AreDistinct (t ∷ p) = AllByRecursion (λ u. word_eq u.1 t.1 ≡ false) p × AreDistinct p
 
--- a word that stands nowhere has the coefficient zero
+-- a word that isn't listed has the coefficient zero
 pub none_listed : (w : List ℕ) (p : List Term) → AllByRecursion (λ u. word_eq u.1 w ≡ false) p → coefficient_of p w ≡ pos 0
 none_listed w [] h = refl
 none_listed w (t ∷ p) h = coefficient_other w t p h.0 ∙ none_listed w p h.1
@@ -66,7 +66,7 @@ coefficient-ranged (t ∷ p) d h w = go (word_eq t.1 w) refl (coefficient-ranged
     go true e rest = subst IsCoefficient (sym (ap (coefficient_of (t ∷ p)) (sym (word_eq-true t.1 w e)) ∙ first_coefficient t p d.0)) h.0
     go false e rest = subst IsCoefficient (sym (coefficient_other w t p e)) rest
 
--- what holds of each word with a coefficient holds of each word that stands there
+-- what holds of each word with a coefficient holds of each word in the list
 pub words_listed : (P : List ℕ → Type 0) (p : List Term) → AreDistinct p → AllByRecursion (λ t. t.0 ≢ pos 0) p → ((w : List ℕ) → coefficient_of p w ≢ pos 0 → P w) → AllByRecursion (λ t. P t.1) p
 words_listed P [] d h each = tt
 words_listed P (t ∷ p) d h each = (each t.1 (λ e. h.0 (sym (first_coefficient t p d.0) ∙ e)), words_listed P p d.1 h.1 (λ w there. each w (λ e. there (go w (word_eq t.1 w) refl e))))

@@ -87,7 +87,7 @@ sums-with_same f g (t ∷ q) same = ap₂ (λ z os. sum_of z t.0 ∷ os) (same t
 pub added_is : (p q r : List Term) → Descends p → Descends q → Descends r → AllByRecursion (λ t. t.0 ≢ pos 0) r → ((w : List ℕ) → coefficient_of r w ≡ coefficient_of p w +ℤ coefficient_of q w) → added p q ≡ r
 added_is p q r d e f nonzero same = descending_unique (added p q) r (descending-added p q d e) f (nonzero-added p q) nonzero (record { at = λ w. coefficient_of-added w p q ∙ sym (same w) })
 
--- one term more
+-- one more term
 module _ (start now : List ℕ → ℤ) (terms front : List Term) (t : Term) (more : List Term) (splits : front ++ t ∷ more ≡ terms) (descends : Descends terms)
     (so_far : (w : List ℕ) → now w ≡ start w +ℤ coefficient_of front w) where
   -- its word has what it had at the start

@@ -1,4 +1,4 @@
--- What the calls return on the lists of polynomials.
+-- The results of the calls on the lists of polynomials.
 use Rattle.std.specs.Prelude.{ℤ, ◌++◌, List, Result}
 use Rattle.definitions.specs.Poly.{Term}
 use Rattle.nc_polynomial.specs.declared.fault.PolyFault.{PolyFault}

@@ -1,4 +1,4 @@
--- The polynomial of terms in any order, in which a word may stand more than once.
+-- The polynomial of terms in any order, in which a word may occur more than once.
 use Rattle.std.specs.Prelude.{List, [], ◌∷◌, ◌++◌, Result, ℕ, ℤ, pos, unwrap_or}
 use Rattle.std.specs.BTreeMap.{BTreeMap, get}
 use Rattle.coef_int.specs.declared.Overflow.{Overflow}
@@ -19,10 +19,10 @@ abbrev pub additions : List Term → List Term → List Overflow
 additions done [] = []
 additions done (t ∷ rest) = sum_of (coefficient_of done t.1) t.0 ∷ additions (done ++ t ∷ []) rest
 
--- what the terms add up to
+-- the sum of the terms, or its first fault
 abbrev pub collection_result : List Term → Result (List Term) PolyFault
 collection_result terms = finished (additions [] terms) (collected terms)
 
--- the coefficient of the word in a table of words, and 0 where it is not listed
+-- the coefficient of the word in a table of words, or 0 where it is not listed
 abbrev pub coefficient_in : BTreeMap (List ℕ) ℤ → List ℕ → ℤ
 coefficient_in table w = unwrap_or (get word_cmp table w) (pos 0)

@@ -1,4 +1,4 @@
--- What a call returns: the first overflow, else the first limit that is passed, else the polynomial.
+-- The result of a call: the first overflow, else the first limit that is exceeded, else the polynomial.
 use Rattle.std.specs.Prelude.{◌≡◌, Bool, true, false, List, length, Option, Some, None, Result, Ok, Err, nat_lt, if◌then◌else◌}
 use Rattle.std.specs.List.{list_any}
 use Rattle.coef_int.specs.declared.Overflow.{Overflow}

@@ -1,4 +1,4 @@
--- The table in which a sum is kept: each word that has a coefficient, with that coefficient.
+-- The table of a sum: each word that has a coefficient, with that coefficient.
 use Rattle.std.specs.Prelude.{◌≡◌, ◌≢◌, ℕ, ℤ, pos, ◌+ℤ◌, List, [], Some}
 use Rattle.std.specs.BTreeMap.{BTreeMap, get}
 use Rattle.coef_int.specs.Range.{IsCoefficient}
@@ -11,7 +11,7 @@ use Rattle.nc_polynomial.specs.Collected.{coefficient_in}
 abbrev pub terms_in : BTreeMap (List ℕ) ℤ → List Term
 terms_in m = reversed m.entries []
 
--- the map has no zeros, and coefficients alone
+-- the values of the map are nonzero coefficients
 pub record IsRunning (m : BTreeMap (List ℕ) ℤ) : Type 0 where
   pub nonzero : (w : List ℕ) → get word_cmp m w ≢ Some (pos 0)
   pub in_range : (w : List ℕ) → IsCoefficient (coefficient_in m w)

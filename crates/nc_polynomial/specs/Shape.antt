@@ -1,4 +1,4 @@
--- What the list of a polynomial keeps.
+-- The shape of the list of a polynomial.
 use Rattle.std.specs.Prelude.{◌≡◌, ◌≢◌, ◌≤◌, pos, length}
 use Rattle.std.specs.List.{All}
 use Rattle.coef_int.specs.Range.{IsCoefficient}

@@ -58,7 +58,7 @@ by_order Equal a b c = b
 by_order Greater a b c = c
 
 -- The words of two descending polynomials, descending, each with both its coefficients.
--- x is the first term of the left one, q is the right one, and rest says how it goes on behind x.
+-- x is the first term of the left one, q is the right one, and rest aligns the terms of the left one after x.
 abbrev pub aligned_at : Term → List Term → (List Term → List Pair) → List Pair
 aligned_at x [] rest = (x.0, pos 0, x.1) ∷ rest []
 aligned_at x (y ∷ q) rest = by_order (word_cmp x.1 y.1)

@@ -11,7 +11,7 @@ use std::collections::BTreeMap;
 use word_core::{Letter, Word};
 
 impl Poly {
-    /// The adjoint: each word is reversed, and each of its letters is replaced by its adjoint, which stands
+    /// The adjoint: each word is reversed, and each of its letters is replaced by its adjoint, which is
     /// in the list at the letter's number.
     pub fn adjoint_by(&self, stars: &[Letter]) -> Result<Poly, AllocError>
         requires involution { IsInvolution (numbers_of stars.now) }

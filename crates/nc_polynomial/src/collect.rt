@@ -16,9 +16,9 @@ use std::collections::BTreeMap;
 use word_core::Word;
 
 impl Poly {
-    /// The sum of terms in any order, in which a word may stand more than once. The terms are added one by
+    /// The sum of terms in any order, in which a word may occur more than once. The terms are added one by
     /// one, each to the coefficient that its word has so far, which is the left operand. `Overflow` is the
-    /// first such sum that is no coefficient; `Size` comes exactly where none is and the result is too large.
+    /// first such sum that is no coefficient; `Size` is returned exactly where none is and the result is too large.
     pub fn from_terms(alloc: Global, terms: &[(i128, Word)]) -> Result<Poly, PolyFault>
         requires { All (λ t. IsCoefficient t.0) terms.now }
         ensures exact { MatchResult result (λ r. collection_result terms.now ≡ Ok r.terms) (Explains (collection_result terms.now)) }

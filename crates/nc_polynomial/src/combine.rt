@@ -10,7 +10,7 @@ use crate::{Poly, PolyFault, scale_terms};
 
 impl Poly {
     /// The sum, in which the coefficients of this polynomial are the left operands. `Overflow` is the first
-    /// sum, in descending order, that is no coefficient; `Size` comes exactly where none is and the sum is
+    /// sum, in descending order, that is no coefficient; `Size` is returned exactly where none is and the sum is
     /// too large.
     pub fn add(&self, other: &Poly) -> Result<Poly, PolyFault>
         ensures exact { MatchResult result (λ r. sum_result self.now.terms other.now.terms ≡ Ok r.terms)
@@ -40,8 +40,8 @@ impl Poly {
         Poly::from_descending(scale_terms(alloc, by, self.terms.as_slice())?)
     }
 
-    /// The polynomial `a p + b q`. `Overflow` is the first operation that gives no coefficient, of the
-    /// products of `p` in descending order, then those of `q`, then the sums; `Size` comes exactly where
+    /// The polynomial `a p + b q`. `Overflow` is the first operation whose result is no coefficient, of the
+    /// products of `p` in descending order, then those of `q`, then the sums; `Size` is returned exactly where
     /// none is and the result is too large.
     pub fn combine(a: i128, p: &Poly, b: i128, q: &Poly) -> Result<Poly, PolyFault>
         requires left_in { IsCoefficient a }

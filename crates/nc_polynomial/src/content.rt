@@ -10,7 +10,7 @@ use lists::Listing;
 use std::alloc::AllocError;
 
 impl Poly {
-    /// The greatest common divisor of the coefficients, which is not negative. It is 0 for zero alone.
+    /// The greatest common divisor of the coefficients, which is not negative. It is 0 only for zero.
     pub fn content(&self) -> i128
         ensures exact { IsContent self.now.terms result }
         ensures zero { (result ≡ pos 0) ↔ (self.now.terms ≡ []) }
@@ -26,7 +26,7 @@ impl Poly {
         divisor
     }
 
-    /// The polynomial of which this one is the multiple by a number that divides each coefficient.
+    /// The polynomial divided by a number that divides each coefficient.
     pub fn divide(&self, by: i128) -> Result<Poly, AllocError>
         requires nonzero { by ≢ pos 0 }
         requires divides { DividesEach (unsigned_abs by) self.now.terms }

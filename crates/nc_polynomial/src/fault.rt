@@ -9,7 +9,7 @@ use coef_int::Overflow;
 use std::alloc::{AllocError, AllocFailed};
 use thiserror::Error;
 
-/// A limit on the size of a polynomial that is passed.
+/// A limit on the size of a polynomial that is exceeded.
 #[derive(Clone, Copy, Debug, PartialEq, Eq, Error)]
 #[error("{}", if *letters {"a word has more than 500 letters"} else {"there are more than 20,000 terms"})]
 pub struct SizeFault {

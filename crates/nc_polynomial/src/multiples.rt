@@ -1,4 +1,4 @@
-//! Sums of multiples of lists that are read and not given away: a word is copied only into the result.
+//! Sums of multiples of lists that are borrowed: a word is copied only into the result.
 ghost use Rattle.std.specs.Prelude.{◌≡◌, ◌≢◌, ◌<◌, ◌+◌, [], ◌∷◌, pos, length, MatchResult, MatchOption, IfOk, IfSome, Ok, Err};
 ghost use Rattle.std.specs.List.{All};
 ghost use Rattle.coef_int.specs.Range.{IsCoefficient};
@@ -15,7 +15,7 @@ use std::alloc::Global;
 use std::cmp::Ordering;
 use word_core::Word;
 
-// The terms of which the multiple by the number is made, where no product overflows: all, or for zero none.
+// The terms whose multiples by the number are needed, where no product overflows: all, or none for zero.
 pub(crate) fn kept_terms<'a>(
     by: i128,
     terms: &'a [(i128, Word)],
@@ -41,7 +41,7 @@ fn kept_by<'a>(by: i128, terms: &'a [(i128, Word)]) -> &'a [(i128, Word)]
     if by == 0 { &terms[..0] } else { terms }
 }
 
-// The list whose first word comes next, `Equal` for both, and none where both are empty.
+// The list that has the next word, `Equal` for both, and None where both are empty.
 fn next_side(left: &[(i128, Word)], right: &[(i128, Word)]) -> Option<Ordering>
     ensures { result ≡ side_of left.now right.now }
 {
@@ -53,7 +53,7 @@ fn next_side(left: &[(i128, Word)], right: &[(i128, Word)]) -> Option<Ordering>
     }
 }
 
-// The next word of two descending lists with both its coefficients, and what comes behind it.
+// The next word of two descending lists with both its coefficients, and the rests of the lists.
 #[derive(Clone, Copy)]
 struct Next<'a> {
     left: i128,
@@ -104,7 +104,7 @@ fn next_word<'a>(left: &'a [(i128, Word)], right: &'a [(i128, Word)]) -> Option<
 }
 
 // The sum of the multiples of two descending lists, by factors with which no product overflows. `Overflow` is
-// the first sum that is no coefficient, with what comes from `p` as its left operand.
+// the first sum that is no coefficient, with that of `p` as its left operand.
 pub(crate) fn merge_multiples(
     alloc: Global,
     a: i128,

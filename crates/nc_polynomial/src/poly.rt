@@ -30,7 +30,7 @@ impl Poly {
         }
     }
 
-    /// The polynomial with these terms, which are moved and not copied. `Size` comes exactly where
+    /// The polynomial with these terms, which are moved and not copied. `Size` is returned exactly where
     /// there are too many or one is too long.
     pub fn from_descending(terms: Listing<(i128, Word)>) -> Result<Poly, PolyFault>
         requires { IsShaped terms }

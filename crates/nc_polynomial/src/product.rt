@@ -16,7 +16,7 @@ use std::alloc::{AllocError, Global};
 use word_core::Word;
 
 impl Poly {
-    /// The polynomial with the same words on the left and on the right of each word. `Size` comes exactly
+    /// The polynomial with the same words on the left and on the right of each word. `Size` is returned exactly
     /// where one of them then has more than 500 letters.
     pub fn left_right(&self, left: &Word, right: &Word) -> Result<Poly, PolyFault>
         ensures exact { MatchResult result (λ r. moved_result left.now self.now.terms right.now ≡ Ok r.terms)
@@ -30,7 +30,7 @@ impl Poly {
     }
 
     /// The product, with each word of this polynomial on the left of each word of `right`. The sum starts
-    /// with zero. Each term of this polynomial, in descending order, moves `right` by its word and adds
+    /// with zero. Each term of this polynomial, in descending order, multiplies `right` by its word and adds
     /// that times its coefficient, as `left_right` and `combine` do; their first fault is that of the product.
     pub fn product(&self, right: &Poly) -> Result<Poly, PolyFault>
         ensures exact { MatchResult result (λ r. product_result self.now.terms right.now.terms ≡ Ok r.terms)
@@ -62,7 +62,7 @@ fn from_left(term: &(i128, Word), right: &Poly) -> Result<Poly, PolyFault>
     Poly::from_descending(multiple)
 }
 
-// A polynomial times one term, in one pass: the words stay in their order, so that each step puts its term at the end.
+// A polynomial times one term, in one pass: the words stay in order, so that each step appends its term.
 fn from_right(left: &Poly, term: &(i128, Word)) -> Result<Poly, PolyFault>
     requires coefficient { IsCoefficient term.now.0 }
     requires nonzero { term.now.0 ≢ pos 0 }
@@ -106,7 +106,7 @@ fn from_both(left: &Poly, right: &Poly) -> Result<Poly, PolyFault>
     Ok(sum.into_poly(alloc)?)
 }
 
-// A coefficient times a polynomial that is moved behind a word: what a step of a product adds to the sum so far.
+// A coefficient times a polynomial with a word on its left: what a step of a product adds to the sum so far.
 pub(crate) fn moved_multiple(
     coefficient: i128,
     word: &Word,

@@ -1,4 +1,4 @@
-// Terms at the end of a list. A term whose coefficient is zero is left out, and its word is not copied.
+// Terms at the end of a list. A term whose coefficient is zero is omitted, and its word is not copied.
 ghost use Rattle.std.specs.Prelude.{◌≡◌, ◌++◌, [], OnOk};
 ghost use Rattle.nc_polynomial.specs.Terms.{keep};
 

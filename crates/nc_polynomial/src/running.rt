@@ -46,8 +46,8 @@ impl RunningSum {
     }
 
     /// Adds a polynomial, whose words are moved and not copied. The coefficients of the sum so far are the left
-    /// operands. `Overflow` is the first sum, in descending order, that is no coefficient; `Size` comes exactly
-    /// where none is and the sum has too many terms. After a fault the sum is of no use.
+    /// operands. `Overflow` is the first sum, in descending order, that is no coefficient; `Size` is returned exactly
+    /// where none is and the sum has too many terms. After a fault the sum must not be used.
     pub fn add(&mut self, poly: Poly) -> Result<(), PolyFault>
         requires { IsCanonical self.old }
         ensures exact { MatchResult result (λ _. sum_result self.old poly.terms ≡ Ok self.new) (Explains (sum_result self.old poly.terms)) }
@@ -56,9 +56,9 @@ impl RunningSum {
         add_within(&mut self.table, poly.terms)
     }
 
-    /// Adds a coefficient times a polynomial that is moved behind a word. `Size` comes first, where a word of
-    /// the moved polynomial is too long; then the faults are those of `combine`, by the factors 1 and `coefficient`.
-    /// After a fault the sum is of no use.
+    /// Adds a coefficient times a polynomial with a word on its left. `Size` is returned first, where a word of
+    /// the product is too long; then the faults are those of `combine`, by the factors 1 and `coefficient`.
+    /// After a fault the sum must not be used.
     pub fn add_moved(
         &mut self,
         coefficient: i128,
@@ -75,7 +75,7 @@ impl RunningSum {
         add_within(&mut self.table, multiple)
     }
 
-    /// The polynomial that the sum is, whose words are moved and not copied.
+    /// The polynomial of the sum, whose words are moved and not copied.
     pub fn into_poly(self, alloc: Global) -> Result<Poly, AllocError>
         requires { IsCanonical self }
         ensures { IfOk result (λ p. p.terms ≡ self) }

@@ -23,7 +23,7 @@ use std::collections::BTreeMap;
 use std::collections::btree_map::Entry;
 use word_core::Word;
 
-/// Adds to the coefficient of a word, and takes the word out where that becomes zero.
+/// Adds to the coefficient of a word, and removes the word where that becomes zero.
 pub fn add_term(
     table: &mut BTreeMap<Word, i128>,
     coefficient: i128,
@@ -58,7 +58,7 @@ pub fn add_term(
 }
 
 // Adds descending terms, whose words are moved. `Overflow` is the first sum, in descending order, that is no
-// coefficient, with what the table has as its left operand.
+// coefficient, with that of the table as its left operand.
 pub(crate) fn add_terms(
     table: &mut BTreeMap<Word, i128>,
     terms: Listing<(i128, Word)>,

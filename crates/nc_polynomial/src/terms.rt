@@ -1,4 +1,4 @@
-//! Lists of terms of any size, most of which are given away, so that no word is copied.
+//! Lists of terms of any size, most of which are consumed, so that no word is copied.
 ghost use Rattle.std.specs.Prelude.{◌≡◌, ◌+◌, ◌<◌, [], ◌∷◌, length, MatchResult, MatchOption, IfSome, IfOk, Ok};
 ghost use Rattle.std.specs.List.{All};
 ghost use Rattle.coef_int.specs.Range.{IsCoefficient};
@@ -79,7 +79,7 @@ pub fn shift_terms(
     Ok(shifted)
 }
 
-/// The terms with the sign of each coefficient turned. It takes no memory.
+/// The terms with the sign of each coefficient changed. It takes no memory.
 pub fn negate_terms(
     _alloc: Global,
     terms: Listing<(i128, Word)>,
@@ -94,7 +94,7 @@ pub fn negate_terms(
     Ok(Listing::from_vec(turned))
 }
 
-// The list whose first word comes next, `Equal` for both, and none where both are at their end.
+// The list that has the next word, `Equal` for both, and None where both are at their end.
 fn next_side(left: &VecDeque<(i128, Word)>, right: &VecDeque<(i128, Word)>) -> Option<Ordering>
     ensures { result ≡ side_of left.now.items right.now.items }
 {
@@ -106,7 +106,7 @@ fn next_side(left: &VecDeque<(i128, Word)>, right: &VecDeque<(i128, Word)>) -> O
     }
 }
 
-// The next word with its two coefficients, taken from the fronts.
+// The next word with its two coefficients, removed from the fronts.
 #[tactic(auto, using(crate::proofs::Rests::coefficients_rest))]
 fn next_pair(
     left: &mut VecDeque<(i128, Word)>,
@@ -138,8 +138,8 @@ fn next_pair(
     }
 }
 
-/// The sum of two descending lists. `Overflow` is the first sum that is no coefficient, with what comes
-/// from `p` as its left operand.
+/// The sum of two descending lists. `Overflow` is the first sum that is no coefficient, with that
+/// of `p` as its left operand.
 pub fn merge_terms(
     alloc: Global,
     p: Listing<(i128, Word)>,

@@ -15,7 +15,7 @@ use Rattle.nc_polynomial.proofs.Stopped.{stop-explains}
 use Rattle.nc_polynomial.proofs.TableSums.{sums_with, sums-next, coefficients-more}
 use Rattle.nc_polynomial.proofs.table.add_terms.Goals as goal
 
--- one term more is added
+-- one more term is added
 pub loop-coefficient-preserved : goal.loop-coefficient-preserved
 loop-coefficient-preserved c =
     let at = c.loop-coefficient in
