@@ -11,7 +11,7 @@ use Rattle.completion_laws.specs.Typed.{AreTypedInPlay}
 use Rattle.normal_category.specs.declared.fault.SharpFault.{SharpFault}
 use Rattle.normal_category.specs.declared.fault.SharpFault.TheVariants as fault
 
--- The rule with this number hasn't the property, and each one with a lesser number has.
+-- The rule with this number lacks the property, and each one with a lesser number has it.
 pub record IsFirstWithout (P : Rule → Type 0) (rules : List Rule) (number : ℕ) : Type 0 where
   pub rule : Rule
   pub numbered : rule_at rules number ≡ Some rule

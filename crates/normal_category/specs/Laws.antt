@@ -1,4 +1,4 @@
--- What the test of polynomials says of rules.
+-- The law of the test of the polynomials of rules.
 use Rattle.std.specs.Prelude.{◌↔◌, List, IsTrue}
 use Rattle.rule_reduce.specs.declared.rule.Rule.{Rule}
 use Rattle.rule_reduce.specs.RuleLists.{polynomials_of}

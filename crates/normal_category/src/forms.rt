@@ -42,9 +42,9 @@ impl<'a> Preadditive for NormalForms<'a> {
     ghost laws = { λ c. normal_forms_laws c.problem.now.parts c.rules.now.rules };
 }
 
-/// The category of the normal forms of the rules. `Untyped` names the least rule whose words aren't paths of one signature,
+/// The category of the normal forms of the rules. `Untyped` has the least rule whose words aren't paths of one signature,
 /// and where there is none `OutOfPlay` the least one with a letter that isn't in play. The rules are resolved, each
-/// generator is in their rational ideal, and the claim isn't: so the category tells it from zero.
+/// generator is in their rational ideal, and the claim isn't: so the claim isn't zero in the category.
 pub fn normal_forms<'a>(
     problem: &'a Problem,
     rules: &'a Rules<AnyOrder>,

@@ -1,4 +1,4 @@
-//! Which rules are typed and in play, as a law over the definitions.
+//! The law of which rules are typed and in play.
 ghost use Rattle.normal_category.specs.Laws.{SharpRulesAreTold};
 
 /// The test of the polynomials of rules holds exactly where all rules are typed and in play.
