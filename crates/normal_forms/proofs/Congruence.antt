@@ -124,7 +124,7 @@ module _ {K : Type 0} (k : Field K) where
         (scaled-append k d (row c l i r) s ∙ ap (λ z. z ++ scaled k d s)
         (scaled-words k d (λ u. l ++ (u ++ r)) (lifted c (poly (g.rule i))) ∙ ap (with_words (λ u. l ++ (u ++ r))) (scaled-lifted d c (poly (g.rule i)))))))
 
-    -- a row taken off again
+    -- a row is removed again
     off : (p s : Form K) (c : K) (l : Word) (i : ℕ) (r : Word) → Alike k p (row c l i r ++ s) → Alike k s (row (k.minus c) l i r ++ p)
     off p s c l i r f =
         record {

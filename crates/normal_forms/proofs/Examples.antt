@@ -381,7 +381,7 @@ outside inside = clash (rests_of_ideal_are_zero 4 word_cmp (rank_of 4) rules cla
         differ : pos 1 ≡ pos 0 → ⊥
         differ e = cc
 
--- so the category tells x from zero
+-- so x isn't zero in the category
 example : SharpMeans parts rules claim_terms
 example = sharp_means parts rules basis
     (((refl, tt), tt), (((refl, (refl, tt)), ((refl, tt), tt)), (((refl, (refl, tt)), ((refl, tt), tt)), tt))) claim_terms ((refl, tt), tt)

@@ -6,7 +6,7 @@ use Rattle.definitions.specs.Quiver.{Quiver, source, target, is_path}
 use Rattle.definitions.specs.Soundness.{HasValueZero, HasValueZeroAt}
 use Rattle.definitions.specs.Representation.{Representation, Represents, Cancels, natural_multiple, multiple, path_value, word_value, value_at}
 
--- The laws of a structure hold where they follow from what its objects and its arrows tell.
+-- The laws of a structure hold where they follow from a premise that each of its objects and arrows gives.
 pub laws_from_premise : {Object Arrow : Type 0} (c : Structure Object Arrow) (P : Type 0) → ((x : Object) → c.is_object x → P)
     → ((a : Arrow) → c.is_arrow a → P) → (P → PreadditiveLaws c) → PreadditiveLaws c
 laws_from_premise c P object arrow laws = record {

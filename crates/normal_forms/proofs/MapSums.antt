@@ -150,7 +150,7 @@ contains_at (t ∷ f) w some = go (word_eq t.1 w) refl (contains_at f w) some
     go true e later some = (0, omega arith, word_eq-true t.1 w e)
     go false e later some = contains_later t.1 w (listed_words f) (later some)
 
--- Beside a word in a sorted list stands its coefficient.
+-- The number beside a word in a sorted list is its coefficient.
 fraction_raw : (f : Form Rational) → IsForm rationals canonical f → (w : Word) → fraction_at (mapped raw f) w ≡ raw (look rationals f w)
 fraction_raw [] form w = sym raw-none
 fraction_raw (t ∷ f) form w = go (word_eq t.1 w) refl (fraction_raw f form.2 w)

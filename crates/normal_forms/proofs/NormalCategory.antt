@@ -42,7 +42,7 @@ pub record Ground {K : Type 0} (k : Field K) : Type 1 where
   pub play : ℕ → Bool
   pub marked : ℕ → Bool
 
--- What the laws stand on: the rules are resolved, typed and in play, and among their consequences are the relations of the identities.
+-- The premises of the laws: the rules are resolved, typed and in play, and among their consequences are the relations of the identities.
 pub record Facts {K : Type 0} (k : Field K) (s : Ground k) : Type 0 where
   pub normal_is : (p : Form K) → Each s.order.Range p → Normal k s.order s.rules p (s.normal p)
   pub resolved : Resolved s.order s.rules (everything s.order)

@@ -200,7 +200,7 @@ one_signature a path = record { source = 0; target = 0; source_is_object = omega
 sharp : SharpMeans parts rules adjoint_terms
 sharp = sharp_means parts rules basis tt adjoint_terms ((refl, tt), tt) (one_signature 2 refl) outside
 
--- both ways the normal forms tell a' from zero in a star representation
+-- both ways a' isn't zero in a star representation
 both_ways_sharp : StarSharpMeans parts rules adjoint_terms
 both_ways_sharp = star_sharp_means parts rules adjoint_terms posed refl sharp
 

@@ -1,4 +1,4 @@
--- What tells a claim of a starred statement from zero does so both ways: the generators hold the adjoints of the assumptions.
+-- A claim of a starred statement that isn't zero isn't zero both ways: the generators have the adjoints of the assumptions.
 use Rattle.std.proofs.Common.{◌≡◌, ℕ, ◌<◌, ℤ, pos, negsuc, ◌*ℤ◌, Bool, true, false, cond, ◌||◌, List, [], ◌∷◌, refl, sym, ap, ◌∙◌, arith}
 use Rattle.std.proofs.lemmas.Int.{ints}
 use Rattle.std.specs.List.{AllByRecursion, flat_map}

@@ -24,11 +24,11 @@ module _ {K : Type 0} (k : Numbers K) where
   product_form (t ∷ p) q = with_words (λ u. t.1 ++ u) (multiple_form t.0 q) ++ product_form p q
 
   module _ (before : Word → Word → Bool) where
-    -- a term in front, unless its number is zero
+    -- a term before the others, unless its number is zero
     abbrev pub put : K × Word → Form K → Form K
     put t p = if k.is_none t.0 then p else (t ∷ p)
 
-    -- a term taken into a list whose words ascend
+    -- a term inserted into a list whose words ascend
     abbrev pub insert_term : K × Word → Form K → Form K
     insert_term t [] = put t []
     insert_term t (s ∷ p) = if word_eq t.1 s.1 then put (k.plus t.0 s.0, s.1) p else (if before t.1 s.1 then put t (s ∷ p) else (s ∷ insert_term t p))

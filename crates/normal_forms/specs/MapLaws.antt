@@ -1,4 +1,4 @@
--- What the maps of the category of normal forms are: finite sums of words with fractions, as lists and as functions.
+-- The maps of the category of normal forms: finite sums of words with fractions, as lists and as functions.
 use Rattle.std.specs.Prelude.{◌≡◌, ◌↔◌, ℕ, pos, false, List, [], ◌∷◌, Contains, IsTrue, if◌then◌else◌}
 use Rattle.std.specs.List.{All, AllByRecursion}
 use Rattle.definitions.specs.Poly.{Word, word_eq}
@@ -14,13 +14,13 @@ use Rattle.normal_forms.specs.Forms.{Form}
 use Rattle.normal_forms.specs.Maps.{NormalMap, comes_before, IsAscending}
 use Rattle.normal_forms.specs.NormalForms.{IsNonzero, is_marked_in, normal_forms}
 
--- the fraction beside a word, and zero where it isn't listed
+-- the fraction beside a word, or zero where it isn't listed
 abbrev pub fraction_at : Form Fraction → Word → Fraction
 fraction_at [] w = whole (pos 0)
 fraction_at (t ∷ p) w = if word_eq t.1 w then t.0 else fraction_at p w
 
 module _ (p : Parts) (rules : List Rule) (u v : ℕ) where
-  -- What the fractions of a map from u to v stand beside: a path from u to v in letters in play, in which no leading word occurs; and in an
+  -- The words of a map from u to v: the paths from u to v in letters in play, in which no leading word occurs; and for an
   -- endomap of an object that isn't marked the empty word, for the identity of the object.
   abbrev pub IsNormalWord : Word → Type 0
   IsNormalWord [] = (u ≡ v) × (is_marked_in p u ≡ false)
@@ -28,7 +28,7 @@ module _ (p : Parts) (rules : List Rule) (u v : ℕ) where
       × AllByRecursion (λ b. IsTrue (is_in_play p.quiver p.starred (numbers p.marked) b)) (a ∷ w)
       × All (λ g. OccursNowhere (a ∷ w) g.lead) rules
 
-  -- A map as a list: fractions in lowest terms, none of them zero, beside such words, which ascend in the canonical order, so each stands once.
+  -- A map as a list: fractions in lowest terms, none of them zero, beside such words, which ascend in the canonical order, so each occurs once.
   pub record IsListedMap (m : NormalMap Fraction) : Type 0 where
     pub source : m.source ≡ u
     pub target : m.target ≡ v

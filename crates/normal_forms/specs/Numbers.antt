@@ -1,7 +1,7 @@
--- The numbers that stand beside the words of normal forms.
+-- The numbers beside the words of normal forms.
 use Rattle.std.specs.Prelude.{ℕ, ℤ, Bool}
 
--- The operations of a field: each integer is in it, and 1 over each positive number.
+-- The operations of a field: it has each integer, and 1 over each positive number.
 pub record Numbers (K : Type 0) : Type 0 where
   pub none : K
   pub one : K

@@ -11,7 +11,7 @@ use Rattle.normal_forms.specs.Forms.{Form, multiple_form}
 pub data IsGrounded (below : Word → Word → Bool) : Word → Type 0 where
   grounded : (M : Word) → ((L : Word) → below L M ≡ true → IsGrounded below L) → IsGrounded below M
 
--- a rule whose leading word occurs at the place, or else what comes later
+-- a rule whose leading word occurs at the place, or else the later one
 abbrev pub rule_or : Rule → Option ℕ → Option (Rule × ℕ) → Option (Rule × ℕ)
 rule_or g (Some place) later = Some (g, place)
 rule_or g None later = later

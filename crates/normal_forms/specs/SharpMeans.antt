@@ -1,4 +1,4 @@
--- What it means that the normal forms of rules tell a claim from zero.
+-- What it means that a claim isn't zero in the normal forms of rules.
 use Rattle.std.specs.Prelude.{List}
 use Rattle.definitions.specs.Poly.{Poly}
 use Rattle.definitions.specs.Category.{InvolutionLaws}

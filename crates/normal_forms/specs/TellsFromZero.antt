@@ -1,4 +1,4 @@
--- When a category tells a claim from zero.
+-- When a claim isn't zero in a category.
 use Rattle.std.specs.Prelude.{ℕ, ◌<◌, pos, List}
 use Rattle.std.specs.List.{AllByRecursion}
 use Rattle.definitions.specs.Poly.{Poly}

@@ -1,4 +1,4 @@
-//! What the maps between normal forms are, as a law over the definitions.
+//! The law of the maps between normal forms.
 ghost use Rattle.normal_forms.specs.MapLaws.{MapsAreFiniteSums};
 
 /// A map of the category of normal forms is a finite sum of irreducible paths in letters in play, and for an endomap of an
