@@ -22,7 +22,7 @@ fn main(rt: HostRuntime) -> ExitCode {
                 }
             }
         }
-        // words that are no text are other words
+        // words that are not text are other words
         Err(error) if error.kind() != ErrorKind::OutOfMemory => {}
         Err(_) => return ExitCode::from(OUT_OF_MEMORY),
     }
