@@ -1,4 +1,4 @@
--- What is added for a rest is appended, as what is kept asks.
+-- What is added for a rest is appended, so that the invariant holds.
 use Rattle.std.proofs.Common.{◌≢◌, ◌<◌, ◌<ℤ◌, ℕ, pos, Bool, List, [], ◌∷◌, length, refl, sym, ap, ◌∙◌, arith}
 use Rattle.std.specs.List.{All}
 use Rattle.std.proofs.lemmas.List.Elements.{All-from_recursion, recursion_from_All}

@@ -58,7 +58,7 @@ s_polynomial_fits rules a p ends =
     let second = passed (row_multiple rules two) (λ n. combined one.coef first.value two.coef n) p first.rest in
     combined_fits one.coef first.value two.coef second.value p second.rest
 
--- what stands behind the first word, before the second one and behind that
+-- what follows the first word, before the second one and after that
 abbrev AreShortParts : Kind → ℕ → List ℕ → List ℕ → Type 0
 AreShortParts kind place p q =
     (length (drop (length p) (joined_word kind p q place)) ≤ word_limit) × (length (take place (joined_word kind p q place)) ≤ word_limit) × (length (drop (place + length q) (joined_word kind p q place)) ≤ word_limit)

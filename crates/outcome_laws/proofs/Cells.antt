@@ -25,7 +25,7 @@ abbrev column_of : Kind → Word → ℕ → ℕ
 column_of Overlap q place = place
 column_of Inclusion q place = (place + length q) - 1
 
--- row, column and overlap word tell the kind, the words and the place
+-- row, column and overlap word determine the kind, the words and the place
 data Cell (kind : Kind) (p q : Word) (place : ℕ) (w : Word) (x y : ℕ) : Type 0 where
   of_overlap : kind ≡ Overlap → p ≡ take x w → q ≡ drop y w → place ≡ y → y < x → x < length w → Cell kind p q place w x y
   of_inclusion : kind ≡ Inclusion → p ≡ w → q ≡ take (suc y - x) (drop x w) → place ≡ x → x ≤ y → y < length w → Cell kind p q place w x y

@@ -74,7 +74,7 @@ zero_traces letters compare generators rules p s reduced none = record {
       ∙ sym (ap (λ r. coefficient_of (poly_sum r sum) w) none) ∙ sym (reduced.balances.at w);
 }
 
--- a claim of which nothing is left after so many rounds
+-- a claim whose rest is zero after this many rounds
 module _ (problem : Problem) (budget : Budget) (number rounds : ℕ) (s : RunState) (run : IsRunState (setting_of problem budget) rounds s)
     (left : State) (ends : normal_form_of (asked_cmp problem.parts.order) s.rules (claim_at problem number) budget.steps ≡ Ok left) (none : left.rest ≡ []) where
   abbrev letters : ℕ

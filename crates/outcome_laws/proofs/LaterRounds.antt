@@ -1,4 +1,4 @@
--- A later round keeps what is kept.
+-- The invariant holds after a later round.
 use Rattle.std.proofs.Common.{◌≡◌, ℕ, Bool, List, [], ◌∷◌, ◌++◌, map, Option, Some, None, Result, Ok, Err, refl, sym, ap, ◌∙◌, subst, append-nil, append_assoc}
 use Rattle.std.specs.List.{All, AllByRecursion}
 use Rattle.coef_int.specs.declared.Overflow.{Overflow}

@@ -42,7 +42,7 @@ use Rattle.outcome_laws.proofs.AmbiguitiesWithin.{s_polynomial_fits, s_rows_shor
 use Rattle.outcome_laws.proofs.ReducedWithin.{Fits, IsShortRow, reduced_within}
 use Rattle.outcome_laws.proofs.RowsOfRuns.{generator_words, IsKeptGenerator, IsKept, MadeFrom, states_held}
 
--- a short row over so many rules, and over the first generators, as many as the other number says
+-- a short row over the first rules and the first generators, by these counts
 pub record IsLimitedRow (generators count : ℕ) (r : Row) : Type 0 where
   pub short : IsShortRow r
   pub among : IsAmongFirst count r.from
@@ -82,7 +82,7 @@ rows_up_to : (generators count : ℕ) (rows : List Row) → AllByRecursion (IsLi
 rows_up_to generators count [] each = tt
 rows_up_to generators count (r ∷ rows) each = (each.0.up_to, rows_up_to generators count rows each.1)
 
--- a record over so many rules and generators, with a row
+-- a record over the first rules and generators, by these counts, with a row
 pub record IsLimitedMade (generators count : ℕ) (m : Made) : Type 0 where
   pub is_record : IsRecord count m
   pub short : AllByRecursion IsShortRow m.rows

@@ -67,7 +67,7 @@ failing (x ∷ os) o e = go (is_coefficient (exact_value x)) refl e (failing os 
         past : IsCoefficient (exact_value x) → ⊥
         past fits = grind (arith, nat_tests)
 
--- a term of a list in which each word stands once
+-- a term of a list that has each word once
 pub coefficient_listed : (p : List Term) → AreDistinct p → (t : Term) → Contains p t → coefficient_of p t.1 ≡ t.0
 coefficient_listed [] apart t at = absurd (none_listed t at)
 coefficient_listed (u ∷ p) apart t at = go (listed_first u p t at) (coefficient_listed p apart.1 t)

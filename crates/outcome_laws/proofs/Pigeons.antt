@@ -70,7 +70,7 @@ module _ {A B : Type 0} where
   pub members_map : (f : A → B) (P : B → Type 0) (xs : List A) → ((x : A) → Member x xs → P (f x)) → (y : B) → Member y (map f xs) → P y
   members_map f P xs each y m = let v = value_of f xs y m in subst P (sym v.is) (each v.argument v.member)
 
-  -- a function that tells the members of a list apart
+  -- a function that is injective on the members of a list
   pub distinct_map : (f : A → B) (xs : List A) → ((x z : A) → Member x xs → Member z xs → f x ≡ f z → x ≡ z) → Distinct xs → Distinct (map f xs)
   distinct_map f [] apart d = tt
   distinct_map f (x ∷ xs) apart d = (

@@ -1,4 +1,4 @@
--- The run of a problem gives what the laws on runs ask for.
+-- The run of a problem satisfies the premises of the laws of runs.
 use Rattle.std.proofs.Common.{◌⊎◌, inl, inr, ℕ, suc, List, [], Contains, arith, refl}
 use Rattle.std.proofs.lemmas.List.{length-map}
 use Rattle.std.proofs.lemmas.List.Elements.{All-contains}

@@ -86,7 +86,7 @@ step_fits m s t ends = go (first_overflow (move_operations m s)) refl ends
         }
     go (Some o) none k = absurd (no_error t (fault.Overflow o) (sym k))
 
--- what each step that goes well keeps, the whole reduction keeps
+-- what is kept by each step without a fault is kept by the whole reduction
 module _ (P : State → Type 0) (compare : Compare) (rules : List Rule)
     (keeps : (c : Choice) (g : Rule) (s : State) → choice_of compare (entries_of rules) s.rest ≡ Some c → rule_at rules c.number ≡ Some g → StepFits (move_of c g) s → P s → P (moved (move_of c g) s)) where
   halts : (t : State) (e : ReduceFault) → ◌≡◌ {A = Result State ReduceFault} (Err e) (Ok t) → ⊥

@@ -75,7 +75,7 @@ move_stops m s e ends = go (first_overflow (move_operations m s)) refl ends
     go None is k = size is (sized (moved m s).rest) refl k
     go (Some o) is k = overflows o (same (fault.Overflow o) k) is
 
--- Why a reduction stops that may make so many steps.
+-- Why a reduction of at most this many steps stops.
 pub data Stops (compare : Compare) (rules : List Rule) (limit steps : ℕ) (start : Reduced) (e : ReduceFault) : Type 0 where
   steps_spent : e ≡ halt.Steps limit → HasOneMore compare rules steps start → Stops compare rules limit steps start e
   overflow : (o : Overflow) → e ≡ halt.Overflow o → (IsCoefficient (exact_value o) → ⊥) → IsOfReduction compare rules steps start o → Stops compare rules limit steps start e
@@ -85,7 +85,7 @@ module _ (letters : ℕ) (compare : Compare) (rank : List ℕ → List ℕ) (law
   is_choice : (s : State) → IsShaped s.rest → (c : Choice) → choice_of compare (entries_of rules) s.rest ≡ Some c → IsChoice compare rules s.rest c
   is_choice s shaped c chosen = (choices_are_exact letters compare rank rules s.rest c laws shaped.descending).0 chosen
 
-  -- a step more in front
+  -- one more step before
   one_earlier : (n : ℕ) (s t : Reduced) (e : ReduceFault) → IsStep compare rules s t → Stops compare rules limit n t e → Stops compare rules limit (suc n) s e
   one_earlier n s t e step (steps_spent is more) = steps_spent is (record { now = more.now; goes = record { after = t; step = step; later = more.goes }; next = more.next })
   one_earlier n s t e step (overflow o is fails of) =

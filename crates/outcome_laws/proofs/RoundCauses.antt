@@ -198,7 +198,7 @@ module _ (problem : Problem) (budget : Budget) where
               begins : BeginsWith s.rules s.rules
               begins = record { more = []; is = sym (append-nil s.rules) }
 
-      -- the pairs are spent
+      -- the pairs are used up
       pairs_mean : (w : Waiting) (ws : List Waiting) → AreAllPending compare s.rules s.treated (w ∷ ws) → budget.pairs ≤ length s.treated → least ≡ Some w.word → Means place.Run (cause.Pairs (length s.treated))
       pairs_mean w ws all enough named =
           let waits = (all.members w).0 (0, omega arith, λ i. w) in

@@ -33,7 +33,7 @@ fault_is d e k = cc
 value_or : {A : Type 0} (x : A) (e : ReduceFault) → ◌≡◌ {A = Result A ReduceFault} (Ok x) (Err e) → ⊥
 value_or x e k = cc
 
--- a fault came first, or of what goes on
+-- the first result has the fault, or the next one
 pub data Failed {A B : Type 0} (r : Result A ReduceFault) (next : A → Result B ReduceFault) (e : ReduceFault) : Type 0 where
   at_first : r ≡ Err e → Failed r next e
   later : (x : A) → r ≡ Ok x → next x ≡ Err e → Failed r next e
@@ -42,7 +42,7 @@ pub failed : {A B : Type 0} (r : Result A ReduceFault) (next : A → Result B Re
 failed (Ok x) next e is = later x refl is
 failed {A} {B} (Err d) next e is = at_first (ap Err (fault_is {A = B} d e is))
 
--- what ends well behind it has no fault
+-- what ends well after it has no fault
 failed_first : {A B : Type 0} (r : Result A ReduceFault) (f : A → B) (e : ReduceFault) → and_then r (λ x. Ok (f x)) ≡ Err e → r ≡ Err e
 failed_first (Ok x) f e is = absurd (value_or (f x) e is)
 failed_first {A} {B} (Err d) f e is = ap Err (fault_is {A = B} d e is)

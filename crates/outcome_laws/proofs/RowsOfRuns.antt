@@ -1,4 +1,4 @@
--- What is kept of polynomials and rows by reductions and S-polynomials is kept by the records of a run.
+-- What holds of polynomials and rows after reductions and S-polynomials holds of the records of a run.
 use Rattle.std.proofs.Common.{◌≡◌, ◌<◌, ◌≤◌, ℕ, zero, suc, ◌+◌, ℤ, ◌*ℤ◌, List, [], ◌∷◌, ◌++◌, map, length, take, Bool, true, false, cond, nat_le, Option, Some, None, Result, Ok, Err, refl, sym, ap, ◌∙◌, subst, arith}
 use Rattle.std.specs.List.{All, AllByRecursion}
 use Rattle.std.proofs.lemmas.List.{length-append, length-map}
@@ -49,13 +49,13 @@ generator_words letters [] each (suc n) = tt
 generator_words letters (p ∷ ps) each (suc zero) = words_from letters p (recursion_from_All (λ t. 0 < length t.1) p each.0.nonempty) (recursion_from_All (λ t. IsOver letters t.1) p each.0.over)
 generator_words letters (p ∷ ps) each (suc (suc n)) = generator_words letters ps each.1 (suc n)
 
--- the generator with this number is one that is kept, and so is its row with the multiplier of its reduction
+-- the generator with this number has the property, and so has its row with the multiplier of its reduction
 pub record IsKeptGenerator (letters : ℕ) (setting : Setting) (IsPoly : List Term → Type 0) (IsRow : ℕ → Row → Type 0) (number : ℕ) : Type 0 where
   pub polynomial : IsPoly (generator_at setting.generators number)
   pub row : (rules : List Rule) (s : State) → All (IsRule letters setting.compare) rules → normal_form_of setting.compare rules (generator_at setting.generators number) setting.budget.steps ≡ Ok s
       → IsRow 0 (record { coef = s.multiplier; left = []; from = origin.Generator number; right = [] })
 
--- What is kept of polynomials, of rows over so many rules, and of a record that has so many rules before it.
+-- Properties of polynomials, of rows over this many rules, and of a record that has this many rules before it.
 pub record IsKept (letters : ℕ) (setting : Setting) (IsPoly : List Term → Type 0) (IsRow : ℕ → Row → Type 0) (IsMade : ℕ → Made → Type 0) : Type 0 where
   pub more : (few many : ℕ) (r : Row) → few ≤ many → IsRow few r → IsRow many r
   pub negative : (count : ℕ) (r : Row) → IsRow count r → IsRow count (negated_row r)
@@ -187,7 +187,7 @@ module _ (letters : ℕ) (setting : Setting) (IsPoly : List Term → Type 0) (Is
         go (Ok f) (Err e) one others rest k = absurd (no_error fs e k)
         go (Ok f) (Ok gs) one others rest k = subst (AllByRecursion (HoldsFirst (length rules))) (same_ok (f ∷ gs) fs k) (first_holds a f each.0 one, rest gs others)
 
-  -- the first of them has so many rules before it
+  -- the first of them has this many rules before it
   abbrev pub MadeFrom : ℕ → List Made → Type 0
   MadeFrom place [] = Unit {0}
   MadeFrom place (m ∷ made) = IsMade place m × MadeFrom (suc place) made

@@ -1,4 +1,4 @@
--- Round 0, later rounds and whole runs keep what is kept.
+-- The invariant holds after round 0, later rounds and whole runs.
 use Rattle.std.proofs.Common.{◌≡◌, ◌≤◌, ℕ, zero, suc, Bool, List, [], ◌∷◌, ◌++◌, length, map, get_or, Option, Result, Ok, Err, refl, sym, subst, arith, append-nil, append_assoc}
 use Rattle.std.specs.List.{All, AllByRecursion}
 use Rattle.std.proofs.lemmas.List.Elements.{recursion_from_All}

@@ -18,7 +18,7 @@ use Rattle.traced_completion.specs.PlainRun.{Setting, RunState, stopped, IsCause
 use Rattle.claim_decider.specs.Outcomes.{IsCauseOfExpansion, IsCauseOfGathering}
 use Rattle.outcome_laws.proofs.OpenRuns.{same_halt, not_went, not_closed}
 
--- another cause than that the pairs are spent
+-- another cause than that the pairs are used up
 abbrev pub NotPairs : Cause → Type 0
 NotPairs c = (spent : ℕ) → c ≢ cause.Pairs spent
 

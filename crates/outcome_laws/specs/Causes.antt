@@ -1,4 +1,4 @@
--- What the cause of a halt says of the run of a problem.
+-- What the cause of a halt says about the run of a problem.
 use Rattle.std.specs.Prelude.{◌≡◌, ◌≢◌, ◌≤◌, ℕ, suc, ℤ, neg_ℤ, Bool, true, List, [], ◌∷◌, ◌++◌, if◌then◌else◌, map, length, Option, Some, Contains}
 use Rattle.std.specs.List.{All, AllPairs}
 use Rattle.coef_int.specs.declared.Overflow.{Overflow}
@@ -33,14 +33,14 @@ use Rattle.traced_completion.specs.declared.budget.Budget.{Budget}
 use Rattle.outcome_laws.specs.Certificates.{IsOfCertificate, HasLongRow, HasManyRows}
 use Rattle.outcome_laws.specs.ReductionSteps.{Reduced, unreduced, row_times, HasOneMore, IsOfReduction, IsTooLarge, GetsTooLarge, Leaves, row_words, IsOfSum}
 
--- The polynomial is, each word once, what the two multiples in the S-polynomial of an ambiguity of the rules add up to.
+-- The polynomial has each word once, and is the sum of the two multiples in the S-polynomial of an ambiguity of the rules.
 pub record IsSPolynomial (rules : List Rule) (p : List Term) : Type 0 where
   pub ambiguity : Ambiguity
   pub is : IsAmbiguity rules ambiguity
   pub shaped : IsShaped p
   pub is_sum : SamePolynomial p (s_sum rules ambiguity)
 
--- By the first ones of the rules, this is left of an S-polynomial of theirs.
+-- This is the rest of an S-polynomial of some first rules by these.
 pub record IsFirstReduction (problem : Problem) (budget : Budget) (rules : List Rule) (now : Reduced) : Type 0 where
   pub first : List Rule
   pub more : List Rule
@@ -56,15 +56,15 @@ negative row = record row { coef = neg_ℤ row.coef }
 abbrev pub negatives : List Row → List Row
 negatives rows = map negative rows
 
--- rows times the multiplier of a reduction, less the rows that it took away
+-- rows times the multiplier of a reduction, less its rows
 abbrev pub rows_less : List Row → Reduced → List Row
 rows_less rows r = map (row_times r.multiplier) rows ++ negatives r.taken
 
--- the rows by which a generator is reduced to what is left of it
+-- the rows that add up to the rest of a generator
 abbrev pub rows_of_generator : ℕ → Reduced → List Row
 rows_of_generator n r = record { coef = r.multiplier; left = []; from = origin.Generator n; right = [] } ∷ negatives r.taken
 
--- What becomes a rule is left by the rules so far: of a generator, or of what the first ones of them leave of an S-polynomial of theirs.
+-- The rest by the rules so far: of a generator, or of the rest of an S-polynomial of some first rules by these.
 -- These are the rows that add up to it.
 pub data IsLeftBy (problem : Problem) (budget : Budget) (rules : List Rule) (rest : List Term) (rows : List Row) : Type 0 where
   from_generator : (n : ℕ) (now : Reduced) → 1 ≤ n → n ≤ length problem.generators
@@ -90,7 +90,7 @@ pub data AreMade (problem : Problem) (budget : Budget) : List Rule → List Made
   one_more : (rules : List Rule) (records : List Made) (rest : List Term) (rows : List Row) (g : Rule) (m : Made) → AreMade problem budget rules records
       → IsLeftBy problem budget rules rest rows → IsRuleOf rest rows g m → AreMade problem budget (rules ++ g ∷ []) (records ++ m ∷ [])
 
--- Rules in the order of the problem, which are made one after another. Of each some positive multiple is a combination of the generators,
+-- Rules in the order of the problem, made one after another. Some positive multiple of each is a combination of the generators,
 -- and its leading word occurs in that of no later one.
 pub record AreRulesOf (problem : Problem) (budget : Budget) (rules : List Rule) : Type 0 where
   pub are_rules : All (IsRule (letter_count problem.parts.quiver) (asked_cmp problem.parts.order)) rules
@@ -99,8 +99,8 @@ pub record AreRulesOf (problem : Problem) (budget : Budget) (rules : List Rule) 
   pub apart : AreApart rules
   pub inside : (n : ℕ) (g : Rule) → rule_at rules n ≡ Some g → InRationalIdeal (polynomials problem.generators) g.poly.terms
 
--- Between two rounds as many ambiguities were treated as the budget has pairs, no two of them the same: each is one of the rules, and resolved.
--- One of the rules is left, and the word is the least overlap word of those that are left.
+-- Between two rounds as many ambiguities were treated as the budget has pairs, each once: they are ambiguities of the rules, and resolved.
+-- One of the rules is pending, and the word is the least overlap word of the pending ones.
 pub record PairsAreSpent (problem : Problem) (budget : Budget) (at : Place) (least : Option (List ℕ)) (spent : ℕ) : Type 0 where
   pub place_is : at ≡ place.Run
   pub budget_is : spent ≡ budget.pairs
@@ -116,16 +116,16 @@ pub record PairsAreSpent (problem : Problem) (budget : Budget) (at : Place) (lea
   pub word_is : least ≡ Some (overlap_word_of rules left)
   pub none_below : NothingPendingBelow (letter_count problem.parts.quiver) (asked_cmp problem.parts.order) rules treated (overlap_word_of rules left)
 
--- a claim has the number
+-- there is a claim with the number
 abbrev pub IsClaim : Problem → ℕ → Type 0
 IsClaim problem number = (1 ≤ number) × (number ≤ length problem.parts.claims)
 
--- What is reduced by the rules at the place, in the work on the claim with this number.
+-- A polynomial that is reduced by the rules at the place, in the work on the claim with this number:
 pub data IsReducedAt (problem : Problem) (budget : Budget) (number : ℕ) (at : Place) (rules : List Rule) (p : List Term) : Type 0 where
   -- in round 0 a generator
   of_generator : (n : ℕ) → 1 ≤ n → n ≤ length problem.generators → at ≡ place.Round 0 → p ≡ generator_at (polynomials problem.generators) n
       → IsReducedAt problem budget number at rules p
-  -- in a later round an S-polynomial, and then what the rules from before the round leave of it
+  -- in a later round an S-polynomial, and then its rest by the rules from before the round
   of_ambiguity : (round : ℕ) → at ≡ place.Round (suc round) → IsSPolynomial rules p → IsReducedAt problem budget number at rules p
   of_first_rest : (round : ℕ) (now : Reduced) → at ≡ place.Round (suc round) → IsFirstReduction problem budget rules now → p ≡ now.rest
       → IsReducedAt problem budget number at rules p
@@ -139,7 +139,7 @@ pub record Reduction (problem : Problem) (budget : Budget) (number : ℕ) (at : 
   pub polynomial : List Term
   pub is : IsReducedAt problem budget number at rules polynomial
 
--- The budget has so many steps. So many are made in a reduction at the place, and there is one more.
+-- The budget has this many steps. A reduction at the place makes this many, and there is one more.
 pub record StepsAreSpent (problem : Problem) (budget : Budget) (number : ℕ) (at : Place) (limit : ℕ) : Type 0 where
   pub budget_is : limit ≡ budget.steps
   pub reduction : Reduction problem budget number at
@@ -152,13 +152,13 @@ pub record IsOfSPolynomial (rules : List Rule) (o : Overflow) : Type 0 where
   pub of_sum : IsOfSum (first_row rules ambiguity).coef (row_words rules (first_row rules ambiguity))
       (second_row rules ambiguity).coef (row_words rules (second_row rules ambiguity)) o
 
--- It is one of the products of the rows of a rule that two reductions make: of those of the S-polynomial by the first multiplier, and of
--- those that then are left by the second one.
+-- It is one of the products of the rows of a rule that is made by two reductions: of those of the S-polynomial by the first multiplier, and of
+-- those of the first rest by the second one.
 pub data IsOfRows (rows : List Row) (first second : Reduced) (o : Overflow) : Type 0 where
   of_first : (row : Row) → Contains rows row → o ≡ product_of row.coef first.multiplier → IsOfRows rows first second o
   of_second : (row : Row) → Contains (rows_less rows first) row → o ≡ product_of row.coef second.multiplier → IsOfRows rows first second o
 
--- Nothing is left of the claim by rules. The record of the claim has the multiplier of this reduction and the rows that it took away, and
+-- The rest of the claim by the rules is zero. The record of the claim has the multiplier of this reduction and its rows, and
 -- each rule has the record with which it was made. The rows of each record add up to its scale times the rule, or times the claim.
 pub record ClaimRecord (problem : Problem) (budget : Budget) (number : ℕ) : Type 0 where
   pub is_claim : IsClaim problem number
@@ -194,9 +194,9 @@ pub record IsOverflowAt (problem : Problem) (budget : Budget) (number : ℕ) (at
   pub out_of_range : IsCoefficient (exact_value o) → ⊥
   pub arithmetic : IsArithmeticAt problem budget number at o
 
--- What passes a limit of polynomials at the place, in the work on the claim with this number.
+-- A polynomial or a word that exceeds a limit at the place, in the work on the claim with this number:
 pub data IsSizeAt (problem : Problem) (budget : Budget) (number : ℕ) (at : Place) (letters : Bool) : Type 0 where
-  -- what is left after a step of a reduction
+  -- the rest after a step of a reduction
   after_step : (r : Reduction problem budget number at) → GetsTooLarge (asked_cmp problem.parts.order) r.rules budget.steps (unreduced r.polynomial) letters
       → IsSizeAt problem budget number at letters
   -- in a later round one of the two multiples of rules in an S-polynomial, or their sum
@@ -208,14 +208,14 @@ pub data IsSizeAt (problem : Problem) (budget : Budget) (number : ℕ) (at : Pla
   in_certificate : (round : ℕ) → at ≡ place.Certificate round → letters ≡ true → (r : ClaimRecord problem budget number) → HasLongRow r.are_rules.records r.claim
       → IsSizeAt problem budget number at letters
 
--- The rows of a certificate of the claim with this number pass a limit.
+-- The rows of a certificate of the claim with this number exceed a limit.
 pub record AreRowsAt (problem : Problem) (budget : Budget) (number : ℕ) (at : Place) (letters : Bool) : Type 0 where
   pub round : ℕ
   pub place_is : at ≡ place.Certificate round
   pub record_of : ClaimRecord problem budget number
   pub many : HasManyRows record_of.are_rules.records record_of.claim letters
 
--- What a cause says of the place, in the work on the claim with this number, and of the least overlap word that is named with it.
+-- What a cause says about the place, in the work on the claim with this number, and about the least overlap word that is named with it.
 abbrev pub CauseMeans : Problem → Budget → ℕ → Place → Option (List ℕ) → Cause → Type 0
 CauseMeans problem budget number at least (cause.Pairs spent) = PairsAreSpent problem budget at least spent
 CauseMeans problem budget number at least (cause.Steps limit) = StepsAreSpent problem budget number at limit

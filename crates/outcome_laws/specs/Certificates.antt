@@ -22,7 +22,7 @@ pub record Expands (start : Expansions) (number : ℕ) (m : Made) (Later : Expan
   pub expands : record_expansion (known_from start) m ≡ Ok rows
   pub later : Later (insert_entry nat_cmp start number rows)
 
--- Records are expanded one after another, of rules and at last of the target. It is the turn of this one, where the rules before it have
+-- Records are expanded one after another, those of rules and finally that of the target. It is the turn of this one, where the earlier rules have
 -- these expansions.
 abbrev pub HasTurn : Made → Expansions → Made → List Numbered → Expansions → Type 0
 HasTurn target expansions now [] start = (expansions ≡ start) × (now ≡ target)
@@ -42,7 +42,7 @@ joined_at t = joined (known_from t.expansions) (common_denominator (known_from t
 abbrev pub lemmas_and_goal : List Made → Made → List Lemma
 lemmas_and_goal made target = map (lemma_of (naming_of made target)) (lemma_records made target) ++ lemma_of (naming_of made target) target ∷ []
 
--- One of the products and sums of a certificate: of the denominator of a record, of its rows and of adding these up; or, with lemmas, of
+-- One of the products and sums of a certificate: of the denominator of a record, of its rows and of their sums; or, with lemmas, of
 -- the least common multiple of the scales.
 pub data IsOfCertificate (made : List Made) (target : Made) (o : Overflow) : Type 0 where
   of_denominator : (t : Turn made target) → Contains (denominator_products (known_from t.expansions) t.now) o → IsOfCertificate made target o
@@ -51,17 +51,17 @@ pub data IsOfCertificate (made : List Made) (target : Made) (o : Overflow) : Typ
   of_sums : (t : Turn made target) → Contains (sums_of_gathering (joined_at t)) o → IsOfCertificate made target o
   of_scales : Contains (multiple_products (pos 1) (map (λ l. l.scale) (lemmas_and_goal made target))) o → IsOfCertificate made target o
 
--- A row of an expansion has a word of more letters than words may have.
+-- A row of an expansion has a word with more letters than the limit.
 pub record HasLongRow (made : List Made) (target : Made) : Type 0 where
   pub turn : Turn made target
   pub long : Any (λ r. (word_limit < length r.left) ⊎ (word_limit < length r.right)) (joined_at turn)
 
--- more letters than a certificate may have, or else more rows
+-- more letters than the limit of a certificate, or else more rows
 abbrev pub PassesLimit : Bool → ℕ → ℕ → Type 0
 PassesLimit true rows letters = letter_limit < letters
 PassesLimit false rows letters = row_limit < rows
 
--- The rows of an expansion, or those of lemmas and goal, pass a limit.
+-- The rows of an expansion, or those of lemmas and goal, exceed a limit.
 pub data HasManyRows (made : List Made) (target : Made) (letters : Bool) : Type 0 where
   of_expansion : (t : Turn made target) → PassesLimit letters (length (joined_at t)) (letter_count (joined_at t)) → HasManyRows made target letters
   of_lemmas : PassesLimit letters (row_count (lemmas_and_goal made target)) (lemmas.letter_count (lemmas_and_goal made target))

@@ -24,8 +24,8 @@ abbrev pub letters_in_play : Problem → List ℕ
 letters_in_play problem = filter (is_in_play problem.parts.quiver problem.parts.starred (numbers problem.parts.marked))
     (range_with_len 0 (letter_count problem.parts.quiver))
 
--- A round treats no more ambiguities than its limit, and while a claim that follows below the word is open, one of them at least has an
--- overlap word below it. In the canonical order that has no more letters than the word.
+-- A round treats at most as many ambiguities as its limit, and while a claim that follows below the word is open, at least one of them has an
+-- overlap word below it. In the canonical order that has at most as many letters as the word.
 abbrev pub enough_pairs : Problem → List ℕ → ℕ
 enough_pairs problem word = round_limit * short_ambiguities (length (letters_in_play problem)) (length word)
 
@@ -40,7 +40,7 @@ pub record HasEnough (problem : Problem) (budget : Budget) (number : ℕ) (word 
   pub shown : IsShownBelow problem number word
   pub enough : enough_pairs problem word ≤ budget.pairs
 
--- The claim is derived, or halted with another cause than that as many pairs as the budget says were treated.
+-- The claim is derived, or halted with another cause than that the budget of pairs was used up.
 abbrev pub PairsSuffice : Outcome → Type 0
 PairsSuffice (outcome.Derived e) = ⊤
 PairsSuffice (outcome.Closed rest) = ⊥
@@ -57,7 +57,7 @@ abbrev pub PairsAreEnough : Type 0
 PairsAreEnough = (problem : Problem) (budget : Budget) (form : Format) (number : ℕ) (word : List ℕ) (o : Outcome)
     → HasEnough problem budget number word → IsOutcomeAt problem budget form number o → PairsSuffice o
 
--- And so for each such claim of several. `decide_all` ensures the premise in `outcomes`, with the numbers of all claims, and
+-- The same for each of several such claims. `decide_all` ensures the premise in `outcomes`, with the numbers of all claims, and
 -- `decide` in `outcome`, with one.
 abbrev pub PairsAreEnoughForEach : Type 0
 PairsAreEnoughForEach = (problem : Problem) (budget : Budget) (form : Format) (claims : List ℕ) (outcomes : List Outcome)

@@ -1,4 +1,4 @@
--- Within what limits evidence is: those of the texts in which it is written.
+-- The limits of evidence: those of the texts in which it is written.
 use Rattle.std.specs.Prelude.{◌≡◌, ◌≤◌, ◌<ℤ◌, ℕ, pos, length}
 use Rattle.std.specs.List.{All}
 use Rattle.coef_int.specs.Range.{IsCoefficient}
@@ -22,7 +22,7 @@ use Rattle.claim_decider.specs.Outcomes.{IsOutcomeOf}
 use Rattle.nc_polynomial.specs.Limits.{word_limit}
 use Rattle.cofactor_trace.specs.Limits.{row_limit, letter_limit}
 
--- The integer in front is a coefficient, no word has more than 500 letters, and the row is over one of so many generators.
+-- The coefficient is in range, no word has more than 500 letters, and the row is over one of this many generators.
 pub record IsRowWithin (generators : ℕ) (row : CertRow) : Type 0 where
   pub coefficient : IsCoefficient row.coef
   pub short_left : length row.left ≤ word_limit
@@ -40,7 +40,7 @@ pub record IsCertificateWithin (generators number : ℕ) (c : Certificate) : Typ
   pub few : length c.rows ≤ row_limit
   pub letters : letter_count c.rows ≤ letter_limit
 
--- The integer in front is a coefficient, and no word has more than 500 letters.
+-- The coefficient is in range, and no word has more than 500 letters.
 pub record IsLemmaRowWithin (row : LemmaRow) : Type 0 where
   pub coefficient : IsCoefficient row.coef
   pub short_left : length row.left ≤ word_limit
@@ -52,8 +52,8 @@ pub record IsLemmaWithin (l : Lemma) : Type 0 where
   pub scale : IsCoefficient l.scale
   pub rows : All IsLemmaRowWithin l.rows
 
--- The claim is the one with this number. The denominator is positive and a coefficient. Each lemma is over generators, of
--- which there are so many, and lemmas before it, and the goal over generators and lemmas. There are at most 200,000 lemmas;
+-- The claim is the one with this number. The denominator is positive and a coefficient. Each lemma is over this many generators
+-- and earlier lemmas, and the goal over generators and lemmas. There are at most 200,000 lemmas;
 -- with the goal they have at most 200,000 rows, which have at most 1,000,000 letters.
 pub record IsLemmaCertificateWithin (generators number : ℕ) (c : LemmaCertificate) : Type 0 where
   pub claim : c.claim ≡ number

@@ -1,4 +1,4 @@
--- That there is what the definitions of runs and outcomes ask for, for each problem, budget and format. Want of memory is no part of them.
+-- Each problem, budget and format has the runs and outcomes that are defined. Want of memory is no part of the definitions.
 use Rattle.std.specs.Prelude.{◌≤◌, ℕ, suc, List}
 use Rattle.definitions.specs.Poly.{Term}
 use Rattle.nc_polynomial.specs.declared.poly.Poly.{Poly}
@@ -16,11 +16,11 @@ pub record HasRound (setting : Setting) (number : ℕ) (s : RunState) : Type 0 w
   pub outcome : RoundOutcome
   pub is : IsRound setting number s outcome
 
--- Each round has an outcome, from whatever state: it is made whole, or the run is closed, or it stops with a cause.
+-- Each round has an outcome, from any state: it is completed, or the run is closed, or it stops with a cause.
 abbrev pub EachStateHasARound : Type 0
 EachStateHasARound = (problem : Problem) (budget : Budget) (number : ℕ) (s : RunState) → HasRound (setting_of problem budget) number s
 
--- There is an outcome of the claim with this number, and it comes when at most one round more is made whole than the budget has pairs.
+-- There is an outcome of the claim with this number, after at most one more completed round than the budget has pairs.
 pub record HasOutcome (setting : Setting) (form : Format) (number : ℕ) (claim : List Term) : Type 0 where
   pub outcome : Outcome
   pub is : IsOutcomeOf setting form number claim outcome
@@ -31,7 +31,7 @@ abbrev pub EachClaimHasAnOutcome : Type 0
 EachClaimHasAnOutcome = (problem : Problem) (budget : Budget) (form : Format) (number : ℕ)
     → HasOutcome (setting_of problem budget) form number (claim_at problem number)
 
--- There are outcomes of all claims of the problem, and rules that are given with them.
+-- There are outcomes of all claims of the problem, and rules that are returned with them.
 pub record HasOutcomes (setting : Setting) (form : Format) (problem : Problem) : Type 0 where
   pub outcomes : List Outcome
   pub rules : List Poly

@@ -1,4 +1,4 @@
--- Each state of the plain run keeps what completions keep.
+-- Each state of the plain run has the invariant of completions.
 use Rattle.std.specs.Prelude.{◌≤◌, ℕ, zero, suc, Bool, List, [], ◌∷◌, length, Contains}
 use Rattle.std.specs.List.{All}
 use Rattle.definitions.specs.Poly.{Term}
@@ -16,23 +16,23 @@ use Rattle.traced_completion.specs.Pending.{AreAllPending}
 use Rattle.traced_completion.specs.UnitsFirst.{units_first}
 use Rattle.traced_completion.specs.PlainRun.{Setting, RunState, closed, IsRound, IsRunState}
 
--- sorted, with letters below the number, typed of one signature and in play
+-- sorted, with letters below the number, of one signature and in play
 pub record IsGenerator (q : Quiver) (play : ℕ → Bool) (letters : ℕ) (p : List Term) : Type 0 where
   pub shaped : IsShaped p
   pub over : All (λ t. IsOver letters t.1) p
   pub typed : IsTypedInPlay q play p
 
--- the generators that so many rounds have reduced
+-- the generators that this many rounds have reduced
 abbrev pub done_after : Setting → ℕ → List ℕ
 done_after setting zero = []
 done_after setting (suc n) = setting.in_turn
 
--- all is kept, and the rules are typed of one signature and in play
+-- the invariant holds, and the rules have one signature and are in play
 pub record IsKeptState (q : Quiver) (play : ℕ → Bool) (letters : ℕ) (setting : Setting) (done : List ℕ) (s : RunState) : Type 0 where
   pub kept : Kept letters setting.compare setting.generators s.rules s.made done s.treated
   pub typed : AreTypedInPlay q play s.rules
 
--- After each whole round.
+-- This holds after each completed round.
 abbrev pub RunsAreKept : Type 0
 RunsAreKept = (q : Quiver) (play : ℕ → Bool) (letters : ℕ) (rank : List ℕ → List ℕ) (setting : Setting) (n : ℕ) (s : RunState)
     → IsAdmissible letters setting.compare rank → All (IsGenerator q play letters) setting.generators
@@ -43,13 +43,13 @@ RunsAreKept = (q : Quiver) (play : ℕ → Bool) (letters : ℕ) (rank : List �
 abbrev pub ClosedIsNothingPending : Type 0
 ClosedIsNothingPending = (setting : Setting) (n : ℕ) (s : RunState) → IsRound setting (suc n) s closed → NothingPending s.rules s.treated
 
--- Nothing is pending below the overlap word of the first one that is pending.
+-- Nothing is pending below the overlap word of the first pending ambiguity.
 abbrev pub FirstIsLeastPending : Type 0
 FirstIsLeastPending = (letters : ℕ) (compare : Compare) (rank : List ℕ → List ℕ) (rules : List Rule) (treated : List Ambiguity)
     (w : Waiting) (ws : List Waiting)
     → IsAdmissible letters compare rank → AreAllPending compare rules treated (w ∷ ws) → NothingPendingBelow letters compare rules treated w.word
 
--- Of generators of which the last ones are units, round 0 takes each, and no other number.
+-- Where the last generators are units, round 0 takes each generator, and no other number.
 abbrev pub EachGeneratorHasItsTurn : Type 0
 EachGeneratorHasItsTurn = (units count : ℕ) → units ≤ count
     → All (λ k. (1 ≤ k) × (k ≤ count)) (units_first units count) × ((n : ℕ) → 1 ≤ n → n ≤ count → Contains (units_first units count) n)

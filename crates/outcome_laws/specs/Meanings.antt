@@ -15,14 +15,14 @@ use Rattle.claim_decider.specs.declared.outcome.Outcome.TheVariants as outcome
 use Rattle.claim_decider.specs.Outcomes.{IsOutcomeOf}
 use Rattle.outcome_laws.specs.Halts.{Follows, FollowsBelow, HaltMeans}
 
--- A claim that is derived has evidence that adds up, one that is closed does not follow, and of one that is halted holds what its halt means.
+-- A claim that is derived has evidence that adds up, one that is closed does not follow, and for one that is halted the meaning of its halt holds.
 abbrev pub OutcomeMeans : Problem → Budget → ℕ → Outcome → Type 0
 OutcomeMeans problem budget number (outcome.Derived e) = EvidenceAddsUp problem number e
 OutcomeMeans problem budget number (outcome.Closed rest) = Follows problem number → ⊥
 OutcomeMeans problem budget number (outcome.Halted h) = HaltMeans problem budget number h
 
 -- The laws have one premise, that this is the outcome of the problem's claim with this number. `decide_all` and `decide` ensure it of
--- each outcome that they give, in `outcomes`. That generators and claims are typed comes from the fields of a problem.
+-- each outcome that they return, in `outcomes`. That generators and claims are typed follows from the fields of a problem.
 abbrev pub IsOutcomeAt : Problem → Budget → Format → ℕ → Outcome → Type 0
 IsOutcomeAt problem budget form number o = IsOutcomeOf (setting_of problem budget) form number (claim_at problem number) o
 

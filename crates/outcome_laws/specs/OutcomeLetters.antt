@@ -16,13 +16,13 @@ use Rattle.claim_decider.specs.declared.outcome.Outcome.TheVariants as outcome
 use Rattle.claim_decider.specs.Outcomes.{IsOutcomeOf}
 use Rattle.claim_decider.specs.Decided.{AreLastRules}
 
--- The letters of the evidence, of what is left, or of the least overlap word are letters of the quiver.
+-- The letters of the evidence, of the rest, or of the least overlap word are letters of the quiver.
 abbrev pub IsOutcomeOver : List Declaration → Outcome → Type 0
 IsOutcomeOver ds (outcome.Derived e) = IsEvidenceOver ds e
 IsOutcomeOver ds (outcome.Closed rest) = IsPolyOver ds rest
 IsOutcomeOver ds (outcome.Halted h) = IsLeastOver ds h.least
 
--- So it is with each outcome of a claim.
+-- This holds for each outcome of a claim.
 abbrev pub OutcomesHaveLetters : Type 0
 OutcomesHaveLetters = (problem : Problem) (budget : Budget) (form : Format) (number : ℕ) (o : Outcome)
     → IsOutcomeOf (setting_of problem budget) form number (claim_at problem number) o → IsOutcomeOver problem.parts.quiver o

@@ -1,4 +1,4 @@
--- What each state of the run of a problem keeps, with no premise but that it is one.
+-- What holds of each state of the run of a problem, without a premise.
 use Rattle.std.specs.Prelude.{◌≡◌, ◌⊎◌, ◌≤◌, ℕ, suc, List, [], ◌∷◌, length, Some, Contains}
 use Rattle.std.specs.List.{All}
 use Rattle.definitions.specs.Combination.{InRationalIdeal, generator_at}
@@ -22,7 +22,7 @@ use Rattle.traced_completion.specs.PlainRun.{RunState, setting_of, IsRunState}
 abbrev pub IsTreatedOrPending : RunState → Ambiguity → Type 0
 IsTreatedOrPending s a = Contains s.treated a ⊎ IsPending s.rules s.treated (record { which = a; word = overlap_word_of s.rules a })
 
--- What holds of the rules, their records and the treated ambiguities, whatever the rounds were.
+-- What holds of the rules, their records and the treated ambiguities, after any rounds.
 pub record IsKeptOf (problem : Problem) (s : RunState) : Type 0 where
   pub are_rules : All (IsRule (letter_count problem.parts.quiver) (asked_cmp problem.parts.order)) s.rules
   -- the leading word of each rule occurs in that of no later one
@@ -42,11 +42,11 @@ pub record IsKeptOf (problem : Problem) (s : RunState) : Type 0 where
   pub below : (w : Waiting) (ws : List Waiting) → AreAllPending (asked_cmp problem.parts.order) s.rules s.treated (w ∷ ws)
       → ResolvedBelow (letter_count problem.parts.quiver) (asked_cmp problem.parts.order) s.rules w.word
 
--- The state after so many rounds of a problem that were made whole.
+-- This holds of the state after each number of completed rounds of a problem.
 abbrev pub StatesAreKept : Type 0
 StatesAreKept = (problem : Problem) (budget : Budget) (rounds : ℕ) (s : RunState) → IsRunState (setting_of problem budget) rounds s → IsKeptOf problem s
 
--- Behind round 0, some positive multiple of each generator is a sum of rows over the rules in which each word is at most a word of it.
+-- After round 0, some positive multiple of each generator is a sum of rows over the rules in which each word is at most a word of it.
 abbrev pub GeneratorsAreReached : Type 0
 GeneratorsAreReached = (problem : Problem) (budget : Budget) (rounds : ℕ) (s : RunState) (number : ℕ) → IsRunState (setting_of problem budget) (suc rounds) s
     → 1 ≤ number → number ≤ length problem.generators

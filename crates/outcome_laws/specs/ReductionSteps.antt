@@ -17,7 +17,7 @@ use Rattle.rule_reduce.specs.RuleLists.{polynomials_of}
 use Rattle.rule_reduce.specs.Choices.{IsChoice}
 use Rattle.rule_reduce.specs.Laws.{IsIrreducible}
 
--- How far a reduction has come: by what its polynomial was multiplied, what is left, and the rows of what was taken away.
+-- The state of a reduction: by what its polynomial was multiplied, the rest, and the rows of what was subtracted.
 pub record Reduced : Type 0 where
   pub multiplier : ℤ
   pub rest : List Term
@@ -30,9 +30,9 @@ unreduced p = record { multiplier = pos 1; rest = p; taken = [] }
 abbrev pub row_times : ℤ → Row → Row
 row_times by row = record row { coef = row.coef *ℤ by }
 
--- What the next step is: the greatest word in which a leading word occurs is l m r, where m is the leading word of the rule g with the
+-- The next step: the greatest word in which a leading word occurs is l m r, where m is the leading word of the rule g with the
 -- least number, at its leftmost place. With c the coefficient of the word, k that of m in g, and q their greatest common divisor, the
--- polynomial is multiplied by k/q, and c/q l g r is taken away.
+-- polynomial is multiplied by k/q, and c/q l g r is subtracted.
 pub record Next (compare : Compare) (rules : List Rule) (p : List Term) : Type 0 where
   pub choice : Choice
   pub chosen : IsChoice compare rules p choice
@@ -63,18 +63,18 @@ pub record IsStep (compare : Compare) (rules : List Rule) (before after : Reduce
   pub rest : SamePolynomial (poly_sum after.rest (poly_multiple next.times next.around)) (poly_multiple next.by before.rest)
   pub taken : after.taken ≡ map (row_times next.by) before.taken ++ next_row next ∷ []
 
--- A step is made, and then what comes later.
+-- A step is made, and then the later ones.
 pub record IsStepThen (compare : Compare) (rules : List Rule) (Later : Reduced → Type 0) (before : Reduced) : Type 0 where
   pub after : Reduced
   pub step : IsStep compare rules before after
   pub later : Later after
 
--- So many steps are made, one after another.
+-- This many steps are made, one after another.
 abbrev pub Goes : Compare → List Rule → ℕ → Reduced → Reduced → Type 0
 Goes compare rules zero before after = before ≡ after
 Goes compare rules (suc n) before after = IsStepThen compare rules (λ r. Goes compare rules n r after) before
 
--- One of the products and sums of a step: of the multiplier, of a coefficient that is left and of that of a row, each by k/q on
+-- One of the products and sums of a step: of the multiplier, of a coefficient of the rest and of that of a row, each by k/q on
 -- the right; of c/q and a coefficient of g; and the difference of the coefficients of a word.
 pub data IsOfStep (r : Reduced) (by times : ℤ) (g around : List Term) (o : Overflow) : Type 0 where
   of_multiplier : o ≡ product_of r.multiplier by → IsOfStep r by times g around o
@@ -83,25 +83,25 @@ pub data IsOfStep (r : Reduced) (by times : ℤ) (g around : List Term) (o : Ove
   of_rule : (t : Term) → Contains g t → o ≡ product_of times t.0 → IsOfStep r by times g around o
   of_difference : (w : List ℕ) → o ≡ sum_of (coefficient_of r.rest w *ℤ by) (neg_ℤ (times *ℤ coefficient_of around w)) → IsOfStep r by times g around o
 
--- So many steps are made, and there is one more.
+-- This many steps are made, and there is one more.
 pub record HasOneMore (compare : Compare) (rules : List Rule) (steps : ℕ) (start : Reduced) : Type 0 where
   pub now : Reduced
   pub goes : Goes compare rules steps start now
   pub next : Next compare rules now.rest
 
--- It is one of the products and sums of a step, of which no more are made than so many.
+-- It is one of the products and sums of a step, of which at most this many are made.
 pub record IsOfReduction (compare : Compare) (rules : List Rule) (steps : ℕ) (start : Reduced) (o : Overflow) : Type 0 where
   pub earlier : ℕ
   pub few : earlier < steps
   pub reaches : HasOneMore compare rules earlier start
   pub of_step : IsOfStep reaches.now reaches.next.by reaches.next.times reaches.next.chosen.rule.poly.terms reaches.next.around o
 
--- a word has more letters than those of polynomials may have, or else there are more terms than they may have
+-- a word has more letters than the limit of polynomials, or else there are more terms than the limit
 abbrev pub IsTooLarge : Bool → List Term → Type 0
 IsTooLarge true p = Any (λ t. word_limit < length t.1) p
 IsTooLarge false p = term_limit < length p
 
--- After a step, of which no more are made than so many, what is left is too large.
+-- After a step, of which at most this many are made, the rest is too large.
 pub record GetsTooLarge (compare : Compare) (rules : List Rule) (steps : ℕ) (start : Reduced) (letters : Bool) : Type 0 where
   pub earlier : ℕ
   pub few : earlier < steps
@@ -109,7 +109,7 @@ pub record GetsTooLarge (compare : Compare) (rules : List Rule) (steps : ℕ) (s
   pub goes : Goes compare rules (suc earlier) start now
   pub large : IsTooLarge letters now.rest
 
--- After some steps, no more than so many, this is left, in which no leading word occurs.
+-- After some steps, at most this many, this is the rest, in which no leading word occurs.
 pub record Leaves (compare : Compare) (rules : List Rule) (steps : ℕ) (start now : Reduced) : Type 0 where
   pub made : ℕ
   pub few : made ≤ steps

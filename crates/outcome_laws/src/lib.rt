@@ -1,4 +1,4 @@
-//! What the states of a run keep, what the outcomes of claims mean and are written with, that there are outcomes, and how many pairs are enough.
+//! What holds of the states of a run, what the outcomes of claims mean, their limits, that there are outcomes, and how many pairs are enough.
 #![tactic(auto)]
 
 mod existence_laws;

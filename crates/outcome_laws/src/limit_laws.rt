@@ -1,8 +1,8 @@
-//! Within what limits outcomes and last rules are, as laws over the definitions.
+//! The laws of the limits of outcomes and last rules.
 ghost use Rattle.outcome_laws.specs.EvidenceLimits.{EvidenceFits};
 ghost use Rattle.outcome_laws.specs.OutcomeLetters.{LastRulesHaveLetters, OutcomesHaveLetters};
 
-/// The letters of each outcome of a claim are letters of the quiver: those of its evidence, of what is left of it, and of
+/// The letters of each outcome of a claim are letters of the quiver: those of its evidence, of its rest, and of
 /// the least overlap word.
 pub fn outcomes_have_letters()
     ensures { OutcomesHaveLetters }
@@ -13,7 +13,7 @@ pub fn last_rules_have_letters()
     ensures { LastRulesHaveLetters }
 {}
 
-/// The evidence of a derived claim is of that claim, over the generators of the problem, and within the limits of the text in
+/// The evidence of a derived claim is that of that claim, over the generators of the problem, and within the limits of the text in
 /// which it is written.
 pub fn evidence_fits()
     ensures { EvidenceFits }

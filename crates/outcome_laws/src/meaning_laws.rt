@@ -1,4 +1,4 @@
-//! What the outcomes of claims mean, as laws over the definitions.
+//! The laws of the meaning of outcomes.
 ghost use Rattle.outcome_laws.specs.Meanings.{DerivedClaimsAddUp, ClosedClaimsAreOutside, LeastWordsBoundDerivations};
 ghost use Rattle.outcome_laws.specs.Meanings.{HaltedCertificatesAreInside, OutcomesMeanWhatTheySay};
 

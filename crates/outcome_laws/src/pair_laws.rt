@@ -1,4 +1,4 @@
-//! That claims get past the budget of pairs where it is large enough, as laws over the definitions.
+//! The laws of budgets of pairs that are large enough for a claim.
 ghost use Rattle.outcome_laws.specs.Enough.{OpenRunsTreatFew, PairsAreEnough, PairsAreEnoughForEach};
 
 /// While a claim that follows below a word is open, fewer pairs were treated than are enough for that word.
@@ -11,7 +11,7 @@ pub fn pairs_are_enough()
     ensures { PairsAreEnough }
 {}
 
-/// So it is with each outcome that `decide_all` and `decide` give.
+/// This holds for each outcome that `decide_all` and `decide` return.
 pub fn pairs_are_enough_for_each()
     ensures { PairsAreEnoughForEach }
 {}

@@ -1,8 +1,8 @@
-//! What each state of the plain run keeps, as laws over the definitions.
+//! The laws of the states of the plain run.
 ghost use Rattle.outcome_laws.specs.KeptRuns.{RunsAreKept, ClosedIsNothingPending, FirstIsLeastPending, EachGeneratorHasItsTurn};
 ghost use Rattle.outcome_laws.specs.ProblemStates.{StatesAreKept, GeneratorsAreReached};
 
-/// After each whole round all is kept that completions keep, and the rules are typed of one signature and in play.
+/// After each completed round the invariant of completions holds, and the rules have one signature and are in play.
 pub fn runs_are_kept()
     ensures { RunsAreKept }
 {}
@@ -12,7 +12,7 @@ pub fn closed_is_nothing_pending()
     ensures { ClosedIsNothingPending }
 {}
 
-/// Nothing is pending below the overlap word of the first one that is pending.
+/// Nothing is pending below the overlap word of the first pending ambiguity.
 pub fn first_is_least_pending()
     ensures { FirstIsLeastPending }
 {}
@@ -22,8 +22,8 @@ pub fn each_generator_has_its_turn()
     ensures { EachGeneratorHasItsTurn }
 {}
 
-/// What each state of the run of a problem keeps: its rules come from the generators and are typed, each treated ambiguity is
-/// resolved, and each other one of the rules is pending. Behind round 0 each generator comes from the rules.
+/// What holds of each state of the run of a problem: its rules come from the generators and are typed, each treated ambiguity is
+/// resolved, and each other one of the rules is pending. After round 0 each generator comes from the rules.
 pub fn states_of_problems_are_kept()
     ensures states { StatesAreKept }
     ensures generators { GeneratorsAreReached }
