@@ -7,7 +7,7 @@ use Rattle.report_text.specs.Bench.{numbered, maps_of_step, assumption_of_step, 
 use Rattle.command_words.specs.Limits.{size_limit}
 use Rattle.command_shape.specs.FileWords.{statement_limit}
 
--- at most so many bytes
+-- at most this many bytes
 record IsShort (most : ℕ) (bytes : List ℕ) : Type 0 where
   few : length bytes ≤ most
 
@@ -33,7 +33,7 @@ text bytes = record { few = omega arith }
 name : (bytes : List ℕ) (n : ℕ) → n < 100 → IsShort (length bytes + 2) (bytes ++ decimal n)
 name bytes n below = joined (text bytes) (digits n below)
 
--- behind other bytes
+-- after other bytes
 then : {a : ℕ} {before : List ℕ} → IsShort a before → (bytes : List ℕ) (n : ℕ) → n < 100 → IsShort (a + length bytes + 2) (before ++ bytes ++ decimal n)
 then first bytes n below = joined (joined first (text bytes)) (digits n below)
 

@@ -1,4 +1,4 @@
--- What is said of claims, one after the other, by their outcomes and by what was found for those for which a model is looked for.
+-- The verdicts on claims, one after another, by their outcomes and by what was found for those for which a model is searched.
 use Rattle.std.proofs.Common.{◌≡◌, ◌≤◌, ◌<◌, ◌+◌, ℕ, suc, Bool, true, false, true≢false, refl, sym, ap, subst, ◌∙◌, arith}
 use Rattle.std.proofs.Common.{List, [], ◌∷◌, ◌++◌, length, take, get_or, append_assoc, append-nil, Option, Some, None, IfSome, IfNone, IsSome}
 use Rattle.std.specs.List.{All, AllZip, range_with_len}
@@ -94,7 +94,7 @@ module _ (problem : Problem) (asked : Asked) where
       AllZip (λ n one. IfSome one (λ (f : Found). IsLeastBreaking problem n asked.seed f.shape f.candidate f.model)) claims found
       × AllZip (λ n one. IfNone one (NoneBreaks problem n asked.seed)) claims found
 
-  -- What is said of a claim that halted, and what is left of what was found. Nothing is found where no model is looked for.
+  -- The verdict on a claim that halted, and what is left of what was found. Nothing is found where no model is searched.
   halted_said : (models : Bool) → asked.models ≡ models → (claim : ℕ) (halt : Halt) (later : List Outcome) (found : List (Option Found))
       (next : Option (Option Found)) (rest : List (Option Found)) (v : Verdict) → AreFoundFor (searched_from models claim (outcome.Halted halt ∷ later)) found
       → TakesNext found next rest → IsSaidBy halt (option_flatten next) v

@@ -32,7 +32,7 @@ format_of number = if number == 1 then format.Plain else format.Lemmas
 abbrev pub asked_by : ProveCall → Asked
 asked_by p = record { budget = record { pairs = p.pairs; steps = p.steps }; form = format_of p.format; seed = p.seed; models = p.models }
 
--- what `bench` asks for: what `prove` does where no option is given but `--no-models`
+-- what `bench` asks for: the same as `prove` with no option but `--no-models`
 abbrev pub asked_by_bench : Asked
 asked_by_bench = record {
   budget = record { pairs = default_pairs; steps = default_steps };
@@ -41,8 +41,8 @@ asked_by_bench = record {
   models = false;
 }
 
--- What is said of the claim with this number by its outcome. One that halted is refuted by the least candidate that breaks it, where models are looked for
--- and one does.
+-- The verdict on the claim with this number by its outcome. One that halted is refuted by the least candidate that breaks it, where models are
+-- searched and there is one.
 pub data IsVerdictOn (problem : Problem) (asked : Asked) (claim : ℕ) (o : Outcome) (v : Verdict) : Type 0 where
   proved : (e : Evidence) → o ≡ outcome.Derived e → v ≡ verdict.Proved e → IsVerdictOn problem asked claim o v
   not_derivable : (rest : Poly) → o ≡ outcome.Closed rest → v ≡ verdict.NotDerivable rest → IsVerdictOn problem asked claim o v
@@ -61,18 +61,18 @@ AreVerdictsOn problem asked (claim ∷ claims) (o ∷ outcomes) [] = ⊥
 AreVerdictsOn problem asked (claim ∷ claims) (o ∷ outcomes) (v ∷ verdicts) = IsVerdictOn problem asked claim o v
     × AreVerdictsOn problem asked claims outcomes verdicts
 
--- The claims of the problem have outcomes of which these are the verdicts, and these are the last rules.
+-- The claims of the problem have outcomes with these verdicts, and these are the last rules.
 pub record Decides (problem : Problem) (asked : Asked) (verdicts : List Verdict) (rules : List Poly) : Type 0 where
   pub outcomes : List Outcome
   pub are_outcomes : AreOutcomesOf (setting_of problem asked.budget) asked.form problem (claim_numbers problem) outcomes
   pub are_verdicts : AreVerdictsOn problem asked (claim_numbers problem) outcomes verdicts
   pub are_rules : AreLastRules (setting_of problem asked.budget) asked.form problem (claim_numbers problem) rules
 
--- what is printed of verdicts and rules, where letters have their names by declarations
+-- the text of verdicts and rules, where letters have their names by declarations
 abbrev pub Print : Type 0
 Print = List Declaration → List Poly → List Verdict → List ℕ
 
--- the whole report, or the head lines alone
+-- the whole report, or only the head lines
 abbrev pub print_of : Extent → Print
 print_of extent.Report = report_of
 print_of extent.Heads = heads_of

@@ -18,7 +18,7 @@ use Rattle.stated_problem.specs.Statement.{OverStatement}
 use Rattle.prove_command.specs.declared.prove.Asked.{Asked}
 use Rattle.prove_command.specs.Answers.{Print, AnswersClaims}
 
--- What is said of the claim with this number: proved, with its denominator, means so in each category; not derivable means that no
+-- What the verdict on the claim with this number means: proved, with its denominator, means so in each category; not derivable means that no
 -- positive multiple of the claim is a combination of the generators; refuted means that the claim isn't zero in the model; undecided
 -- means what its cause, its place and its least word say; not refuted says nothing of the claim.
 abbrev pub VerdictMeans : {Object Arrow : Type 0} → Structure Object Arrow → Problem → Budget → ℕ → Verdict → Type 0
@@ -38,7 +38,7 @@ pub record PrintsMeant {Object Arrow : Type 0} (s : Structure Object Arrow) (pri
 abbrev pub SaysDecided : {Object Arrow : Type 0} → Structure Object Arrow → Print → Asked → List ℕ → Ending → Type 0
 SaysDecided s print asked statement ending = OverStatement statement (PrintsMeant s print asked) ending
 
--- What is printed so is its own evidence.
+-- The report that is printed is its own evidence.
 pub record ReportsMeant {Object Arrow : Type 0} (s : Structure Object Arrow) (asked : Asked) (problem : Problem) (ending : Ending) : Type 0 where
   pub prints : PrintsMeant s report_of asked problem ending
   pub own_evidence : IsItsOwnEvidence problem ending.report prints.answer.verdicts

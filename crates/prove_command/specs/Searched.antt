@@ -1,4 +1,4 @@
--- The claims for which `prove` looks for a model, for private functions.
+-- The claims for which `prove` searches for a model. Only private functions use it.
 use Rattle.std.specs.Prelude.{◌+◌, ℕ, Bool, true, false, List, [], ◌∷◌}
 use Rattle.claim_decider.specs.declared.outcome.Outcome.{Outcome}
 use Rattle.claim_decider.specs.declared.outcome.Outcome.TheVariants as outcome
@@ -10,7 +10,7 @@ halted_from claim (outcome.Derived e ∷ outcomes) = halted_from (claim + 1) out
 halted_from claim (outcome.Closed rest ∷ outcomes) = halted_from (claim + 1) outcomes
 halted_from claim (outcome.Halted halt ∷ outcomes) = claim ∷ halted_from (claim + 1) outcomes
 
--- the numbers of those for which a model is looked for: of all that halted where models are looked for, and of none where they aren't
+-- the numbers of those for which a model is searched: all that halted where models are searched, and none otherwise
 abbrev pub searched_from : Bool → ℕ → List Outcome → List ℕ
 searched_from false claim outcomes = []
 searched_from true claim outcomes = halted_from claim outcomes

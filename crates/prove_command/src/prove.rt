@@ -32,13 +32,13 @@ use traced_completion::Budget;
 /// How claims are decided.
 #[derive(Clone, Copy)]
 pub struct Asked {
-    /// What the completion may spend.
+    /// The limits of the completion.
     pub budget: Budget,
     /// The format of evidence.
     pub form: Format,
     /// The seed of the search for models.
     pub seed: u64,
-    /// Whether models are looked for where a claim is left undecided.
+    /// Whether models are searched where a claim is left undecided.
     pub models: bool,
 }
 
@@ -47,11 +47,11 @@ pub struct Asked {
 pub enum Extent {
     /// The whole report.
     Report,
-    /// The head lines alone.
+    /// Only the head lines.
     Heads,
 }
 
-/// How `bench` has its claims decided.
+/// How `bench` decides its claims.
 pub const ASKED_BY_BENCH: Asked = Asked {
     budget: Budget {
         pairs: DEFAULT_PAIRS,
@@ -62,7 +62,7 @@ pub const ASKED_BY_BENCH: Asked = Asked {
     models: false,
 };
 
-// What is said of the claims of a problem: a verdict on each, and the rules by which they were decided.
+// A verdict on each claim of a problem, and the rules by which they were decided.
 #[derive(Drop)]
 struct Said {
     verdicts: Listing<Verdict>,
@@ -95,7 +95,7 @@ pub fn asked_by(call: &ProveCall) -> Asked
     }
 }
 
-// The numbers of the claims for which a model is looked for.
+// The numbers of the claims for which a model is searched.
 fn searched_claims(
     alloc: Global,
     asked: Asked,
@@ -115,8 +115,8 @@ fn searched_claims(
     Ok(claims)
 }
 
-// For each claim for which a model is looked for the least candidate that breaks it, or None where none does. All of them are
-// looked at in one pass of the candidates, and where there are none no candidate is made.
+// For each claim for which a model is searched the least candidate that breaks it, or None where none does. All of them are
+// tested in one pass over the candidates, and where there are none no candidate is made.
 fn found_for<R: Threads + Sync, G: Gate + Sync>(
     rt: &R,
     alloc: Global,
@@ -150,7 +150,7 @@ fn found_for<R: Threads + Sync, G: Gate + Sync>(
     )
 }
 
-// What is said of a claim that halted, by what was found for it.
+// The verdict on a claim that halted, by what was found for it.
 fn verdict_on_halted(halt: Halt, found: Option<Found>) -> Verdict
     ensures refuted { IfSome found (λ f. result ≡ Refuted f.model) }
     ensures undecided { IfNone found (result ≡ Undecided halt) }
@@ -161,7 +161,7 @@ fn verdict_on_halted(halt: Halt, found: Option<Found>) -> Verdict
     }
 }
 
-// What is said of each claim by its outcome.
+// The verdict on each claim by its outcome.
 fn verdicts_of<R: Threads + Sync, G: Gate + Sync>(
     rt: &R,
     alloc: Global,
@@ -222,7 +222,7 @@ fn decide<R: Threads + Sync, G: Gate + Sync>(
     })
 }
 
-// What is printed of verdicts and rules.
+// The text of verdicts and rules.
 fn printed(
     alloc: Global,
     extent: Extent,
