@@ -63,7 +63,7 @@ module _ (old new : Inside) (ds : List Declaration) (d : Declaration) (view_is :
     declared = subst IsDeclared (sym declarations_added) declared;
   }
 
--- a quiver that holds the same is kept as well
+-- the same of a quiver with the same fields
 pub kept_of_same : (before after : Inside) → after.names.entries ≡ before.names.entries → after.objects.items ≡ before.objects.items → after.letters.items ≡ before.letters.items → IsKept before → IsKept after
 kept_of_same before after names objects letters kept =
     let tables : letters_in after ≡ letters_in before = ap (map letter_entry) letters in

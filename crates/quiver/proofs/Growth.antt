@@ -69,7 +69,7 @@ module _ (ds : List Declaration) (d : Declaration) where
   pub letter_table-more : letter_table (ds ++ d ∷ []) ≡ letter_table ds ++ letters_made d (next_turn ds d)
   letter_table-more = letter_table-append ds (d ∷ []) ∙ ap (λ more. letter_table ds ++ more) (append-nil _)
 
--- the entry at its number, behind those before it
+-- the entry at its number, after those before it
 pub letter_in_seam : (before after : List LetterEntry) (a : ℕ) (e : LetterEntry) → length before ≡ a → letter_in (before ++ e ∷ after) a ≡ e
 letter_in_seam before after a e at = ap (letter_in (before ++ e ∷ after)) (sym at) ∙ get_or-append_seam before e after _
 

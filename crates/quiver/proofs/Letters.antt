@@ -47,7 +47,7 @@ ends_of n name u v selfmade h =
     let second = and_parts (nat_lt v n) (not selfmade || nat_eq u v) first.1 in
     record { source = ltb-true u n first.0; target = ltb-true v n second.0; square = second.1 }
 
--- the letters of the declarations ds, whose entries stand behind others in the table
+-- the letters of the declarations ds, whose entries follow others in the table
 letters_are : (n p v a : ℕ) (table before : List LetterEntry) (ds : List Declaration)
     → length before ≡ a → table ≡ before ++ letters_from p v a ds → a + letter_count ds ≡ length table → v + object_count ds ≤ n → list_all (has_ends n) ds ≡ true
     → (k : ℕ) → a ≤ k → k < length table → IsLetter n table k

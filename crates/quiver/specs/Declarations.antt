@@ -114,7 +114,7 @@ quiver_of ds = record {
 abbrev pub name_at : List Declaration → ℕ → List ℕ
 name_at ds place = get_or (map name_of ds) place []
 
--- the entry of an object and of a letter; zeros stand where there is none
+-- the entry of an object and of a letter; zeros where there is none
 abbrev pub no_object : ObjectEntry
 no_object = record { identity = 0; declaration = 0 }
 

@@ -7,6 +7,6 @@ object_limit = 64
 abbrev pub map_limit : ℕ
 map_limit = 1000
 
--- an object has one letter, and a map two at most
+-- an object has one letter, and a map at most two
 abbrev pub letter_limit : ℕ
 letter_limit = object_limit + 2 * map_limit

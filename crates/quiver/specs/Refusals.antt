@@ -1,4 +1,4 @@
--- The first thing that is wrong with a declaration.
+-- The first fault of a declaration.
 use Rattle.std.specs.Prelude.{◌≡◌, ⊤, ℕ, ◌&&◌, Bool, not, nat_eq, nat_le, if◌then◌else◌, is_some, List, Option, None, Some}
 use Rattle.quiver.specs.declared.fault.QuiverFault.{QuiverFault}
 use Rattle.quiver.specs.declared.fault.QuiverFault.TheVariants.{DoubleName, TooMany, NotSquare}
@@ -25,7 +25,7 @@ map_fault ds name u v selfmade =
     else if selfmade && not (nat_eq u v) then Some NotSquare
     else None
 
--- The fault that is found is the answer; want of memory is the answer only where there is none.
+-- The fault is the one that is found; want of memory only where there is none.
 abbrev pub Explains : Option QuiverFault → QuiverStop → Type 0
 Explains found (stop.Fault fault) = found ≡ Some fault
 Explains found (stop.Memory e) = found ≡ None

@@ -1,4 +1,4 @@
--- How the fields of a quiver hold its declarations.
+-- How the fields of a quiver represent its declarations.
 use Rattle.std.specs.Prelude.{◌≡◌, ℕ, nat_eq, List, map, get_or, string_bytes, String}
 use Rattle.std.specs.declared.alloc.Global.{Global}
 use Rattle.std.specs.String.{string_eq}
@@ -48,7 +48,7 @@ pub record IsKept (q : Inside) : Type 0 where
   pub names : names_in q ≡ naming_table (declarations q)
   pub declared : IsDeclared (declarations q)
 
--- The second names are the first ones with one more, as a key of these letters, which stands for this.
+-- The second names are the first ones with one more: this name, which stands for this.
 pub record IsNameMore (old new : List (String Global × Named)) (name : List ℕ) (named : Named) : Type 0 where
   pub key : String Global
   pub key_is : string_bytes key ≡ name

@@ -7,13 +7,13 @@ ghost use Rattle.quiver.specs.declared.fault.QuiverStop.TheVariants as stop;
 use std::alloc::{AllocError, AllocFailed};
 use thiserror::Error;
 
-/// What is wrong with a declaration.
+/// The fault of a declaration.
 #[derive(Clone, Copy, Debug, Error)]
 pub enum QuiverFault {
     /// An object or a map has this name.
     #[error("the name is declared")]
     DoubleName,
-    /// There are as many objects, or maps, as there may be.
+    /// There are already as many objects, or maps, as the limit allows.
     #[error("there are {limit} already")]
     TooMany { limit: u32 },
     /// A map that is to be its own adjoint has two different ends.
@@ -21,10 +21,10 @@ pub enum QuiverFault {
     NotSquare,
 }
 
-/// Why nothing is declared: what is wrong with the declaration, or want of memory.
+/// Why nothing is declared: the fault of the declaration, or want of memory.
 #[derive(Debug, Drop, Error)]
 pub enum QuiverStop {
-    /// Something is wrong with the declaration.
+    /// The declaration has a fault.
     #[error(transparent)]
     Fault(QuiverFault),
     /// Memory is short.

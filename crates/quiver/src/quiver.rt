@@ -71,8 +71,8 @@ impl Quiver {
     }
 
     /// Declares an object and its identity, which take the next free numbers of an object and a letter.
-    /// `DoubleName` exactly where the name is declared, and else `TooMany` exactly where there are `OBJECT_LIMIT` objects.
-    /// A refusal leaves the quiver as it was.
+    /// `DoubleName` exactly where the name is declared, or else `TooMany` exactly where there are `OBJECT_LIMIT` objects.
+    /// After a refusal the quiver is unchanged.
     pub fn add_object(&mut self, name: &str) -> Result<Object, QuiverStop>
         ensures declared { OnOk result (self.new ≡ self.old ++ object name.now ∷ []) }
         ensures number { IfOk result (λ v. v.0 ≡ object_count self.old) }
@@ -84,8 +84,8 @@ impl Quiver {
         Ok(self.declare_object(name)?)
     }
 
-    /// Declares an object with which nothing is wrong, as `add_object` does. It fails only where memory is short, and
-    /// leaves the quiver as it was then.
+    /// Declares an object whose declaration has no fault, as `add_object` does. It fails only where memory is short, and then
+    /// the quiver is unchanged.
     pub fn declare_object(&mut self, name: &str) -> Result<Object, AllocError>
         requires { object_fault self.old name.now ≡ None }
         ensures declared { OnOk result (self.new ≡ self.old ++ object name.now ∷ []) }
@@ -95,7 +95,7 @@ impl Quiver {
         let object = self.next_object();
         let identity = self.next_letter();
         let declaration = self.names.len();
-        // With the room taken first, nothing fails once the name is in.
+        // As the room is taken first, nothing fails once the name is in.
         self.objects.reserve(1)?;
         self.letters.reserve(1)?;
         add_name(&mut self.names, name, Named::Object(object))?;
@@ -116,8 +116,8 @@ impl Quiver {
 
     /// Declares a map from the source to the target. It takes the next free letter, and its adjoint the one after that,
     /// unless the map is `selfmade`, its own adjoint.
-    /// `DoubleName` exactly where the name is declared, else `TooMany` exactly where there are `MAP_LIMIT` maps, and else `NotSquare`
-    /// exactly where a map that is its own adjoint has two different ends. A refusal leaves the quiver as it was.
+    /// `DoubleName` exactly where the name is declared, or else `TooMany` exactly where there are `MAP_LIMIT` maps, or else `NotSquare`
+    /// exactly where a map that is its own adjoint has two different ends. After a refusal the quiver is unchanged.
     pub fn add_map(
         &mut self,
         name: &str,
@@ -137,8 +137,8 @@ impl Quiver {
         Ok(self.declare_map(name, source, target, selfmade)?)
     }
 
-    /// Declares a map with which nothing is wrong, as `add_map` does. It fails only where memory is short, and leaves the
-    /// quiver as it was then.
+    /// Declares a map whose declaration has no fault, as `add_map` does. It fails only where memory is short, and then the
+    /// quiver is unchanged.
     pub fn declare_map(
         &mut self,
         name: &str,
@@ -155,7 +155,7 @@ impl Quiver {
     {
         let letter = self.next_letter();
         let declaration = self.names.len();
-        // With the room taken first, nothing fails once the name is in.
+        // As the room is taken first, nothing fails once the name is in.
         self.letters.reserve(2)?;
         add_name(&mut self.names, name, Named::Map(letter))?;
         let ends = Sig { source, target };
@@ -183,7 +183,7 @@ impl Quiver {
         Ok(letter)
     }
 
-    // What is wrong with an object of this name.
+    // The fault of an object of this name.
     fn check_object(&self, name: &str) -> Result<(), QuiverFault>
         ensures ok { OnOk result (object_fault self.now name.now ≡ None) }
         ensures err { IfErr result (λ fault. object_fault self.now name.now ≡ Some fault) }
@@ -199,7 +199,7 @@ impl Quiver {
         Ok(())
     }
 
-    // What is wrong with a map of this name and these ends.
+    // The fault of a map of this name and these ends.
     fn check_map(
         &self,
         name: &str,
@@ -222,7 +222,7 @@ impl Quiver {
         Ok(())
     }
 
-    /// What the name stands for, and `None` where it isn't declared.
+    /// What the name stands for, or `None` where it isn't declared.
     pub fn find(&self, name: &str) -> Option<Named>
         ensures exact { result ≡ named_in self.now name.now }
         ensures named { IfSome result (IsNamed self.now name.now) }
@@ -304,7 +304,7 @@ impl Quiver {
         self.name_at(self.object_at(object).declaration)
     }
 
-    /// The name of the map that the letter or its adjoint is declared as, and of an identity that of its object.
+    /// The name of the map that the letter or its adjoint is declared as; that of an identity is its object's.
     pub fn letter_name(&self, letter: Letter) -> &str
         requires { letter.0 < letter_count self.now }
         ensures { result.now ≡ letter_name self.now letter.0 }
@@ -343,7 +343,7 @@ impl Quiver {
     }
 }
 
-// Puts in a name with what it stands for. Where memory is short, the names are as they were.
+// Adds a name with what it stands for. Where memory is short, the names are unchanged.
 fn add_name(names: &mut IndexMap<String, Named>, name: &str, named: Named) -> Result<(), AllocError>
     ensures added { OnOk result (IsNameMore names.old.entries names.new.entries name.now named) }
     ensures unchanged { OnErr result (names.new.entries ≡ names.old.entries) }
