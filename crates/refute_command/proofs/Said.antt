@@ -1,4 +1,4 @@
--- What is said of claims, one after the other, by the candidates that were found for them.
+-- The verdicts on claims, one after another, by the candidates that were found for them.
 use Rattle.std.proofs.Common.{◌≡◌, ℕ, List, [], ◌∷◌, ◌++◌, Option, IfSome, IfNone, refl, sym, subst, ◌∙◌, append_assoc, append-nil}
 use Rattle.std.specs.List.{AllZip}
 use Rattle.adjoint_rules.specs.declared.problem.Problem.{Problem}

@@ -11,7 +11,7 @@ use Rattle.report_text.specs.declared.verdict.Verdict.TheVariants as verdict
 use Rattle.report_text.specs.Report.{report_of, status_of}
 use Rattle.command_shape.specs.Ending.{Ending}
 
--- What is said of the claim with this number: the least candidate that breaks it, or that none of all candidates does.
+-- The verdict on the claim with this number: the least candidate that breaks it, or that none of all candidates does.
 pub data IsSearchedOn (problem : Problem) (seed claim : ℕ) (v : Verdict) : Type 0 where
   refuted : (m : Model) → LeastBreaks problem claim seed m → v ≡ verdict.Refuted m → IsSearchedOn problem seed claim v
   not_refuted : NoneBreaks problem claim seed → v ≡ verdict.NotRefuted (all_candidate_count problem) → IsSearchedOn problem seed claim v

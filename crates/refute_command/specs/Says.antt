@@ -11,7 +11,7 @@ use Rattle.command_shape.specs.Ending.{Ending}
 use Rattle.stated_problem.specs.Statement.{OverStatement}
 use Rattle.refute_command.specs.Answers.{AnswersSearch}
 
--- What is said of the claim with this number: refuted means that the claim isn't zero in the model; not refuted says nothing of it; and nothing else is said.
+-- What the verdict on the claim with this number means: refuted means that the claim isn't zero in the model; not refuted says nothing of it; there are no others.
 abbrev pub SearchMeans : Problem → ℕ → Verdict → Type 0
 SearchMeans problem number (Refuted m) = RefutedMeans problem number m
 SearchMeans problem number (NotRefuted candidates) = ⊤

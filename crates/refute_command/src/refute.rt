@@ -37,7 +37,7 @@ pub fn report_search<R: Threads + Sync, G: Gate + Sync>(
     Ok(Ending::decided(status_of(verdicts), report))
 }
 
-// What is said of each claim of the problem.
+// The verdict on each claim of the problem.
 fn search_all<R: Threads + Sync, G: Gate + Sync>(
     rt: &R,
     alloc: Global,
@@ -68,7 +68,7 @@ fn claim_numbers(alloc: Global, problem: &Problem) -> Result<Vec<u32>, AllocErro
     (1..count + 1).collect(alloc)
 }
 
-// What is said of a claim by the candidate that was found for it.
+// The verdict on a claim by the candidate that was found for it.
 fn verdict_by(problem: &Problem, found: Option<Found>) -> Verdict
     ensures { (seed claim : ℕ) → IsFoundFor problem.now seed claim found → IsSearchedOn problem.now seed claim result }
 {
