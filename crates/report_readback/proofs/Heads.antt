@@ -57,7 +57,7 @@ place_is_line (place.Round number) = labelled_is_line (codes " at round ") numbe
 place_is_line (place.Claim number) = labelled_is_line (codes " at claim after round ") number (literal (codes " at claim after round ") refl refl)
 place_is_line (place.Certificate number) = labelled_is_line (codes " at certificate after round ") number (literal (codes " at certificate after round ") refl refl)
 
--- what stands behind the #
+-- what follows the #
 abbrev pub told_of : List Declaration → ℕ → ℕ → Verdict → List ℕ
 told_of ds rules claim v = codes " claim " ++ decimal claim ++ said_of ds rules v
 

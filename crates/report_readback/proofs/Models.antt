@@ -79,7 +79,7 @@ entries_are ds m =
     flat_map-append ended (side_bodies ds m) (all_map_bodies ds m)
     ∙ ap₂ ◌++◌ (flat_map-map ended (side_body ds m.sides) (range_with_len 0 (object_count ds))) (maps_are ds m.maps (range_with_len 0 (letter_count ds)))
 
--- texts one behind another, however they are put together
+-- texts one after another, however they are put together
 texts_are : (head claim modulus sides maps : List ℕ) → head ++ (claim ++ (modulus ++ (sides ++ maps))) ≡ head ++ claim ++ modulus ++ sides ++ maps
 texts_are head claim modulus sides maps =
     sym (append_assoc (head ++ claim ++ modulus) sides maps ∙ append_assoc (head ++ claim) modulus (sides ++ maps) ∙ append_assoc head claim (modulus ++ (sides ++ maps)))
@@ -96,7 +96,7 @@ modulus_is_body n = record {
   goes_on = begins_no_end (codes "modulus") (tokens_of (decimal n)) refl;
 }
 
--- texts without line ends one behind another
+-- texts without line ends one after another
 each_is_line : (text : ℕ → List ℕ) → ((n : ℕ) → IsLineText (text n)) → (ns : List ℕ) → IsLineText (flat_map text ns)
 each_is_line text each [] = nothing_is_line
 each_is_line text each (n ∷ ns) = line_text-append (text n) (flat_map text ns) (each n) (each_is_line text each ns)

@@ -79,7 +79,7 @@ module _ {X : Type 0} (ds : List Declaration) (shown : X → LemmaRow) where
 grouped : (front word scale end listed : List ℕ) → front ++ (word ++ scale ++ end ++ listed) ≡ (((front ++ word) ++ scale) ++ end) ++ listed
 grouped front word scale end listed = simp append_assoc refl
 
--- the scale behind other words, and the rows
+-- the scale after other words, and the rows
 scaled_is_body : (ds : List Declaration) (front : List ℕ) (l : Lemma) → IsWrittenLemma ds l → IsLineText front → is_end (tokens_of ((front ++ codes " scale ") ++ signed_decimal l.scale)) ≡ false
     → IsBody (front ++ scaled_text ds l)
 scaled_is_body ds front l written line goes_on =

@@ -1,4 +1,4 @@
--- What is read of a report as models: the models of the claims that are refuted, in their order.
+-- A report read as models: the models of the claims that are refuted, in their order.
 use Rattle.std.specs.Prelude.{◌≡◌, ◌<◌, ◌≤◌, ℕ, List, [], ◌∷◌, length, IsTrue}
 use Rattle.std.specs.List.{All, list_all}
 use Rattle.nc_polynomial.specs.declared.poly.Poly.{Poly}
@@ -26,7 +26,7 @@ use Rattle.report_text.specs.declared.verdict.Verdict.TheVariants as verdict
 use Rattle.report_text.specs.Report.{report_of}
 use Rattle.report_readback.specs.ReadBack.{IsWritableVerdict, AreVerdictsOf}
 
--- The text has these models. Where there is one at least, they are what it is read as; where there is none, that is its first fault.
+-- The text has these models. Where there is at least one, they are what it is read as; where there is none, that is its first fault.
 pub record IsReadAsModels (ds : List Declaration) (bytes : List ℕ) (ms : List Model) : Type 0 where
   pub has : HasModels ds bytes ms
   pub some : 0 < length ms → IsModels ds bytes ms

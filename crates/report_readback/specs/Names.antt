@@ -26,8 +26,8 @@ pub record IsNameToken (text : List ℕ) : Type 0 where
 abbrev pub NamesAreNameTokens : Type 0
 NamesAreNameTokens = (text : List ℕ) → IsTrue (is_name text) ↔ IsNameToken text
 
--- In the problem that the statements of a text stand for, each object and map has a name of the language. This is all that
--- is asked of names where evidence that is written is read back.
+-- In the problem of the statements of a text, each object and map has a name of the language. This is all that
+-- is required of names where evidence that is written is read back.
 abbrev pub DeclaredNamesAreNames : Type 0
 DeclaredNamesAreNames = (bytes : List ℕ) (statements : List Statement) (problem : Problem)
     → IsTreeOf bytes statements → IsProblemOf statements problem → IsTrue (list_all is_named problem.parts.quiver)

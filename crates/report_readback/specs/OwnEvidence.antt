@@ -12,7 +12,7 @@ use Rattle.report_readback.specs.Answered.{IsAnsweredWithinLimits}
 pub record IsItsOwnEvidence (problem : Problem) (report : List ℕ) (verdicts : List Verdict) : Type 0 where
   -- As evidence text it is read as the evidence of the claims that are proved, in their order,
   pub evidence : IsReadAs problem.parts.quiver report (proved_in verdicts)
-  -- each of which is accepted, or refused since a limit is passed in adding it up;
+  -- each of which is accepted, or refused because its sum exceeds a limit;
   pub answered : All (IsAnsweredWithinLimits problem) (proved_in verdicts)
   -- as text of models it is read as the models of the claims that are refuted, in their order,
   pub models : IsReadAsModels problem.parts.quiver report (refuted_in verdicts)

@@ -1,4 +1,4 @@
--- What is read of a report as evidence: the evidence of the claims that are proved, in their order.
+-- A report read as evidence: the evidence of the claims that are proved, in their order.
 use Rattle.std.specs.Prelude.{◌≡◌, ◌<◌, ◌≤◌, ◌⊎◌, ⊤, ℕ, List, [], ◌∷◌, length, IsTrue}
 use Rattle.std.specs.List.{All, AllZip, list_all}
 use Rattle.nc_polynomial.specs.declared.poly.Poly.{Poly}
@@ -29,7 +29,7 @@ use Rattle.report_text.specs.declared.verdict.Verdict.{Verdict}
 use Rattle.report_text.specs.declared.verdict.Verdict.TheVariants as verdict
 use Rattle.report_text.specs.Report.{report_of, IsLeastOver}
 
--- The text has these certificates, of whatever format. Where there is one at least, it is evidence; where there is none, that is its
+-- The text has these certificates, of any format. Where there is at least one, it is evidence; where there is none, that is its
 -- first fault.
 pub record IsReadAs (ds : List Declaration) (bytes : List ℕ) (es : List Evidence) : Type 0 where
   pub has : HasCertificates Lemmas ds bytes es
@@ -45,7 +45,7 @@ proved_in (verdict.Refuted m ∷ verdicts) = proved_in verdicts
 proved_in (verdict.Undecided h ∷ verdicts) = proved_in verdicts
 proved_in (verdict.NotRefuted candidates ∷ verdicts) = proved_in verdicts
 
--- its evidence is within the limits of evidence text, letters are letters of the quiver, and a model has its places
+-- its evidence is within the limits of evidence text, letters are letters of the quiver, and a model has its sides and entries
 abbrev pub IsWritableVerdict : List Declaration → Verdict → Type 0
 IsWritableVerdict ds (verdict.Proved e) = IsWritableEvidence ds e
 IsWritableVerdict ds (verdict.NotDerivable rest) = IsPolyOver ds rest
@@ -59,11 +59,11 @@ ReportsReadBack = (ds : List Declaration) (rules : List Poly) (verdicts : List V
     → IsDeclared ds → IsTrue (list_all is_named ds) → All (IsPolyOver ds) rules → All (IsWritableVerdict ds) verdicts → length verdicts ≤ block_limit
     → IsReadAs ds (report_of ds rules verdicts) (proved_in verdicts)
 
--- what may be said of a claim whose run stopped: that it is undecided, or that it is refuted, by whatever model
+-- the possible verdicts on a claim whose run stopped: that it is undecided, or that it is refuted, by any model
 abbrev pub IsVerdictOfHalt : List Declaration → Halt → Verdict → Type 0
 IsVerdictOfHalt ds h v = (v ≡ verdict.Undecided h) ⊎ ((m : Model) × HasPlaces ds m × (v ≡ verdict.Refuted m))
 
--- what may be said of a claim with this outcome
+-- the possible verdicts on a claim with this outcome
 abbrev pub IsVerdictOf : List Declaration → Outcome → Verdict → Type 0
 IsVerdictOf ds (outcome.Derived e) v = v ≡ verdict.Proved e
 IsVerdictOf ds (outcome.Closed rest) v = v ≡ verdict.NotDerivable rest
@@ -81,7 +81,7 @@ derived_in (outcome.Closed rest ∷ outcomes) = derived_in outcomes
 derived_in (outcome.Halted h ∷ outcomes) = derived_in outcomes
 
 -- The report of verdicts by the outcomes of all claims of a problem, with the last rules, is read as the evidence of the claims that
--- are derived. That objects and maps have names of the language is asked for.
+-- are derived, where objects and maps have names of the language.
 abbrev pub OutcomeReportsReadBack : Type 0
 OutcomeReportsReadBack = (problem : Problem) (budget : Budget) (form : Format) (outcomes : List Outcome) (verdicts : List Verdict) (rules : List Poly)
     → AreOutcomesOf (setting_of problem budget) form problem (claim_numbers problem) outcomes → AreVerdictsOf problem.parts.quiver outcomes verdicts

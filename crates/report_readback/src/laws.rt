@@ -1,4 +1,4 @@
-//! What is read of a report as evidence and as models, and what is answered to its evidence, as laws over the definitions.
+//! The laws of reports that are read as evidence and as models, and of the answers to their evidence.
 ghost use Rattle.report_readback.specs.Answered.{DerivedEvidenceIsAnswered, ReportedEvidenceIsAnswered};
 ghost use Rattle.report_readback.specs.ModelsReadBack.{ReportsReadBackAsModels, StatementReportsReadBackAsModels, BreakingCandidatesAreWritable};
 ghost use Rattle.report_readback.specs.ReadBack.{OutcomeReportsReadBack, ReportsReadBack, StatementReportsReadBack};
@@ -8,8 +8,8 @@ pub fn reports_are_read_back()
     ensures { ReportsReadBack }
 {}
 
-/// So is the report on the claims of a problem, by the outcomes of all claims and whatever models refute those whose runs stopped,
-/// and whatever the budget and the format.
+/// So is the report on the claims of a problem, by the outcomes of all claims, with any models that refute those whose runs stopped,
+/// and any budget and format.
 pub fn outcome_reports_are_read_back()
     ensures { OutcomeReportsReadBack }
 {}
@@ -35,7 +35,7 @@ pub fn breaking_candidates_are_writable()
     ensures { BreakingCandidatesAreWritable }
 {}
 
-/// The evidence of a derived claim is accepted, unless a limit is passed in adding it up: by a coefficient, by the terms of a
+/// The evidence of a derived claim is accepted, unless its sum exceeds a limit: by a coefficient, by the terms of a
 /// sum, or by the terms of all lemmas.
 pub fn derived_evidence_is_answered()
     ensures { DerivedEvidenceIsAnswered }

@@ -1,5 +1,5 @@
-//! Reports are read back as the evidence and the models that they give, since what a statement declares has names of the language;
-//! and the evidence is accepted unless a limit is passed.
+//! Reports are read back as the evidence and the models that they have, because what a statement declares has names of the language;
+//! and the evidence is accepted unless a limit is exceeded.
 #![tactic(auto)]
 
 mod laws;

@@ -1,4 +1,4 @@
-//! That declared names are names of the language, as laws over the definitions.
+//! The laws of declared names, which are names of the language.
 ghost use Rattle.report_readback.specs.Names.{DeclaredNamesAreNames, NamesAreNameTokens};
 
 /// The names of evidence text are exactly the texts of the statement language's name tokens.
@@ -6,7 +6,7 @@ pub fn names_are_name_tokens()
     ensures { NamesAreNameTokens }
 {}
 
-/// In the problem that the statements of a text stand for, each object and map has a name of the language.
+/// In the problem of the statements of a text, each object and map has a name of the language.
 pub fn declared_names_are_names()
     ensures { DeclaredNamesAreNames }
 {}
