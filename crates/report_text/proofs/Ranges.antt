@@ -14,7 +14,7 @@ range_more a (suc n) =
     let count : suc n + 1 ≡ suc (n + 1) = omega arith in
     rw count (ap (λ xs. a ∷ xs) (range_more (a + 1) n ∙ ap (λ b. range_with_len (a + 1) n ++ b ∷ []) next))
 
--- the text of the next number is put behind what is written
+-- the text of the next number is appended to what is written
 pub text_put : (f : ℕ → List ℕ) (a n : ℕ) (front before after : List ℕ) → before ≡ front ++ flat_map f (range_with_len a n) → after ≡ before ++ f (a + n)
     → after ≡ front ++ flat_map f (range_with_len a (n + 1))
 text_put f a n front before after before_is after_is =

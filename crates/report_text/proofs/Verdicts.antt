@@ -12,7 +12,7 @@ texts : (ℕ → Verdict → List ℕ) → ℕ → List Verdict → List ℕ
 texts text claim [] = []
 texts text claim (v ∷ vs) = text claim v ++ texts text (suc claim) vs
 
--- one more behind others
+-- one more after others
 texts_behind : (text : ℕ → Verdict → List ℕ) (claim : ℕ) (vs : List Verdict) (v : Verdict) → texts text claim (vs ++ v ∷ []) ≡ texts text claim vs ++ text (claim + length vs) v
 unfolding texts
 texts_behind text claim [] v =

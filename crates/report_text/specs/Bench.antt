@@ -1,4 +1,4 @@
--- A statement of any size, whose claims are decided in a number of steps that is known.
+-- A statement of any size, whose claims are decided in a known number of steps.
 use Rattle.std.specs.Prelude.{ℕ, ◌+◌, ◌-◌, List, ◌++◌, decimal, codes}
 use Rattle.std.specs.List.{flat_map, range_with_len}
 

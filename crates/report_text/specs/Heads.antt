@@ -19,7 +19,7 @@ use Rattle.block_text.specs.Written.{word_text}
 use Rattle.report_text.specs.declared.verdict.Verdict.{Verdict}
 use Rattle.report_text.specs.declared.verdict.Verdict.TheVariants as verdict
 
--- how many rows all lemmas have, and the goal
+-- how many rows the lemmas and the goal have
 abbrev pub lemma_row_count : LemmaCertificate → ℕ
 lemma_row_count c = length (flat_map (λ l. l.rows) c.lemmas) + length c.goal.rows
 
@@ -37,7 +37,7 @@ proved_text e = denominator_text (denominator_of e) ++ (codes " rows " ++ decima
 abbrev pub overflow_text : Overflow → List ℕ
 overflow_text o = signed_decimal o.left ++ (if o.product then codes " times " else codes " plus ") ++ signed_decimal o.right
 
--- the budget that was spent, the limit that was passed, or the operands of the product or sum that is no coefficient
+-- the budget that was used up, the limit that was exceeded, or the operands of the product or sum that is no coefficient
 abbrev pub cause_text : Cause → List ℕ
 cause_text (cause.Pairs spent) = codes "pairs " ++ decimal spent
 cause_text (cause.Steps limit) = codes "steps " ++ decimal limit
@@ -67,7 +67,7 @@ not_derivable_text rules = codes " not derivable rules " ++ decimal rules
 abbrev pub not_refuted_text : ℕ → List ℕ
 not_refuted_text candidates = codes " not refuted candidates " ++ decimal candidates
 
--- what is said of a claim; the number is that of the rules
+-- the verdict on a claim; the number is that of the rules
 abbrev pub said_of : List Declaration → ℕ → Verdict → List ℕ
 said_of ds rules (verdict.Proved e) = proved_text e
 said_of ds rules (verdict.NotDerivable rest) = not_derivable_text rules

@@ -27,7 +27,7 @@ report_from ds rules claim (v ∷ verdicts) = head_line ds (length rules) claim 
 abbrev pub report_of : List Declaration → List Poly → List Verdict → List ℕ
 report_of ds rules verdicts = report_from ds rules 1 verdicts
 
--- the head lines alone
+-- only the head lines
 abbrev pub heads_from : List Declaration → ℕ → ℕ → List Verdict → List ℕ
 heads_from ds rules claim [] = []
 heads_from ds rules claim (v ∷ verdicts) = head_line ds rules claim v ++ heads_from ds rules (suc claim) verdicts
@@ -77,7 +77,7 @@ abbrev pub IsLeastOver : List Declaration → Option (List ℕ) → Type 0
 IsLeastOver ds None = ⊤
 IsLeastOver ds (Some word) = IsOver (letter_count ds) word
 
--- the letters of a verdict are letters of the quiver; a model has a side for each object and a place for each letter
+-- the letters of a verdict are letters of the quiver; a model has a side for each object and an entry for each letter
 abbrev pub IsVerdictOver : List Declaration → Verdict → Type 0
 IsVerdictOver ds (verdict.Proved e) = IsEvidenceOver ds e
 IsVerdictOver ds (verdict.NotDerivable rest) = IsPolyOver ds rest

@@ -96,7 +96,7 @@ fn put_claims(out: &mut Vec<u8>, size: u32) -> Result<(), AllocError>
     put(out, "]\n")
 }
 
-/// The statement of a bench of this size: a chain of so many maps with right inverses, and two claims.
+/// The statement of a bench of this size: a chain of `size` maps with right inverses, and two claims.
 pub fn write_bench(alloc: Global, size: u32) -> Result<Vec<u8>, AllocError>
     requires { size + 1 < 2 ^ 32 }
     ensures { IfOk result (λ text. text.items ≡ bench_statement size) }

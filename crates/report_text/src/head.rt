@@ -84,7 +84,7 @@ fn put_overflow(out: &mut Vec<u8>, overflow: &Overflow) -> Result<(), AllocError
     put_integer(out, overflow.right)
 }
 
-/// Why work was given up, behind bytes.
+/// Appends why work was given up.
 pub fn put_cause(out: &mut Vec<u8>, cause: &Cause) -> Result<(), AllocError>
     ensures { OnOk result (out.new.items ≡ out.old.items ++ cause_text cause.now) }
 {

@@ -1,4 +1,4 @@
-//! The report of all verdicts, and its head lines alone.
+//! The report of all verdicts, and its head lines.
 
 ghost use Rattle.std.specs.Prelude.{◌≡◌, ◌++◌, IfOk, OnOk};
 ghost use Rattle.std.specs.List.{All};
@@ -33,8 +33,8 @@ fn put_block(
     }
 }
 
-/// The report of the verdicts on the claims, in their order: for each a head line, and a block with its evidence, with
-/// all rules and what is left of the claim by them, or with its model.
+/// The report of the verdicts on the claims, in order: for each a head line, and a block with its evidence, with
+/// all rules and the rest of the claim by them, or with its model.
 pub fn report(
     alloc: Global,
     quiver: &Quiver,
@@ -53,7 +53,7 @@ pub fn report(
     Ok(out)
 }
 
-/// The head lines of that report alone.
+/// Only the head lines of that report.
 pub fn heads(
     alloc: Global,
     quiver: &Quiver,
