@@ -1,4 +1,4 @@
--- The value of a polynomial with one term more at its end.
+-- The value of a polynomial with one more term at its end.
 use Rattle.std.proofs.Common.{◌≡◌, ◌<◌, ℕ, ℤ, true, cond, List, [], ◌∷◌, ◌++◌, sym, ap, ap₂, subst, ◌∙◌}
 use Rattle.definitions.specs.Category.{Structure, IsArrow, PreadditiveLaws}
 use Rattle.definitions.specs.Quiver.{Quiver, is_path}

@@ -49,7 +49,7 @@ module _ {Object Arrow : Type 0} {s : Structure Object Arrow} (laws : Preadditiv
       → IsArrow s (s.source y) (s.target y) z → s.target x ≡ s.target z
   same_target x y z x_ends y_ends z_ends = (x_ends (s.source x)).target ∙ sym (y_ends (s.source x)).target ∙ sym z_ends.target
 
-  -- one term more
+  -- one more term
   pub value_with_next : (p : List (ℤ × List ℕ)) (k : ℕ) (t : ℤ × List ℕ) → slice_get p k ≡ Some t → is_path q u v t.1 ≡ true → (x y z sum : Arrow)
       → ((o : Object) (a : Arrow) → x ≡ value_at s q (listed objects arrows o a) u v (take k p))
       → ((o : Object) (a none : Arrow) → y ≡ word_value s (listed objects arrows o a) none t.1)

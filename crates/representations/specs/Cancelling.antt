@@ -1,4 +1,4 @@
--- Monic and epic arrows: those that can be taken off in front, and behind.
+-- Monic and epic arrows: those that cancel on the left, and on the right.
 use Rattle.std.specs.Prelude.{◌≡◌}
 use Rattle.definitions.specs.Category.{Structure}
 

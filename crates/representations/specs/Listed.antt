@@ -5,7 +5,7 @@ use Rattle.definitions.specs.Category.{Structure}
 use Rattle.definitions.specs.Quiver.{Quiver, letters}
 use Rattle.definitions.specs.Representation.{Representation, Represents, value_at}
 
--- past the ends of the lists the given object and arrow stand, which count for nothing
+-- after the ends of the lists come the given object and arrow, which don't matter
 abbrev pub listed : {Object Arrow : Type 0} → List Object → List Arrow → Object → Arrow → Representation Object Arrow
 listed objects arrows o a = record { object = λ v. get_or objects v o; arrow = λ n. get_or arrows n a }
 

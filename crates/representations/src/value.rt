@@ -14,8 +14,8 @@ use quiver::{Quiver, Sig};
 use std::alloc::{AllocError, Global};
 use word_core::Word;
 
-/// The value of a polynomial that is typed of the signature: the sum of the integer multiples of the values of its words, where
-/// a word's value is the composite of the arrows of its letters. The call ends early only where memory is short.
+/// The value of a polynomial that has the signature: the sum of the integer multiples of the values of its words, where
+/// a word's value is the composite of the arrows of its letters. The call fails only where memory is short.
 pub fn value_of<C: Category>(
     alloc: Global,
     category: &C,
@@ -44,7 +44,7 @@ pub fn value_of<C: Category>(
     Ok(sum)
 }
 
-// The value of a path: the composite of the arrows of its letters. Of the quiver the clauses alone speak.
+// The value of a path: the composite of the arrows of its letters. The quiver is used only in the clauses.
 fn path_value_of<C: Category>(
     alloc: Global,
     category: &C,
