@@ -5,7 +5,7 @@ use Rattle.std.proofs.lemmas.Bool.{cases_lt}
 use Rattle.rule_index.specs.declared.tree.Node.{Node}
 use Rattle.rule_index.specs.Automaton.{IsChild, Lists, ListsBelow, IsAdvanced}
 
--- the children of the numbers before the place stand at the front
+-- the children of the numbers before the place are at the front
 pub record IsAdvancing (nodes : List Node) (letter : ℕ) (initial now : List ℕ) (place kept : ℕ) : Type 0 where
   pub len : length now ≡ length initial
   pub few : kept ≤ place

@@ -21,7 +21,7 @@ pub or_either : (b c : Bool) → (b || c) ≡ true → (b ≡ true) ⊎ (c ≡ t
 or_either true c e = inl refl
 or_either false c e = inr e
 
--- a letter behind both
+-- a letter after both
 record Behind (u t : List ℕ) (x c : ℕ) : Type 0 where
   letter : x ≡ c
   rest : ends_with u t ≡ true
@@ -63,7 +63,7 @@ drop_first : (w : List ℕ) (c : ℕ) → 0 < length w → drop 1 (w ++ c ∷ []
 drop_first [] c some = absurd (omega arith)
 drop_first (x ∷ w) c some = refl
 
--- the ends of the word with a letter more are children of its ends
+-- the ends of the word with one more letter are children of its ends
 pub ends-advanced : (nodes : List Node) (words : List (List ℕ)) → IsSpelled nodes words → (t : List ℕ) (c : ℕ) (before after : List ℕ) → IsEnds words t before → IsAdvanced nodes c before after → IsEnds words (t ++ c ∷ []) after
 ends-advanced nodes words spelled t c before after h moved = record {
   above = λ k l. (moved.sound k l).2.above;

@@ -23,7 +23,7 @@ or_right : (b c : Bool) → c ≡ true → (b || c) ≡ true
 or_right true c e = refl
 or_right false c e = e
 
--- what stands among the first words stands among the words
+-- what is among the first words is among the words
 pub has-take : (n : ℕ) (words : List (List ℕ)) (w : List ℕ) → has (take n words) w ≡ true → has words w ≡ true
 has-take zero words w e = absurd (cc)
 has-take (suc n) [] w e = absurd (cc)

@@ -76,7 +76,7 @@ first_sooner p q (e ∷ entries) = go (p e.0) (q e.0) (first_of p entries) (firs
     go false true r s t h = right r
     go false false r s t h = sooner_suc r s ∙ ap (option_map suc) h
 
--- one letter more: the first that occurs so far, or that ends here
+-- one more letter: the first that occurs so far, or that ends here
 pub first-more : (words : List (List ℕ)) (entries : List (List ℕ × ℕ)) (t : List ℕ) (c : ℕ) → All (λ e. has words e.0 ≡ true) entries
     → sooner (first_of (occurs t) entries) (first_of (ends_with (longest words (t ++ c ∷ []))) entries) ≡ first_of (occurs (t ++ c ∷ [])) entries
 first-more words entries t c listed =

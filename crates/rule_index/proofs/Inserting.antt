@@ -21,7 +21,7 @@ begins-take w zero = refl
 begins-take [] (suc n) = refl
 begins-take (x ∷ w) (suc n) = ap₂ ◌&&◌ (eq-eqb x x refl) (begins-take w n)
 
--- a letter more
+-- one more letter
 pub growing-more : (old mid new : Tree) (word : List ℕ) (index at letter next : ℕ) (ends ends' : List ℕ) → IsGrowing old mid word index at ends → index < length word → letter ≡ get_or word index 0
     → IsGrown mid new (word_at (words_of mid.nodes.items) at ++ letter ∷ []) ends' next → IsGrowing old new word (index + 1) next ends'
 growing-more old mid new word index at letter next ends ends' h inside read g = record {

@@ -84,7 +84,7 @@ module _ (words : List (List ℕ)) where
       go true e later = omega (arith, ap length (at_true x t e))
       go false e later = omega (arith, ap length (at_false x t e), later)
 
-  -- a letter more can be put behind the longest suffix instead
+  -- one more letter can be appended to the longest suffix instead
   pub longest-more : IsClosed words → (t : List ℕ) (c : ℕ) → longest words (t ++ c ∷ []) ≡ longest words (longest words t ++ c ∷ [])
   longest-more closed [] c = refl
   longest-more closed (x ∷ t) c = go (has words (x ∷ t)) refl (has words (x ∷ (t ++ c ∷ []))) refl (longest-more closed t c)

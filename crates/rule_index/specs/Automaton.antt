@@ -1,4 +1,4 @@
--- The nodes of the automaton, and what its steps do to them.
+-- The nodes of the automaton, and its steps.
 use Rattle.std.specs.Prelude.{◌≡◌, vec_len, take, ◌-◌, ℕ, suc, ◌+◌, ◌<◌, ◌≤◌, ◌⊎◌, ◌||◌, Bool, true, nat_lt, ◌*◌, ◌%◌, ◌^◌, bit_and, List}
 use Rattle.std.specs.Prelude.{[], ◌∷◌, ◌++◌, length, get_or, drop, Option, Some, None, min, if◌then◌else◌}
 use Rattle.std.specs.List.{All}
@@ -45,16 +45,16 @@ node_at nodes k = get_or nodes k root
 abbrev pub added_node : List Node → ℕ → ℕ → Node
 added_node nodes at letter = record { parent = at; letter = letter; depth = (node_at nodes at).depth + 1 }
 
--- the node, where the link is less deep, and else the link
+-- the node, where the link is less deep, and the link otherwise
 abbrev pub relinked : List Node → ℕ → ℕ → ℕ
 relinked nodes node link = if nat_lt (node_at nodes link).depth (node_at nodes node).depth then node else link
 
--- the place, unless there is one
+-- the place, unless there is an earlier one
 abbrev pub marked : Option ℕ → ℕ → Option ℕ
 marked None place = Some place
 marked (Some x) place = Some x
 
--- the words of the nodes, each that of its parent with one letter more
+-- the words of the nodes, each that of its parent with one more letter
 abbrev pub grown : List (List ℕ) → List Node → List (List ℕ)
 grown words [] = words
 grown words (n ∷ nodes) = grown (words ++ (word_at words n.parent ++ n.letter ∷ []) ∷ []) nodes
@@ -63,18 +63,18 @@ abbrev pub words_of : List Node → List (List ℕ)
 words_of [] = []
 words_of (n ∷ nodes) = grown ([] ∷ []) nodes
 
--- of so many buckets, that of the children by a letter
+-- of this many buckets, that of the children by a letter
 unfoldable pub bucket_of : ℕ → ℕ → ℕ → ℕ
 bucket_of count parent letter = bit_and ((parent + letter * 40503) % 2 ^ 64) (count - 1)
 
 abbrev pub bucket_at : List Node → ℕ → ℕ → ℕ
 bucket_at nodes count k = bucket_of count (node_at nodes k).parent (node_at nodes k).letter
 
--- of so many buckets, that of the nodes with a letter
+-- of this many buckets, that of the nodes with a letter
 unfoldable pub letter_bucket_of : ℕ → ℕ → ℕ
 letter_bucket_of count letter = letter % count
 
--- the first nodes of each bucket are found from the last of them on
+-- of the first n nodes those of each bucket are linked, from the last one on
 pub record IsThreaded (bucket : ℕ → ℕ) (size n : ℕ) (heads nexts : List ℕ) : Type 0 where
   pub some : 0 < n
   pub wide : 0 < length heads
@@ -163,7 +163,7 @@ pub record IsRelinked (nodes : List Node) (ends : List ℕ) (n node : ℕ) (befo
 abbrev pub HasLetters : Tree → Type 0
 HasLetters tree = IsLettered tree.nodes.items (length tree.nodes.items) tree.letter_heads.items tree.letter_nexts.items
 
--- there is room for as many nodes more
+-- there is room for that many more nodes
 pub record HasRoom (tree : Tree) (count : ℕ) : Type 0 where
   pub nodes : vec_len tree.nodes + count ≤ vec_capacity tree.nodes
   pub letter_nexts : vec_len tree.letter_nexts + count ≤ vec_capacity tree.letter_nexts
@@ -179,7 +179,7 @@ pub record IsSame (tree before : Tree) : Type 0 where
   pub links : tree.links.items ≡ before.links.items
   pub leasts : tree.leasts.items ≡ before.leasts.items
 
--- the tree has the word now, at this node, and else what it had
+-- the tree has the word now, at this node, and is unchanged otherwise
 pub record IsGrown (old new : Tree) (word ends : List ℕ) (node : ℕ) : Type 0 where
   pub tree : IsTree new.nodes.items new.heads.items new.nexts.items new.links.items
   pub inside : node < length new.nodes.items
@@ -193,7 +193,7 @@ pub record IsGrown (old new : Tree) (word ends : List ℕ) (node : ℕ) : Type 0
   pub front : take (length old.nodes.items) new.nodes.items ≡ old.nodes.items
   pub lettered : HasLetters new
 
--- the tree has the word's letters before the place now, and else what it had
+-- the tree has the word's letters before the place now, and is unchanged otherwise
 pub record IsGrowing (old new : Tree) (word : List ℕ) (index at : ℕ) (ends : List ℕ) : Type 0 where
   pub tree : IsTree new.nodes.items new.heads.items new.nexts.items new.links.items
   pub inside : at < length new.nodes.items
@@ -211,7 +211,7 @@ pub record IsGrowing (old new : Tree) (word : List ℕ) (index at : ℕ) (ends :
 pub record IsMarkedAt (ends : List ℕ) (n place : ℕ) (before after : Option ℕ) (k : ℕ) : Type 0 where
   pub either : (ListsBelow n ends k × (after ≡ marked before place)) ⊎ ((ListsBelow n ends k → ⊥) × (after ≡ before))
 
--- the tree has the word now, and else what it had
+-- the tree has the word now, and is unchanged otherwise
 pub record IsInserted (old new : Tree) (word : List ℕ) (place : ℕ) : Type 0 where
   pub tree : IsTree new.nodes.items new.heads.items new.nexts.items new.links.items
   pub marked : (entries : List (List ℕ × ℕ)) (number : ℕ) → length entries ≡ place
@@ -225,7 +225,7 @@ pub record IsInserted (old new : Tree) (word : List ℕ) (place : ℕ) : Type 0 
 abbrev pub IsWithin : List (List ℕ × ℕ) → List (List ℕ) → Type 0
 IsWithin entries words = (w : List ℕ) → has words w ≡ true → is_prefix entries w ≡ true
 
--- the tree has the root alone
+-- the tree has only the root
 pub record IsNewTree (tree : Tree) : Type 0 where
   pub nodes : tree.nodes.items ≡ root ∷ []
   pub lettered : HasLetters tree

@@ -1,4 +1,4 @@
--- What stays of nodes, links and places when the last words are taken back.
+-- The nodes, links and places that are left when the last words are removed.
 use Rattle.std.specs.Prelude.{◌≡◌, ℕ, ◌+◌, ◌<◌, ◌≤◌, nat_lt, List, length, get_or, take, drop, true, Option, Some, None, if◌then◌else◌}
 use Rattle.std.specs.List.{All}
 use Rattle.rule_index.specs.declared.tree.Tree.{Tree}

@@ -17,7 +17,7 @@ has (v ∷ words) w = same_word w v || has words w
 abbrev pub word_at : List (List ℕ) → ℕ → List ℕ
 word_at words k = get_or words k []
 
--- whether the word is empty or begins the word of an entry
+-- whether the word is a prefix of the word of an entry, or empty
 abbrev pub is_prefix : List (List ℕ × ℕ) → List ℕ → Bool
 is_prefix [] w = same_word w []
 is_prefix (e ∷ entries) w = begins_with e.0 w || is_prefix entries w

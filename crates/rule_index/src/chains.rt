@@ -6,7 +6,7 @@ ghost use Rattle.rule_index.specs.Automaton.{IsChained, IsLettered, IsChild, buc
 use crate::tree::Node;
 use std::alloc::{AllocError, Global};
 
-// Of so many buckets, that of the children by a letter.
+// Of `count` buckets, that of the children by a letter.
 fn bucket(count: usize, parent: usize, letter: u16) -> usize
     requires { 0 < count }
     ensures is { result ≡ bucket_of count parent letter }
@@ -39,7 +39,7 @@ pub fn child(
     None
 }
 
-/// As many buckets at least, a power of 2.
+/// At least this many buckets: a power of 2.
 pub fn buckets(alloc: Global, least: usize) -> Result<Vec<usize>, AllocError>
     requires { 0 < least }
     ensures { IfOk result (λ v. 0 < length v.items) }
@@ -50,7 +50,7 @@ pub fn buckets(alloc: Global, least: usize) -> Result<Vec<usize>, AllocError>
     }
 }
 
-/// So many buckets with no node in any.
+/// `count` empty buckets.
 pub fn empty_buckets(alloc: Global, count: usize) -> Result<Vec<usize>, AllocError>
     ensures len { IfOk result (λ v. length v.items ≡ count) }
     ensures none { IfOk result (λ v. (b : ℕ) → get_or v.items b 0 ≡ 0) }
@@ -58,7 +58,7 @@ pub fn empty_buckets(alloc: Global, count: usize) -> Result<Vec<usize>, AllocErr
     Ok(vec![in alloc; 0; count]?)
 }
 
-/// The node as the last of its bucket.
+/// Puts the node at the end of its bucket.
 pub fn chain_one(nodes: &[Node], heads: &mut [usize], nexts: &mut [usize], node: usize)
     requires chained { IsChained nodes.now node heads.old nexts.old }
     requires inside { node < length nodes.now }
@@ -69,7 +69,7 @@ pub fn chain_one(nodes: &[Node], heads: &mut [usize], nexts: &mut [usize], node:
     put_last(heads, nexts, bucket, node);
 }
 
-/// All nodes in their buckets.
+/// Puts all nodes into their buckets.
 pub fn chain_all(nodes: &[Node], heads: &mut [usize], nexts: &mut [usize])
     requires some { 0 < length nodes.now }
     requires wide { 0 < length heads.old }
@@ -82,7 +82,7 @@ pub fn chain_all(nodes: &[Node], heads: &mut [usize], nexts: &mut [usize])
     }
 }
 
-/// The node as the last of the bucket of its letter.
+/// Puts the node at the end of the bucket of its letter.
 pub fn chain_letter(nodes: &[Node], heads: &mut [usize], nexts: &mut [usize], node: usize)
     requires lettered { IsLettered nodes.now node heads.old nexts.old }
     requires inside { node < length nodes.now }
@@ -92,7 +92,7 @@ pub fn chain_letter(nodes: &[Node], heads: &mut [usize], nexts: &mut [usize], no
     put_last(heads, nexts, bucket, node);
 }
 
-/// All nodes in the buckets of their letters.
+/// Puts all nodes into the buckets of their letters.
 pub fn chain_letters(nodes: &[Node], heads: &mut [usize], nexts: &mut [usize])
     requires some { 0 < length nodes.now }
     requires wide { 0 < length heads.old }
@@ -105,7 +105,7 @@ pub fn chain_letters(nodes: &[Node], heads: &mut [usize], nexts: &mut [usize])
     }
 }
 
-/// The last node in the bucket of the letter, and 0 where there is none.
+/// The last node in the bucket of the letter, or 0 where there is none.
 pub fn last_by_letter(heads: &[usize], letter: u16) -> usize
     requires { 0 < length heads.now }
     ensures { result ≡ get_or heads.now (letter_bucket_of (length heads.now) letter) 0 }
@@ -113,7 +113,7 @@ pub fn last_by_letter(heads: &[usize], letter: u16) -> usize
     heads[letter_bucket(heads.len(), letter)]
 }
 
-// Of so many buckets, that of the letter.
+// Of `count` buckets, that of the letter.
 fn letter_bucket(count: usize, letter: u16) -> usize
     requires { 0 < count }
     ensures is { result ≡ letter_bucket_of count letter }
@@ -122,7 +122,7 @@ fn letter_bucket(count: usize, letter: u16) -> usize
     letter as usize % count
 }
 
-// The node as the last of the bucket.
+// Puts the node at the end of the bucket.
 fn put_last(heads: &mut [usize], nexts: &mut [usize], bucket: usize, node: usize)
     requires bucket_in { bucket < length heads.old }
     requires node_in { node < length nexts.old }
@@ -133,7 +133,7 @@ fn put_last(heads: &mut [usize], nexts: &mut [usize], bucket: usize, node: usize
     heads[bucket] = node;
 }
 
-// No node in any bucket.
+// Empties all buckets.
 fn clear(heads: &mut [usize])
     ensures len { length heads.new ≡ length heads.old }
     ensures none { (b : ℕ) → get_or heads.new b 0 ≡ 0 }

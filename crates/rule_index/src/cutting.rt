@@ -1,4 +1,4 @@
-//! The tree of the first words alone.
+//! The tree of the first words.
 
 ghost use Rattle.std.specs.Prelude.{◌≡◌, ℕ, ◌<◌, ◌≤◌, length, get_or, None};
 ghost use Rattle.rule_index.specs.Automaton.{IsTree, IsLinked, IsSpelled, HasLetters, words_of};
@@ -7,7 +7,7 @@ ghost use Rattle.rule_index.specs.Cuts.{IsKept, IsLinkedFrom, IsCut, earlier as 
 use crate::chains::{chain_all, chain_letters};
 use crate::tree::Tree;
 
-/// The first nodes, as many as `size` says, without the places from `count` on.
+/// Keeps the first `size` nodes, without the places from `count` on.
 pub fn cut(tree: &mut Tree, size: usize, count: usize)
     requires tree { IsTree tree.old.nodes.items tree.old.heads.items tree.old.nexts.items tree.old.links.items }
     requires lettered { HasLetters tree.old }
@@ -44,7 +44,7 @@ fn kept(tree: &Tree, from: usize, size: usize) -> usize
     at
 }
 
-// The links of the first nodes, which lead to first nodes now.
+// Makes the links of the first nodes lead to first nodes.
 fn cut_links(tree: &mut Tree, size: usize)
     requires spelled { IsSpelled tree.old.nodes.items (words_of tree.old.nodes.items) }
     requires linked { IsLinked (words_of tree.old.nodes.items) tree.old.links.items }
@@ -65,7 +65,7 @@ fn cut_links(tree: &mut Tree, size: usize)
     }
 }
 
-// The place, where it is below the number.
+// The place, if it is below the number.
 fn earlier(place: Option<usize>, count: usize) -> Option<usize>
     ensures { result ≡ earlier_of count place }
 {
@@ -75,7 +75,7 @@ fn earlier(place: Option<usize>, count: usize) -> Option<usize>
     }
 }
 
-// The places below the number.
+// Keeps the places below the number.
 fn keep_earlier(leasts: &mut [Option<usize>], count: usize)
     ensures { (k : ℕ) → k < length leasts.old → get_or leasts.new k None ≡ earlier_of count (get_or leasts.old k None) }
 {

@@ -1,4 +1,4 @@
-//! Numbered words, of which contracts see the list.
+//! Numbered words, which contracts see as a list.
 
 ghost use Rattle.std.specs.Prelude.{◌≡◌, ◌<◌, [], ◌∷◌, ◌++◌, length, take, IfOk, IfSome, IfNone, OnOk, OnErr};
 ghost use Rattle.std.specs.List.{All};
@@ -37,7 +37,7 @@ impl Model for Index {
 }
 
 impl Index {
-    /// The index with no word in it.
+    /// The empty index.
     pub fn new(alloc: Global) -> Result<Index, AllocError>
         ensures { IfOk result (λ i. i ≡ []) }
     {
@@ -50,7 +50,7 @@ impl Index {
         })
     }
 
-    /// The index with one word more, under a number above all others; where memory is short, the index as it was.
+    /// Adds a word, under a number above all others; where memory is short, the index is unchanged.
     pub fn insert(&mut self, word: &Word, number: u32) -> Result<(), AllocError>
         requires above { All (λ e. e.1 < number) self.old }
         requires nonempty { 0 < length word.now }
@@ -70,7 +70,7 @@ impl Index {
         Ok(())
     }
 
-    /// The first words, as many as `count` says. It takes no memory.
+    /// Keeps the first `count` words. It takes no memory.
     pub fn truncate(&mut self, count: usize)
         ensures { self.new ≡ take count self.old }
     {
@@ -81,7 +81,7 @@ impl Index {
     }
 
     /// The least number whose word occurs in the word, with the leftmost place at which it does, counted from 0.
-    /// `None` comes exactly where none of the words occurs. It takes no memory.
+    /// `None` is returned exactly where none of the words occurs. It takes no memory.
     pub fn first_match(&self, word: &Word) -> Option<(u32, usize)>
         ensures exact { result ≡ match_of self.now word.now }
         ensures least { IfSome result (λ m. IsLeastMatch self.now word.now m.0 m.1) }

@@ -1,4 +1,4 @@
-//! A word more among the nodes.
+//! The insertion of a word into the tree.
 
 ghost use Rattle.std.specs.Prelude.{IsTrue, ◌↔◌, ◌≡◌, ℕ, [], ◌∷◌, ◌++◌, ◌+◌, ◌<◌, length, drop, get_or, slice_index, slice_set, None, IfOk};
 ghost use Rattle.rule_index.specs.Prefixes.{word_at};
@@ -52,7 +52,7 @@ fn advance(nodes: &[Node], heads: &[usize], nexts: &[usize], ends: &mut Vec<usiz
     ends.truncate(kept);
 }
 
-// The node of the longest proper suffix of the node's prefix with the letter behind it.
+// The node of the longest proper suffix of the node's prefix with the letter after it.
 fn link_of(tree: &Tree, at: usize, letter: u16) -> usize
     requires tree { IsTree tree.now.nodes.items tree.now.heads.items tree.now.nexts.items tree.now.links.items }
     requires inside { at < length tree.now.nodes.items }
@@ -71,7 +71,7 @@ fn link_of(tree: &Tree, at: usize, letter: u16) -> usize
     )
 }
 
-// A new child of the node.
+// Adds a new child of the node.
 fn add(tree: &mut Tree, at: usize, letter: u16, link: usize)
     requires tree { IsTree tree.old.nodes.items tree.old.heads.items tree.old.nexts.items tree.old.links.items }
     requires lettered { HasLetters tree.old }
@@ -109,7 +109,7 @@ fn add(tree: &mut Tree, at: usize, letter: u16, link: usize)
     );
 }
 
-// The node becomes the link of this one, where its link is less deep.
+// Makes the node the link of this one, if its link is less deep.
 fn relink_one(nodes: &[Node], links: &mut [usize], end: usize, node: usize)
     requires end_in { end < length links.old }
     requires link_in { get_or links.old end 0 < length nodes.now }
@@ -121,7 +121,7 @@ fn relink_one(nodes: &[Node], links: &mut [usize], end: usize, node: usize)
     }
 }
 
-// The node becomes the link of those whose link is less deep.
+// Makes the node the link of those whose link is less deep.
 fn relink(nodes: &[Node], links: &mut [usize], ends: &[usize], node: usize)
     requires inside { node < length nodes.now }
     requires links { (k : ℕ) → get_or links.old k 0 < length nodes.now }
@@ -133,7 +133,7 @@ fn relink(nodes: &[Node], links: &mut [usize], ends: &[usize], node: usize)
     }
 }
 
-// A new child by this letter, with all links as they should be.
+// Adds a new child by this letter, and updates all links.
 fn grow_new(tree: &mut Tree, at: usize, letter: u16, ends: &[usize]) -> usize
     requires tree { IsTree tree.old.nodes.items tree.old.heads.items tree.old.nexts.items tree.old.links.items }
     requires lettered { HasLetters tree.old }
@@ -151,7 +151,7 @@ fn grow_new(tree: &mut Tree, at: usize, letter: u16, ends: &[usize]) -> usize
     node
 }
 
-// The child by this letter, made where there's none.
+// The child by this letter, which is made where there is none.
 fn grow(tree: &mut Tree, at: usize, letter: u16, ends: &[usize]) -> usize
     requires tree { IsTree tree.old.nodes.items tree.old.heads.items tree.old.nexts.items tree.old.links.items }
     requires lettered { HasLetters tree.old }
@@ -167,7 +167,7 @@ fn grow(tree: &mut Tree, at: usize, letter: u16, ends: &[usize]) -> usize
     grow_new(tree, at, letter, ends)
 }
 
-// The word at this place ends here, unless an earlier one does.
+// Marks that the word at this place ends here, unless an earlier one does.
 fn mark(leasts: &mut [Option<usize>], node: usize, place: usize)
     requires { node < length leasts.old }
     ensures { leasts.new ≡ slice_set leasts.old node (marked (get_or leasts.old node None) place) }
@@ -177,7 +177,7 @@ fn mark(leasts: &mut [Option<usize>], node: usize, place: usize)
     }
 }
 
-// The word at this place ends these nodes, unless an earlier one does.
+// Marks that the word at this place ends these nodes, unless an earlier one does.
 fn mark_all(leasts: &mut [Option<usize>], ends: &[usize], place: usize)
     requires { (k : ℕ) → Lists ends.now k → k < length leasts.old }
     ensures { (k : ℕ) → k < length leasts.old → IsMarkedAt ends.now (length ends.now) place (get_or leasts.old k None) (get_or leasts.new k None) k }
@@ -206,7 +206,7 @@ fn grow_all(tree: &mut Tree, word: &Word, ends: &mut Vec<usize>) -> usize
     at
 }
 
-/// The word at this place among the words.
+/// Inserts the word at this place of the list.
 pub fn insert(tree: &mut Tree, word: &Word, place: usize, ends: Vec<usize>)
     requires tree { IsTree tree.old.nodes.items tree.old.heads.items tree.old.nexts.items tree.old.links.items }
     requires lettered { HasLetters tree.old }

@@ -12,7 +12,7 @@ use word_core::Word;
 // More than a statement has letters, so that each has a bucket of its own there.
 const LETTER_BUCKETS: usize = 4096;
 
-/// A prefix of the words: that of the parent with one letter more.
+/// A prefix of the words: that of the parent with one more letter.
 #[derive(Clone, Copy)]
 pub struct Node {
     /// The node of the prefix without its last letter.
@@ -23,17 +23,17 @@ pub struct Node {
     pub depth: usize,
 }
 
-/// The prefixes of some words as nodes, of which node 0 is the empty one.
+/// The prefixes of some words as nodes. Node 0 is the empty one.
 #[derive(Drop)]
 pub struct Tree {
     pub nodes: Vec<Node>,
-    /// Of each bucket its last node, and 0 where there is none. A node is in the bucket of its parent and letter.
+    /// Of each bucket its last node, or 0 where there is none. A node is in the bucket of its parent and letter.
     pub heads: Vec<usize>,
-    /// Of each node the one before it in its bucket, and 0 where there is none.
+    /// Of each node the one before it in its bucket, or 0 where there is none.
     pub nexts: Vec<usize>,
-    /// Of each bucket of letters its last node, and 0 where there is none.
+    /// Of each bucket of letters its last node, or 0 where there is none.
     pub letter_heads: Vec<usize>,
-    /// Of each node the one before it in the bucket of its letter, and 0 where there is none.
+    /// Of each node the one before it in the bucket of its letter, or 0 where there is none.
     pub letter_nexts: Vec<usize>,
     /// Of each node that of its longest proper suffix that is a prefix too.
     pub links: Vec<usize>,
@@ -41,7 +41,7 @@ pub struct Tree {
     pub leasts: Vec<Option<usize>>,
 }
 
-/// The node of the longest suffix of the node's prefix with the letter behind it.
+/// The node of the longest suffix of the node's prefix with the letter after it.
 pub fn step(
     nodes: &[Node],
     heads: &[usize],
@@ -102,7 +102,7 @@ pub fn first_in(tree: &Tree, word: &Word) -> Option<usize>
     found
 }
 
-/// One item more, for which there is room.
+/// Appends an item, for which there is room.
 pub fn put<T: Drop>(items: &mut Vec<T>, value: T)
     requires { vec_len items.old < vec_capacity items.old }
     ensures items { items.new.items ≡ items.old.items ++ value ∷ [] }
@@ -112,7 +112,7 @@ pub fn put<T: Drop>(items: &mut Vec<T>, value: T)
     let _ = items.push(value);
 }
 
-/// The tree with the empty prefix alone.
+/// The tree with only the empty prefix.
 pub fn new_tree(alloc: Global) -> Result<Tree, AllocError>
     ensures { IfOk result IsNewTree }
 {
@@ -143,7 +143,7 @@ pub fn new_tree(alloc: Global) -> Result<Tree, AllocError>
     })
 }
 
-/// Room for as many nodes more, and a bucket for each.
+/// Makes room for `count` more nodes, and a bucket for each.
 pub fn reserve(tree: &mut Tree, count: usize) -> Result<(), AllocError>
     requires tree { IsTree tree.old.nodes.items tree.old.heads.items tree.old.nexts.items tree.old.links.items }
     ensures tree { IsTree tree.new.nodes.items tree.new.heads.items tree.new.nexts.items tree.new.links.items }
