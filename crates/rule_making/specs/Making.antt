@@ -14,12 +14,12 @@ pub record Recorded : Type 0 where
   pub rules : List Rule
   pub made : List Made
 
--- a polynomial other than zero that a reduction left, and the rows that add up to it
+-- the rest of a reduction, which isn't zero, and the rows that add up to it
 pub record Rest : Type 0 where
   pub polynomial : List Term
   pub rows : List Row
 
--- a polynomial with its rows, and nothing for the polynomial zero
+-- a polynomial with its rows, or None for the polynomial zero
 abbrev pub rest_with : List Term → List Row → Option Rest
 rest_with [] rows = None
 rest_with (t ∷ p) rows = Some (record { polynomial = t ∷ p; rows = rows })
@@ -52,14 +52,14 @@ pub record IsMadeFrom (compare : Compare) (rest : Rest) (g : Rule) (m : Made) : 
   pub leading : rule_from compare g.poly ≡ Some g
   pub rows : m.rows ≡ (if leads_negative compare rest.polynomial then negated_rows rest.rows else rest.rows)
 
--- the rules and a rule that is made of the rest
+-- the rules with a rule that is made of the rest
 pub record IsExtended (compare : Compare) (rest : Rest) (before after : Recorded) : Type 0 where
   pub rule : Rule
   pub made : Made
   pub made_from : IsMadeFrom compare rest rule made
   pub appended : after ≡ record { rules = before.rules ++ rule ∷ []; made = before.made ++ made ∷ [] }
 
--- Where nothing is left, nothing changes; a rest is made a rule.
+-- Where the rest is zero, nothing changes; another one becomes a rule.
 abbrev pub Adds : Compare → Option Rest → Recorded → Recorded → Type 0
 Adds compare None before after = after ≡ before
 Adds compare (Some rest) before after = IsExtended compare rest before after

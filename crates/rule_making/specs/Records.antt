@@ -6,12 +6,12 @@ use Rattle.cofactor_trace.specs.Needed.{IsAmongFirst, AreRecords}
 use Rattle.traced_rows.specs.declared.Row.{Row}
 use Rattle.rule_making.specs.Making.{Recorded}
 
--- The coefficients of the rows are in range, and they are over generators and the first rules, as many as the count says.
+-- The coefficients of the rows are in range, and they are over generators and the first rules, by this count.
 pub record AreRows (count : ℕ) (rows : List Row) : Type 0 where
   pub in_range : All (λ r. IsCoefficient r.coef) rows
   pub named : All (λ r. IsAmongFirst count r.from) rows
 
--- Each rule has a record, which names generators and rules before that rule.
+-- Each rule has a record, which names only generators and earlier rules.
 pub record HasRecords (r : Recorded) : Type 0 where
   pub one_each : length r.made ≡ length r.rules
   pub records : AreRecords r.made

@@ -1,4 +1,4 @@
-//! Rules that are made of what reductions leave, with the records of how each was made, and the rows of these records.
+//! Rules that are made of the rests of reductions, with the records of how each was made, and the rows of these records.
 #![tactic(auto)]
 
 mod making;

@@ -1,4 +1,4 @@
-//! Rules that are made of what reductions leave, with their records.
+//! Rules that are made of the rests of reductions, with their records.
 ghost use Rattle.std.specs.Prelude.{◌≡◌, ℕ, ◌<◌, ◌<ℤ◌, ◌+◌, ◌^◌, neg_ℤ, pos, length, IfOk, OnOk, OnErr, if◌then◌else◌};
 ghost use Rattle.std.specs.List.{All};
 ghost use Rattle.coef_int.specs.Range.{IsCoefficient};
@@ -54,9 +54,9 @@ fn divide_rest<O: WordOrder>(
     Ok((poly, Made { scale, rows }))
 }
 
-/// Makes what a reduction left a rule, and appends it with its record: the rest divided by its content, or by the negative of
+/// Makes the rest of a reduction a rule, and appends it with its record: the rest divided by its content, or by the negative of
 /// that where its leading coefficient is negative. No word of the rest is empty, and it isn't zero. Where memory is short,
-/// rules and records stay as they were.
+/// rules and records are unchanged.
 pub fn push_rule<O: WordOrder + Drop>(
     rules: &mut Rules<O>,
     made: &mut Listing<Made>,
