@@ -78,7 +78,7 @@ told-polynomials ds quiver at e = go (polynomial_in ds e) (equation_poly-gives d
     go (Ok p) h = tt
     go (Err f) h = told-arithmetic at f h
 
--- equations of which none is wrong have polynomials within the limits
+-- equations without a fault have polynomials within the limits
 values-canonical : (ds : List Declaration) → IsQuiver (quiver_of ds) → (es : List Equation) → AllByRecursion IsCanonical (polynomials_of ds es)
 values-canonical ds quiver [] = tt
 values-canonical ds quiver (e ∷ es) = all-append IsCanonical (value_in (polynomial_in ds e)) (polynomials_of ds es) (go (polynomial_in ds e) (equation_poly-gives ds quiver e.left e.right)) (values-canonical ds quiver es)
@@ -110,7 +110,7 @@ module _ (statements : List Statement) (clean : name_fault_of statements ≡ Non
       claims [] = λ m. m
       claims (e ∷ es) = tt
 
-  -- where nothing else is wrong either
+  -- where there is no other fault either
   module _ (fine : fault_of statements ≡ None) where
     none_wrong : (first_among (wrong_signature ds) statements ≡ None) × (first_among (wrong_polynomial ds) statements ≡ None)
     none_wrong =

@@ -1,4 +1,4 @@
--- The signature of an equation is between objects, and so is each that its fault tells.
+-- The signature of an equation is between objects, and so is each that its fault has.
 use Rattle.std.proofs.Common.{◌≡◌, ℕ, true, nat_eq, List, [], ◌∷◌, Option, Some, None, Result, Ok, Err, refl, subst, MatchResult}
 use Rattle.std.specs.Option.{IfSome}
 use Rattle.std.proofs.lemmas.Bool.{and_parts, cond_both}

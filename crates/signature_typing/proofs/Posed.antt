@@ -1,4 +1,4 @@
--- What a file says, where nothing is wrong with it, can be made a problem.
+-- The parts of a file without a fault can be made a problem.
 use Rattle.std.proofs.Common.{◌≡◌, ◌≢◌, List, [], ◌∷◌, ◌++◌, length, Some, None, refl, sym, ap, ap₂, subst, ◌∙◌, append-nil, arith, map-id}
 use Rattle.std.specs.List.{All, AllByRecursion, AllZip}
 use Rattle.std.proofs.lemmas.List.{length-map}

@@ -8,7 +8,7 @@ use Rattle.statement_names.proofs.Items.{flat_next}
 use Rattle.signature_typing.specs.First.{first_among}
 use Rattle.signature_typing.proofs.FirstFound.{first_among_none_more, explained_at}
 
--- What the elements so far give stands behind what was there, and nothing is wrong with them.
+-- The values of the elements so far are after those that were there, and none of the elements has a fault.
 pub record IsSoFar {A B X : Type 0} (gives : A → List X) (wrong : A → Option B) (xs : List A) (i : ℕ) (before now : List X) : Type 0 where
   pub listed : now ≡ before ++ flat_map gives (take i xs)
   pub fits : first_among wrong (take i xs) ≡ None
@@ -31,7 +31,7 @@ pub all_listed : {A B C X : Type 0} (parts : A → List B) (gives : B → List X
 all_listed parts gives wrong xs i now past so_far =
     so_far.listed ∙ ap (flat_map (λ x. flat_map gives (parts x))) (take_all i xs past) ∙ flat_map_twice parts gives xs
 
--- What the statements so far assume and claim is listed, and nothing is wrong with them.
+-- The assumptions and the claims of the statements so far are listed, and none of these has a fault.
 pub record AreSoFar {A B X : Type 0} (assumed claimed : A → List X) (wrong : A → Option B) (xs : List A) (i : ℕ) (assumptions claims : List X) : Type 0 where
   pub assumed_so_far : IsSoFar assumed wrong xs i [] assumptions
   pub claimed_so_far : IsSoFar claimed wrong xs i [] claims

@@ -1,4 +1,4 @@
--- A file stands for one problem.
+-- A file has one problem.
 use Rattle.std.proofs.Common.{◌≡◌, refl, sym, ◌∙◌}
 use Rattle.adjoint_rules.specs.Problem.{polynomials, generators_in}
 use Rattle.adjoint_rules.proofs.Generators.{generators_are_unique}

@@ -1,4 +1,4 @@
--- The faults of a file as they are told.
+-- The faults of a file as they are returned.
 use Rattle.std.specs.Prelude.{◌≡◌, ℕ, List, Option, Some, None}
 use Rattle.signature_typing.specs.Types.{Spot, Sig, NameFault, name, NameStop, stop, SignatureFault, signature, PolyFault, polynomial, TypeFault, Fault, Memory}
 use Rattle.quiver.specs.Declarations.{Declaration, object_name}

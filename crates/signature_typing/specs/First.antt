@@ -1,4 +1,4 @@
--- The first thing that is found.
+-- The first result that is found.
 use Rattle.std.specs.Prelude.{List, [], ◌∷◌, Option, None}
 use Rattle.std.specs.Option.{option_or}
 

@@ -11,7 +11,7 @@ use Rattle.signature_typing.specs.Typing.{equations_in}
 abbrev pub AreNamed : List Declaration → List Statement → Type 0
 AreNamed ds statements = All (λ s. All (HasNames ds) (equations_in ds s)) statements
 
--- the signatures that a fault tells
+-- the signatures that a fault has
 abbrev pub HasFaultObjects : List Declaration → SignatureFault → Type 0
 HasFaultObjects ds (NotComposable at left right) = HasObjects ds left × HasObjects ds right
 HasFaultObjects ds (SumMismatch at left right) = HasObjects ds left × HasObjects ds right

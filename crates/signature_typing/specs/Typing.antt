@@ -1,4 +1,4 @@
--- The problem that a statement file stands for, and the first thing that is wrong with one.
+-- The problem of a statement file, or its first fault.
 use Rattle.std.specs.Prelude.{◌≡◌, List, [], ◌∷◌, ◌++◌, Option, Some, None, Result, Ok, Err}
 use Rattle.std.specs.List.{flat_map}
 use Rattle.std.specs.Option.{option_or, option_map}
@@ -29,7 +29,7 @@ signature_in ds e = equation_signature ds e.left e.right
 abbrev pub polynomial_in : List Declaration → Equation → Result Poly PolyFault
 polynomial_in ds e = equation_poly ds e.left e.right
 
--- the fault of a result, as it is told, and the value
+-- the fault of a result, as it is returned, or none
 abbrev pub fault_in : {A E : Type 0} → (E → TypeFault) → Result A E → Option TypeFault
 fault_in told (Ok x) = None
 fault_in told (Err e) = Some (told e)
@@ -38,7 +38,7 @@ abbrev pub value_in : {A E : Type 0} → Result A E → List A
 value_in (Ok x) = x ∷ []
 value_in (Err e) = []
 
--- what a statement assumes and claims
+-- the assumptions and the claims of a statement
 abbrev pub equations_in : List Declaration → Statement → List Equation
 equations_in ds s = equations_of ds s ++ claims_in s.kind
 
@@ -49,7 +49,7 @@ signature_fault ds e = fault_in (told_signature ds) (signature_in ds e)
 abbrev pub polynomial_fault : List Declaration → Spot → Equation → Option TypeFault
 polynomial_fault ds at e = fault_in (told_polynomial at) (polynomial_in ds e)
 
--- What is made of equations: the values, and the fault, where the statement begins at a place.
+-- A stage of equations: the values, and the fault, where the statement begins at a place.
 pub record Made (V : Type 0) : Type 0 where
   pub values : List Declaration → Equation → List V
   pub fault : List Declaration → Spot → Equation → Option TypeFault
@@ -80,23 +80,23 @@ wrong_signature = wrong_in signature_stage
 abbrev pub wrong_polynomial : List Declaration → Statement → Option TypeFault
 wrong_polynomial = wrong_in polynomial_stage
 
--- no claim is made
+-- the fault of a file without a claim
 abbrev pub wrong_claims : List Equation → Option TypeFault
 wrong_claims [] = Some no_claim
 wrong_claims (e ∷ es) = None
 
--- Signatures come first, then arithmetic, and then the number of claims.
+-- Signatures are tested first, then arithmetic, and then the number of claims.
 abbrev pub equation_fault : List Declaration → List Statement → Option TypeFault
 equation_fault ds statements =
     option_or (first_among (wrong_signature ds) statements)
     (option_or (first_among (wrong_polynomial ds) statements)
     (wrong_claims (claims_of statements)))
 
--- Names come before equations.
+-- Names are tested before equations.
 abbrev pub fault_of : List Statement → Option TypeFault
 fault_of statements = option_or (option_map told_name (name_fault_of statements)) (equation_fault (declarations_of statements) statements)
 
--- What the file says, where no name, signature or coefficient of it is wrong.
+-- The parts of the problem of a file whose names, signatures and coefficients have no fault.
 pub record ArePartsOf (statements : List Statement) (p : Parts) : Type 0 where
   pub quiver : p.quiver ≡ declarations_of statements
   pub order : p.order ≡ order_of p.quiver statements
@@ -108,11 +108,11 @@ pub record ArePartsOf (statements : List Statement) (p : Parts) : Type 0 where
   -- the claims
   pub claims : polynomials p.claims ≡ polynomials_of p.quiver (claims_of statements)
   pub claim_signatures : p.claim_sigs ≡ signatures_of p.quiver (claims_of statements)
-  -- the models that are looked for
+  -- the shapes of the models that are searched
   pub shapes : p.shapes ≡ shapes_of p.quiver statements
   pub solved : p.solved ≡ solved_of p.quiver statements
 
--- A file without a fault stands for the problem with these parts.
+-- The problem of a file without a fault has these parts.
 pub record IsProblemOf (statements : List Statement) (p : Problem) : Type 0 where
   pub no_fault : fault_of statements ≡ None
   pub parts : ArePartsOf statements p.parts

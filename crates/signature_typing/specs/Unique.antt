@@ -1,10 +1,10 @@
--- A file stands for one problem.
+-- A file has one problem.
 use Rattle.std.specs.Prelude.{◌≡◌, List}
 use Rattle.signature_typing.specs.Types.{Statement, Problem}
 use Rattle.adjoint_rules.specs.Problem.{polynomials}
 use Rattle.signature_typing.specs.Typing.{IsProblemOf}
 
--- Two problems say the same, and have the same generators.
+-- Two problems have the same parts and the same generators.
 pub record AreSame (p q : Problem) : Type 0 where
   pub quiver : p.parts.quiver ≡ q.parts.quiver
   pub order : p.parts.order ≡ q.parts.order

@@ -1,4 +1,4 @@
-//! Why a tree has no problem: the first fault with its code, its place and what is told of it.
+//! Why a tree has no problem: the first fault with its code, its place and its values.
 
 ghost use Rattle.std.specs.Prelude.{◌≡◌};
 ghost use Rattle.signature_typing.specs.Fault.{IsMemory, fault_at, told_name, told_stop, told_polynomial, no_claim};
@@ -15,8 +15,8 @@ use thiserror::Error;
 #[derive(Drop, Error)]
 pub enum TypeFault {
     /// The fault with this code, from 6 to 16. Lines and columns count from 1, and columns count characters; both are 0 where
-    /// there is no claim. Codes 10 and 11 tell two signatures, each by the names of its source and its target, and code 8
-    /// tells the limit.
+    /// there is no claim. Codes 10 and 11 have two signatures, each by the names of its source and its target, and code 8
+    /// has the limit.
     #[error("fault {code} at line {line}, column {column}")]
     Fault {
         code: u32,

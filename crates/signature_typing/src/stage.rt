@@ -1,4 +1,4 @@
-//! What a stage makes of the equations of a file, statement by statement.
+//! A stage over the equations of a file, statement by statement.
 
 ghost use Rattle.std.specs.Prelude.{◌≡◌, ◌++◌, ◌∷◌, [], map, None, IfOk, IfErr, OnOk};
 ghost use Rattle.std.specs.List.{All};
@@ -17,18 +17,18 @@ use statement_syntax::{Statement, StatementKind, Sum};
 use statement_tokens::Spot;
 use std::alloc::Global;
 
-/// What is made of each equation of a file.
+/// A stage over each equation of a file.
 pub(crate) trait Stage {
-    /// What is made of an equation.
+    /// The value of an equation.
     type Value: Drop;
-    /// What is said of it.
+    /// The value as contracts see it.
     type Said;
 
     ghost made: { Self → Made Self.Said };
 
     ghost said: { Self → Self.Value → Self.Said };
 
-    /// What is made of an equation, whose statement begins at this place.
+    /// The value of an equation, whose statement begins at this place.
     fn value_of(
         &self,
         alloc: Global,
@@ -43,14 +43,14 @@ pub(crate) trait Stage {
         ensures err { IfErr result (Explains ((made self.now).fault quiver.now at (equation left.now right.now))) };
 }
 
-/// What is made of the assumptions and of the claims.
+/// The values of the assumptions and of the claims.
 #[derive(Drop)]
 pub(crate) struct Stated<V: Drop> {
     pub assumptions: Listing<V>,
     pub claims: Listing<V>,
 }
 
-// Adds what is made of the equations, whose statement begins at this place.
+// Adds the values of the equations, whose statement begins at this place.
 #[tactic(auto, using(crate::proofs::Progress::progress))]
 fn push_equations<S: Stage>(
     alloc: Global,
@@ -72,7 +72,7 @@ fn push_equations<S: Stage>(
     Ok(())
 }
 
-// Adds what is made of the equations of the statement.
+// Adds the values of the equations of the statement.
 fn push_statement<S: Stage>(
     alloc: Global,
     stage: &S,
@@ -112,7 +112,7 @@ fn push_statement<S: Stage>(
     Ok(())
 }
 
-/// What the stage makes of the equations of a file, or the first fault that it finds.
+/// The values of the equations of a file, or the first fault that the stage finds.
 #[tactic(auto, using(crate::proofs::Progress::progress))]
 pub(crate) fn all_stated<S: Stage>(
     alloc: Global,

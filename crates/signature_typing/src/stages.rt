@@ -21,8 +21,8 @@ use statement_names::read_names;
 use statement_syntax::{Statement, Tree};
 use std::alloc::Global;
 
-/// The problem that the tree stands for, or its first fault: names, literals and counts come first, then signatures, then
-/// arithmetic, and then the want of a claim. `Memory` where memory is short.
+/// The problem of the tree, or its first fault: names, literals and counts come first, then signatures, then
+/// arithmetic, and then that there is no claim. `Memory` where memory is short.
 pub fn elaborate(alloc: Global, tree: &Tree) -> Result<Problem, TypeFault>
     ensures found { IfOk result (IsProblemOf tree.now.statements) }
     ensures refused { IfErr result (Explains (fault_of tree.now.statements)) }
@@ -31,7 +31,7 @@ pub fn elaborate(alloc: Global, tree: &Tree) -> Result<Problem, TypeFault>
     Ok(close_problem(alloc, parts)?)
 }
 
-// What the tree says. Each stage looks at all statements before the next one begins.
+// The parts of the problem. Each stage goes over all statements before the next one begins.
 fn parts_of(alloc: Global, tree: &Tree) -> Result<Parts, TypeFault>
     ensures parts { IfOk result (ArePartsOf tree.now.statements) }
     ensures posed { IfOk result IsPosed }
@@ -54,7 +54,7 @@ fn parts_of(alloc: Global, tree: &Tree) -> Result<Parts, TypeFault>
     })
 }
 
-// The signatures and the polynomials of all equations, of which one at least is a claim.
+// The signatures and the polynomials of all equations, of which at least one is a claim.
 #[tactic(auto, using(crate::proofs::Posed::ends))]
 fn typed(
     alloc: Global,
