@@ -1,4 +1,4 @@
--- What a statement leads to may say less, and it is handed on.
+-- The ending of a statement may say less, and it is returned.
 use Rattle.std.proofs.Common.{◌≡◌, ℕ, List, Result, Err}
 use Rattle.adjoint_rules.specs.declared.problem.Problem.{Problem}
 use Rattle.command_shape.specs.declared.stop.Stop.{Stop}

@@ -78,7 +78,7 @@ splits (x ∷ front) t rest (y ∷ front') t' rest' is =
     let tail : front ++ t ∷ rest ≡ front' ++ t' ∷ rest' = cc in
     subst (λ z. Split (x ∷ front) t (z ∷ front') t') head (pushed x front t front' t' (splits front t rest front' t' rest' tail))
 
--- what goes on goes on at each of its tokens
+-- a prefix of a file's tokens is one up to each of its tokens
 goes_before : (language : Language) (front : List Token) (t : Token) (more whole : List Token) → whole ≡ front ++ t ∷ more → GoesOnWithin language whole
     → GoesOnWithin language (front ++ t ∷ [])
 goes_before language front t more whole is on =
@@ -101,7 +101,7 @@ misfit_once bytes at at' m m' = by (splits m.front m.token m.rest m'.front m'.to
     by (later more is) = absurd (m.there (goes_before _ m.front m.token more m'.front is (subst (λ ts. GoesOnWithin (language_of ts) m'.front) (sym whole) m'.before)))
     by (earlier more is) = absurd (m'.there (goes_before _ m'.front m'.token more m.front is (subst (λ ts. GoesOnWithin (language_of ts) m.front) whole m.before)))
 
--- what goes on with the one misfit goes on with the other
+-- tokens up to one misfit, and those up to the other
 module _ (bytes : List ℕ) (at at' : Spot) (m : IsMisfit bytes at) (m' : IsMisfit bytes at') where
   goes_with : GoesOn (language_of (m'.front ++ m'.token ∷ m'.rest)) (m'.front ++ m'.token ∷ []) → GoesOn (language_of (m.front ++ m.token ∷ m.rest)) (m.front ++ m.token ∷ [])
   goes_with on =

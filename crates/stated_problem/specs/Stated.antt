@@ -1,4 +1,4 @@
--- The problem that the bytes of a statement stand for.
+-- The problem of the bytes of a statement.
 use Rattle.std.specs.Prelude.{ℕ, List}
 use Rattle.statement_syntax.specs.declared.tree.Statement.{Statement}
 use Rattle.statement_syntax.specs.Texts.{IsTreeOf}

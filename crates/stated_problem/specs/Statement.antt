@@ -1,4 +1,4 @@
--- What the bytes of a statement lead to: its first fault ends the run, or its problem goes on.
+-- The ending of the bytes of a statement: its first fault, or the ending of its problem.
 use Rattle.std.specs.Prelude.{ℕ, ◌≡◌, List, Option, Some, None}
 use Rattle.statement_tokens.specs.declared.place.Spot.{Spot}
 use Rattle.statement_syntax.specs.declared.fault.Fault.{Fault}
@@ -13,7 +13,7 @@ use Rattle.command_shape.specs.Ending.{Ending, refused_statement}
 use Rattle.command_shape.specs.Texts.{statement_fault}
 use Rattle.stated_problem.specs.Stated.{IsStated}
 
--- what the line of a fault of names and types says; want of memory is told by no line
+-- the text of a fault of names and types; want of memory has none
 abbrev pub typing_text : TypeFault → Option (List ℕ)
 typing_text (typing.Fault code line column left right limit) = Some (statement_fault code line column limit left right)
 typing_text (typing.Memory failed) = None

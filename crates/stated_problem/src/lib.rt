@@ -1,4 +1,4 @@
-//! The problem that a statement states, or how a run ends whose statement has none.
+//! The problem of a statement, or how a run ends whose statement has none.
 #![tactic(auto)]
 
 mod statement;

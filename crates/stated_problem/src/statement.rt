@@ -13,7 +13,7 @@ use signature_typing::{TypeFault, elaborate};
 use statement_syntax::{SyntaxFault, Tree, read_tree};
 use std::alloc::Global;
 
-/// The problem of the statement, or the ending that tells its first fault.
+/// The problem of the statement, or the ending of its first fault.
 pub fn read_statement(alloc: Global, statement: &[u8]) -> Result<Problem, Stop>
     requires { length statement.now ≤ statement_limit }
     ensures stated { IfOk result (IsStated statement.now) }
