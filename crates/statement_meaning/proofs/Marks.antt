@@ -77,7 +77,7 @@ module _ {Object Arrow : Type 0} (r : Reading Object Arrow) (laws : PreadditiveL
     follow-iterated zero a h = refl
     follow-iterated (suc n) a h = follow-compose n a a a h h h ∙ ap (s.compose a) (follow-iterated n a h)
 
-  -- so many factors of one kind, after a first one
+  -- this many factors of one kind, after a first one
   denotes-copies : (i : Sig) → i.source.0 ≡ i.target.0 → (n : ℕ) (p product x : Poly) (y z : Arrow) → DenotesAt s q f i p (Some y) → DenotesAt s q f i product (Some z)
       → product_from product (replicate n p) ≡ Ok x → DenotesAt s q f i x (Some (follow n z y))
   unfolding follow

@@ -1,4 +1,4 @@
--- A file has one tree: the reader comes to the tree of each list of lines that the bytes are.
+-- A file has one tree: the reader returns the tree of each list of lines that the bytes are.
 use Rattle.std.proofs.Common.{◌≡◌, ◌⊎◌, inl, inr, ℕ, List, ◌++◌, refl, sym, ap, subst, ◌∙◌}
 use Rattle.statement_syntax.specs.Steps.{run}
 use Rattle.statement_syntax.specs.Lines.{file_step}

@@ -62,7 +62,7 @@ module _ {Object Arrow : Type 0} {s : Structure Object Arrow} (laws : Preadditiv
   value_is_arrow : (e : Sig) (x : Poly) (a : Option Arrow) → DenotesAt s q f e x a → IsArrow s (f.object e.source.0) (f.object e.target.0) (value_of s q f e x)
   value_is_arrow e x a d = value_in laws q f rep e.source.0 e.target.0 d.source_below d.target_below x
 
-  -- a first factor that fits, by how it goes on behind it
+  -- a first factor that fits, by the rest after it
   fitting : (left : Sig) (part : Part) (parts : List Part) (p : Poly) (v : Option Arrow) (o : Option Sig) {X : Type 0} → Denotes s q f part.1 p v
       → signatures.product_from (signatures.product_step (Ok (Some left)) part.0 part.1) parts ≡ Ok o
       → ((right : Sig) → left.source.0 ≡ right.target.0 → DenotesAt s q f right p v → signatures.product_from (Ok (Some (from_to right.source.0 left.target.0))) parts ≡ Ok o → X) → X

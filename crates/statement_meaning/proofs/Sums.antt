@@ -71,7 +71,7 @@ module _ {Object Arrow : Type 0} {s : Structure Object Arrow} (laws : Preadditiv
     pub same : ((p ≡ []) × (a ≡ None)) ⊎ (a ≡ Some (value_of s q f e p))
 
   module _ (e : Sig) (in_u : e.source.0 < q.objects) (in_v : e.target.0 < q.objects) where
-    -- one term more in front
+    -- one more term before it
     added : (p r : Poly) (a b : Option Arrow) → DenotesAt s q f e p a → Adds e r b → DenotesAt s q f e (p ++ r) (plus s a b)
     added p r a b h m = record {
       source_below = in_u;
@@ -87,7 +87,7 @@ module _ {Object Arrow : Type 0} {s : Structure Object Arrow} (laws : Preadditiv
     adds : (p r : Poly) (a b : Option Arrow) → DenotesAt s q f e p a → Adds e r b → Adds e (p ++ r) (plus s a b)
     adds p r a b h m = let whole = added p r a b h m in record { paths = whole.paths; same = inr whole.same }
 
-    -- behind a term of this signature
+    -- after a term of this signature
     rest : (parts : List Part) (ss : List Summand) (vs : List (Option Arrow)) (o : Option Sig) → AreTerms parts ss vs
         → signatures.sum_from (Ok (Some e)) parts ≡ Ok o → (o ≡ Some e) × Adds e (summed ss) (total_value s vs)
     rest [] [] [] o h m = (sym (same_value (Some e) o m), record { paths = tt; same = inl (refl, refl) })

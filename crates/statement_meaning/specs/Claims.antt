@@ -1,4 +1,4 @@
--- What it means that a claim of a file is proved, by its equations as they stand in the file.
+-- What it means that a claim of a file is proved, by the equations of the file.
 use Rattle.std.specs.Prelude.{◌≡◌, ℕ, zero, suc, ℤ, false, List, slice_get, Some}
 use Rattle.std.specs.List.{AllByRecursion}
 use Rattle.definitions.specs.Category.{Structure, InvolutionLaws}
@@ -29,7 +29,7 @@ abbrev pub IsClaim : List Statement → ℕ → Equation → Type 0
 IsClaim statements zero e = ⊥
 IsClaim statements (suc n) e = slice_get (claims_of statements) n ≡ Some e
 
--- the claim with this number holds; where there is none, nothing is said
+-- the claim with this number holds; where there is none, nothing is claimed
 pub record ClaimHolds {Object Arrow : Type 0} (r : Reading Object Arrow) (statements : List Statement) (number : ℕ) : Type 0 where
   pub at : (e : Equation) → IsClaim statements number e → Holds r e.left e.right
 
@@ -39,8 +39,8 @@ pub record ProvesClaim {Object Arrow : Type 0} (s : Structure Object Arrow) (sta
   pub by_star : (involution : Arrow → Arrow) → InvolutionLaws s involution → (f : Representation Object Arrow)
       → StarRepresents s involution (quiver_in statements) f → Cancels s d
       → AssumptionsHold (read_in s involution statements f) statements → ClaimHolds (read_in s involution statements f) statements number
-  -- The quiver has a letter for the adjoint of each map in every file. No equation of one that isn't starred speaks of it, so that any arrow the other
-  -- way serves, a zero say; and of the involution nothing is asked.
+  -- The quiver has a letter for the adjoint of each map in every file. No equation of one that isn't starred has it, so that any arrow the other
+  -- way serves, a zero say; and nothing is required of the involution.
   pub plain : is_starred statements ≡ false → (involution : Arrow → Arrow) (f : Representation Object Arrow)
       → Represents s (quiver_in statements) f → Cancels s d
       → AssumptionsHold (read_in s involution statements f) statements → ClaimHolds (read_in s involution statements f) statements number

@@ -1,4 +1,4 @@
--- What it means that a claim of a file is refuted, by its equations as they stand in the file.
+-- What it means that a claim of a file is refuted, by the equations of the file.
 use Rattle.std.specs.Prelude.{ℕ, List}
 use Rattle.definitions.specs.Representation.{StarRepresents}
 use Rattle.matrix_models.specs.Matrix.{Matrix}

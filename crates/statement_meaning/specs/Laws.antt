@@ -21,7 +21,7 @@ use Rattle.adjoint_rules.specs.declared.problem.Problem.{Problem}
 use Rattle.signature_typing.specs.Typing.{IsProblemOf}
 use Rattle.statement_meaning.specs.Values.{Reading, Holds}
 
--- Bytes are one file, whose statements each promise speaks of: they have one tree at most.
+-- Bytes are one file, whose statements each promise is about: they have at most one tree.
 abbrev pub FilesHaveOneTree : Type 0
 FilesHaveOneTree = (bytes : List ℕ) (one other : List Statement) → IsTreeOf bytes one → IsTreeOf bytes other → one ≡ other
 
@@ -54,7 +54,7 @@ StarredEquationsAreRead {Object} {Arrow} s = (involution : Arrow → Arrow) → 
 abbrev pub AreRead : {Object Arrow : Type 0} → Structure Object Arrow → (Arrow → Arrow) → List Declaration → Representation Object Arrow → List made.Poly → List Equation → Type 0
 AreRead s involution ds f polys equations = AllZip (λ p e. HasValueZero s (quiver_of ds) f p.terms ↔ Holds (reading s involution ds f) e.left e.right) polys equations
 
--- The assumptions and the claims of a problem are read so, by the equations of the statements that it stands for, abbreviations written out.
+-- The assumptions and the claims of a problem are read so, by the equations of its statements, abbreviations written out.
 pub record IsRead {Object Arrow : Type 0} (s : Structure Object Arrow) (involution : Arrow → Arrow) (f : Representation Object Arrow) (statements : List Statement) (problem : Problem) : Type 0 where
   pub assumptions : AreRead s involution problem.parts.quiver f problem.parts.assumptions (assumptions_of problem.parts.quiver statements)
   pub claims : AreRead s involution problem.parts.quiver f problem.parts.claims (claims_of statements)

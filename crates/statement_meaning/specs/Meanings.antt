@@ -1,4 +1,4 @@
--- What the answers on a claim say of the equations as they stand in the file.
+-- What the answers on a claim say of the equations of the file.
 use Rattle.std.specs.Prelude.{ℕ, ℤ, List}
 use Rattle.definitions.specs.Category.{Structure}
 use Rattle.matrix_models.specs.declared.model.Model.{Model}

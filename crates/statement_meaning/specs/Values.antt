@@ -12,7 +12,7 @@ use Rattle.statement_syntax.specs.declared.tree.Term.{Term, Term', Row_of-Factor
 use Rattle.statement_syntax.specs.declared.tree.Sum.{Sum, Sum', Row_of-Term, end_of-Term, more_of-Term}
 use Rattle.expression_names.specs.Names.{letter_of, object_of}
 
--- What an expression is read in: a category, its involution, the declared names, and what the quiver of these stands for.
+-- Where an expression is read: a category, its involution, the declared names, and a representation of their quiver.
 pub record Reading (Object Arrow : Type 0) : Type 1 where
   pub category : Structure Object Arrow
   pub involution : Arrow → Arrow
@@ -60,7 +60,7 @@ abbrev pub marks_value : {Object Arrow : Type 0} → Reading Object Arrow → Li
 marks_value r [] a = a
 marks_value r (m ∷ marks) a = marks_value r marks (option_map (marked r m) a)
 
--- an integer multiple, where a number stands in front
+-- an integer multiple, where a number is before it
 abbrev pub scaled_value : {Object Arrow : Type 0} → Structure Object Arrow → Option Number → Option Arrow → Option Arrow
 scaled_value s None a = a
 scaled_value s (Some n) a = option_map (multiple s n.value) a
