@@ -43,7 +43,7 @@ none_first found other e = grind arith
 pub none_later : {A : Type 0} (found other : Option A) → option_or found other ≡ None → other ≡ None
 none_later found other e = grind arith
 
--- a new name behind others
+-- a new name after others
 pub Apart-none : Apart []
 unfolding IsDistinct
 Apart-none = tt

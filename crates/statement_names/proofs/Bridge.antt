@@ -1,4 +1,4 @@
--- The search by what room is left finds what is defined by what stands before.
+-- The search by the room that is left finds the fault that is defined by the occurrences before.
 use Rattle.std.proofs.Common.{◌≡◌, ℕ, ◌+◌, ◌-◌, ◌≤◌, Bool, if◌then◌else◌, is_some, List, [], ◌∷◌, ◌++◌, length, take, Option, Some, None, refl, ap, ap₂, sym, subst, ◌∙◌, arith, append_assoc}
 use Rattle.std.specs.Result.{result_err}
 use Rattle.std.specs.List.{sum_by}
@@ -49,7 +49,7 @@ number_declared (o ∷ os) =
       sum_by-cons (amount Maps) o os,
     )
 
--- a survey of what stands before, and what is still to come
+-- a survey of the occurrences before, and those that are left
 pub record Agrees (most_maps : ℕ) (kind : List ℕ → Option Kind) (before after : List Occurrence) (s : Survey) : Type 0 where
   pub kinds : (name : List ℕ) → kind_in s.kinds name ≡ kind name
   pub declared : s.kinds ≡ with_kinds (declared_in before) (declared_in after)
@@ -68,7 +68,7 @@ module _ (most_maps : ℕ) (kind : List ℕ → Option Kind) (before after : Lis
       let room : (c : Counted) → room_of s c ≡ limit_of most_maps c - sum_by (amount c) before = λ c. omega (arith, agrees.room c) in
       λ j. fault_of (record { most_maps = agrees.map_limit j; kind = λ name. agrees.kinds name j; declared = declared_same j; room = λ c. room c j }) o
 
-  -- what the occurrence declares is new, so it stands behind what is declared before it
+  -- what the occurrence declares is new, so it follows what is declared before it
   declared_next : (o : Occurrence) (os : List Occurrence) → after ≡ o ∷ os → with_kinds (declared_in before) (declared_by o) ≡ declared_in before ++ declared_by o
       → s.kinds ≡ with_kinds (declared_in (before ++ o ∷ [])) (declared_in os)
   declared_next o os next new =
@@ -115,7 +115,7 @@ first_same most_maps kind before s (o ∷ os) agrees =
     go (Some fault) is rest = refl
     go None is rest = rest is
 
--- the survey in front of the first statement
+-- the survey before the first statement
 abbrev pub begun : ℕ → List (List ℕ × Kind) → Survey
 begun most_maps kinds = record {
   kinds = kinds;
@@ -141,7 +141,7 @@ begun_agrees limit most_maps os kinds limit_is kinds_are = record {
     begun_room Maps = omega (arith, limit_is)
     begun_room c = refl
 
--- the survey behind occurrences none of which has a fault
+-- the survey after occurrences none of which has a fault
 agrees_behind : (most_maps : ℕ) (kind : List ℕ → Option Kind) (before : List Occurrence) (s : Survey) (os : List Occurrence) → Agrees most_maps kind before os s
     → first_fault most_maps kind before os ≡ None → (e : Survey) × Agrees most_maps kind (before ++ os) [] e
 agrees_behind most_maps kind before s [] agrees clean = (s, subst (λ os. Agrees most_maps kind os [] s) (sym (append-nil before)) agrees)

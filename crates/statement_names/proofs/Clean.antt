@@ -25,7 +25,7 @@ new_name found fault rest e = grind arith
 pub absent_from : (found : Option Kind) → is_some found ≡ false → found ≡ None
 absent_from found e = grind arith
 
--- what each occurrence keeps to, whatever stands before it
+-- what holds of each occurrence, whatever is before it
 abbrev pub IsGood : (List ℕ → Option Kind) → Occurrence → Type 0
 IsGood kind (declares_map n u v selfmade) = (selfmade && are_two_objects kind u v) ≡ false
 IsGood kind (uses u) = is_kind (kind u.name.text) u.kind ≡ true

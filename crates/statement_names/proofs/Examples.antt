@@ -51,7 +51,7 @@ twice : name_fault_of (line statement.Language ∷ line (statement.Objects (name
     ∷ line (statement.Eliminate (named 97 ∷ named 97 ∷ [])) ∷ []) ≡ Some (Double here)
 twice = refl
 
--- an exponent of 501 is refused at its literal, behind the name in front of it, and 500 is not
+-- an exponent of 501 is refused at its literal, after the name before it, and 500 is not
 abbrev there : Spot
 there = record { line = 2; column = 9 }
 

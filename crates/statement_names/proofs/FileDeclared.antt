@@ -34,7 +34,7 @@ use Rattle.statement_names.proofs.Fresh.{different_of_apart}
 use Rattle.statement_names.proofs.KindsFound.{lookup-append, same_bytes}
 use Rattle.statement_names.proofs.NamedKinds.{kind-named_in, apart_statements, apart_declarations, kinds-declared_objects, statement_kinds, object_from}
 
--- look-ups behind more declarations
+-- look-ups after more declarations
 stays : {A : Type 0} (found other : Option A) → is_some found ≡ true → option_or found other ≡ found
 stays found other there = grind arith
 
@@ -69,7 +69,7 @@ all_append test xs ys h k = rw (list_all-append test xs ys, h, k) refl
 zero_plus : (n : ℕ) → n ≡ 0 + n
 zero_plus n = omega arith
 
--- what stays with an object in front of a list holds with the objects of statements in front of it
+-- what stays with an object before a list holds with the objects of statements before it
 in_front : (P : List Declaration → Type 0) → ((name : List ℕ) (ds : List Declaration) → P ds → P (object name ∷ ds))
     → (statements : List Statement) (ds : List Declaration) → P ds → P (declared_objects statements ++ ds)
 in_front P step [] ds h = h
@@ -191,7 +191,7 @@ module _ (statements : List Statement) (clean : name_fault_of statements ≡ Non
   pub file_declared : IsDeclared (declarations_of statements)
   file_declared =
       let maps = declared_maps objects statements in
-      -- maps are behind the objects, and add none
+      -- maps are after the objects, and add none
       let no_more : object_count (objects ++ maps) ≡ object_count objects =
       omega (arith, object_count-append objects maps, object_count-maps objects statements) in
       let no_fewer : map_count (objects ++ maps) ≡ map_count maps =
@@ -205,11 +205,11 @@ module _ (statements : List Statement) (clean : name_fault_of statements ≡ Non
             (in_front (λ ds. list_all (has_ends (object_count objects)) ds ≡ true) (λ name ds h. h) statements maps (all_maps_end statements statements_good));
       }
 
--- what stands before the maps of a statement
+-- the declarations before the maps of a statement
 abbrev pub quiver_before : List Statement → ℕ → List Declaration
 quiver_before statements i = declared_objects statements ++ declared_maps (declared_objects statements) (take i statements)
 
--- the declarations of a statement behind those of the statements before it
+-- the declarations of a statement after those of the statements before it
 module _ (statements : List Statement) (clean : name_fault_of statements ≡ None) (i : ℕ) (s : Statement) (below : i < length statements) (at : s ≡ get_or statements i s) where
   split : (f : Statement → List Declaration) → flat_map f statements ≡ flat_map f (take (i + 1) statements) ++ flat_map f (drop (i + 1) statements)
   split f = ap (flat_map f) (sym (take-append-drop (i + 1) statements)) ∙ flat_map-append f (take (i + 1) statements) (drop (i + 1) statements)
@@ -250,7 +250,7 @@ module _ (statements : List Statement) (clean : name_fault_of statements ≡ Non
       ap (λ ms. file_objects ++ ms) (split (λ t. maps_in file_objects t.kind)) ∙ sym (append_assoc file_objects first later) in
       (later, subst (λ ds. IsDeclared (ds ++ later)) (sym maps_next) (subst IsDeclared whole (file_declared statements clean)))
 
--- each statement fits behind those before it
+-- each statement fits after those before it
 pub ruleset each_fits = (objects_fit, ends_fit, maps_fit, maps_next)
 
 -- all objects come first

@@ -1,4 +1,4 @@
--- A file in whose names nothing is wrong is ready for the stages behind.
+-- A file in whose names nothing is wrong is ready for the stages after.
 use Rattle.std.proofs.Common.{◌≡◌, ◌<◌, ◌≤◌, List, None, refl, sym, subst}
 use Rattle.quiver.specs.Declarations.{object_count, letter_count}
 use Rattle.statement_names.specs.Types.{Statement}

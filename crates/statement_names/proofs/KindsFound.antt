@@ -45,7 +45,7 @@ kind_in-with_kinds front (d ∷ more) q =
     ∙ same-append (with_kind front d.0 d.1) (front ++ d ∷ []) more q (kind_in-with_kind front d.0 d.1 q)
     ∙ ap (λ ks. kind_in ks q) (append_assoc front (d ∷ []) more)
 
--- new declarations stand behind those before them
+-- new declarations follow those before them
 grown : (front more : List (List ℕ × Kind)) → (new : List (List ℕ × Kind)) × (with_kinds front more ≡ front ++ new)
 grown front [] = ([], sym (append-nil front))
 grown front (d ∷ more) = go (is_some (kind_in front d.0)) (grown front more) (grown (front ++ d ∷ []) more)

@@ -63,7 +63,7 @@ mutual
 sides-quiet : (left right : Sum) → IsQuiet (sides_occurrences left right)
 sides-quiet left right = Each-append IsUse (sum_occurrences left) (sum_occurrences right) (sum-quiet left) (sum-quiet right)
 
--- which adds to no count and declares nothing
+-- which counts as nothing and declares nothing
 use_amount : (c : Counted) (o : Occurrence) → IsUse o → amount c o ≡ 0
 use_amount Objects (declares_object n) h = absurd h
 use_amount Maps (declares_map n u v selfmade) h = absurd h
@@ -92,7 +92,7 @@ declared-made : (kind : Kind) (make : Name → Occurrence) → ((n : Name) → d
 declared-made kind make each [] = refl
 declared-made kind make each (n ∷ names) = ap₂ (λ xs ys. xs ++ ys) (each n) (declared-made kind make each names)
 
--- what a statement declares or begins, in front of what it only uses
+-- what a statement declares or begins, before what it only uses
 abbrev pub begun_by : Spot → StatementKind → List Occurrence
 begun_by at (statement.Objects names) = map (λ n. declares_object n) names
 begun_by at (statement.Maps names source target selfmade) = map (λ n. declares_map n source.text target.text selfmade) names

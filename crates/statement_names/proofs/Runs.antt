@@ -21,7 +21,7 @@ run-append : (s : Survey) (xs ys : List Occurrence) → run s (xs ++ ys) ≡ the
 run-append s [] ys = refl
 run-append s (x ∷ xs) ys = ap (goes_on (fault_at s x)) (run-append (behind s x) xs ys) ∙ then_run-goes_on (fault_at s x) (run (behind s x) xs) ys
 
--- behind the first there is a survey from which the others are searched, or a fault
+-- after the first there is a survey from which the others are searched, or a fault
 pub run_on : (s : Survey) (xs ys : List Occurrence) (found : Result Survey NameFault) → run s xs ≡ found → run s (xs ++ ys) ≡ then_run found ys
 run_on s xs ys found is = run-append s xs ys ∙ ap (λ r. then_run r ys) is
 

@@ -47,7 +47,7 @@ named_by pairs = map (λ p. p.0) pairs
 abbrev pub AreBetween : ℕ → List (Name × Number) → Type 0
 AreBetween most pairs = Each (λ p. IsBetween most (value_of p.1.value)) pairs
 
--- a list of names: each stands for what it is to, and none is listed twice
+-- a list of names: each stands for what it has to, and none is listed twice
 pub record AreListed (IsOne : List ℕ → Type 0) (names : List Name) : Type 0 where
   pub named : Each (λ n. IsOne n.text) names
   pub once : Once names

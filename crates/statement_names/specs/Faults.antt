@@ -1,4 +1,4 @@
--- The first thing that is wrong with the names, literals and first words of a file.
+-- The first fault of the names, literals and first words of a file.
 use Rattle.std.specs.Prelude.{◌≡◌, ℕ, ℤ, ◌-◌, pos, negsuc, Bool, true, false, ◌&&◌, not, nat_lt, nat_le, if◌then◌else◌, is_some, List, []}
 use Rattle.std.specs.Prelude.{◌∷◌, ◌++◌, Option, Some, None, sum_by}
 use Rattle.std.specs.List.{flat_map, list_any}
@@ -23,7 +23,7 @@ declared_by o = []
 abbrev pub declared_in : List Occurrence → List (List ℕ × Kind)
 declared_in os = flat_map declared_by os
 
--- what a file may have only so many of
+-- what a file may have only a limited number of
 pub data Counted : Type 0 where
   Objects : Counted
   Maps : Counted
@@ -32,7 +32,7 @@ pub data Counted : Type 0 where
   Claims : Counted
   Shapes : Counted
 
--- how many there may be, where this many maps may be declared
+-- how many there may be, where at most this many maps may be declared
 abbrev pub limit_of : ℕ → Counted → ℕ
 limit_of most_maps Objects = object_limit
 limit_of most_maps Maps = most_maps
@@ -51,7 +51,7 @@ amount Claims (begins_claim at) = 1
 amount Shapes (begins_shape at) = 1
 amount counted o = 0
 
--- what a name is declared as: its first declaration counts
+-- what a name is declared as, by its first declaration
 abbrev pub kind_in : List (List ℕ × Kind) → List ℕ → Option Kind
 kind_in declared name = lookup (bytes_eq name) declared
 
@@ -76,7 +76,7 @@ value_of (negsuc n) = 0
 abbrev pub is_between : ℕ → ℕ → ℕ → Bool
 is_between least most n = nat_le least n && nat_le n most
 
--- the fault where there is no room for so many more
+-- the fault where there is no room for this many more
 abbrev pub short_of : ℕ → ℕ → NameFault → Option NameFault
 short_of room more fault = if nat_lt room more then Some fault else None
 
@@ -89,7 +89,7 @@ declared_fault declared room limit name =
 abbrev pub used_fault : (List ℕ → Option Kind) → Use → Option NameFault
 used_fault kind u = if is_kind (kind u.name.text) u.kind then None else Some (Unknown u.name.at)
 
--- the first fault, or else another where something is wrong
+-- the first fault, or else the later one where something is wrong
 abbrev pub or_else : Option NameFault → Bool → NameFault → Option NameFault
 or_else (Some fault) wrong later = Some fault
 or_else None wrong later = if wrong then Some later else None
@@ -97,7 +97,7 @@ or_else None wrong later = if wrong then Some later else None
 abbrev pub number_fault : Bool → NameFault → Option NameFault
 number_fault good fault = if good then None else Some fault
 
--- What is known in front of an occurrence: how many maps the file may declare, what each of its names is declared as,
+-- What is known before an occurrence: how many maps the file may declare, what each of its names is declared as,
 -- what is declared so far, and how many more there may be.
 pub record Known : Type 0 where
   pub most_maps : ℕ
@@ -105,7 +105,7 @@ pub record Known : Type 0 where
   pub declared : List (List ℕ × Kind)
   pub room : Counted → ℕ
 
--- what is wrong with it
+-- its fault
 abbrev pub fault_of : Known → Occurrence → Option NameFault
 fault_of k (declares_object name) = declared_fault k.declared (k.room Objects) object_limit name
 fault_of k (declares_map name source target selfmade) =
@@ -119,7 +119,7 @@ fault_of k (begins_assumptions count at) = short_of (k.room Assumptions) count (
 fault_of k (begins_claim at) = short_of (k.room Claims) 1 (TooMany at claim_limit)
 fault_of k (begins_shape at) = short_of (k.room Shapes) 1 (TooMany at shape_limit)
 
--- what is known behind some occurrences: they have taken up room
+-- what is known after some occurrences, for which room was taken
 abbrev pub known_behind : ℕ → (List ℕ → Option Kind) → List Occurrence → Known
 known_behind most_maps kind before = record {
   most_maps = most_maps;
@@ -128,7 +128,7 @@ known_behind most_maps kind before = record {
   room = λ counted. limit_of most_maps counted - sum_by (amount counted) before;
 }
 
--- the fault of the first of some occurrences that has one behind all before it
+-- the first fault of some occurrences, after all those before them
 abbrev pub first_fault : ℕ → (List ℕ → Option Kind) → List Occurrence → List Occurrence → Option NameFault
 first_fault most_maps kind before [] = None
 first_fault most_maps kind before (o ∷ os) = option_or (fault_of (known_behind most_maps kind before) o) (first_fault most_maps kind (before ++ o ∷ []) os)
@@ -137,11 +137,11 @@ first_fault most_maps kind before (o ∷ os) = option_or (fault_of (known_behind
 abbrev pub kind_within : List Statement → List ℕ → Option Kind
 kind_within statements = kind_in (declared_in (occurrences_of statements))
 
--- the first thing that is wrong with the file
+-- the first fault of the file
 abbrev pub name_fault_of : List Statement → Option NameFault
 name_fault_of statements = first_fault (map_limit_of statements) (kind_within statements) [] (occurrences_of statements)
 
--- the fault that is found is the answer, or memory was short
+-- the fault is the first one, or memory was short
 abbrev pub Explains : Option NameFault → NameStop → Type 0
 Explains found (stop.Fault fault) = found ≡ Some fault
 Explains found (stop.Memory e) = Unit {0}

@@ -1,4 +1,4 @@
--- Which objects a file marks: those whose identity stands in one of its equations.
+-- Which objects a file marks: those whose identity occurs in one of its equations.
 use Rattle.std.specs.Prelude.{ℕ, Bool, ◌||◌, List, ◌++◌, map}
 use Rattle.std.specs.List.{flat_map, list_any}
 use Rattle.quiver.specs.Declarations.{Declaration, object_count}
@@ -15,7 +15,7 @@ stated_by ds s = equations_of ds s ++ claims_in s.kind
 abbrev pub all_equations : List Declaration → List Statement → List Equation
 all_equations ds statements = flat_map (stated_by ds) statements
 
--- whether the identity of an object stands in an equation
+-- whether the identity of an object occurs in an equation
 abbrev pub writes_identity : List Declaration → ℕ → Equation → Bool
 writes_identity ds v e = has_identity ds v e.left || has_identity ds v e.right
 

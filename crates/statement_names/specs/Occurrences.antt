@@ -16,23 +16,23 @@ pub data Occurrence : Type 0 where
   declares_map : Name → List ℕ → List ℕ → Bool → Occurrence
   -- a declared name is used
   uses : Use → Occurrence
-  -- it is used in a list of names, behind these
+  -- it is used in a list of names, after these
   lists : List (List ℕ) → Use → Occurrence
-  -- a literal that is to be from 1 to so much, and one that is to be a modulus
+  -- a literal that has to be from 1 to this, and one that has to be a modulus
   counts : ℕ → Number → Occurrence
   modulus : Number → Occurrence
-  -- the first word of a statement: of an order, of so many assumptions, of a claim, of a shape
+  -- the first word of a statement: of an order, of this many assumptions, of a claim, of a shape
   begins_order : Spot → Occurrence
   begins_assumptions : ℕ → Spot → Occurrence
   begins_claim : Spot → Occurrence
   begins_shape : Spot → Occurrence
 
--- a list of names behind others of the list
+-- a list of names after others of the list
 abbrev pub names_behind : Kind → List (List ℕ) → List Name → List Occurrence
 names_behind kind front [] = []
 names_behind kind front (name ∷ names) = lists front (use_of kind name) ∷ names_behind kind (front ++ name.text ∷ []) names
 
--- a list of names, each with a literal from 1 to so much
+-- a list of names, each with a literal from 1 to this
 abbrev pub pairs_behind : Kind → ℕ → List (List ℕ) → List (Name × Number) → List Occurrence
 pairs_behind kind most front [] = []
 pairs_behind kind most front (pair ∷ pairs) =

@@ -18,7 +18,7 @@ with_star ds a = let s = star (quiver_of ds) a in if nat_eq s a then letter a �
 abbrev pub letters_for : List Declaration → Name → List Letter
 letters_for ds name = with_star ds (letter_of ds name)
 
--- they weigh what the literal says
+-- their weight is the value of the literal
 abbrev pub weights_of : List Declaration → Name × Number → List (Letter × ℕ)
 weights_of ds pair = map (λ l. (l, value_of pair.1.value)) (letters_for ds pair.0)
 
@@ -29,7 +29,7 @@ order_or ds (statement.Weight pairs) later = Weight (flat_map (weights_of ds) pa
 order_or ds (statement.Eliminate names) later = Block (flat_map (letters_for ds) names)
 order_or ds kind later = later
 
--- the one order of the file, and the canonical one where it has none
+-- the one order of the file, or the default one where it has none
 abbrev pub order_of : List Declaration → List Statement → OrderSpec
 order_of ds [] = Degree
 order_of ds (s ∷ statements) = order_or ds s.kind (order_of ds statements)

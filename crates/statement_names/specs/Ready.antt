@@ -1,4 +1,4 @@
--- What holds of a file in whose names nothing is wrong.
+-- What holds of a file whose names have no fault.
 use Rattle.std.specs.Prelude.{◌<◌, ◌≤◌, List, length, AllPairs}
 use Rattle.std.specs.List.{All}
 use Rattle.word_orders.specs.Specified.{IsSound}
@@ -18,7 +18,7 @@ pub record HasNames (ds : List Declaration) (e : Equation) : Type 0 where
   pub left : AreNames ds e.left
   pub right : AreNames ds e.right
 
--- The declarations, the order, the shapes and the letters of the file can be worked with.
+-- The declarations, the order, the shapes and the letters of the file are valid.
 pub record IsReady (ds : List Declaration) (statements : List Statement) : Type 0 where
   pub declared : IsDeclared ds
   pub objects_first : ObjectsFirst ds
@@ -31,7 +31,7 @@ pub record IsReady (ds : List Declaration) (statements : List Statement) : Type 
   -- the identities that are written
   pub marked_objects : All (λ v. v.0 < object_count ds) (marked_of ds statements)
   pub marked_ascending : AllPairs (λ v w. v.0 < w.0) (marked_of ds statements)
-  -- the models that are looked for
+  -- the shapes of the models that are searched
   pub some_shape : 1 ≤ length (shapes_of ds statements)
   pub few_shapes : length (shapes_of ds statements) ≤ shape_limit
   pub shapes : All (IsShape (object_count ds)) (shapes_of ds statements)

@@ -1,10 +1,10 @@
--- Whether a file is starred: it speaks of adjoints.
+-- Whether a file is starred: it has adjoints.
 use Rattle.std.specs.Prelude.{Bool, true, false, ◌||◌, List}
 use Rattle.std.specs.List.{list_any}
 use Rattle.expression_names.specs.Occurrences.{has_quote}
 use Rattle.statement_names.specs.Types.{Statement, StatementKind, statement}
 
--- whether a quote or the word `self` stands in a statement, abbreviations written out
+-- whether a quote or the word `self` occurs in a statement, abbreviations written out
 abbrev pub is_starred_in : StatementKind → Bool
 is_starred_in (statement.Maps names source target selfmade) = selfmade
 is_starred_in (statement.Assume left right) = has_quote left || has_quote right

@@ -1,4 +1,4 @@
--- How the program looks for the first fault: occurrence by occurrence, with how much more of each there may be.
+-- How the program finds the first fault: occurrence by occurrence, with how much more of each there may be.
 use Rattle.std.specs.Prelude.{◌≡◌, ℕ, ◌+◌, ◌-◌, if◌then◌else◌, is_some, List, [], ◌∷◌, ◌++◌, map, fold, take}
 use Rattle.std.specs.Prelude.{Option, Some, None, Result, Ok, Err}
 use Rattle.statement_names.specs.Types.{NameFault, NameStop, stop, Kind, Object, Map, Survey, Name, StatementKind, statement}
@@ -19,15 +19,15 @@ kinds_by kind = []
 abbrev pub with_kind : List (List ℕ × Kind) → List ℕ → Kind → List (List ℕ × Kind)
 with_kind declared name kind = if is_some (kind_in declared name) then declared else declared ++ (name, kind) ∷ []
 
--- further declarations, each unless its name is declared already
+-- more declarations, each unless its name is declared already
 abbrev pub with_kinds : List (List ℕ × Kind) → List (List ℕ × Kind) → List (List ℕ × Kind)
 with_kinds declared more = fold (λ kinds d. with_kind kinds d.0 d.1) declared more
 
--- how many names are declared so far: each takes up room
+-- how many names are declared so far, by the room that they took
 abbrev pub declared_count : Survey → ℕ
 declared_count s = (object_limit - s.objects) + (s.map_limit - s.maps)
 
--- what is declared so far: the first of all that the file declares
+-- what is declared so far: the first of all declarations of the file
 abbrev pub declared_before : Survey → List (List ℕ × Kind)
 declared_before s = take (declared_count s) s.kinds
 
@@ -40,11 +40,11 @@ room_of s Assumptions = s.assumptions
 room_of s Claims = s.claims
 room_of s Shapes = s.shapes
 
--- what is wrong with an occurrence
+-- the fault of an occurrence
 abbrev pub fault_at : Survey → Occurrence → Option NameFault
 fault_at s o = fault_of (record { most_maps = s.map_limit; kind = kind_in s.kinds; declared = declared_before s; room = room_of s }) o
 
--- the survey behind it
+-- the survey after it
 abbrev pub behind : Survey → Occurrence → Survey
 behind s (declares_object name) = record s { objects = s.objects - 1 }
 behind s (declares_map name source target selfmade) = record s { maps = s.maps - 1 }
@@ -58,12 +58,12 @@ abbrev pub goes_on : Option NameFault → Result Survey NameFault → Result Sur
 goes_on (Some fault) later = Err fault
 goes_on None later = later
 
--- the survey behind all of some occurrences, or their first fault
+-- the survey after all of some occurrences, or their first fault
 abbrev pub run : Survey → List Occurrence → Result Survey NameFault
 run s [] = Ok s
 run s (o ∷ os) = goes_on (fault_at s o) (run (behind s o) os)
 
--- what a search answers that goes on from a survey or gives a fault
+-- the survey that a search ends with, or its fault
 abbrev pub outcome : {A : Type 0} → Survey → Result A NameFault → Result Survey NameFault
 outcome s (Ok x) = Ok s
 outcome s (Err fault) = Err fault

@@ -1,4 +1,4 @@
--- The types that definitions and proofs of the crate name. A type stands under a small name too where its variants are written behind it.
+-- The types that definitions and proofs of the crate name. A type has a small name too where its variants are written after it.
 pub use Rattle.statement_tokens.specs.declared.place.Spot.{Spot}
 pub use Rattle.statement_syntax.specs.declared.tree.Factor.{Factor}
 pub use Rattle.statement_syntax.specs.declared.tree.Mark.{Mark}

@@ -1,4 +1,4 @@
--- Names where one of an object or of a map is to stand.
+-- Names where one of an object or of a map is expected.
 use Rattle.statement_names.specs.Types.{Name, Kind, Object, Map}
 
 pub record Use : Type 0 where

@@ -81,7 +81,7 @@ impl Survey {
         self.sides(left, right)
     }
 
-    // An abbreviation of so many assumptions on two maps.
+    // An abbreviation of this many assumptions on two maps.
     fn abbreviation(
         &mut self,
         count: u32,

@@ -9,7 +9,7 @@ use quiver::Quiver;
 use statement_syntax::{Statement, StatementKind};
 use std::alloc::{AllocError, Global};
 
-/// The quiver that statements declare, in whose names nothing is wrong.
+/// The quiver of statements whose names have no fault.
 #[tactic(auto, using(crate::proofs::FileDeclared::each_fits))]
 pub fn declare_all(alloc: Global, statements: &[Statement]) -> Result<Quiver, AllocError>
     requires { name_fault_of statements.now ≡ None }

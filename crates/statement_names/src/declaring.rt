@@ -83,7 +83,7 @@ impl Survey {
             .is_among_first(self.declared(), name.text.as_str())
     }
 
-    // How many names are declared so far: each takes up room.
+    // How many names are declared so far, by the room that they took.
     fn declared(&self) -> usize
         ensures { result ≡ declared_count self.now }
     {
@@ -92,7 +92,7 @@ impl Survey {
         objects as usize + maps as usize
     }
 
-    // Whether both names are objects, and not the same.
+    // Whether both names are objects, and not the same one.
     fn are_two_objects(&self, first: &Name, second: &Name) -> bool
         ensures { result ≡ are_two_objects (kind_in self.now.kinds) first.now.text second.now.text }
     {

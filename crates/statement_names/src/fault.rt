@@ -8,30 +8,30 @@ use statement_tokens::Spot;
 use std::alloc::{AllocError, AllocFailed};
 use thiserror::Error;
 
-/// What is wrong with a name, a literal or a statement, with its place.
+/// The fault of a name, a literal or a statement, with its place.
 #[derive(Clone, Copy, Debug, Error)]
 pub enum NameFault {
-    /// The name isn't declared, or it is a map's where an object stands, or an object's where a map stands.
+    /// The name isn't declared, or it is a map's in the place of an object's, or an object's in the place of a map's.
     #[error("line {}, column {}: no such name", at.line, at.column)]
     Unknown { at: Spot },
     /// The name is declared or listed for the second time, or this is a second statement of an order.
     #[error("line {}, column {}: for the second time", at.line, at.column)]
     Double { at: Spot },
-    /// There are more of them than may be.
+    /// There are more of them than the limit.
     #[error("line {}, column {}: more than {limit}", at.line, at.column)]
     TooMany { at: Spot, limit: u32 },
     /// A map that is to be its own adjoint has two different ends.
     #[error("line {}, column {}: the source and the target differ", at.line, at.column)]
     NotSquare { at: Spot },
-    /// A weight, a modulus, a side or an exponent that may not be.
+    /// A weight, a modulus, a side or an exponent that is out of range.
     #[error("line {}, column {}: no such number may stand here", at.line, at.column)]
     BadNumber { at: Spot },
 }
 
-/// Why the names of a file are not read: the first thing that is wrong with them, or want of memory.
+/// Why the names of a file are not read: their first fault, or want of memory.
 #[derive(Debug, Drop, Error)]
 pub enum NameStop {
-    /// Something is wrong with a name, a literal or a statement.
+    /// A name, a literal or a statement has a fault.
     #[error(transparent)]
     Fault(NameFault),
     /// Memory is short.

@@ -49,7 +49,7 @@ impl Kinds {
         self.kinds.get(name).copied()
     }
 
-    /// Whether the name is one of the first so many.
+    /// Whether the name is one of the first `count`.
     #[tactic(auto, using(crate::proofs::Keys::among_first))]
     pub fn is_among_first(&self, count: usize, name: &str) -> bool
         ensures { result ≡ is_some (kind_in (take count self.now) name.now) }
@@ -60,7 +60,7 @@ impl Kinds {
         }
     }
 
-    /// Declares the name, unless it is declared already. Where memory is short, all stays as it was.
+    /// Declares the name, unless it is declared already. Where memory is short, nothing changes.
     #[tactic(auto, using(crate::proofs::Keys::bytes_inserted))]
     pub fn declare(&mut self, name: &str, kind: Kind) -> Result<(), AllocError>
         ensures ok { OnOk result (self.new ≡ with_kind self.old name.now kind) }

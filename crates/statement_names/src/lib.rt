@@ -1,4 +1,4 @@
-//! The names of a statement file: what it declares, its order, its shapes, and the first thing that is wrong with them.
+//! The names of a statement file: what it declares, its order, its shapes, and the first fault of its names.
 #![tactic(auto)]
 
 mod by_kind;

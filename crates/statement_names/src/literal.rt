@@ -1,4 +1,4 @@
-//! The values of literals, and which values may stand where.
+//! The values of literals, and the ranges that they have to be in.
 
 ghost use Rattle.std.specs.Prelude.{◌≡◌};
 ghost use Rattle.std.specs.Result.{result_err};
@@ -17,7 +17,7 @@ pub fn value_of(number: &Number) -> u128
     if value < 0 { 0 } else { value as u128 }
 }
 
-/// Refuses a literal that isn't from 1 to so much.
+/// Refuses a literal that isn't from 1 to `most`.
 pub fn check_count(most: u32, number: &Number) -> Result<(), NameFault>
     ensures { result_err result ≡ number_fault (is_between 1 most (value_of number.now.value)) (NameFault.BadNumber number.now.at) }
 {

@@ -1,4 +1,4 @@
-//! The objects whose identities the assumptions and the claims of a file write.
+//! The objects whose identities occur in the assumptions and the claims of a file.
 
 ghost use Rattle.std.specs.Prelude.{◌≡◌, ◌≤◌, ◌^◌, ◌||◌, false, length, map, IfOk, OnOk};
 ghost use Rattle.std.specs.List.{list_any, slice_index_or};
@@ -16,7 +16,7 @@ use statement_syntax::{Name, Primary, Statement, StatementKind, Sum, Term};
 use std::alloc::{AllocError, Global};
 use word_core::Object;
 
-/// The objects whose identities stand in an assumption or a claim, abbreviations written out.
+/// The objects whose identities occur in an assumption or a claim, abbreviations written out.
 pub fn read_marked(
     alloc: Global,
     quiver: &Quiver,
@@ -29,7 +29,7 @@ pub fn read_marked(
     marked_objects(alloc, &marks)
 }
 
-// Marks the objects whose identities statements write.
+// Marks the objects whose identities occur in statements.
 fn mark_statements(
     alloc: Global,
     quiver: &Quiver,
@@ -45,7 +45,7 @@ fn mark_statements(
     Ok(())
 }
 
-// Marks the objects whose identities a statement writes.
+// Marks the objects whose identities occur in a statement.
 fn mark_statement(
     alloc: Global,
     quiver: &Quiver,
@@ -88,7 +88,7 @@ fn mark_sides(quiver: &Quiver, left: &Sum, right: &Sum, marks: &mut [bool])
     mark_sum(quiver, right, marks);
 }
 
-// Marks the objects whose names stand in square brackets in an expression.
+// Marks the objects whose names are in square brackets in an expression.
 #[cycle(identities)]
 fn mark_sum(quiver: &Quiver, sum: &Sum, marks: &mut [bool])
     requires { length marks.old ≡ object_count quiver.now }

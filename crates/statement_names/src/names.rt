@@ -1,4 +1,4 @@
-//! What the names of a file stand for, or the first thing that is wrong with them.
+//! What the names of a file stand for, or their first fault.
 
 ghost use Rattle.std.specs.Prelude.{◌≡◌, IfOk, IfErr, OnOk, None};
 ghost use Rattle.statement_names.specs.Faults.{name_fault_of, Explains};
@@ -33,17 +33,17 @@ pub struct Names {
     pub quiver: Quiver,
     /// The order of words that the file asks for.
     pub order: OrderSpec,
-    /// Whether `'` or `self` stands in a statement, or a `pinv` or `projection` does.
+    /// Whether `'` or `self` occurs in a statement, or there is a `pinv` or `projection`.
     pub starred: bool,
     /// The objects whose identities occur, ascending.
     pub marked: Listing<Object>,
-    /// The shapes of models that are looked for.
+    /// The shapes of the models that are searched.
     pub shapes: Listing<Shape>,
     /// The maps that are to be solved for, ascending.
     pub solved: Listing<Letter>,
 }
 
-/// What the names of a file stand for, or the first thing that is wrong with them.
+/// What the names of a file stand for, or their first fault.
 pub fn read_names(alloc: Global, tree: &Tree) -> Result<Names, NameStop>
     ensures sound { OnOk result (name_fault_of tree.now.statements ≡ None) }
     ensures fault { IfErr result (Explains (name_fault_of tree.now.statements)) }
@@ -53,7 +53,7 @@ pub fn read_names(alloc: Global, tree: &Tree) -> Result<Names, NameStop>
     ensures marked { IfOk result (λ names. names.marked ≡ marked_of names.quiver tree.now.statements) }
     ensures shapes { IfOk result (λ names. names.shapes ≡ shapes_of names.quiver tree.now.statements) }
     ensures solved { IfOk result (λ names. names.solved ≡ solved_of names.quiver tree.now.statements) }
-    // What later stages rest on.
+    // What later stages need.
     ensures ready { IfOk result (λ names. IsReady names.quiver tree.now.statements) }
 {
     let statements = tree.statements.as_slice();

@@ -18,7 +18,7 @@ use std::alloc::{AllocError, Global};
 use word_core::Letter;
 use word_orders::OrderSpec;
 
-/// The order that statements ask for, in whose names nothing is wrong.
+/// The order that statements ask for, whose names have no fault.
 pub fn read_order(
     alloc: Global,
     quiver: &Quiver,

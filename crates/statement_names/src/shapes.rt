@@ -1,4 +1,4 @@
-//! The shapes of models that a file asks for, or the two that are looked for where it asks for none.
+//! The shapes of models that a file asks for, or the two default ones where it asks for none.
 
 ghost use Rattle.std.specs.Prelude.{◌≡◌, ◌≤◌, ◌<◌, map, replicate, None, IfOk, IsTrue};
 ghost use Rattle.std.specs.List.{All, IsDistinct};
@@ -18,7 +18,7 @@ use quiver::Quiver;
 use statement_syntax::{Name, Number, Statement, StatementKind};
 use std::alloc::{AllocError, Global};
 
-/// The shapes of models that statements ask for, in whose names nothing is wrong, or the two shapes of files that ask for none.
+/// The shapes of models that statements ask for, whose names have no fault, or the two default ones where they ask for none.
 pub fn read_shapes(
     alloc: Global,
     quiver: &Quiver,

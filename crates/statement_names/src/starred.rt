@@ -1,4 +1,4 @@
-//! Whether a file speaks of adjoints.
+//! Whether a file has adjoints.
 
 ghost use Rattle.std.specs.Prelude.{◌≡◌};
 ghost use Rattle.statement_names.specs.Starred.{is_starred, is_starred_in};
@@ -6,7 +6,7 @@ ghost use Rattle.statement_names.specs.Starred.{is_starred, is_starred_in};
 use expression_names::has_quote;
 use statement_syntax::{Statement, StatementKind};
 
-/// Whether a quote or the word `self` stands in a statement, abbreviations written out.
+/// Whether a quote or the word `self` occurs in a statement, abbreviations written out.
 pub fn is_starred(statements: &[Statement]) -> bool
     ensures { result ≡ is_starred statements.now }
 {

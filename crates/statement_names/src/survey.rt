@@ -18,7 +18,7 @@ use std::alloc::Global;
 /// The greatest number of maps of a file of the first language.
 pub const FIRST_MAP_LIMIT: u32 = 200;
 
-/// What all of a file declares and how many maps it may, and how many more of each may come.
+/// What the whole file declares, how many maps it may declare, and how many more of each there may be.
 #[derive(Drop)]
 pub struct Survey {
     pub kinds: Kinds,
@@ -31,7 +31,7 @@ pub struct Survey {
     pub shapes: u32,
 }
 
-/// Looks for the first thing that is wrong with the names, the literals and the numbers of statements.
+/// Finds the first fault of the names, the literals and the numbers of statements.
 #[tactic(auto, using(std::proofs::lemmas::Grind::common_steps, crate::proofs::Runs::run_on))]
 pub fn check_names(alloc: Global, statements: &[Statement]) -> Result<(), NameStop>
     ensures ok { OnOk result (name_fault_of statements.now ≡ None) }
@@ -73,7 +73,7 @@ fn map_limit_of(statements: &[Statement]) -> u32
     }
 }
 
-/// Takes room for so many more, or gives the fault and leaves the room as it was.
+/// Takes room for this many more, or returns the fault and leaves the room as it was.
 pub fn take_room(room: &mut u32, more: u32, fault: NameFault) -> Result<(), NameFault>
     ensures answer { result_err result ≡ short_of room.old more fault }
     ensures left { OnOk result (room.new ≡ room.old - more) }
@@ -87,7 +87,7 @@ pub fn take_room(room: &mut u32, more: u32, fault: NameFault) -> Result<(), Name
 }
 
 impl Survey {
-    // The first word of a statement with so many assumptions.
+    // The first word of a statement of this many assumptions.
     pub(crate) fn assumptions(&mut self, count: u32, at: Spot) -> Result<(), NameFault>
         ensures answer { result_err result ≡ fault_at self.old (begins_assumptions count at) }
         ensures after { OnOk result (self.new ≡ behind self.old (begins_assumptions count at)) }

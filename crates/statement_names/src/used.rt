@@ -1,4 +1,4 @@
-//! The names that are used: whether they are declared, as what they are to be, and once in a list.
+//! The names that are used: whether they are declared, with the kind that is expected, and once in a list.
 
 ghost use Rattle.std.specs.Prelude.{◌≡◌, ◌∷◌, [], ◌++◌, None, OnOk, IfErr};
 ghost use Rattle.std.specs.List.{flat_map};
@@ -37,7 +37,7 @@ impl Survey {
         Ok(())
     }
 
-    // A name of a list, behind those that are listed.
+    // A name of a list, after those before it.
     #[tactic(auto, using(crate::proofs::KindsFound::among_names_in))]
     pub(crate) fn listed(&self, listed: &mut Kinds, name: &Name, kind: Kind) -> Result<(), NameStop>
         ensures ok { OnOk result (fault_at self.now (lists (names_in listed.old) (use_of kind name.now)) ≡ None) }
@@ -64,7 +64,7 @@ impl Survey {
         Ok(())
     }
 
-    // A list of names of this kind, each with a literal from 1 to so much.
+    // A list of names of this kind, each with a literal from 1 to `most`.
     pub(crate) fn pairs(
         &self,
         alloc: Global,
@@ -132,7 +132,7 @@ impl Survey {
         }
     }
 
-    // The exponents behind a primary.
+    // The exponents after a primary.
     fn exponents(&self, marks: &[Mark]) -> Result<(), NameFault>
         ensures { run self.now (flat_map mark_occurrences marks.now) ≡ outcome self.now result }
     {
