@@ -1,4 +1,4 @@
--- Carets are tokens of the second language alone, which the tokens of a file's first line tell.
+-- Carets are tokens of the second language alone, which is determined by the tokens of a file's first line.
 use Rattle.std.proofs.Common.{◌≡◌, ◌&&◌, List, ◌∷◌, ◌++◌, refl}
 use Rattle.std.specs.Prelude.{if◌then◌else◌}
 use Rattle.statement_syntax.specs.Types.{Token, TokenKind, Language, First, Second}
@@ -14,16 +14,16 @@ pub carets_second : (l : Language) → HasCarets l → l ≡ Second
 carets_second First has = absurd has
 carets_second Second has = refl
 
--- where a caret is a token of the language, it is one behind these tokens
+-- where a caret is a token of the language, it is one after these tokens
 abbrev pub Allows : Language → List Token → Type 0
 Allows language before = HasCarets language → HasCarets (language_of before)
 
--- it stays one behind more tokens
+-- it stays one after more tokens
 pub carets_stay : (before more : List Token) → HasCarets (language_of before) → HasCarets (language_of (before ++ more))
 carets_stay (a ∷ b ∷ c ∷ before) more has = has
 carets_stay before more has = absurd has
 
--- the first three kinds tell the language
+-- the first three kinds determine the language
 pub language_by : (ts : List Token) (a b c : TokenKind) (ks : List TokenKind) → kinds ts ≡ a ∷ b ∷ c ∷ ks → language_of ts ≡ (if is_language_word a && is_two b && is_end c then Second else First)
 language_by (t ∷ u ∷ v ∷ ts) a b c ks given =
     let one : t.kind ≡ a = cc in

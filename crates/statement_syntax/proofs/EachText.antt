@@ -34,7 +34,7 @@ comes : (ts : List Token) → Comes ts
 unfolding run
 comes ts = comes_from ts [] (left ts) (begun ts) refl refl
 
--- what is told of a text
+-- a text has a tree or a first fault
 abbrev IsRead : List ℕ → Type 0
 IsRead bytes = ((statements : List Statement) × IsTreeOf bytes statements) ⊎ ((f : Fault) × ((at : Spot) × IsFirstFault bytes f at))
 

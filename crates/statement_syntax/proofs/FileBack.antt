@@ -53,7 +53,7 @@ some_tokens : (s : Stated) → 1 ≤ 0 + length (kinds (stated_tokens s))
 some_tokens (listed w at n ns) = omega arith
 some_tokens s = omega arith
 
--- behind these tokens the characters are read as tokens of the statements' kinds
+-- after these tokens the characters are read as tokens of the statements' kinds
 record FileRead (before : List Token) (ls : List StatedLine) (text : List ℕ) (line : ℕ) : Type 0 where
   pub tokens : List Token
   pub read : tokens_from before text 0 (spot line 1) 0 ≡ Ok tokens
@@ -77,7 +77,7 @@ module _ (before : List Token) (s : Stated) (text rest : List ℕ) (line : ℕ) 
     are = simp (map-append, r.are, end-kinds line r.past' some_read, more.are, append_assoc);
   }
 
--- lines of a language, behind tokens that tell it
+-- lines of a language, after tokens that determine it
 lines_read : (language : Language) (ls : List StatedLine) (all : AllSpelled language ls) (before : List Token) (line : ℕ) → Allows language before → FileRead before ls (file_characters language ls all) line
 unfolding tokens_from
 lines_read language [] all before line allowed = record { tokens = []; read = refl; are = refl }
@@ -87,7 +87,7 @@ lines_read language (l ∷ ls) all before line allowed =
     let more = lines_read language ls all.1 (behind before l.stated _ rest line r) (line + 1) (λ has. carets_stay (before ++ r.tokens) (end_of line r.past') (carets_stay before r.tokens (allowed has))) in
     line_and_more before l.stated _ rest line r l.end ls more
 
--- the line that names the second language, and the lines behind it
+-- the line that names the second language, and the lines after it
 second_read : (s : Stated) (end : Spot) (ls : List StatedLine) (here : AreTokensOf Second (stated_tokens (bare_stated s))) (all : AllSpelled Second ls) → NamesLanguage s → (line : ℕ)
     → FileRead [] (record { stated = s; end = end } ∷ ls) (characters Second (kinds (stated_tokens (bare_stated s))) here true (10 ∷ file_characters Second ls all)) line
 second_read (second_language word number) end ls here all named line =

@@ -56,7 +56,7 @@ lines_run language statements (l ∷ lines) speak =
     (file_tokens lines) (line_ended language statements l.stated l.end))
     (after_it (lines_run language more lines speak.1) (rw append_assoc refl))))
 
--- the lines of it behind these statements
+-- the lines of it after these statements
 pub record FileReads (language : Language) (before : List Statement) (p : Progress) (ts : List Token) : Type 0 where
   pub lines : List StatedLine
   pub speak : AreLinesOf language lines

@@ -1,4 +1,4 @@
--- The line that a file of the second language begins with: its tokens tell the language, and behind it stand lines of the language.
+-- The first line of a file of the second language: its tokens determine the language, and lines of the language follow it.
 use Rattle.std.proofs.Common.{◌≡◌, Bool, true, false, List, [], ◌∷◌, ◌++◌, refl, sym, ap, subst, ◌∙◌, append_assoc}
 use Rattle.std.specs.Prelude.{◌&&◌, if◌then◌else◌, pos, codes}
 use Rattle.std.proofs.lemmas.Slice.Eq.{bytes_eq-Decides}
@@ -10,7 +10,7 @@ use Rattle.statement_syntax.specs.Grammar.{sign_token, number_token, word_token,
 use Rattle.statement_syntax.specs.Tree.{file_tree}
 use Rattle.statement_syntax.specs.Stages.{first_statements, behind_first}
 
--- the tokens of a file tell its language
+-- the tokens of a file determine its language
 abbrev chosen : Bool → Language
 chosen b = if b then Second else First
 
@@ -39,7 +39,7 @@ file_language First (l ∷ ls) speaks = ap language_of (append_assoc (stated_tok
 file_language Second [] speaks = absurd speaks
 file_language Second (l ∷ ls) speaks = ap language_of (append_assoc (stated_tokens l.stated) (sign_token kind.End l.end ∷ []) (file_tokens ls)) ∙ named_second l.stated l.end (file_tokens ls) speaks.0
 
--- such lines of a file behind these
+-- such lines of a file after these
 pub record Behind (language : Language) (lines ls : List StatedLine) (more : List Token) : Type 0 where
   pub others : List StatedLine
   pub speak : AreLinesOf language others
@@ -47,7 +47,7 @@ pub record Behind (language : Language) (lines ls : List StatedLine) (more : Lis
   pub trees : file_tree ls ≡ file_tree lines ++ file_tree others
   pub fits : FileFits ls → FileFits others
 
--- a file's tokens are those of the line that names its language, if there is one, and of lines behind it
+-- a file's tokens are those of the line that names its language, if there is one, and of lines after it
 pub record Divided (language : Language) (ts : List Token) : Type 0 where
   pub lines : List StatedLine
   pub fits : FileFits lines

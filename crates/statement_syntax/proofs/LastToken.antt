@@ -51,7 +51,7 @@ ends_from before (c ∷ cs) (suc skip) at past ts known = ends_from before cs sk
 ends_from before (c ∷ cs) zero at past ts known =
     placed_ends before (item_at before c cs) at past (λ front skip to end. tokens_from front cs skip to end) (λ front skip to end us e. ends_from front cs skip to end us e) ts known
 
--- so do those behind others
+-- so do those after others
 one_less : (t : Token) (ts : List Token) → EndsWell 0 (t ∷ ts) → EndsWell 0 ts
 one_less t ts (inl known) = absurd cc
 one_less t ts (inr known) = by known.0 known.2

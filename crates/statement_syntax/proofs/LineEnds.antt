@@ -91,7 +91,7 @@ module _ (language : Language) where
   on_to : (ts us more : List Token) (s : Stated) → StatedFits s → IsOf language s → ts ≡ us → us ++ more ≡ stated_tokens s → LineGoesOn ts
   on_to ts us more s fits speaks is all = (more, s, fits, speaks, ap (λ (x : List Token). x ++ more) is ∙ all)
 
-  -- a map with what stands behind its names, and more
+  -- a map with what follows its names, and more
   map_on : (at : Spot) (names : List Name) (ts behind more : List Token) (c a : Spot) (s t : Name) → MapReads at names ts behind
       → behind ++ more ≡ sign_token kind.Colon c ∷ name_token s ∷ sign_token kind.Arrow a ∷ name_token t ∷ [] → LineGoesOn ts
   map_on at names ts behind more c a s t read is =

@@ -22,7 +22,7 @@ pub record HasFirst {A : Type 0} (xs : List A) : Type 0 where
   pub more : List A
   pub is : xs ≡ first ∷ more
 
--- a map's names with what stands behind them
+-- a map's names with what follows them
 pub record MapReads (at : Spot) (names : List Name) (ts behind : List Token) : Type 0 where
   pub has_first : HasFirst names
   pub are : ts ≡ word_token (codes "map") at ∷ (names_tokens names ++ behind)
@@ -141,7 +141,7 @@ colon_grows : (language : Language) (at : Spot) (names : List Name) (ts : List T
 colon_grows language at [] ts t read = tt
 colon_grows language at (n ∷ ns) ts t read = (t, record { has_first = record { first = n; more = ns; is = refl }; are = rw read refl })
 
--- a map's names and what stands behind them, with one token more
+-- a map's names and what follows them, with one token more
 map_more : {at : Spot} {names : List Name} {ts behind : List Token} (t : Token) → MapReads at names ts behind
     → MapReads at names (ts ++ t ∷ []) (behind ++ t ∷ [])
 map_more t read = record { has_first = read.has_first; are = rw read.are (simp append_assoc) }
@@ -205,7 +205,7 @@ sides_grows language w at None r ts t k read = first_grows language w at r ts t 
 pub pairs_more : (ps : List (Name × Number)) (n : Name) (m : Number) → pairs_tokens (ps ++ (n, m) ∷ []) ≡ pairs_tokens ps ++ name_token n ∷ number_token m ∷ []
 pairs_more ps n m = flat_map-append (λ p. name_token p.0 ∷ number_token p.1 ∷ []) ps ((n, m) ∷ [])
 
--- pairs behind these tokens
+-- pairs after these tokens
 pairs_grow : (language : Language) (wrap : Pairs → Line) (front : List Token)
     → ((p : Pairs) (us : List Token) → us ≡ front ++ read_pairs p → LineReads language (wrap p) us)
     → (ps : List (Name × Number)) (half : Option Name) (ts : List Token) (t : Spot) (k : TokenKind)
@@ -215,7 +215,7 @@ pairs_grow language wrap front are ps (Some n) ts t (kind.Literal v) read = are 
 pairs_grow language wrap front are ps None ts t k read = tt
 pairs_grow language wrap front are ps (Some n) ts t k read = tt
 
--- all lines: a token that brings one on stands behind what was read, and any other is not expected
+-- all lines: a token that brings one on follows what was read, and any other is not expected
 pub line_grows : (language : Language) (l : Line) (ts : List Token) (t : Spot) (k : TokenKind) → LineReads language l ts
     → Grows language ts t k (line_step language l k t)
 line_grows language line.Start ts t (kind.Name x) read = rw read (start_grows language x t)

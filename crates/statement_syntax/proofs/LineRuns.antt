@@ -48,7 +48,7 @@ opening_text opening.Projection = codes "projection"
 opening_text opening.Order = codes "order"
 opening_text opening.Model = codes "model"
 
--- a statement's first word (where the line computes only once the word is known, a first case stands by itself)
+-- a statement's first word (where the line computes only once the word is known, the first case is a lemma of its own)
 opens : (language : Language) (o : Opening) (at : Spot) (rest : List Token) → IsOpeningOf language o
     → goes language line.Start (word_token (opening_text o) at ∷ rest) ≡ goes language (opened o at) rest
 unfolding run

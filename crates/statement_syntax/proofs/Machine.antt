@@ -4,7 +4,7 @@ use Rattle.statement_syntax.specs.Types.{Spot, Token, TokenKind as kind, Name, N
 use Rattle.statement_syntax.specs.Grammar.{Lead, no_sign, Sign, Expr, first, joined, Product, zero_alone, factors, Factors, one, beside, plain, marked, raised}
 use Rattle.statement_syntax.specs.Grammar.{Prime, sign_token, name_token, number_token, lead_tokens, signed_token, literal_tokens, expr_tokens, factors_tokens}
 
--- what stands before the term that is read
+-- the sum before the term that is read
 pub data Head : Type 0 where
   led : Lead → Head
   after : Expr → Sign → Head
@@ -15,14 +15,14 @@ pub data Part : Type 0 where
   scaled : Number → Part
   product : Option Number → Factors → Part
 
--- inside square brackets, behind a caret with the product before it, or neither
+-- inside square brackets, after a caret with the product before it, or neither
 pub data Focus : Type 0 where
   outside : Focus
   square : Spot → Focus
   named : Spot → Name → Focus
   behind_caret : Option Number → Factors → Spot → Focus
 
--- a round bracket that is open, with what stands before it
+-- an open round bracket, with what is before it
 pub record Level : Type 0 where
   pub head : Head
   pub part : Part
@@ -87,7 +87,7 @@ part_tokens nothing = []
 part_tokens (scaled n) = number_token n ∷ []
 part_tokens (product l fs) = literal_tokens l ++ factors_tokens fs
 
--- behind a caret the product stands in the focus
+-- after a caret the product is in the focus
 abbrev pub kept_tokens : Part → Focus → List Token
 kept_tokens part (behind_caret l fs caret) = []
 kept_tokens part focus = part_tokens part

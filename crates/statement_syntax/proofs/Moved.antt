@@ -18,7 +18,7 @@ use Rattle.statement_syntax.specs.Places.{bare_prime, bare_ending, bare_names, b
 abbrev pub kinds : List Token → List TokenKind
 kinds ts = map (λ t. t.kind) ts
 
--- the same at other places, in front of other tokens
+-- the same at other places, before other tokens
 record Moved {A : Type 0} (tokens : A → List Token) (bare_of : A → A) (x : A) (ts : List Token) (ks : List TokenKind) : Type 0 where
   pub moved : A
   pub rest : List Token
@@ -36,7 +36,7 @@ token_moves k at (t ∷ ts) ks alike =
     let here : t.kind ≡ k = cc in
     record { moved = t.at; rest = ts; are = ap (λ x. sign_token x t.at ∷ ts) here; same = refl; kinds_are = cc }
 
--- one behind another
+-- one after another
 both : {A B : Type 0} {left : A → List Token} {right : B → List Token} {bare_left : A → A} {bare_right : B → B} {x : A} {y : B}
     → Moves left bare_left x → Moves right bare_right y → Moves {A = A × B} (λ p. left p.0 ++ right p.1) (λ p. (bare_left p.0, bare_right p.1)) (x, y)
 both {left = left} {right = right} {bare_left = bare_left} {bare_right = bare_right} {x = x} {y = y} front behind ts ks alike =

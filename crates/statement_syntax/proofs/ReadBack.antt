@@ -75,14 +75,14 @@ glue-scalars : (b : Bool) (text : List ℕ) → scalars text ≡ true → scalar
 glue-scalars true text given = given
 glue-scalars false text given = given
 
--- behind these tokens the text is read as tokens of these kinds, and then goes on as the rest
+-- after these tokens the text is read as tokens of these kinds, and then goes on as the rest
 pub record ReadAs (before : List Token) (text : List ℕ) (ks : List TokenKind) (rest : List ℕ) (line column past : ℕ) : Type 0 where
   pub tokens : List Token
   pub are : kinds tokens ≡ ks
   pub column' : ℕ
   pub past' : ℕ
   pub reads : tokens_from before text 0 (spot line column) past ≡ with_front tokens (tokens_from (before ++ tokens) rest 0 (spot line column') past')
-  -- a token stands before the rest, if one stood before the text or is part of it
+  -- a token is before the rest, if one is before the text or part of it
   pub kept : 1 ≤ past + length ks → 1 ≤ past'
 
 front_nil : (r : Result (List Token) Placed) → with_front [] r ≡ r
@@ -129,7 +129,7 @@ module _ (language : Language) where
   scalar_is kind.End t = absurd t
   scalar_is k t = refl
 
-  -- a token's characters are read as it, where carets are tokens if they are ones of the language and it ends before what stands behind it
+  -- a token's characters are read as it, where carets are tokens if they are ones of the language and it ends before what follows it
   read_back : (before : List Token) → Allows language before → (k : TokenKind) (t : IsToken language k) (rest : List ℕ) → (opens k ≡ false → EndsBefore rest)
       → item_at before (first_of k t) (more_of k t ++ rest) ≡ Ok (item.Token k (length (more_of k t)))
   read_back before allowed (kind.Name x) t rest given = word_back before x t rest (given refl)
@@ -165,7 +165,7 @@ module _ (language : Language) where
   characters-scalars (k ∷ ks) all glued rest given =
       glue-scalars (glued || closes k) _ (scalars-join (first_of k all.0 ∷ more_of k all.0) (characters ks all.1 (opens k) rest) (scalar_is k all.0) (characters-scalars ks all.1 (opens k) rest given))
 
-  -- what stands behind a token
+  -- what follows a token
   closing_first : (k : TokenKind) (t : IsToken language k) → closes k ≡ true → Ender (first_of k t)
   closing_first kind.Close t given = inr (inr (inl refl))
   closing_first kind.CloseSquare t given = inr (inr (inr (inl refl)))

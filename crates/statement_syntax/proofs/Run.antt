@@ -23,7 +23,7 @@ module _ {S : Type 0} (step : S → Token → Result S Misfit) where
   unfolding run
   failing st t more f fails = ap (λ (r : Result S Misfit). r >>= λ s. run step s more) fails
 
-  -- one run behind another
+  -- one run after another
   pub run-append : (st : S) (front rest : List Token) → run step st (front ++ rest) ≡ (run step st front >>= λ next. run step next rest)
   unfolding run
   run-append st [] rest = refl
@@ -62,7 +62,7 @@ pub run_upto : {S : Type 0} {F : Type 0} (step : S → Token → Result S Misfit
 run_upto step st front next rest (inl (f, p)) = inl (f, run_front step st front next rest p)
 run_upto step st front next rest (inr (f, p)) = inr (f, run_fails step st front TooDeep rest p)
 
--- what a run comes to is what was meant, if it comes to anything
+-- the result of a run is the one that was meant, if it is Ok
 pub upto_ok : {S : Type 0} {F : Type 0} (r : Result S Misfit) (meant next : S) → Upto F r (Ok meant) → r ≡ Ok next → F × (meant ≡ next)
 upto_ok r meant next (inl (f, p)) given = (f, ok_is _ _ (sym p ∙ given))
 upto_ok r meant next (inr (f, p)) given = absurd (ok_differs next TooDeep (sym given ∙ p))

@@ -1,4 +1,4 @@
--- Each expression is read: after its tokens stands the state that it ends in.
+-- Each expression is read: after its tokens the state is the one that it ends in.
 use Rattle.std.proofs.Common.{◌≡◌, ℕ, zero, suc, ◌+◌, List, [], ◌∷◌, ◌++◌, length, inl, inr, Option, Some, None, Result, Ok, refl, ap}
 use Rattle.std.proofs.Common.{append_assoc, arith}
 use Rattle.std.proofs.lemmas.Bool.{lt-ltb, le-ltb}
@@ -64,7 +64,7 @@ close_step levels head part left (first l t) right = closed-seen _ levels (led l
 close_step levels head part left (joined e s t) right = closed-seen _ levels (after e s) (whole_part t) t right (whole_is t)
 
 -- whole parts
--- (where the right side computes only once a case is known, the first case stands by itself)
+-- (where the right side computes only once a case is known, the first case is a lemma of its own)
 mutual
   unfolding run
 

@@ -129,7 +129,7 @@ token_stays : (before more : List Token) (k : TokenKind) → IsFileToken (langua
 token_stays before more kind.Caret t = carets_stay before more t
 token_stays before more k t = t
 
--- behind these they are tokens of one file
+-- after these they are tokens of one file
 abbrev AreBehind : List Token → List Token → Type 0
 AreBehind before ts = AllKinds (IsFileToken (language_of (before ++ ts))) (kinds ts)
 
@@ -137,7 +137,7 @@ end_are : (language : Language) (line past : ℕ) (us : List Token) → AllKinds
 end_are language line zero us given = given
 end_are language line (suc n) us given = (tt, given)
 
--- the same tokens, of which some more stand before
+-- the same tokens, with some more before them
 shifted : (before here us : List Token) → AreBehind (before ++ here) us → AllKinds (IsFileToken (language_of (before ++ (here ++ us)))) (kinds us)
 shifted before here us given = subst (λ ts. AllKinds (IsFileToken (language_of ts)) (kinds us)) (append_assoc before here us) given
 
@@ -159,7 +159,7 @@ placed_are before (Ok (item.Token k more)) at past next makes go ts given =
       shifted before here one.0 (go (before ++ here) more (right_of at 1) (at.column + 1 + more) one.0 one.1),
     )
 
--- the tokens of a text are spelled so, behind others
+-- the tokens of a text are spelled so, after others
 pub tokens_are : (before : List Token) (cs : List ℕ) (skip : ℕ) (at : Spot) (past : ℕ) (ts : List Token) → scalars cs ≡ true → tokens_from before cs skip at past ≡ Ok ts → AreBehind before ts
 unfolding tokens_from
 tokens_are before [] skip at zero ts scalar given = subst (AreBehind before) (tokens_is _ ts given) tt

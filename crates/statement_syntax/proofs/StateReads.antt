@@ -68,7 +68,7 @@ name_reads levels head part n = (
   simp (add-tokens, append-nil, append_assoc),
 )
 
--- behind a term
+-- after a term
 sign_after : (levels : List Level) (head : Head) (part : Part) (s : Sign) (t : Option Product) → whole_term part ≡ t
     → Reads levels head part outside (signed_token s)
     (steps.sign_by (head_of head) (product_or t (head_of head).negative) (is_minus s) >>= λ h. Ok (steps.outside (levels_of levels) h (part_of nothing)))

@@ -30,11 +30,11 @@ term_of-kinds leading at negative l fs =
     term-flat leading (term_of at negative l fs)
     ∙ ap (λ r. sign_kinds leading r.negative ++ literal_kinds r.literal ++ flat_map factor_kinds r.factors) (out-roll-Term (record { at = at; negative = negative; literal = l; factors = fs }))
 
--- a mark behind those of a factor
+-- a mark after those of a factor
 mark_more : (f : Factor) (m : Mark) → primary_kinds f.primary ++ flat_map mark_kinds (f.marks ++ m ∷ []) ≡ factor_kinds f ++ mark_kinds m
 mark_more f m = simp (flat_map-append, append-nil, append_assoc)
 
--- terms behind others
+-- terms after others
 terms_behind : (e : Expr) (us : List Term) → terms_of true (expr_terms e ++ us) ≡ terms_of true (expr_terms e) ++ terms_of false us
 terms_behind (first l t) us = rw append-nil refl
 terms_behind (joined e s t) us =

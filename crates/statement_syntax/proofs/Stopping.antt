@@ -63,11 +63,11 @@ module _ (language : Language) where
       (sym (ap (run (file_step language) start) loop.2 ∙ run-append (file_step language) start loop.0 end) ∙ ran) in
       end_starts parts.0 p loop.1 parts.2
 
--- the tokens, of which the line that names the language is taken off
+-- the tokens without the line that names the language
 own : (ts : List Token) → Divided (language_of ts) ts
 own ts = divided (language_of ts) ts refl
 
--- with the line that names the language in front
+-- with the line that names the language before them
 with_first : (ts front more : List Token) (lines : List StatedLine) → front ++ more ≡ file_tokens lines → (file_tokens (own ts).lines ++ front) ++ more ≡ file_tokens ((own ts).lines ++ lines)
 with_first ts front more lines is =
     append_assoc (file_tokens (own ts).lines) front more ∙ ap (λ x. file_tokens (own ts).lines ++ x) is ∙ sym (file_tokens-append (own ts).lines lines)
@@ -93,7 +93,7 @@ is_found bytes ts statements utf8 read loop =
       loop.2 ∙ all.trees ∙ ap (λ x. x ++ file_tree all.lines) first.trees ∙ sym (map-append (λ l. stated_tree l.stated) first.lines all.lines),
     )
 
--- a file's lines are that line and those behind it
+-- a file's lines are that line and those after it
 lines_are : (bytes : List ℕ) (ts : List Token) (lines : List StatedLine) → AreTokens (chars bytes) ts → IsStatements bytes lines → Behind (language_of ts) (own ts).lines lines (left ts)
 lines_are bytes ts lines read is =
     let tokens : ts ≡ file_tokens lines = tokens_are_unique (chars bytes) ts (file_tokens lines) read is.tokens in

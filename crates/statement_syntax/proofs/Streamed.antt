@@ -19,7 +19,7 @@ use Rattle.statement_syntax.specs.Tree.{file_tree}
 use Rattle.statement_syntax.specs.Stages.{first_statements, behind_first, begun, left, Refused, IsReadSoFar, Goes, IsFault, IsFront, LeavesFault, TextRead}
 use Rattle.statement_syntax.proofs.Stopping.{goes_on, stops_at, is_found, is_only, is_first, told_scanned}
 
--- the tokens are three or more, and tell the language
+-- the tokens are three or more, and determine the language
 abbrev pub IsLong : List Token → Type 0
 IsLong (a ∷ b ∷ c ∷ more) = Unit {0}
 IsLong ts = ⊥
@@ -32,7 +32,7 @@ three_long : (ts : List Token) → length ts ≡ 3 → IsLong ts
 three_long (a ∷ b ∷ c ∷ more) three = tt
 three_long ts three = absurd (omega (arith, three))
 
--- one token more behind three and others
+-- one token more after three and others
 module _ (a b c : Token) (more : List Token) (t : Token) where
   abbrev front : List Token
   front = a ∷ b ∷ c ∷ more
@@ -144,7 +144,7 @@ ends text old new language read r is hands told = by read is.so_far told
     by (Ok p) so_far told = subst (TextRead text) (sym told) (is.front, are, (p, so_far, refl))
     by (Err e) so_far told = subst (TextRead text) (sym told) (inr (is.front, are, so_far))
 
--- the fault that a scanner comes to is told
+-- the fault that a scanner finds is returned
 pub is_fault : (whole : Result (List Token) Placed) (front : List Token) (old new : Scanner) (error : ScanError) (e : SyntaxFault)
     → whole ≡ with_front front (unread front old) → Hands front old (Err error) new → TellsScan error e → IsFault whole e
 is_fault whole ts old new (scan_error.Fault placed) e same hands tells =

@@ -1,4 +1,4 @@
--- What a state has read can go on to an expression; what a fault stands at can't.
+-- The tokens that a state has read are a prefix of an expression; with the token of a fault they aren't.
 use Rattle.std.proofs.Common.{◌≡◌, List, [], ◌∷◌, ◌++◌, Option, Some, None, Ok, Err, refl, sym, ap, ◌∙◌, append_assoc, arith}
 use Rattle.std.specs.Prelude.{pos}
 use Rattle.std.proofs.lemmas.List.{append-nil}
@@ -55,7 +55,7 @@ closes (level ∷ levels) head part t given =
     (closed-seen level levels head part t somewhere given)
     (closes levels level.head (add level.part inner) wide.0 wide.1)
 
--- a whole part stands behind a token
+-- a whole part follows a token
 made : (st : State) (t : Token) (levels : List Level) (head : Head) (part : Part) (p : Prime)
     → reading_step (reading_of st) t
     ≡ Ok (steps.outside (levels_of levels) (head_of head) (steps.part_with (part_of part) (prime_tree p) (prime_at p))) → Ends st

@@ -1,4 +1,4 @@
--- What is the first thing that is wrong with bytes that are no statements.
+-- The first fault of bytes that are no statements.
 use Rattle.std.specs.Prelude.{◌≡◌, ℕ, List, [], ◌∷◌, ◌++◌}
 use Rattle.std.specs.Str.{IsUtf8, chars}
 use Rattle.std.specs.Str.Lossy.{utf8_valid_len}
@@ -16,15 +16,15 @@ code_of fault.Expected = 3
 code_of fault.LiteralTooLarge = 4
 code_of fault.TooDeep = 5
 
--- some file of the language begins so
+-- the tokens are a prefix of some file of the language
 abbrev pub GoesOn : Language → List Token → Type 0
 GoesOn language front = (more : List Token) × (lines : List StatedLine) × IsFileOf language lines × (front ++ more ≡ file_tokens lines)
 
--- some file of the language with at most 64 round brackets in one another begins so
+-- the tokens are a prefix of some file of the language with at most 64 nested round brackets
 abbrev pub GoesOnWithin : Language → List Token → Type 0
 GoesOnWithin language front = (more : List Token) × (lines : List StatedLine) × IsFileOf language lines × FileFits lines × (front ++ more ≡ file_tokens lines)
 
--- all tokens are good, and this is the first with which no file of their language within the limit goes on
+-- all tokens are good, and this is the first after which they are no prefix of a file of their language within the limit
 pub record IsMisfit (bytes : List ℕ) (at : Spot) : Type 0 where
   pub utf8 : IsUtf8 bytes
   pub front : List Token
@@ -35,21 +35,21 @@ pub record IsMisfit (bytes : List ℕ) (at : Spot) : Type 0 where
   pub before : GoesOnWithin (language_of (front ++ token ∷ rest)) front
   pub there : GoesOnWithin (language_of (front ++ token ∷ rest)) (front ++ token ∷ []) → ⊥
 
--- the fault is the first of the bytes, and it stands there
+-- the fault is the first of the bytes, at this place
 abbrev pub IsFirstFault : List ℕ → Fault → Spot → Type 0
 -- the place is the number of valid bytes
 IsFirstFault bytes fault.NotUtf8 at = (IsUtf8 bytes → ⊥) × (at ≡ record { line = 0; column = utf8_valid_len bytes })
 IsFirstFault bytes fault.BadToken at = IsUtf8 bytes × IsFirstScanFault (chars bytes) scan.BadToken at
 IsFirstFault bytes fault.LiteralTooLarge at = IsUtf8 bytes × IsFirstScanFault (chars bytes) scan.LiteralTooLarge at
--- no file of the language goes on with the token, whatever the limit
+-- no file of the language has the tokens up to this one as a prefix, whatever the limit
 IsFirstFault bytes fault.Expected at = (m : IsMisfit bytes at) × (GoesOn (language_of (m.front ++ m.token ∷ m.rest)) (m.front ++ m.token ∷ []) → ⊥)
--- some go on with it, but none within the limit
+-- some file has, but none within the limit
 IsFirstFault bytes fault.TooDeep at = (m : IsMisfit bytes at) × GoesOn (language_of (m.front ++ m.token ∷ m.rest)) (m.front ++ m.token ∷ [])
 
--- the refusal tells the first fault of the bytes
+-- the refusal has the first fault of the bytes
 abbrev pub TellsFirstFault : List ℕ → SyntaxFault → Type 0
 TellsFirstFault bytes (refusal.Fault code line column) = (f : Fault) × (code ≡ code_of f) × IsFirstFault bytes f (record { line = line; column = column })
--- want of memory is the one free answer
+-- want of memory is always allowed
 TellsFirstFault bytes (refusal.Memory e) = Unit {0}
 
 abbrev pub IsWantOfMemory : SyntaxFault → Type 0
@@ -67,7 +67,7 @@ abbrev pub misfit_fault : Misfit → Fault
 misfit_fault misfit.Expected = fault.Expected
 misfit_fault misfit.TooDeep = fault.TooDeep
 
--- the refusal tells the scanner's error; want of memory is the one free answer
+-- the refusal has the scanner's error; want of memory is always allowed
 abbrev pub TellsScan : ScanError → SyntaxFault → Type 0
 TellsScan (scan_error.Fault placed) refused = refused ≡ fault_at (scan_fault placed.fault) placed.at
 TellsScan scan_error.Memory refused = IsWantOfMemory refused

@@ -1,4 +1,4 @@
--- The grammar: a production is a constructor, with the places of its words and signs. The tokens that it is written as.
+-- The grammar: a production is a constructor, with the places of its words and signs; and the tokens of each tree.
 use Rattle.std.specs.Prelude.{ℕ, zero, suc, List, [], ◌∷◌, ◌++◌, map, Option, Some, None, pos, codes}
 use Rattle.std.specs.List.{flat_map}
 use Rattle.statement_syntax.specs.Types.{Spot, ListWord, Object, Solve, Eliminate, SidesWord, Assume, Claim, PairWord, Pinv, Inverse, Inner, Language, First}
@@ -31,7 +31,7 @@ mutual
     one : Marked → Factors
     beside : Factors → Marked → Factors
 
-  -- factor = primary { "'" | "^" literal }; a caret is a token of the second language alone
+  -- factor = primary { "'" | "^" literal }; only the second language has carets as tokens
   pub data Marked : Type 0 where
     plain : Prime → Marked
     marked : Marked → Spot → Marked
@@ -92,7 +92,7 @@ abbrev mutual
   prime_tokens (identity left n right) = sign_token kind.OpenSquare left ∷ name_token n ∷ sign_token kind.CloseSquare right ∷ []
   prime_tokens (bracket left e right) = sign_token kind.Open left ∷ (expr_tokens e ++ sign_token kind.Close right ∷ [])
 
--- no more than so many round brackets stand in one another
+-- at most this many round brackets are nested
 abbrev mutual
   pub ExprFits : Expr → ℕ → Type 0
   ExprFits (first l t) d = ProductFits t d
@@ -117,7 +117,7 @@ abbrev mutual
   PrimeFits (bracket left e right) zero = ⊥
   PrimeFits (bracket left e right) (suc d) = ExprFits e d
 
--- the words that stand before a list of names, before two sides and before two names
+-- the words before a list of names, before two sides and before two names
 abbrev pub list_text : ListWord → List ℕ
 list_text Object = codes "object"
 list_text Solve = codes "solve"
@@ -188,7 +188,7 @@ stated_tokens (by_weight at word p ps) = word_token (codes "order") at ∷ word_
 stated_tokens (second_language at number) = word_token (codes "language") at ∷ number_token (two_at number) ∷ []
 stated_tokens (modelled at m ps) = word_token (codes "model") at ∷ number_token m ∷ pairs_tokens ps
 
--- no more round brackets than the limit stand in one another
+-- at most as many round brackets as the limit are nested
 abbrev pub StatedFits : Stated → Type 0
 StatedFits (sides w at d equals e) = ExprFits d bracket_limit × ExprFits e bracket_limit
 StatedFits s = Unit {0}
@@ -198,12 +198,12 @@ pub record StatedLine : Type 0 where
   pub stated : Stated
   pub end : Spot
 
--- the line that a file of the second language begins with
+-- the first line of a file of the second language
 abbrev pub NamesLanguage : Stated → Type 0
 NamesLanguage (second_language at number) = Unit {0}
 NamesLanguage s = ⊥
 
--- all other statements are of both languages, but `eliminate` of the second alone
+-- all other statements are of both languages, but `eliminate` only of the second
 abbrev pub IsOf : Language → Stated → Type 0
 IsOf language (second_language at number) = ⊥
 IsOf First (listed Eliminate at n ns) = ⊥
@@ -213,7 +213,7 @@ abbrev pub AreLinesOf : Language → List StatedLine → Type 0
 AreLinesOf language [] = Unit {0}
 AreLinesOf language (l ∷ ls) = IsOf language l.stated × AreLinesOf language ls
 
--- a file of the first language is lines of that, one of the second is the line that names it and then lines of that
+-- a file of the first language is lines of that, and one of the second is the line that names it and then lines of the second
 abbrev pub IsFileOf : Language → List StatedLine → Type 0
 IsFileOf First ls = AreLinesOf First ls
 IsFileOf Second [] = ⊥

@@ -1,6 +1,6 @@
--- The limit of brackets.
+-- The limit of nesting.
 use Rattle.std.specs.Prelude.{ℕ}
 
--- the round brackets that stand in one another
+-- of nested round brackets
 abbrev pub bracket_limit : ℕ
 bracket_limit = 64

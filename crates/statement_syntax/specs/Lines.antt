@@ -133,7 +133,7 @@ abbrev pub IsPlain : Line → Type 0
 IsPlain (line.Sides w at left r) = ⊥
 IsPlain l = Unit {0}
 
--- nothing that it holds goes on into the next one
+-- nothing that it holds is kept in the next state
 abbrev pub IsBare : Line → Type 0
 IsBare (line.List w at names) = ⊥
 IsBare (line.Map at names r) = ⊥

@@ -88,6 +88,6 @@ bare_file ls = map bare_line ls
 abbrev pub SameButPlaces : List Statement → List Statement → Type 0
 SameButPlaces s t = (ls : List StatedLine) × (ms : List StatedLine) × (s ≡ file_tree ls) × (t ≡ file_tree ms) × (bare_file ls ≡ bare_file ms)
 
--- the bytes are statements of which the tree is the same but for its places
+-- the bytes are statements with the same tree but for its places
 abbrev pub ReadsBackAs : List ℕ → List Statement → Type 0
 ReadsBackAs bytes statements = (back : List Statement) × IsTreeOf bytes back × SameButPlaces statements back

@@ -25,12 +25,12 @@ abbrev pub Fails : {Y : Type 0} → ReadError → Result Y Misfit → Type 0
 Fails error.Memory read = Unit {0}
 Fails (error.Misfit f) read = read ≡ Err f
 
--- what a function returned is what reading gives, unless memory ran out
+-- the result of a function is that of reading, unless memory ran out
 abbrev pub Gives : {X : Type 0} → Result X ReadError → Result X Misfit → Type 0
 Gives (Ok x) read = read ≡ Ok x
 Gives (Err e) read = Fails e read
 
--- what a function made of a state is what reading gives, unless memory ran out
+-- the state that a function leaves is that of reading, unless memory ran out
 abbrev pub Turns : {A S : Type 0} → Result A ReadError → S → Result S Misfit → Type 0
 Turns (Ok done) state read = read ≡ Ok state
 Turns (Err e) state read = Fails e read

@@ -6,7 +6,7 @@ use Rattle.statement_tokens.specs.Tokens.{AreTokens}
 use Rattle.statement_syntax.specs.Grammar.{StatedLine, IsFileOf, file_tokens, FileFits}
 use Rattle.statement_syntax.specs.Tree.{file_tree}
 
--- the bytes are these statements, a line each, of one of the languages, with at most 64 round brackets in one another
+-- the bytes are these statements, a line each, of one of the languages, with at most 64 nested round brackets
 pub record IsStatements (bytes : List ℕ) (lines : List StatedLine) : Type 0 where
   pub utf8 : IsUtf8 bytes
   pub tokens : AreTokens (chars bytes) (file_tokens lines)

@@ -1,4 +1,4 @@
--- The tree that a text of the grammar stands for, which keeps no places of signs.
+-- The tree of a text of the grammar, which keeps no places of signs.
 use Rattle.std.specs.Prelude.{Bool, true, false, List, [], ◌∷◌, ◌++◌, map, Option, Some, None}
 use Rattle.statement_syntax.specs.Types.{Spot, Number, Primary, Letter, Identity, Bracket, Factor, Term, Sum, Name, Statement, StatementKind}
 use Rattle.statement_syntax.specs.Types.{StatementKind as statement, ListWord, Object, Solve, Eliminate, SidesWord, Assume, Claim, PairWord, Pinv, Inverse}

@@ -97,14 +97,14 @@ statement_kinds (statement.Solve names) = list_kinds (codes "solve") names
 statement_kinds (statement.Eliminate names) = list_kinds (codes "eliminate") names
 statement_kinds (statement.Shape modulus sides) = shape_kinds modulus sides
 
--- nothing is put after them
+-- there is no blank after them
 abbrev pub opens : TokenKind → Bool
 opens kind.Open = true
 opens kind.OpenSquare = true
 opens kind.Caret = true
 opens k = false
 
--- nothing is put before them
+-- there is no blank before them
 abbrev pub closes : TokenKind → Bool
 closes kind.Close = true
 closes kind.CloseSquare = true
@@ -132,7 +132,7 @@ abbrev pub gap : Bool → List ℕ
 gap true = []
 gap false = codes " "
 
--- tokens with one blank between them, and where the first is not glued to what stands before, also in front
+-- tokens with one blank between them, and one before the first unless that is glued to what is before it
 abbrev pub text_from : Bool → List TokenKind → List ℕ
 text_from glued [] = []
 text_from glued (k ∷ ks) = gap (glued || closes k) ++ kind_text k ++ text_from (opens k) ks

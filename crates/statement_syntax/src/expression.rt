@@ -19,7 +19,7 @@ use thiserror::Error;
 /// The greatest number of open round brackets.
 const BRACKET_LIMIT: usize = 64;
 
-/// What stands before the term that is read: the place of the sum's first token, if there is one, and the sign.
+/// The sum before the term that is read: the place of its first token, if there is one, and the sign.
 #[derive(Drop)]
 pub struct Head {
     pub at: Option<Spot>,
@@ -44,17 +44,17 @@ pub enum Part {
     Product(OpenProduct),
 }
 
-/// Inside square brackets, behind a caret, or neither.
+/// Inside square brackets, after a caret, or neither.
 #[derive(Drop)]
 pub enum Focus {
     Outside,
     Square(Spot),
     Named(Spot, Name),
-    /// Behind a caret at this place, of which the literal is next, with the product before it.
+    /// After a caret at this place, of which the literal is next, with the product before it.
     Raised(OpenProduct, Spot),
 }
 
-/// A round bracket that is open, with what stands before it.
+/// An open round bracket, with what is before it.
 #[derive(Drop)]
 pub struct Level {
     pub head: Head,
@@ -62,7 +62,7 @@ pub struct Level {
     pub at: Spot,
 }
 
-/// An expression that isn't at its end.
+/// An expression up to some token.
 #[derive(Drop)]
 pub struct Reading {
     pub levels: Stack<Level>,
@@ -210,7 +210,7 @@ fn outside_step(alloc: Global, reading: &mut Reading, token: Token) -> Result<()
     }
 }
 
-// A caret behind a factor, of which the literal is next.
+// A caret after a factor. The literal is next.
 fn caret_step(reading: &mut Reading, caret: Spot) -> Result<(), Misfit>
     requires { reading.old.focus ≡ Outside }
     ensures { MatchResult result (λ _. caret_step reading.old.levels reading.old.head reading.old.part caret ≡ Ok reading.new)

@@ -14,7 +14,7 @@ use thiserror::Error;
 pub enum Fault {
     /// The bytes are not UTF-8.
     NotUtf8,
-    /// A character begins no token, or a name has more than 32 bytes.
+    /// No token begins with the character, or a name has more than 32 bytes.
     BadToken,
     /// A token does not fit the grammar, or the line ends too early.
     Expected,

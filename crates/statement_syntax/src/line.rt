@@ -156,7 +156,7 @@ fn plain_line(
     }
 }
 
-// The same for a line that takes over nothing of what has been read.
+// The same where nothing of the line so far is kept.
 fn bare_line(alloc: Global, language: Language, line: &Line, token: Token) -> Result<Line, Misfit>
     requires { IsBare line.now }
     ensures { result ≡ line_step language line.now token.kind token.at }

@@ -1,4 +1,4 @@
-//! Statements that only names make: `object`, `solve`, `eliminate`, `map`, `pinv`, `inverse`, `inner`, `projection`.
+//! Statements of names alone: `object`, `solve`, `eliminate`, `map`, `pinv`, `inverse`, `inner`, `projection`.
 
 ghost use Rattle.std.specs.Prelude.{◌≡◌};
 ghost use Rattle.statement_syntax.specs.Steps.{Gives};

@@ -1,4 +1,4 @@
-//! The term that is read, and the sum that it ends.
+//! The term that is read, and the sum that it is the last term of.
 
 ghost use Rattle.std.specs.Prelude.{◌≡◌, [], ◌∷◌, ◌++◌, IfOk, OnOk};
 ghost use Rattle.statement_syntax.specs.Steps.{part_with, Gives, Turns, ended_part, sum_with, mark_step, sign_step};
@@ -76,7 +76,7 @@ pub fn ended_part(alloc: Global, part: Part, negative: bool) -> Result<Term, Rea
     }
 }
 
-// The factors with the last one, for which alone room is made: most terms have one factor, and a tree keeps all of them.
+// The factors with the last one. Room is made for that one only: most terms have one factor, and a tree keeps all of them.
 fn factors_with(factors: Listing<Factor>, last: Factor) -> Result<Listing<Factor>, AllocError>
     ensures { IfOk result (λ all. all ≡ factors ++ last ∷ []) }
 {

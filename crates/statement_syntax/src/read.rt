@@ -21,7 +21,7 @@ use std::alloc::{AllocError, Global};
 use std::mem;
 use std::vec::IntoIter;
 
-/// The statements of the lines that are read, and what has been read of the next one.
+/// The statements of the lines that were read, and what has been read of the present one.
 #[derive(Drop)]
 pub struct Progress {
     pub statements: Listing<Statement>,
@@ -59,7 +59,7 @@ fn refusal(error: ReadError, at: Spot) -> SyntaxFault
     }
 }
 
-// The statement of the line that names the second language, whose three tokens are taken off.
+// The statement of the line that names the second language, whose three tokens are removed.
 fn first_statements(
     alloc: Global,
     language: Language,
@@ -84,7 +84,7 @@ fn first_statements(
     Ok(statements)
 }
 
-// What has been read behind the first tokens of a file, which are all or tell its language.
+// What has been read after the first tokens of a file, which are all of them or determine its language.
 fn opened(alloc: Global, language: Language, tokens: Vec<Token>) -> Result<Progress, SyntaxFault>
     requires { language ≡ language_of tokens.items }
     ensures { IsReadSoFar tokens.items result }
@@ -108,7 +108,7 @@ fn opened(alloc: Global, language: Language, tokens: Vec<Token>) -> Result<Progr
     Ok(progress)
 }
 
-// The first three tokens of a text, which tell its language, or all where there are fewer.
+// The first three tokens of a text, which determine its language, or all where there are fewer.
 fn opening(alloc: Global, scanner: &mut Scanner<'_>) -> Result<Vec<Token>, SyntaxFault>
     ensures found { IfOk result (λ ts. IsFront ts.items scanner.old scanner.new) }
     ensures fault { IfErr result (LeavesFault scanner.old) }
@@ -123,7 +123,7 @@ fn opening(alloc: Global, scanner: &mut Scanner<'_>) -> Result<Vec<Token>, Synta
     Ok(tokens)
 }
 
-// A token more, of which nothing is told where one before it did not fit.
+// One more token, which changes nothing where an earlier one did not fit.
 fn go_on(alloc: Global, language: Language, read: &mut Result<Progress, SyntaxFault>, token: Token)
     ensures { Goes language read.old token read.new }
 {
@@ -186,13 +186,13 @@ fn characters_of(alloc: Global, bytes: &[u8]) -> Result<Vec<char>, SyntaxFault>
 /// The tree of a text of statements, or its first fault. The text has fewer than 4,294,967,295 bytes.
 pub fn read_tree(alloc: Global, bytes: &[u8]) -> Result<Tree, SyntaxFault>
     requires { length bytes.now < 4294967295 }
-    // What is read is the tree of the bytes.
+    // The result is the tree of the bytes.
     ensures found { IfOk result (λ tree. IsTreeOf bytes.now tree.statements) }
     // There is no other tree.
     ensures only { (lines : List StatedLine) → IsStatements bytes.now lines → IfOk result (λ tree. tree.statements ≡ file_tree lines) }
-    // Where there is a tree, only want of memory refuses it.
+    // Where there is a tree, it fails only for want of memory.
     ensures refused { (lines : List StatedLine) → IsStatements bytes.now lines → IfErr result IsWantOfMemory }
-    // Else the first fault is told, with its place.
+    // Otherwise the first fault is returned, with its place.
     ensures first { IfErr result (TellsFirstFault bytes.now) }
 {
     let text = characters_of(alloc, bytes)?;

@@ -15,7 +15,7 @@ use statement_tokens::{Spot, Token, TokenKind};
 use std::alloc::Global;
 use std::mem;
 
-/// An expression of which nothing is read.
+/// An expression before its first token.
 pub fn start_reading(alloc: Global) -> Reading
     ensures { result ≡ start_reading }
 {

@@ -98,11 +98,11 @@ pub enum Primary {
     Bracket(Sum),
 }
 
-/// What may stand behind a primary, any number of times.
+/// What may follow a primary, any number of times.
 #[derive(Clone, Copy)]
 pub enum Mark {
     /// `'`
     Adjoint,
-    /// `^` at this place, and the literal behind it.
+    /// `^` at this place, and the literal after it.
     Power { at: Spot, exponent: Number },
 }

@@ -68,10 +68,10 @@ fn put_line(kinds: &[TokenKind], text: &mut Vec<u8>) -> Result<(), AllocError>
     Ok(())
 }
 
-/// The text of a tree, a statement a line. One blank stands between two tokens, but none after `(`, `[` and
+/// The text of a tree, a statement a line. There is one blank between two tokens, but none after `(`, `[` and
 /// `^`, and none before `)`, `]`, `'` and `^`.
 pub fn write_tree(alloc: Global, tree: &Tree) -> Result<Vec<u8>, AllocError>
-    // One blank between two tokens, but where a bracket or a mark stands close.
+    // One blank between two tokens, with these exceptions.
     ensures exact { IfOk result (λ text. text.items ≡ tree_text tree.now.statements) }
     // It is read as the same tree, up to places.
     ensures read_back { IfOk result (λ text. ∥ ReadsBackAs text.items tree.now.statements ∥₁) }
