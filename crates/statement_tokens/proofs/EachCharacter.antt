@@ -26,7 +26,7 @@ pub all_are : (p : ℕ → Bool) (cs : List ℕ) → EachIs p cs → list_all p 
 all_are p [] given = refl
 all_are p (c ∷ cs) given = rw (given.0) (all_are p cs given.1)
 
--- those in front that pass are no more than the front that passes
+-- characters that all pass are a part of the longest prefix that passes
 pub front_passes : (p : ℕ → Bool) (cs rest : List ℕ) → list_all p cs ≡ true → length cs ≤ prefix_len p (cs ++ rest)
 front_passes p [] rest all = omega arith
 front_passes p (c ∷ cs) rest all =

@@ -1,4 +1,4 @@
--- What the reader of a name comes to, and how long items are.
+-- The result of the reader of a name, and how long items are.
 use Rattle.std.proofs.Common.{◌≡◌, ℕ, ◌≤◌, List, ◌∷◌, length, Result, Ok, Err, take, refl, sym, ap, ap₂, subst, ◌∙◌}
 use Rattle.std.specs.Result.{IfOk}
 use Rattle.std.specs.List.{prefix_len, take_while}

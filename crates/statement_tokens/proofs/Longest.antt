@@ -17,7 +17,7 @@ use Rattle.statement_tokens.proofs.EachCharacter.{EachIs-take_while, all_are, fr
 use Rattle.statement_tokens.proofs.Rescan.{no_start}
 use Rattle.statement_tokens.proofs.Literals.{plain_digit}
 
--- so many characters may go on with the first
+-- at most how many characters may continue the first
 pub goes_on : List ℕ → ℕ
 goes_on [] = 0
 goes_on (c ∷ rest) =
@@ -74,7 +74,7 @@ begins_two a b c [] is = let none = (and_parts (c == a) false is).1 in absurd cc
 begins_two a b c (d ∷ more) is =
     let parts = and_parts (c == a) (d == b) is in (more, ap₂ (λ x y. x ∷ y ∷ more) (sym (eqb-true c a parts.0)) (sym (eqb-true d b parts.1)))
 
--- the pieces of one character with which no more go on, but where `->` stands
+-- the pieces of one character that no other continues, except where it begins `->`
 abbrev singles : List Piece
 singles = line_feed ∷ blank ∷ tab ∷ sign kind.Colon ∷ sign kind.Equals ∷ sign kind.Plus ∷ sign kind.Minus ∷ sign kind.Open ∷ sign kind.Close
     ∷ sign kind.OpenSquare ∷ sign kind.CloseSquare ∷ sign kind.Quote ∷ sign kind.Caret ∷ []
@@ -86,7 +86,7 @@ is_alone : List ℕ → Bool
 is_alone (n ∷ []) = nat_lt n 128 && not (is_ascii_alphabetic n || (n == 95) || is_digit n || (n == 13) || (n == 35))
 is_alone text = false
 
--- these tell what a text begins with
+-- tests of what a text begins with
 pub record NoTest (c : ℕ) (rest : List ℕ) : Type 0 where
   pub not_single : is_single c ≡ false
   pub not_return : ((c == 13) && begins_with 10 rest) ≡ false
@@ -118,7 +118,7 @@ none_begins c rest none piece more is e = by piece is e
     by piece is e = passes is_single _ _ e refl none.not_single
 
 module _ (c : ℕ) (rest : List ℕ) where
-  -- a piece with all that go on with it
+  -- a piece with all characters that continue it
   running : (piece : Piece) (p : ℕ → Bool) → is_piece piece ≡ true → piece_text piece ≡ c ∷ take_while p rest → goes_on (c ∷ rest) ≡ prefix_len p rest
       → Longest (c ∷ rest)
   running piece p is text goes =
@@ -177,6 +177,6 @@ module _ (c : ℕ) (rest : List ℕ) where
   pub begins_with_longest : Longest (c ∷ rest) ⊎ BeginsNone (c ∷ rest)
   begins_with_longest = elim longest_or_none [ inl found ↦ inl found | inr none ↦ inr (none_begins c rest none) ]
 
-  -- where no piece begins, no test tells one
+  -- where no piece begins, no test succeeds
   pub no_test : BeginsNone (c ∷ rest) → NoTest c rest
   no_test none = elim longest_or_none [ inl found ↦ absurd (none found.piece found.later found.is.is (sym found.cut)) | inr tests ↦ tests ]

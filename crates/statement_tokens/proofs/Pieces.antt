@@ -23,7 +23,7 @@ use Rattle.statement_tokens.proofs.Rescan.{name_read, sign_back, caret_read, arr
 use Rattle.statement_tokens.proofs.Literals.{literal_read}
 use Rattle.statement_tokens.proofs.Longest.{begins_two, no_test}
 
--- where the piece is the longest, those behind it don't go on with it
+-- where the piece is the longest, the characters after it don't continue it
 run_ends : (p : ℕ → Bool) (wrap : List ℕ → Piece) (c : ℕ) (cs later : List ℕ) → ((xs : List ℕ) → piece_text (wrap xs) ≡ c ∷ xs)
     → ((xs : List ℕ) → list_all p xs ≡ true → is_piece (wrap xs) ≡ true) → list_all p cs ≡ true → IsLongest (wrap cs) later
     → prefix_len p (cs ++ later) ≡ length cs

@@ -12,7 +12,7 @@ placed before (Ok (item.Gap more)) at past next = next before more (right_of at 
 placed before (Ok (item.Token k more)) at past next =
     next (before ++ record { at = at; kind = k } ∷ []) more (right_of at 1) (at.column + 1 + more) >>= λ ts. Ok (record { at = at; kind = k } ∷ ts)
 
--- behind these tokens; so many characters belong to what began before; past is the column past the last token of the line, 0 where it has none
+-- after these tokens; so many characters belong to what began before; past is the column past the last token of the line, 0 where it has none
 unfoldable pub tokens_from : List Token → List ℕ → ℕ → Spot → ℕ → Result (List Token) Placed
 tokens_from before [] skip at past = Ok (end_of at.line past)
 tokens_from before (c ∷ cs) (suc skip) at past = tokens_from before cs skip (right_of at 1) past
@@ -21,11 +21,11 @@ tokens_from before (c ∷ cs) zero at past = placed before (item_at before c cs)
 abbrev pub tokens_of : List ℕ → Result (List Token) Placed
 tokens_of characters = tokens_from [] characters 0 (record { line = 1; column = 1 }) 0
 
--- what a scanner that stands behind these tokens has not read: the tokens of the characters that are left, or their first fault
+-- what a scanner that follows these tokens has not read: the tokens of the characters that are left, or their first fault
 abbrev pub unread : List Token → Scanner → Result (List Token) Placed
 unread before scanner = tokens_from before scanner.text.now 0 scanner.at scanner.past
 
--- what is handed out, by the scanner's function
+-- what is returned, by the scanner's function
 abbrev pub HandsRead : List Token → Scanner → Result (Option Token) ScanError → Scanner → Type 0
 HandsRead before old (Ok (Some token)) new = unread before old ≡ with_front (token ∷ []) (unread (before ++ token ∷ []) new)
 HandsRead before old (Ok None) new = (unread before old ≡ Ok []) × (unread before new ≡ Ok [])

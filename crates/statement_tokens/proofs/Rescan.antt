@@ -15,7 +15,7 @@ use Rattle.statement_tokens.proofs.Reading.{◌>>=◌, tokens_from, with_front}
 use Rattle.statement_tokens.proofs.Scanning.{spot, turn_token}
 use Rattle.statement_tokens.proofs.EachCharacter.{EachIs, differs}
 
--- what follows does not go on
+-- what follows does not continue it
 abbrev pub StopsAt : (ℕ → Bool) → List ℕ → Type 0
 StopsAt p [] = Unit {0}
 StopsAt p (c ∷ cs) = p c ≡ false
@@ -62,7 +62,7 @@ pub name_back : (before : List Token) (c : ℕ) (cs rest : List ℕ) → starts_
     → item_at before c (cs ++ rest) ≡ name_of (encode_utf8_all (c ∷ cs)) (length cs)
 name_back before c cs rest s e stop = name_read before c cs rest s (prefix_is is_xid_continue cs rest e stop)
 
--- what may stand behind a token with no blank between
+-- what may follow a token with no blank between
 abbrev pub Ender : ℕ → Type 0
 Ender c = (c ≡ 32) ⊎ (c ≡ 10) ⊎ (c ≡ 41) ⊎ (c ≡ 93) ⊎ (c ≡ 39) ⊎ (c ≡ 94)
 
@@ -78,7 +78,7 @@ plain_ender c (inr (inr (inr (inl is)))) = rw is (omega arith, refl, refl, refl)
 plain_ender c (inr (inr (inr (inr (inl is))))) = rw is (omega arith, refl, refl, refl)
 plain_ender c (inr (inr (inr (inr (inr is))))) = rw is (omega arith, refl, refl, refl)
 
--- no name and no literal goes on with it, and no sign
+-- it continues no name, no literal and no sign
 pub stops_name : (rest : List ℕ) → EndsBefore rest → StopsAt is_xid_continue rest
 stops_name [] given = tt
 stops_name (c ∷ rest) given = let plain = plain_ender c given in rw (is_xid_continue-ascii c plain.0) plain.1

@@ -20,7 +20,7 @@ skipped before (suc n) [] line column past given = absurd (omega arith)
 skipped before (suc n) (c ∷ cs) line column past given =
     skipped before n cs line (column + 1) past (omega arith) ∙ ap (λ k. tokens_from before (drop n cs) 0 (spot line k) past) (omega arith)
 
--- one turn behind these tokens, at a character and those after it
+-- one turn after these tokens, at a character and those after it
 turn : (before : List Token) (c : ℕ) (rest : List ℕ) (at : Spot) (past : ℕ) (read : Result Item ScanFault) → item_at before c rest ≡ read
     → tokens_from before (c ∷ rest) 0 at past ≡ placed before read at past (λ front skip to end. tokens_from front rest skip to end)
 unfolding tokens_from
@@ -49,14 +49,14 @@ module _ (before : List Token) (c : ℕ) (rest left : List ℕ) (more size : ℕ
       ∙ ap (with_front (record { at = at; kind = k } ∷ [])) (over longer (at.column + 1 + more)
       ∙ ap (tokens_from longer left 0 (right_of at size)) (omega arith))
 
--- what is left behind so many characters, as the code slices it
+-- what is left after so many characters, as the code slices it
 abbrev pub cut : ℕ → List ℕ → List ℕ
 cut n text = take (length text - n) (drop n text)
 
 pub cut_length : (n : ℕ) (text : List ℕ) → length (take (length text - n) (drop n text)) ≡ length text - n
 cut_length n text = ap length (take_rest text n) ∙ length-drop n text
 
--- a turn of a scanner behind tokens that tell the language, as the code takes it
+-- a turn of a scanner after tokens that determine the language, as the code takes it
 module _ (before : List Token) (here : Scanner) (first : ℕ) (language : Language) (some : 0 < length here.text.now)
     (is : first ≡ get_or here.text.now 0 first) (same : language_of before ≡ language) where
   abbrev rest : List ℕ
@@ -89,7 +89,7 @@ module _ (before : List Token) (here : Scanner) (first : ℕ) (language : Langua
     scans_token k given = begins ∙ turn_token before first rest (cut more rest) more (1 + more) short (take_rest rest more) refl here.at here.past k
         (reads (Ok (item.Token k more)) given)
 
--- behind the last character the line that is read ends
+-- after the last character the line that is read ends
 pub turn_end : (before : List Token) (old here new : Scanner) (end : Option Token) → unread before old ≡ unread before here → here.text.now ≡ []
     → new.text.now ≡ [] → new.past ≡ 0
     → MatchOption end (end_of here.at.line here.past ≡ []) (λ token. end_of here.at.line here.past ≡ token ∷ []) → HandsRead before old (Ok end) new

@@ -18,7 +18,7 @@ use Rattle.statement_tokens.proofs.Pieces.{Read, front_none, outcome, reads_piec
 abbrev start : Spot
 start = record { line = 1; column = 1 }
 
--- a caret doesn't tell the language
+-- a caret doesn't change the language
 same_language : (before more : List Token) (at : Spot) → language_of (before ++ record { at = at; kind = kind.Caret } ∷ more) ≡ language_of before
 same_language [] [] at = refl
 same_language [] (b ∷ []) at = refl
@@ -28,7 +28,7 @@ same_language (a ∷ []) (c ∷ more) at = rw (and_right (is_language_word a.kin
 same_language (a ∷ b ∷ []) more at = rw (and_right (is_language_word a.kind && is_two b.kind) false refl) refl
 same_language (a ∷ b ∷ c ∷ before) more at = refl
 
--- a piece is as good behind the tokens in front of it as behind others too
+-- a piece is as good after the tokens before it as after others too
 same_fault : (before more : List Token) (piece : Piece) (at : Spot) (past : ℕ)
     → fault_of (language_of ((before ++ tokens_with piece at past) ++ more)) piece ≡ fault_of (language_of before) piece
 same_fault before more (sign kind.Caret) at past =
@@ -79,7 +79,7 @@ stops_at before rest at past f (inr (c, later, text, none, bad)) =
     ap (λ cs. tokens_from before cs 0 at past) text ∙ stops_none before c later at past (subst BeginsNone text none)
     ∙ ap (λ f. Err (record { fault = f; at = at })) (sym bad)
 
--- what a text is told to have is what the scanner's function tells
+-- the tokens or the fault of a text are those of the scanner's function
 behind_is : (before : List Token) (at : Spot) (past : ℕ) (text : List ℕ) (read : Read) → TellsBehind before at past text read
     → tokens_from before text 0 at past ≡ read
 unfolding tokens_from
@@ -171,7 +171,7 @@ has_read (suc n) (c ∷ rest) short before at past = elim (begins_with_longest c
   | inr none ↦ fails_here before at past (c ∷ rest) BadToken (inr (c, rest, refl, none, refl))
 ]
 
--- what the scanner's function tells is what the text has, and it alone
+-- the scanner's function gives those of the text, and only these
 told_behind : (before : List Token) (at : Spot) (past : ℕ) (text : List ℕ) (read : Read) → tokens_from before text 0 at past ≡ read
     → TellsBehind before at past text read
 told_behind before at past text read is =
@@ -194,7 +194,7 @@ token_hands before old token rest at past is read tells =
     leaves before old (with_front (token ∷ []) read)
     (is ∙ ap (with_front (token ∷ [])) (behind_is (before ++ token ∷ []) at past rest read tells))
 
--- what is handed out, by the scanner's function
+-- what is returned, by the scanner's function
 pub handed : (before : List Token) (old : Scanner) (out : Result (Option Token) ScanError) (new : Scanner) → Hands before old out new
     → HandsRead before old out new
 handed before old (Ok (Some token)) new is =

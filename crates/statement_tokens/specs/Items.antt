@@ -10,7 +10,7 @@ use Rattle.statement_tokens.specs.Tokens.{value_from}
 use Rattle.statement_tokens.specs.Types.{Token, TokenKind as kind, Language, First, Second, Class, Class as class, Item, Item as item, ScanFault, BadToken}
 use Rattle.statement_tokens.specs.Types.{LiteralTooLarge, ItemError, ItemError as item_error}
 
--- whether a token or a comment goes on with the character
+-- whether the character continues a token or a comment
 abbrev pub is_in : Class → ℕ → Bool
 is_in class.Name = is_xid_continue
 is_in class.Digit = is_digit
@@ -26,7 +26,7 @@ name_of text more = if nat_le (length text) name_limit then Ok (item.Token (kind
 abbrev pub literal_of : ℕ → ℕ → Result Item ScanFault
 literal_of value more = if nat_lt value (2 ^ 127) then Ok (item.Token (kind.Literal (pos value)) more) else Err LiteralTooLarge
 
--- a caret is a token of the second language alone
+-- only the second language has carets as tokens
 abbrev pub caret_in : Language → Result Item ScanFault
 caret_in First = Err BadToken
 caret_in Second = Ok (item.Token kind.Caret 0)
@@ -55,7 +55,7 @@ item_in language c rest =
     else (if c == 45 then (if begins_with 62 rest then Ok (item.Token kind.Arrow 1) else Ok (item.Token kind.Minus 0))
     else sign_in language c)))))
 
--- behind these tokens, which tell the language
+-- after these tokens, which determine the language
 abbrev pub item_at : List Token → ℕ → List ℕ → Result Item ScanFault
 item_at before c rest = item_in (language_of before) c rest
 

@@ -1,4 +1,4 @@
--- The two statement languages, and which of them a file is of: its first line tells it.
+-- The two statement languages, and that of a file, which is determined by its first line.
 use Rattle.std.specs.Prelude.{Bool, true, false, ◌&&◌, List, ◌∷◌, pos, bytes_eq, codes, if◌then◌else◌}
 use Rattle.std.specs.Ordering.{int_eq}
 use Rattle.statement_tokens.specs.Types.{Token, TokenKind, TokenKind as kind, Language, First, Second}
@@ -15,7 +15,7 @@ abbrev pub is_end : TokenKind → Bool
 is_end kind.End = true
 is_end k = false
 
--- a file is of the second language where its first line is `language 2`, and else of the first
+-- a file is of the second language where its first line is `language 2`, and of the first otherwise
 abbrev pub language_of : List Token → Language
 language_of (word ∷ number ∷ end ∷ more) = if is_language_word word.kind && is_two number.kind && is_end end.kind then Second else First
 language_of tokens = First

@@ -1,6 +1,6 @@
 -- The limit of a name.
 use Rattle.std.specs.Prelude.{ℕ}
 
--- the bytes of a name
+-- of the bytes of a name
 abbrev pub name_limit : ℕ
 name_limit = 32

@@ -1,4 +1,4 @@
--- What a text is cut into: line ends, blanks, tabs, comments, names, literals and signs, each the longest that begins at its place.
+-- The pieces of a text: line ends, blanks, tabs, comments, names, literals and signs, each the longest that begins at its place.
 use Rattle.std.specs.Prelude.{◌≡◌, ◌≤◌, ℕ, ◌==◌, ◌&&◌, ◌||◌, Bool, true, false, List, [], ◌∷◌, ◌++◌, length, codes, nat_le, not, IsTrue}
 use Rattle.std.specs.List.{flat_map, list_all}
 use Rattle.unicode_ident.specs.Ident.{is_xid_start, is_xid_continue}
@@ -13,7 +13,7 @@ is_digit c = nat_le 48 c && nat_le c 57
 abbrev pub is_inside_line : ℕ → Bool
 is_inside_line c = not (c == 10)
 
--- a comment, a name and a literal have their characters, of a comment those behind its `#`
+-- a comment, a name and a literal with their characters, of a comment those after its `#`
 pub data Piece : Type 0 where
   line_feed : Piece
   return_and_line_feed : Piece
@@ -52,7 +52,7 @@ piece_text (sign k) = sign_text k
 abbrev pub pieces_text : List Piece → List ℕ
 pieces_text pieces = flat_map piece_text pieces
 
--- one character, and others behind it
+-- the first character passes one test, and the others pass another
 abbrev pub begins_and_goes_on : (ℕ → Bool) → (ℕ → Bool) → List ℕ → Bool
 begins_and_goes_on begins goes_on [] = false
 begins_and_goes_on begins goes_on (c ∷ cs) = begins c && list_all goes_on cs
@@ -69,7 +69,7 @@ is_piece (literal cs) = begins_and_goes_on is_digit is_digit cs
 is_piece (sign k) = is_some (sign_text k)
 is_piece other = true
 
--- in front of the rest the piece is the longest that begins at its place
+-- before the rest the piece is the longest at its place
 pub record IsLongest (piece : Piece) (rest : List ℕ) : Type 0 where
   pub is : IsTrue (is_piece piece)
   pub longest : (other : Piece) (more : List ℕ) → IsTrue (is_piece other) → piece_text other ++ more ≡ piece_text piece ++ rest

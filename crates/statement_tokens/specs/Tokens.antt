@@ -23,7 +23,7 @@ abbrev pub place_behind : List Piece → Spot → Spot
 place_behind [] at = at
 place_behind (piece ∷ pieces) at = place_behind pieces (behind piece at)
 
--- the value of digits behind others of this value
+-- the value of digits after others with this value
 abbrev pub value_from : ℕ → List ℕ → ℕ
 value_from n [] = n
 value_from n (d ∷ ds) = value_from (n * 10 + (d - 48)) ds
@@ -33,7 +33,7 @@ abbrev pub end_of : ℕ → ℕ → List Token
 end_of line zero = []
 end_of line (suc n) = record { at = record { line = line; column = suc n }; kind = kind.End } ∷ []
 
--- the tokens that are read with a piece at a place; past is the column past the last token of its line, 0 where it has none
+-- the tokens of a piece at a place; past is the column past the last token of its line, or 0
 abbrev pub tokens_with : Piece → Spot → ℕ → List Token
 tokens_with line_feed at past = end_of at.line past
 tokens_with return_and_line_feed at past = end_of at.line past
@@ -42,7 +42,7 @@ tokens_with (literal cs) at past = record { at = at; kind = kind.Literal (pos (v
 tokens_with (sign k) at past = record { at = at; kind = k } ∷ []
 tokens_with piece at past = []
 
--- the column past the last token of the line, behind a piece
+-- the column past the last token of the line, after a piece
 abbrev pub past_behind : Piece → Spot → ℕ → ℕ
 past_behind line_feed at past = 0
 past_behind return_and_line_feed at past = 0
@@ -59,19 +59,19 @@ abbrev pub sign_fault : TokenKind → Language → Option ScanFault
 sign_fault kind.Caret First = Some BadToken
 sign_fault k language = None
 
--- a name has at most 32 bytes, a literal is below 2^127, and a caret is a token of the second language alone
+-- a name has at most 32 bytes, a literal is below 2^127, and only the second language has carets as tokens
 abbrev pub fault_of : Language → Piece → Option ScanFault
 fault_of language (name cs) = if nat_le (length (encode_utf8_all cs)) name_limit then None else Some BadToken
 fault_of language (literal cs) = if nat_lt (value_from 0 cs) (2 ^ 127) then None else Some LiteralTooLarge
 fault_of language (sign k) = sign_fault k language
 fault_of language piece = None
 
--- in front of the rest each piece is the longest at its place, and none is faulty in the language
+-- before the rest each piece is the longest at its place, and none has a fault in the language
 abbrev pub AreGood : Language → List Piece → List ℕ → Type 0
 AreGood language [] rest = Unit {0}
 AreGood language (piece ∷ pieces) rest = IsLongest piece (pieces_text pieces ++ rest) × (fault_of language piece ≡ None) × AreGood language pieces rest
 
--- behind these tokens, of which past is the column past the last one of its line, the text from this place on is good pieces and no more,
+-- after these tokens, where past is the column past the last one of its line, the text from this place on is good pieces and no more,
 -- and these are their tokens; its end ends the last line
 pub record AreTokensBehind (before : List Token) (at : Spot) (past : ℕ) (text : List ℕ) (tokens : List Token) : Type 0 where
   pub pieces : List Piece
@@ -83,13 +83,13 @@ pub record AreTokensBehind (before : List Token) (at : Spot) (past : ℕ) (text 
 abbrev pub AreTokens : List ℕ → List Token → Type 0
 AreTokens text tokens = AreTokensBehind [] (record { line = 1; column = 1 }) 0 text tokens
 
--- the longest piece that the text begins with has the fault in the language, or no piece begins with the character that stands there
+-- the longest piece that the text begins with has the fault in the language, or no piece begins with its first character
 abbrev pub Begins : Language → List ℕ → ScanFault → Type 0
 Begins language text fault =
     ((piece : Piece) × (rest : List ℕ) × (text ≡ piece_text piece ++ rest) × IsLongest piece rest × (fault_of language piece ≡ Some fault))
     ⊎ ((c : ℕ) × (rest : List ℕ) × (text ≡ c ∷ rest) × BeginsNone text × (fault ≡ BadToken))
 
--- behind these tokens, the text from this place on is good pieces up to the place of the fault
+-- after these tokens, the text from this place on is good pieces up to the place of the fault
 pub record IsFaultBehind (before : List Token) (from : Spot) (past : ℕ) (text : List ℕ) (fault : ScanFault) (at : Spot) : Type 0 where
   pub pieces : List Piece
   pub rest : List ℕ

@@ -1,4 +1,4 @@
-//! The statement languages, and which tokens tell that a file is of which.
+//! The statement languages, and the tokens that determine that of a file.
 
 ghost use Rattle.std.specs.Prelude.{◌≡◌};
 ghost use Rattle.statement_tokens.specs.Language.{is_language_word, is_two, is_end, language_of};
@@ -38,7 +38,7 @@ fn is_end(kind: &TokenKind) -> bool
     matches!(kind, TokenKind::End)
 }
 
-/// The language of a file that begins with these tokens: its first line tells it.
+/// The language of a file that begins with these tokens: its first line determines it.
 pub fn language_of(tokens: &[Token]) -> Language
     ensures { result ≡ language_of tokens.now }
 {

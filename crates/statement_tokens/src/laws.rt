@@ -1,4 +1,4 @@
-//! What holds of the tokens of all texts. The functions do nothing when they run.
+//! The laws of the tokens of all texts. They have nothing to run.
 
 ghost use Rattle.statement_tokens.specs.Laws.{EachTextHasTokensOrFault, TokensAreUnique, FirstScanFaultsAreUnique};
 ghost use Rattle.statement_tokens.specs.Laws.{TokensHaveNoFault};

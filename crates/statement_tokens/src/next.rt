@@ -26,7 +26,7 @@ impl<'a> Scanner<'a> {
         }
     }
 
-    /// The next token in a file of the language, which the tokens before it tell, or None behind the last one. A line that
+    /// The next token in a file of the language, which the tokens before it determine, or None after the last one. A line that
     /// has a token ends with one just past its last.
     #[tactic(auto, using(crate::proofs::Scanning::cut_length, crate::proofs::Scanning::at_most_one, crate::proofs::Scanning::end_lessens))]
     pub fn next(&mut self, alloc: Global, language: Language) -> Result<Option<Token>, ScanError>

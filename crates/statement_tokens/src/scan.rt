@@ -24,10 +24,10 @@ pub enum Item {
     Token(TokenKind, usize),
 }
 
-/// Why characters are no token.
+/// Why characters are not a token.
 #[derive(Clone, Copy, Debug, Error)]
 pub enum ScanFault {
-    /// A character begins no token, or a name is too long.
+    /// No token begins with the character, or a name is too long.
     #[error("the token is bad")]
     BadToken,
     /// A literal is larger than 2^127 - 1.
@@ -41,7 +41,7 @@ pub enum ScanFault {
 pub struct Placed {
     /// What is wrong.
     pub fault: ScanFault,
-    /// Where its first character stands.
+    /// The place of its first character.
     pub at: Spot,
 }
 
@@ -81,7 +81,7 @@ impl From<AllocError> for ItemError {
     }
 }
 
-/// The characters that go on with a token or a comment.
+/// The characters that continue a token or a comment.
 #[derive(Clone, Copy)]
 pub enum Class {
     Name,
@@ -123,7 +123,7 @@ fn spelled(alloc: Global, first: char, more: &[char]) -> Result<Text, AllocError
     Ok(out)
 }
 
-// A caret is a sign in the second language alone.
+// Only the second language has carets.
 fn sign_in(language: Language, ch: char) -> Result<Item, ScanFault>
     ensures { result ≡ sign_in language ch }
 {
