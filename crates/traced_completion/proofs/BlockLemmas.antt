@@ -373,7 +373,7 @@ pub split-long : (blocks : List (List Waiting)) (i p : ℕ) (inside : i < length
 split-long blocks i p inside =
     omega (arith, length-append (take i blocks) (take p (get_or blocks i []) ∷ drop p (get_or blocks i []) ∷ drop (suc i) blocks), length-take-le i blocks (omega (arith, inside)))
 
--- the blocks behind the first ones
+-- the blocks after the first ones
 pub all-blocks : (P : Waiting → Type 0) (blocks : List (List Waiting)) → All P (joined blocks) → All (All P) blocks
 all-blocks P blocks all k d inside j e within =
     let place : ℕ = length (joined (take k blocks)) + j in
@@ -384,13 +384,13 @@ all-blocks P blocks all k d inside j e within =
     ∙ ap (λ n. length (joined (take k blocks)) + n) (length-append (get_or blocks k []) (joined (drop (k + 1) blocks))) in
     subst P item (all place e (omega (arith, size, same, within)))
 
--- the blocks behind those that are the front of the list are the rest of it
+-- the blocks after those that are the front of the list are the rest of it
 pub rest-behind : (blocks : List (List Waiting)) (front taken : ℕ) → taken ≤ length (joined blocks) → joined (take front blocks) ≡ take taken (joined blocks) → joined (drop front blocks) ≡ drop taken (joined blocks)
 rest-behind blocks front taken enough is =
     let count : length (joined (take front blocks)) ≡ taken = ap length is ∙ length-take-le taken (joined blocks) enough in
     sym (ap (drop taken) (joined-cut blocks front) ∙ drop_at (joined (take front blocks)) (joined (drop front blocks)) taken count)
 
--- a block behind all of them
+-- a block after all of them
 pub pushed-behind : (blocks : List (List Waiting)) (from : ℕ) (items : List Waiting) → from ≤ length blocks → length blocks ≤ from → joined (drop from (blocks ++ items ∷ [])) ≡ items
 pushed-behind blocks from items low high =
     let count : length blocks ≡ from = omega (arith, low, high) in

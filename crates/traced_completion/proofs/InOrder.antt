@@ -5,7 +5,7 @@ use Rattle.rule_reduce.specs.declared.fault.ReduceFault.{ReduceFault}
 use Rattle.rule_reduce.specs.declared.fault.ReduceFault.TheVariants as fault
 use Rattle.traced_completion.specs.Results.{and_then, each_in_turn, Explains}
 
--- values that stand before what is left
+-- values before those of what is left
 abbrev pub join : {A : Type 0} → List A → Result (List A) ReduceFault → Result (List A) ReduceFault
 join done (Ok xs) = Ok (done ++ xs)
 join done (Err e) = Err e
@@ -18,7 +18,7 @@ pub join-nil : {A : Type 0} (r : Result (List A) ReduceFault) → join [] r ≡ 
 join-nil (Ok xs) = refl
 join-nil (Err e) = refl
 
--- one value more
+-- one more value
 pub value-next : {A : Type 0} (done : List A) (x : A) (rest : List (Result A ReduceFault)) → join done (values (Ok x ∷ rest)) ≡ join (done ++ x ∷ []) (values rest)
 value-next {A} done x rest = go (values rest)
   where
@@ -39,7 +39,7 @@ explains-head f x xs (fault.Overflow o) why = ap (λ r. and_then r (λ y. and_th
 explains-head f x xs (fault.Size s) why = ap (λ r. and_then r (λ y. and_then (each_in_turn f xs) (λ ys. Ok (y ∷ ys)))) why
 explains-head f x xs (fault.Memory e) why = tt
 
--- and so is that of the others behind a value
+-- and so is that of the others after a value
 explains-tail : {A B : Type 0} (f : A → Result B ReduceFault) (x : A) (y : B) (xs : List A) (e : ReduceFault) → f x ≡ Ok y → Explains (each_in_turn f xs) e → Explains (each_in_turn f (x ∷ xs)) e
 explains-tail {B} f x y xs (fault.Steps limit) is why = ap (λ r. and_then r (λ z. and_then (each_in_turn f xs) (λ ys. Ok (z ∷ ys)))) is ∙ ap (λ r. and_then r (λ ys. Ok (y ∷ ys))) why
 explains-tail {B} f x y xs (fault.Overflow o) is why = ap (λ r. and_then r (λ z. and_then (each_in_turn f xs) (λ ys. Ok (z ∷ ys)))) is ∙ ap (λ r. and_then r (λ ys. Ok (y ∷ ys))) why

@@ -22,7 +22,7 @@ use Rattle.ambiguities.proofs.Bounds.{of_either, coefficient_of-s_polynomial}
 abbrev pub IsNonempty : List ℕ → Type 0
 IsNonempty w = 0 < length w
 
--- what holds of each word with a coefficient holds of each that stands there
+-- what holds of each word with a coefficient holds of each word in the list
 listed : (p : List Term) → IsShaped p → ((w : List ℕ) → coefficient_of p w ≢ pos 0 → IsNonempty w) → All (λ t. IsNonempty t.1) p
 listed p shaped each =
     All-from_recursion (λ t. IsNonempty t.1) p

@@ -1,4 +1,4 @@
--- Products of rows, one list behind another, and the first that overflows.
+-- Products of rows, one list after another, and the first that overflows.
 use Rattle.std.proofs.Common.{◌≡◌, List, ◌++◌, Option, Some, None, Result, Ok, Err, sym, ap, ◌∙◌, subst}
 use Rattle.coef_int.specs.declared.Overflow.{Overflow}
 use Rattle.coef_int.specs.Operations.{first_overflow}

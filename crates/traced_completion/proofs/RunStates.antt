@@ -157,7 +157,7 @@ module _ (letters : ℕ) (compare : Compare) where
 
 -- how many rules works add
 module _ (compare : Compare) where
-  -- one record for each rule, and so many rules at most
+  -- one record for each rule, and at most this many rules
   record Counts (most : ℕ) (r : Recorded) : Type 0 where
     one_each : length r.made ≡ length r.rules
     few : length r.rules ≤ most

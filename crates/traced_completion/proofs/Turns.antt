@@ -10,7 +10,7 @@ use Rattle.traced_completion.specs.Results.{Explains}
 use Rattle.rule_making.specs.Making.{Recorded, Rest, Adds}
 use Rattle.traced_completion.specs.Works.{Work, First, second_work, Does, Goes, InTurn, InTwoPasses, EndsWith}
 
--- a list that begins with another does so with an item more
+-- a list that is a prefix of another stays one with one more item
 pub front_stays : {X : Type 0} (xs ys : List X) (x : X) → take (length xs) ys ≡ xs → take (length xs) (ys ++ x ∷ []) ≡ xs
 front_stays xs ys x front =
     let size = length-take (length xs) ys in
@@ -18,7 +18,7 @@ front_stays xs ys x front =
     take-append-le (length xs) ys (x ∷ []) (omega (arith, size, same)) ∙ front
 
 module _ (compare : Compare) where
-  -- what is there stays there, and there is one rule more at most
+  -- what is there stays, and there is at most one more rule
   pub record Grows (before after : Recorded) : Type 0 where
     pub rules_front : (xs : List Rule) → take (length xs) before.rules ≡ xs → take (length xs) after.rules ≡ xs
     pub made_front : (xs : List Made) → take (length xs) before.made ≡ xs → take (length xs) after.made ≡ xs

@@ -1,4 +1,4 @@
--- A round has one outcome, and a run one state after so many rounds.
+-- A round has one outcome, and a run one state after each number of rounds.
 use Rattle.std.proofs.Common.{◌≡◌, ◌≢◌, ℕ, zero, suc, ℤ, pos, negsuc, neg_ℤ, ◌+ℤ◌, ◌*ℤ◌, List, [], ◌∷◌, ◌++◌, length, map, take, Bool, true, false, leb, Option, Some, None, Result, Ok, Err, refl, sym, ap, ap₂, ◌∙◌, subst, arith}
 use Rattle.std.proofs.Props as std
 use Rattle.std.proofs.lemmas.Int.{ints}

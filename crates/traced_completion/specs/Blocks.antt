@@ -34,7 +34,7 @@ abbrev pub restored : List (ℕ × ℕ) → List (List Waiting) → List (List W
 restored [] blocks = blocks
 restored (at ∷ places) blocks = taken_out at (restored places blocks)
 
--- It is put behind what isn't above it and before what is.
+-- It is inserted after what isn't above it and before what is.
 pub record IsPut (compare : Compare) (from : ℕ) (w : Waiting) (old new : List (List Waiting)) (at : ℕ × ℕ) : Type 0 where
   pub reached : from ≤ at.0
   pub number : at.0 < length old
@@ -45,7 +45,7 @@ pub record IsPut (compare : Compare) (from : ℕ) (w : Waiting) (old new : List 
   pub before : (d : Waiting) → 0 < at.1 → IsUpTo compare (slice_index_or (slice_index_or old at.0 []) (at.1 - 1) d) w
   pub above : (d : Waiting) → at.1 < length (slice_index_or old at.0 []) → waiting_cmp compare w (slice_index_or (slice_index_or old at.0 []) at.1 d) ≡ Less
 
--- The first blocks stay, and the others have these ambiguities too, in their order where they were in it before.
+-- The first blocks stay, and these ambiguities are inserted into the others, in order where those were in order before.
 pub record IsFilled (letters : ℕ) (compare : Compare) (from : ℕ) (items : List Waiting) (old new : List (List Waiting)) : Type 0 where
   pub front : take from new ≡ take from old
   pub count : length new ≡ length old

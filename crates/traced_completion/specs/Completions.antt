@@ -29,7 +29,7 @@ pub record IsBudget (b : Budget) : Type 0 where
 abbrev pub state_of : Completion → RunState
 state_of c = record { rules = c.rules.rules; made = c.made; treated = c.treated }
 
--- what a step says, where the completion after it has this state
+-- the outcome of a step, where the completion after it has this state
 abbrev pub outcome_of : Step → RunState → Outcome
 outcome_of Went s = went s
 outcome_of Closed s = closed
@@ -52,7 +52,7 @@ pub record IsUnchanged (old new : Completion) : Type 0 where
   pub waiting : new.waiting ≡ old.waiting
   pub is_light : new.is_light ≡ old.is_light
 
--- all fields are the same, unless the round was made whole
+-- all fields are the same, unless the round was completed
 abbrev pub IsUnchangedAfter : Step → Completion → Completion → Type 0
 IsUnchangedAfter Went old new = ⊤
 IsUnchangedAfter Closed old new = IsUnchanged old new
@@ -64,7 +64,7 @@ pub record IsGivingUp (fault : ReduceFault) (number : ℕ) (least : Option (List
   pub reason_of : IsCauseOf fault reason
   pub stops : step ≡ Stopped (record { cause = reason; place = place.Round number; least = least })
 
--- After so many rounds of the problem with this budget the plain run has this state. The treated ambiguities are ones of its
+-- After this many rounds of the problem with this budget the plain run has this state. The treated ambiguities are ones of its
 -- rules, all others are waiting, and each rule has a record. The order compares words as the problem's does.
 pub record IsRunOf (problem : Problem) (budget : Budget) (order : AnyOrder) (rounds : ℕ) (s : RunState) (waiting : List Waiting) : Type 0 where
   pub compares : (u v : List ℕ) → made_cmp order u v ≡ asked_cmp problem.parts.order u v

@@ -24,8 +24,8 @@ AreAllPending compare rules treated store = ListsExactly (IsWaitingBefore compar
 abbrev pub ambiguities_of : List Waiting → List Ambiguity
 ambiguities_of store = map (λ w. w.which) store
 
--- Where the old list had all pending ones of the first rules, as many as are known, the new list has all pending ones of
--- all rules, once the first ones of the old list count as treated, as many as were taken.
+-- Where the old list had all pending ones of the first `known` rules, the new list has all pending ones of
+-- all rules, with the first `taken` ones of the old list treated.
 abbrev pub IsNextStore : Compare → List Rule → ℕ → ℕ → List Waiting → List Waiting → Type 0
 IsNextStore compare rules known taken old new = (treated : List Ambiguity)
     → All (IsAmbiguity (take known rules)) treated → AreAllPending compare (take known rules) treated old
@@ -42,7 +42,7 @@ pub record IsLeastWord (compare : Compare) (rules : List Rule) (treated : List A
   pub pending : IsPending rules treated (record { which = which; word = word })
   pub least : (w : Waiting) → IsPending rules treated w → (w.word ≡ word) ⊎ (compare word w.word ≡ Less)
 
--- the least overlap word of the pending ones, and none where nothing is pending
+-- the least overlap word of the pending ones, or None where nothing is pending
 abbrev pub IsLeastPending : Compare → List Rule → List Ambiguity → Option (List ℕ) → Type 0
 IsLeastPending compare rules treated None = (w : Waiting) → ¬ IsPending rules treated w
 IsLeastPending compare rules treated (Some word) = IsLeastWord compare rules treated word

@@ -25,7 +25,7 @@ use Rattle.rule_making.specs.Making.{Recorded}
 use Rattle.traced_completion.specs.Works.{generator_work, first_of, InTurn, InTwoPasses}
 use Rattle.traced_completion.specs.Pending.{AreAllPending, ambiguities_of}
 
--- What a run is of: the order of words, the generators, their numbers in the order of round 0, and the budget.
+-- The parameters of a run: the order of words, the generators, their numbers in the order of round 0, and the budget.
 pub record Setting : Type 0 where
   pub compare : Compare
   pub generators : List (List Term)
@@ -38,13 +38,13 @@ pub record RunState : Type 0 where
   pub made : List Made
   pub treated : List Ambiguity
 
--- what comes of a round
+-- the outcome of a round
 pub data Outcome : Type 0 where
   went : RunState → Outcome
   closed : Outcome
   stopped : Halt → Outcome
 
--- the cause of a fault; want of memory is none
+-- the cause of a fault; want of memory has none
 abbrev pub IsCauseOf : ReduceFault → Cause → Type 0
 IsCauseOf (fault.Steps limit) c = c ≡ cause.Steps limit
 IsCauseOf (fault.Overflow o) c = c ≡ cause.Overflow o
@@ -57,7 +57,7 @@ pub record IsGivenUp (number : ℕ) (least : Option (List ℕ)) (fault : ReduceF
   pub reason_of : IsCauseOf fault reason
   pub stops : outcome ≡ stopped (record { cause = reason; place = place.Round number; least = least })
 
--- The round was made whole, or is given up with its fault.
+-- The round was completed, or is given up with its fault.
 abbrev pub Ends : ℕ → Option (List ℕ) → List Ambiguity → Result Recorded ReduceFault → Outcome → Type 0
 Ends number least treated (Ok r) outcome = outcome ≡ went (record { rules = r.rules; made = r.made; treated = treated })
 Ends number least treated (Err e) outcome = IsGivenUp number least e outcome
@@ -69,7 +69,7 @@ start = record { rules = []; made = []; treated = [] }
 abbrev pub recorded : RunState → Recorded
 recorded s = record { rules = s.rules; made = s.made }
 
--- Each generator in turn is reduced by the rules so far, and what is left is made a rule.
+-- Each generator in turn is reduced by the rules so far, and the rest becomes a rule.
 pub record IsRoundZero (setting : Setting) (s : RunState) (outcome : Outcome) : Type 0 where
   pub result : Result Recorded ReduceFault
   pub generators : InTurn setting.compare (map (generator_work setting.compare setting.budget.steps setting.generators) setting.in_turn) (recorded s) result
@@ -80,13 +80,13 @@ abbrev pub taken_count : Budget → RunState → List Waiting → ℕ
 taken_count budget s pending = min round_limit (min (budget.pairs - length s.treated) (length pending))
 
 -- The S-polynomials of these ambiguities with their first reductions by the rules from before, then the second reductions;
--- all of them count as treated.
+-- then all of them are treated.
 pub record IsTreated (setting : Setting) (number : ℕ) (s : RunState) (least : List ℕ) (taken : List Ambiguity) (outcome : Outcome) : Type 0 where
   pub result : Result Recorded ReduceFault
   pub passes : InTwoPasses setting.compare setting.budget.steps (each_in_turn (first_of setting.compare setting.budget.steps s.rules) taken) (recorded s) result
   pub ends : Ends number (Some least) (s.treated ++ taken) result outcome
 
--- with the least overlap word that is pending, and whether as many ambiguities as the budget of pairs were treated
+-- with the least overlap word that is pending, and whether as many ambiguities were treated as the budget of pairs allows
 abbrev pub TreatsFirst : Setting → ℕ → RunState → List ℕ → List Waiting → Bool → Outcome → Type 0
 TreatsFirst setting number s least pending true outcome =
     outcome ≡ stopped (record { cause = cause.Pairs (length s.treated); place = place.Run; least = Some least })
@@ -103,18 +103,18 @@ pub record IsLaterRound (setting : Setting) (number : ℕ) (s : RunState) (outco
   pub all_pending : AreAllPending setting.compare s.rules s.treated pending
   pub treats : TreatsPending setting number s pending outcome
 
--- what comes of the round with this number
+-- the outcome of the round with this number
 abbrev pub IsRound : Setting → ℕ → RunState → Outcome → Type 0
 IsRound setting zero s outcome = IsRoundZero setting s outcome
 IsRound setting (suc n) s outcome = IsLaterRound setting (suc n) s outcome
 
--- the state after the round with this number, which was made whole
+-- the state after the round with this number, if it was completed
 pub record IsAfter (setting : Setting) (number : ℕ) (Before : RunState → Type 0) (s : RunState) : Type 0 where
   pub before : RunState
   pub is_before : Before before
   pub round : IsRound setting number before (went s)
 
--- the state after so many rounds, which were made whole
+-- the state after this many completed rounds
 abbrev pub IsRunState : Setting → ℕ → RunState → Type 0
 IsRunState setting zero s = s ≡ start
 IsRunState setting (suc n) s = IsAfter setting n (IsRunState setting n) s

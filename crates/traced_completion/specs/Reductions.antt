@@ -1,4 +1,4 @@
--- What the code keeps of reductions.
+-- Reductions as the code has them.
 use Rattle.std.specs.Prelude.{◌≡◌, ◌<◌, ℕ, List, length, Result, Ok, IfOk, MatchResult}
 use Rattle.std.specs.List.{All}
 use Rattle.coef_int.specs.Range.{IsCoefficient}

@@ -6,7 +6,7 @@ use Rattle.rule_reduce.specs.declared.fault.ReduceFault.{ReduceFault}
 use Rattle.rule_reduce.specs.declared.fault.ReduceFault.TheVariants as fault
 use Rattle.rule_reduce.specs.NormalForms.{halt_of}
 
--- what comes after a result that is no fault
+-- the next result, of a value, or the fault
 abbrev pub and_then : {A B : Type 0} → Result A ReduceFault → (A → Result B ReduceFault) → Result B ReduceFault
 and_then (Ok x) next = next x
 and_then (Err e) next = Err e
@@ -21,7 +21,7 @@ abbrev pub unless_overflow : {A : Type 0} → Option Overflow → A → Result A
 unless_overflow None x = Ok x
 unless_overflow (Some o) x = Err (fault.Overflow o)
 
--- what a function gives for each item, or the first fault
+-- the values of a function of each item, or the first fault
 abbrev pub each_in_turn : {A B : Type 0} → (A → Result B ReduceFault) → List A → Result (List B) ReduceFault
 each_in_turn f [] = Ok []
 each_in_turn f (x ∷ xs) = and_then (f x) (λ y. and_then (each_in_turn f xs) (λ ys. Ok (y ∷ ys)))

@@ -12,7 +12,7 @@ abbrev pub RoundsAreUnique : Type 0
 RoundsAreUnique = (letters : ℕ) (rank : List ℕ → List ℕ) (setting : Setting) (number : ℕ) (s : RunState) (one other : Outcome)
     → IsAdmissible letters setting.compare rank → IsRound setting number s one → IsRound setting number s other → one ≡ other
 
--- And a run has one state after so many rounds.
+-- A run has one state after each number of rounds.
 abbrev pub StatesAreUnique : Type 0
 StatesAreUnique = (letters : ℕ) (rank : List ℕ → List ℕ) (setting : Setting) (rounds : ℕ) (one other : RunState)
     → IsAdmissible letters setting.compare rank → IsRunState setting rounds one → IsRunState setting rounds other → one ≡ other
@@ -27,8 +27,8 @@ abbrev pub StatesHaveRules : Type 0
 StatesHaveRules = (letters : ℕ) (setting : Setting) (rounds : ℕ) (s : RunState)
     → All (HasWords letters) setting.generators → IsRunState setting rounds s → All (IsRule letters setting.compare) s.rules
 
--- One record for each rule; at most as many rules as generators and treated ambiguities, as many of these as the budget of
--- pairs says, and at least one for each round after round 0.
+-- One record for each rule; at most as many rules as generators and treated ambiguities, at most as many of these as the budget of
+-- pairs allows, and at least one for each round after round 0.
 pub record IsBounded (setting : Setting) (rounds : ℕ) (s : RunState) : Type 0 where
   pub one_each : length s.made ≡ length s.rules
   pub few_rules : length s.rules ≤ length setting.in_turn + length s.treated

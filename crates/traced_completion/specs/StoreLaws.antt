@@ -1,4 +1,4 @@
--- What the store of pending ambiguities is, whatever made it.
+-- The laws of the store of pending ambiguities, however it was made.
 use Rattle.std.specs.Prelude.{◌≡◌, ◌↔◌, ◌≤◌, ℕ, List, [], ◌++◌, length, take}
 use Rattle.std.specs.List.{All}
 use Rattle.word_core.specs.Letters.{IsOver}
@@ -15,12 +15,12 @@ abbrev pub StoresAreUnique : Type 0
 StoresAreUnique = (letters : ℕ) (compare : Compare) (rank : List ℕ → List ℕ) (rules : List Rule) (treated : List Ambiguity) (one other : List Waiting)
     → IsAdmissible letters compare rank → AreAllPending compare rules treated one → AreAllPending compare rules treated other → one ≡ other
 
--- The first overlap word of the store is the least one; an empty store is one with nothing pending.
+-- The first overlap word of the store is the least one; where the store is empty, nothing is pending.
 abbrev pub LeastWordsAreLeast : Type 0
 LeastWordsAreLeast = (compare : Compare) (rules : List Rule) (treated : List Ambiguity) (store : List Waiting)
     → AreAllPending compare rules treated store → IsLeastPending compare rules treated (first_word store)
 
--- Of no rules nothing is pending.
+-- Without rules nothing is pending.
 abbrev pub NothingIsPendingAtFirst : Type 0
 NothingIsPendingAtFirst = (compare : Compare) (treated : List Ambiguity) → AreAllPending compare [] treated []
 

@@ -18,7 +18,7 @@ use Rattle.ambiguities.specs.SPolynomials.{s_rows_of, s_polynomial_of}
 use Rattle.traced_completion.specs.Results.{and_then, halted, unless_overflow}
 use Rattle.rule_making.specs.Making.{Recorded, Rest, rest_with, negated_rows, Adds}
 
--- What is left of something by the rules so far, with its rows, or a fault.
+-- The rest of a reduction by the rules so far, with its rows, or a fault.
 abbrev pub Work : Type 0
 Work = List Rule → Result (Option Rest) ReduceFault
 
@@ -58,7 +58,7 @@ second_rows f s = less_rows (first_rows f) s.multiplier s.rows
 abbrev pub rows_operations : First → State → List Overflow
 rows_operations f s = row_operations f.rows f.reduced.multiplier ++ row_operations (first_rows f) s.multiplier
 
--- what the second reduction left, with its rows, where it isn't zero
+-- the rest of the second reduction, with its rows, where it isn't zero
 abbrev pub second_rest : First → State → List Term → Result (Option Rest) ReduceFault
 second_rest f s [] = Ok None
 second_rest f s (t ∷ p) = unless_overflow (first_overflow (rows_operations f s)) (rest_with (t ∷ p) (second_rows f s))
@@ -71,7 +71,7 @@ second_reduction compare steps f rules (t ∷ p) = and_then (normal_form_of comp
 abbrev pub second_work : Compare → ℕ → First → Work
 second_work compare steps f rules = second_reduction compare steps f rules f.reduced.rest
 
--- the work goes well, and what it leaves is added
+-- the work has no fault, and its rest is added
 pub record Does (compare : Compare) (work : Result (Option Rest) ReduceFault) (before after : Recorded) : Type 0 where
   pub rest : Option Rest
   pub leaves : work ≡ Ok rest
@@ -88,7 +88,7 @@ abbrev pub Goes : Compare → Result (Option Rest) ReduceFault → Recorded → 
 Goes compare (Err e) before Next result = result ≡ Err e
 Goes compare (Ok rest) before Next result = GoesOn compare rest before Next
 
--- The works are done in order, each by the rules with what the works before it added. The first fault is the result.
+-- The works are done in order, each by the rules with what the earlier ones added. The first fault is the result.
 abbrev pub InTurn : Compare → List Work → Recorded → Result Recorded ReduceFault → Type 0
 InTurn compare [] before result = result ≡ Ok before
 InTurn compare (work ∷ works) before result = Goes compare (work before.rules) before (λ between. InTurn compare works between result) result

@@ -1,6 +1,6 @@
-//! What a completion may spend.
+//! The budget of a completion.
 
-/// How many ambiguities are treated at most, and how many steps a reduction makes.
+/// How many ambiguities are treated at most, and how many steps a reduction makes at most.
 #[derive(Clone, Copy)]
 pub struct Budget {
     /// From 1 to 1,000,000.

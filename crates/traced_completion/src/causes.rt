@@ -7,7 +7,7 @@ use cofactor_trace::Cause;
 use rule_reduce::ReduceFault;
 use std::alloc::AllocError;
 
-/// The cause of a fault of a reduction. Want of memory is none, and it is handed on.
+/// The cause of a fault of a reduction. Want of memory has none, and is returned.
 pub fn reduction_cause(fault: ReduceFault) -> Result<Cause, AllocError>
     ensures cause { IfOk result (IsCauseOf fault) }
     ensures memory { IfErr result (λ _. IsMemory fault) }

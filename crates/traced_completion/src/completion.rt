@@ -11,23 +11,23 @@ use std::thread::Threads;
 use word_core::Word;
 use word_orders::{AnyOrder, OrderFault};
 
-/// What comes of a call of `round`.
+/// The result of a call of `round`.
 #[derive(Drop)]
 pub enum Step {
-    /// The round was made whole.
+    /// The round was completed.
     Went,
     /// Nothing is pending, and no round is made.
     Closed,
-    /// No round is made, or it was given up whole.
+    /// No round was made, or it was given up whole.
     Stopped(Halt),
 }
 
-/// The rules that so many rounds made, with the records of how, and the ambiguities that were and were not treated.
+/// The rules after this many rounds, with the records of how they were made, and the ambiguities that were and were not treated.
 #[derive(Drop)]
 pub struct Completion {
-    /// What it may spend.
+    /// The limits of the completion.
     pub budget: Budget,
-    /// The number of rounds that were made whole.
+    /// The number of completed rounds.
     pub rounds: u32,
     /// The rules.
     pub rules: Rules<AnyOrder>,
@@ -37,7 +37,7 @@ pub struct Completion {
     pub treated: Listing<Ambiguity>,
     /// Those that were not, in the order in which they are taken.
     pub waiting: Pending,
-    /// Whether so few steps are looked for in the next first reductions that no thread is started for them.
+    /// Whether the next first reductions are expected to take too few steps for another thread to be started.
     pub is_light: bool,
 }
 
@@ -61,7 +61,7 @@ impl Completion {
         ) {
             Ok(order) => order,
             Err(OrderFault::Memory(failed)) => return Err(failed),
-            // The order of a problem is sound.
+            // The order of a problem is valid.
             Err(_) => unreachable!(),
         };
         Ok(Completion {
@@ -76,10 +76,10 @@ impl Completion {
     }
 
     /// The next round, which is round 0 at the first call; first reductions are made on at most as many threads as there
-    /// are workers, from 1 to 64, and on one where they are light. `Went` comes exactly where the round was made whole,
+    /// are workers, from 1 to 64, and on one where they are light. `Went` is returned exactly where the round was completed,
     /// `Closed` exactly where nothing is pending after round 0, and `Stopped` exactly where the budget of pairs is spent or
-    /// the round has a fault, which is the first one in the order of the list. But for `Went` the completion stays as it was,
-    /// and so it does where memory is short; then a later call answers the same again.
+    /// the round has a fault, which is the first one in the order of the list. Except after `Went` the completion is unchanged,
+    /// as it is where memory is short; a later call then returns the same.
     pub fn round<R: Threads + Sync, G: Gate + Sync>(
         &mut self,
         rt: &R,

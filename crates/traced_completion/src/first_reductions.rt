@@ -18,7 +18,7 @@ use std::alloc::{AllocError, Global};
 use std::thread::Threads;
 use word_orders::WordOrder;
 
-// The least number of items for which a further thread pays.
+// The least number of items for which another thread is worth starting.
 const SHARE: usize = 8;
 
 // The rows of an S-polynomial, and its reduction.
@@ -102,7 +102,7 @@ fn collect_answers(
     Ok(firsts)
 }
 
-// How many steps the reductions made, in all.
+// How many steps the reductions made together.
 pub(crate) fn step_count(firsts: &[First]) -> u32 {
     let mut count: u32 = 0;
     for first in firsts {
@@ -111,7 +111,7 @@ pub(crate) fn step_count(firsts: &[First]) -> u32 {
     count
 }
 
-// How many of the workers are given work: no more than have a worker's share of the items each, and at least one.
+// How many of the workers are used: at most as many as have a worker's share of the items each, and at least one.
 fn busy_workers(items: usize, workers: u32) -> u32
     requires { 0 < workers }
     ensures { result ≡ min workers (max 1 (items / share)) }

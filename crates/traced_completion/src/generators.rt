@@ -1,4 +1,4 @@
-//! The reductions of generators, of which what is left is made rules.
+//! The reductions of generators, whose rests become rules.
 ghost use Rattle.std.specs.Prelude.{◌≡◌, ◌<◌, ◌≤◌, ◌+◌, ◌^◌, length, map, take, slice_get, IfOk, IfErr, OnOk, OnErr, Ok, Some};
 ghost use Rattle.std.specs.List.{All};
 ghost use Rattle.coef_int.specs.Range.{IsCoefficient};
@@ -41,7 +41,7 @@ fn subtract_from_generator(
     join_rows(first, negate_rows(taken))
 }
 
-// The generator with this number is reduced, and what that leaves is made a rule.
+// Reduces the generator with this number, and makes its rest a rule.
 fn reduce_generator<O: WordOrder + Drop>(
     rules: &mut Rules<O>,
     made: &mut Listing<Made>,
@@ -81,8 +81,8 @@ fn reduce_generator<O: WordOrder + Drop>(
     Ok(())
 }
 
-// The number of the generator whose turn it is, where so many relations of identities come first, which are the last of so
-// many generators.
+// The number of the generator whose turn it is, where the relations of identities come first, which are the last `units` of
+// the `count` generators.
 fn number_in_turn(turn: usize, units: usize, count: usize) -> usize
     requires units { units ≤ count }
     requires turn { turn < count }
@@ -97,7 +97,7 @@ fn number_in_turn(turn: usize, units: usize, count: usize) -> usize
     }
 }
 
-// The reductions of all generators, the relations of identities first, each by the rules that are made before. Where there
+// The reductions of all generators, the relations of identities first, each by the rules that were made before. Where there
 // is a fault, rules with their records may have been appended.
 pub(crate) fn reduce_generators<O: WordOrder + Drop>(
     rules: &mut Rules<O>,

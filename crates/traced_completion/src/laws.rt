@@ -1,4 +1,4 @@
-//! What holds of each plain run, as laws over its definition.
+//! The laws of plain runs.
 ghost use Rattle.traced_completion.specs.RunLaws.{RoundsAreUnique, StatesAreUnique, StatesHaveRules, StatesAreBounded};
 
 /// In an admissible order a round has one outcome.
@@ -6,7 +6,7 @@ pub fn rounds_are_unique()
     ensures { RoundsAreUnique }
 {}
 
-/// And a run has one state after so many rounds.
+/// A run has one state after each number of rounds.
 pub fn states_are_unique()
     ensures { StatesAreUnique }
 {}

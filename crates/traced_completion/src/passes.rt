@@ -12,7 +12,7 @@ use lists::Listing;
 use rule_reduce::{ReduceFault, Rules};
 use word_orders::WordOrder;
 
-// The second reductions of ambiguities, each by the rules with those that are appended before. Where there is a fault,
+// The second reductions of ambiguities, each by the rules with those that were appended before. Where there is a fault,
 // rules with their records may have been appended.
 pub(crate) fn treat_all<O: WordOrder + Drop>(
     rules: &mut Rules<O>,

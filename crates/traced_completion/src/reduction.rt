@@ -1,4 +1,4 @@
-//! Reductions, with what a record asks of them.
+//! Reductions, with what a record needs of them.
 ghost use Rattle.std.specs.Prelude.{◌≡◌, ◌<◌, length, MatchResult, IfOk, Ok};
 ghost use Rattle.std.specs.List.{All};
 ghost use Rattle.word_core.specs.Letters.{IsOver};

@@ -1,4 +1,4 @@
-//! Rounds as far as they go, and how they are given up.
+//! Rounds until their first fault, and how they are given up.
 ghost use Rattle.std.specs.Prelude.{◌≡◌, ◌<◌, ◌≤◌, ◌+◌, ◌++◌, ◌^◌, [], length, map, take, IfOk, IfErr, OnOk, OnErr, Ok};
 ghost use Rattle.std.specs.List.{All};
 ghost use Rattle.in_order_parallel.specs.Limits.{worker_limit};
@@ -54,7 +54,7 @@ fn push_treated(treated: &mut Listing<Ambiguity>, taken: &[Ambiguity]) -> Result
 }
 
 impl Completion {
-    // Round 0, which may end with rules that are to be taken back.
+    // Round 0. Where it has a fault, rules may have been appended that have to be removed.
     pub(crate) fn try_round_zero(&mut self, problem: &Problem) -> Result<(), ReduceFault>
         requires reducible { All (IsReducible (letters_of self.old.rules.order)) problem.now.generators }
         requires no_rules { self.old.rules.rules ≡ [] }
@@ -94,7 +94,7 @@ impl Completion {
         Ok(())
     }
 
-    // A later round of the first pending ambiguities, which may end with rules that are to be taken back.
+    // A later round, of the first pending ambiguities. Where it has a fault, rules may have been appended that have to be removed.
     pub(crate) fn try_later_round<R: Threads + Sync, G: Gate + Sync>(
         &mut self,
         rt: &R,
@@ -170,7 +170,7 @@ impl Completion {
         ROUND_LIMIT.min(left.min(self.waiting.len()))
     }
 
-    // Takes back the rules and the treated ambiguities behind the first ones.
+    // Removes the rules and the treated ambiguities after the first ones.
     fn take_back(&mut self, rules: u32, treated: usize)
         ensures budget { self.new.budget ≡ self.old.budget }
         ensures rounds { self.new.rounds ≡ self.old.rounds }
@@ -186,7 +186,7 @@ impl Completion {
         self.treated.truncate(treated);
     }
 
-    // Whether the least overlap word that is pending is short, or nothing is pending.
+    // Whether the least pending overlap word is short, or nothing is pending.
     pub(crate) fn begins_short(&self) -> bool {
         match self.waiting.least() {
             Some(word) => word.len() < LIGHT_LETTERS,
@@ -194,7 +194,7 @@ impl Completion {
         }
     }
 
-    // The least overlap word that is pending.
+    // The least pending overlap word.
     pub(crate) fn least_word(&self) -> Result<Option<Word>, AllocError>
         ensures { IfOk result (λ least. least ≡ first_word self.now.waiting) }
     {
@@ -204,7 +204,7 @@ impl Completion {
         }
     }
 
-    // Gives the round up with its fault, and takes back what it appended.
+    // Gives the round up with its fault, and removes what it appended.
     pub(crate) fn give_up(
         &mut self,
         fault: ReduceFault,

@@ -1,4 +1,4 @@
-//! The second reduction of an ambiguity, and the rule that is made of what it leaves.
+//! The second reduction of an ambiguity, and the rule that its rest becomes.
 ghost use Rattle.std.specs.Prelude.{◌≡◌, ◌<◌, ◌+◌, ◌^◌, length, MatchResult, IfOk, IfErr, OnOk, OnErr, Ok};
 ghost use Rattle.std.specs.List.{All};
 ghost use Rattle.coef_int.specs.Range.{IsCoefficient};
@@ -37,7 +37,7 @@ fn subtract_rows(
     }
 }
 
-// What the second reduction left, with the rows for its record: those of the S-polynomial times the first multiplier, less
+// The rest of the second reduction, with the rows for its record: those of the S-polynomial times the first multiplier, less
 // the rows of the first reduction; and all that times the second multiplier, less the rows of the second reduction.
 fn record_rows(first: First, second: Reduced) -> Result<(Poly, Listing<Row>), ReduceFault>
     requires rows_in { All (λ r. IsCoefficient r.coef) first.rows }
@@ -63,7 +63,7 @@ fn record_rows(first: First, second: Reduced) -> Result<(Poly, Listing<Row>), Re
     Ok((rest, rows))
 }
 
-// What the first reduction of an ambiguity left is reduced, and what that leaves is made a rule.
+// Reduces the rest of the first reduction of an ambiguity, and makes what is left a rule.
 pub(crate) fn treat<O: WordOrder + Drop>(
     rules: &mut Rules<O>,
     made: &mut Listing<Made>,

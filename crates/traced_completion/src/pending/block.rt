@@ -44,7 +44,7 @@ impl Block {
         self.items.as_slice()
     }
 
-    // One more at this place. Where memory is short, the block as it was.
+    // Inserts one at this place. Where memory is short, the block is unchanged.
     pub(super) fn insert(&mut self, place: usize, waiting: Waiting) -> Result<(), AllocError>
         requires { place ≤ length self.old }
         ensures ok { OnOk result (self.new ≡ insert self.old place waiting) }
@@ -54,7 +54,7 @@ impl Block {
         Ok(())
     }
 
-    // Without the one at this place, if there is one.
+    // Removes the one at this place, if there is one.
     pub(super) fn remove(&mut self, place: usize)
         ensures { self.new ≡ remove self.old place }
     {
@@ -63,7 +63,7 @@ impl Block {
         }
     }
 
-    // Gives away those from this place on. Where memory is short, the block as it was.
+    // Splits off those from this place on. Where memory is short, the block is unchanged.
     pub(super) fn split_off(&mut self, place: usize) -> Result<Block, AllocError>
         requires { place ≤ length self.old }
         ensures ok { OnOk result (self.new ≡ take place self.old) }

@@ -1,4 +1,4 @@
-//! The blocks of the store: how they are cut, and how ambiguities are put among them.
+//! The blocks of the store: how they are cut, and how ambiguities are inserted.
 ghost use Rattle.std.specs.Prelude.{◌≡◌, ◌+◌, ◌<◌, ◌≤◌, suc, [], ◌∷◌, ◌++◌, length, take, drop, IfOk, OnOk, OnErr, slice_index_or, slice_get, Some};
 ghost use Rattle.std.specs.List.{All, AllPairs};
 ghost use Rattle.std.specs.List.Sorted.{IsPermutation};
@@ -12,8 +12,8 @@ use ambiguities::Waiting;
 use std::alloc::AllocError;
 use word_orders::WordOrder;
 
-// Puts an ambiguity where it belongs among the blocks from a number on, which is looked for from the near block on. The
-// answer is its block's number and its place. Where memory is short, the blocks as they were.
+// Inserts an ambiguity at its place in the blocks from a number on. The search begins at the near block. The
+// result is its block's number and its place. Where memory is short, the blocks are unchanged.
 fn put<O: WordOrder>(
     order: &O,
     blocks: &mut Vec<Block>,
@@ -34,7 +34,7 @@ fn put<O: WordOrder>(
     Ok((number, place))
 }
 
-// Takes out again what was put at these places, the last one first.
+// Removes what was inserted at these places, the last one first.
 fn take_out(blocks: &mut Vec<Block>, mut places: Vec<(usize, usize)>)
     ensures { blocks.new.items ≡ restored places.items blocks.old.items }
 {
@@ -45,7 +45,7 @@ fn take_out(blocks: &mut Vec<Block>, mut places: Vec<(usize, usize)>)
     }
 }
 
-// Puts ambiguities where they belong among the blocks from a number on. Where memory is short, the blocks as they were.
+// Inserts ambiguities at their places in the blocks from a number on. Where memory is short, the blocks are unchanged.
 fn put_all<O: WordOrder>(
     order: &O,
     blocks: &mut Vec<Block>,
@@ -76,7 +76,7 @@ fn put_all<O: WordOrder>(
     Ok(())
 }
 
-// Makes two blocks of one. Where memory is short, the blocks as they were.
+// Splits a block in two. Where memory is short, the blocks are unchanged.
 fn split(blocks: &mut Vec<Block>, number: usize, place: usize) -> Result<(), AllocError>
     requires number { number < length blocks.old.items }
     requires place { place ≤ length (slice_index_or blocks.old.items number []) }
@@ -93,7 +93,7 @@ fn split(blocks: &mut Vec<Block>, number: usize, place: usize) -> Result<(), All
     }
 }
 
-// How many blocks the first ambiguities fill, as many as `count` says, and how many of these are left in the next block.
+// How many whole blocks the first `count` ambiguities fill, and how many of them are in the next block.
 fn filled(blocks: &[Block], count: usize) -> (usize, usize)
     ensures within { result.0 ≤ length blocks.now }
     ensures passed { length (joined (take result.0 blocks.now)) + result.1 ≡ count }
@@ -108,8 +108,8 @@ fn filled(blocks: &[Block], count: usize) -> (usize, usize)
     (number, rest)
 }
 
-// Makes whole blocks of the first ambiguities, as many as `count` says. The answer is how many blocks these are. No
-// ambiguity is moved to another place, whatever the answer.
+// Makes whole blocks of the first `count` ambiguities, and returns how many blocks these are. The order of the
+// ambiguities never changes.
 fn cut(blocks: &mut Vec<Block>, count: usize) -> Result<usize, AllocError>
     requires nonempty { All (λ b. 0 < length b) blocks.old.items }
     requires count { count ≤ length (joined blocks.old.items) }
@@ -126,16 +126,16 @@ fn cut(blocks: &mut Vec<Block>, count: usize) -> Result<usize, AllocError>
     Ok(number + 1)
 }
 
-// The greatest half of a block that stays whole where there are no blocks, and where there are many. Putting one in moves half of a
-// block, and cutting a block in two moves half of the list of blocks.
+// Half of the longest block that isn't split, where there are few blocks, and where there are many. An insertion moves half of a
+// block, and a split moves half of the list of blocks.
 const LEAST_LIMIT: usize = 8;
 
 const HALF_LIMIT: usize = 32;
 
-// For how many blocks more the greatest half is greater by one.
+// How many more blocks raise that half by one.
 const LIMIT_STEP: usize = 128;
 
-// Makes two blocks of each long one. No ambiguity is moved to another place, whatever the answer.
+// Splits each long block in two. The order of the ambiguities never changes.
 fn halve(blocks: &mut Vec<Block>) -> Result<(), AllocError>
     requires nonempty { All (λ b. 0 < length b) blocks.old.items }
     ensures same { joined blocks.new.items ≡ joined blocks.old.items }
@@ -153,7 +153,7 @@ fn halve(blocks: &mut Vec<Block>) -> Result<(), AllocError>
     Ok(())
 }
 
-// The blocks without the first ones, as many as `count` says.
+// Removes the first `count` blocks.
 fn drop_blocks(blocks: &mut Vec<Block>, count: usize)
     requires { count ≤ length blocks.old.items }
     ensures { blocks.new.items ≡ drop count blocks.old.items }
@@ -163,8 +163,8 @@ fn drop_blocks(blocks: &mut Vec<Block>, count: usize)
     blocks.truncate(rest);
 }
 
-// Puts ambiguities behind the first blocks, as many as `from` says, in their order where both are in it. Where memory is
-// short, the blocks as they were.
+// Inserts ambiguities into the blocks after the first `from`, in order where both are in order. Where memory is
+// short, the blocks are unchanged.
 fn put_behind<O: WordOrder>(
     order: &O,
     blocks: &mut Vec<Block>,
@@ -193,8 +193,8 @@ fn put_behind<O: WordOrder>(
     Ok(())
 }
 
-// Takes the first ambiguities away, as many as `taken` says, and puts others among those that stay, in their order where
-// both are in it. Where memory is short, no ambiguity is moved to another place.
+// Removes the first `taken` ambiguities, and inserts others among the rest, in order where
+// both are in order. Where memory is short, the order of the ambiguities is unchanged.
 pub(super) fn renew<O: WordOrder>(
     order: &O,
     blocks: &mut Vec<Block>,

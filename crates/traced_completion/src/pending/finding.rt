@@ -12,7 +12,7 @@ use super::block::Block;
 use ambiguities::{Waiting, compare_waiting};
 use word_orders::WordOrder;
 
-// The first place at which one above the ambiguity stands, where they are in their order. In any case the one at the answer
+// The place of the first one above the ambiguity, where they are in order. In any case the one at this place
 // is above it, and the one before isn't.
 pub(super) fn first_above<O: WordOrder>(order: &O, items: &[Waiting], waiting: &Waiting) -> usize
     requires over { All (λ w. IsOver (O.letters order.now) w.word) items.now }
@@ -34,7 +34,7 @@ pub(super) fn first_above<O: WordOrder>(order: &O, items: &[Waiting], waiting: &
     low
 }
 
-// Whether the last ambiguity of the block is above the one that is given.
+// Whether the last ambiguity of the block is above the given one.
 fn is_last_above<O: WordOrder>(order: &O, block: &Block, waiting: &Waiting) -> bool
     requires nonempty { 0 < length block.now }
     requires over { All (λ w. IsOver (O.letters order.now) w.word) block.now }
@@ -72,8 +72,8 @@ fn start_for<O: WordOrder>(
     }
 }
 
-// The first block from a number on whose last ambiguity is above the one that is given, where all are in their order, or
-// the last block. The steps from the near block on grow, so that a block close behind it is found by few comparisons.
+// The first block from a number on whose last ambiguity is above the given one, where all are in order, or
+// the last block. The steps from the near block on grow, so that a block close to it is found by few comparisons.
 pub(super) fn block_for<O: WordOrder>(
     order: &O,
     blocks: &[Block],

@@ -1,4 +1,4 @@
-//! What the store is, as laws over the definitions.
+//! The laws of the store.
 ghost use Rattle.traced_completion.specs.StoreLaws.{StoresAreUnique, LeastWordsAreLeast, NothingIsPendingAtFirst, AmbiguitiesStay};
 ghost use Rattle.traced_completion.specs.StoreLaws.{TakenOnesAreAmbiguities, PendingWordsAreOver};
 
@@ -12,7 +12,7 @@ pub fn least_words_are_least()
     ensures { LeastWordsAreLeast }
 {}
 
-/// Of no rules nothing is pending.
+/// Without rules nothing is pending.
 pub fn nothing_is_pending_at_first()
     ensures { NothingIsPendingAtFirst }
 {}

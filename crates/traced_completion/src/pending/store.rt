@@ -64,7 +64,7 @@ impl Pending {
         at_place(self.blocks.as_slice(), place)
     }
 
-    /// The first ambiguities, as many as `count` says.
+    /// The first `count` ambiguities.
     pub fn first(&self, alloc: Global, count: usize) -> Result<Vec<Ambiguity>, AllocError>
         requires { count ≤ length self.now }
         ensures { IfOk result (λ first. first.items ≡ ambiguities_of (take count self.now)) }
@@ -76,7 +76,7 @@ impl Pending {
         Ok(first)
     }
 
-    /// The least overlap word, and none where nothing is pending.
+    /// The least overlap word, or None where nothing is pending.
     pub fn least(&self) -> Option<&Word>
         ensures { option_copied result ≡ first_word self.now }
     {
@@ -86,8 +86,8 @@ impl Pending {
         }
     }
 
-    /// The store after a round in which its first ones were treated, as many as `taken` says, and all rules after the
-    /// first ones were appended, of which there are as many as `known` says. Where memory is short, the store as it was.
+    /// The store after a round in which its first `taken` ambiguities were treated, and all rules after the first `known`
+    /// were appended. Where memory is short, the store is unchanged.
     pub fn advance<O: WordOrder>(
         &mut self,
         rules: &Rules<O>,
@@ -113,7 +113,7 @@ impl Pending {
     }
 }
 
-// The ambiguities in which a rule after the known ones is, with their overlap words, in their order.
+// The ambiguities of which one rule is after the known ones, with their overlap words, in order.
 fn new_waiting<O: WordOrder>(
     alloc: Global,
     rules: &Rules<O>,

@@ -14,7 +14,7 @@ loop-answer-init c =
       joined = ap (λ done. join done (values (into_iter_items c.into_iter-answer-iterator.result))) c.new-firsts.ensures ∙ join-nil (values (into_iter_items c.into_iter-answer-iterator.result)) ∙ ap values answers;
     }
 
--- one value more stands before what is left
+-- one more value is before what is left
 pub loop-answer-preserved : goal.loop-answer-preserved
 loop-answer-preserved c =
     let at = c.loop-answer in
