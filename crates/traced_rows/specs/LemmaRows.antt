@@ -13,7 +13,7 @@ use Rattle.traced_rows.specs.declared.evidence.LemmaCertificate.{LemmaCertificat
 use Rattle.traced_rows.specs.declared.evidence.Evidence.{Evidence}
 use Rattle.traced_rows.specs.declared.evidence.Evidence.TheVariants as format
 
--- the generator or the lemma, and the zero polynomial where there is none with the number
+-- the generator or the lemma, or the zero polynomial where there is none with the number
 abbrev pub cert_poly : List Poly → List Poly → CertFrom → Poly
 cert_poly generators lemmas (cert.Generator n) = generator_at generators n
 cert_poly generators lemmas (cert.Lemma n) = generator_at lemmas n

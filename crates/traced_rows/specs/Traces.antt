@@ -6,7 +6,7 @@ use Rattle.traced_rows.specs.declared.Row.{Row}
 use Rattle.definitions.specs.Poly.{Poly, poly_sum, poly_multiple, poly_between}
 use Rattle.definitions.specs.Combination.{generator_at}
 
--- the generator or the rule, and the zero polynomial where there is none with the number
+-- the generator or the rule, or the zero polynomial where there is none with the number
 abbrev pub origin_poly : List Poly → List Poly → Origin → Poly
 origin_poly generators rules (origin.Generator n) = generator_at generators n
 origin_poly generators rules (origin.Rule n) = generator_at rules n

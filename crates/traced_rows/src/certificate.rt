@@ -7,13 +7,13 @@ use word_core::Word;
 /// The row c l G r of a sum: a coefficient, a word, the number of a generator counted from 1, and a word.
 #[derive(Drop)]
 pub struct CertRow {
-    /// The integer in front, from -(2^127 - 1) to 2^127 - 1 where a certificate is read or made.
+    /// The coefficient, from -(2^127 - 1) to 2^127 - 1 where a certificate is read or made.
     pub coef: i128,
-    /// The word in front of the generator.
+    /// The word before the generator.
     pub left: Word,
     /// The number of the generator, counted from 1.
     pub generator: u32,
-    /// The word behind the generator.
+    /// The word after the generator.
     pub right: Word,
 }
 

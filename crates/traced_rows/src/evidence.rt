@@ -16,13 +16,13 @@ pub enum CertFrom {
 /// The row c l G r of a lemma or of the goal: a coefficient, a word, a generator or a lemma, and a word.
 #[derive(Drop)]
 pub struct LemmaRow {
-    /// The integer in front, from -(2^127 - 1) to 2^127 - 1 where a certificate is read or made.
+    /// The coefficient, from -(2^127 - 1) to 2^127 - 1 where a certificate is read or made.
     pub coef: i128,
-    /// The word in front of the generator or lemma.
+    /// The word before the generator or lemma.
     pub left: Word,
     /// The generator or the lemma.
     pub from: CertFrom,
-    /// The word behind it.
+    /// The word after it.
     pub right: Word,
 }
 

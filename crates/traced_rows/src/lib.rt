@@ -22,13 +22,13 @@ pub enum Origin {
 /// The row c l g r of a sum: a coefficient, a word, a generator or a rule, and a word.
 #[derive(Drop)]
 pub struct Row {
-    /// The integer in front, from -(2^127 - 1) to 2^127 - 1 where a reduction made it.
+    /// The coefficient, from -(2^127 - 1) to 2^127 - 1 where a reduction made it.
     pub coef: i128,
-    /// The word in front of the generator or rule.
+    /// The word before the generator or rule.
     pub left: Word,
     /// The generator or the rule.
     pub from: Origin,
-    /// The word behind it.
+    /// The word after it.
     pub right: Word,
 }
 
