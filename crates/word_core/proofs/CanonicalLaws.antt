@@ -65,7 +65,7 @@ row_below x y k below = rw (← suc-mul x k) (mul-le (suc x) k y k (omega arith)
 nat_cmp-leading : (a m n : ℕ) → nat_cmp (a + m) (a + n) ≡ nat_cmp m n
 nat_cmp-leading a m n = grind (arith, nat_tests)
 
--- two digits in front of numbers below k
+-- two digits before numbers below k
 nat_cmp-digit : (k x y v w : ℕ) (o : Ordering) → o ≡ nat_cmp x y → v < k → w < k → nat_cmp (x * k + v) (y * k + w) ≡ ordering_then o (nat_cmp v w)
 nat_cmp-digit k x y v w Less e v_below w_below =
     let below : x < y = ranked x y Less e in

@@ -40,14 +40,14 @@ module _ (left right : List ℕ) (place : ℕ) where
             ∙ sym (ap (take (length left - place)) at.right_splits ∙ ap (λ n. take n (at.shared ++ at.after)) rest ∙ take-append_seam at.shared at.after),
       )
 
-  -- the test of a place inside the left word tells whether the words overlap there
+  -- the test of a place inside the left word decides whether the words overlap there
   pub overlaps_at-Decides : 0 < place → place < length left → Decides (overlaps_at left right place) (OverlapsAt left right place)
   overlaps_at-Decides some inside =
       Decides-like _ (overlap_cut some inside) overlap_begins
       (Decides-and _ _ (Decides-ltb (length left - place) (length right))
       (slice_eq-Decides Decides-eqb (drop place left) (take (length left - place) right) _ refl))
 
--- what a list has, it has behind another item
+-- what a list has, it has after another item
 contains_behind : (b : Bool) (x k : ℕ) (xs : List ℕ) → Contains xs k → Contains (cond b (x ∷ xs) xs) k
 contains_behind true x k xs at = Contains-append_right (x ∷ []) xs k at
 contains_behind false x k xs at = at
@@ -56,7 +56,7 @@ contains_first : (b : Bool) (x k : ℕ) (xs : List ℕ) → b ≡ true → x ≡
 contains_first true x k xs passes same = (0, omega arith, same)
 contains_first false x k xs passes same = absurd (cc)
 
--- a number of the range that passes the test is kept
+-- a number of the range that passes the test is in the list
 contains_passed : (p : ℕ → Bool) (n a k : ℕ) → a ≤ k → k < a + n → p k ≡ true → Contains (filter p (range_with_len a n)) k
 contains_passed p zero a k low high passes = absurd (omega arith)
 contains_passed p (suc n) a k low high passes = go (eqb_tells a k) (λ further. contains_passed p n (a + 1) k (omega arith) (omega arith) passes)
@@ -74,7 +74,7 @@ range_within a n = All-from_get_or (λ k. (a ≤ k) × (k < a + n)) (range_with_
     let counted : i < n = subst (λ m. i < m) (length-range_with_len a n) inside in
     subst (λ k. (a ≤ k) × (k < a + n)) (sym (get_or-range_with_len a n i 0 counted)) (omega arith, omega arith))
 
--- what is kept is of the range, and passes the test
+-- a number in the list is in the range, and passes the test
 kept_within : (p : ℕ → Bool) (n a k : ℕ) → Contains (filter p (range_with_len a n)) k → (a ≤ k) × (k < a + n)
 kept_within p n a k at = All-contains (λ j. (a ≤ j) × (j < a + n)) _ k (All-filter p (λ j. (a ≤ j) × (j < a + n)) _ (range_within a n)) at
 

@@ -25,7 +25,7 @@ module _ (word sub : List ℕ) (place : ℕ) where
       ap (λ n. drop n (at.before ++ (sub ++ at.after))) (sym at.at_place) ∙
       drop-append_seam at.before (sub ++ at.after)
 
-  -- cut at the place, and again behind the letters of the other
+  -- cut at the place, and again after the letters of the other
   occurs_at_cut : place ≤ length word → drop place word ≡ sub ++ drop (length sub) (drop place word) → OccursAt word sub place
   occurs_at_cut in_range rest_is = record {
     before = take place word;
@@ -34,7 +34,7 @@ module _ (word sub : List ℕ) (place : ℕ) where
     at_place = length-take-le place word in_range;
   }
 
-  -- the test of the slice from the place on tells whether the other stands there
+  -- the test of the slice from the place on decides whether the other occurs there
   pub starts_with_tells : place ≤ length word → (r : Bool) → r ≡ starts_with nat_eq (take (length word - place) (drop place word)) sub → IsTrue r ↔ OccursAt word sub place
   starts_with_tells in_range r is_test =
       let tested = is_test ∙ ap (λ rest. starts_with nat_eq rest sub) (take_rest word place) in

@@ -11,9 +11,9 @@ use Rattle.word_core.specs.Letters.{IsOver}
 abbrev pub Compare : Type 0
 Compare = List ℕ → List ℕ → Ordering
 
--- An admissible order of the words over the letters below a number. Only the rank asks that the letters are below it.
+-- An admissible order of the words over the letters below a number. Only the rank needs the letters to be below it.
 pub record IsAdmissible (letters : ℕ) (compare : Compare) (rank : List ℕ → List ℕ) : Type 0 where
-  -- total, and words that are level are the same
+  -- total, and words that compare as equal are the same
   pub total : IsTotalOrder compare
   pub same : (u v : List ℕ) → compare u v ≡ Equal → u ≡ v
   -- the empty word is least

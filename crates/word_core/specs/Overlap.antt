@@ -1,4 +1,4 @@
--- Where the end of one word is the beginning of another.
+-- Where a suffix of one word is a prefix of another.
 use Rattle.std.specs.Prelude.{◌≡◌, ◌&&◌, ◌-◌, ◌<◌, ℕ, Bool, List, ◌++◌, length, take, drop, filter, nat_lt, nat_eq}
 use Rattle.std.specs.List.{range_with_len}
 use lib.Pointwise.{pointwise}

@@ -1,4 +1,4 @@
-//! The places at which an end of one word is a beginning of another.
+//! The places from which on a suffix of one word is a prefix of another.
 
 ghost use Rattle.std.specs.Prelude.{◌≡◌, ◌≤◌, length, IfOk};
 ghost use Rattle.word_core.specs.Overlap.{overlap_places, overlaps_at};
@@ -6,7 +6,7 @@ ghost use Rattle.word_core.specs.Overlap.{overlap_places, overlaps_at};
 use lists::Listing;
 use std::alloc::{AllocError, Global};
 
-/// The places, ascending, from which on the left word begins the right one and is not all of it.
+/// The places, ascending, from which on the left word is a proper prefix of the right one.
 pub(crate) fn overlaps(
     alloc: Global,
     left: &[u16],

@@ -42,7 +42,7 @@ impl Word {
         }
     }
 
-    /// The empty word, with room for so many letters.
+    /// The empty word, with room for this many letters.
     pub fn with_room(alloc: Global, letters: usize) -> Result<Word, AllocError>
         ensures { IfOk result (λ w. w ≡ []) }
     {
@@ -51,7 +51,7 @@ impl Word {
         })
     }
 
-    /// The word with one letter more at its end; where memory is short, the word as it was.
+    /// Appends a letter; where memory is short, the word is unchanged.
     pub fn push(&mut self, letter: Letter) -> Result<(), AllocError>
         ensures ok { OnOk result (self.new ≡ self.old ++ letter.0 ∷ []) }
         ensures err { OnErr result (self.new ≡ self.old) }
@@ -86,7 +86,7 @@ impl Word {
         })
     }
 
-    /// The letters from the place `from` on to before the place `to`.
+    /// The letters from the place `from` to before the place `to`.
     pub fn slice(&self, from: usize, to: usize) -> Result<Word, AllocError>
         requires order { from ≤ to }
         requires in_range { to ≤ length self.now }
@@ -122,7 +122,7 @@ impl Word {
         Ok(Word { letters })
     }
 
-    /// The least place at which `sub` occurs, and `None` where it occurs nowhere. The empty word occurs at place 0.
+    /// The least place at which `sub` occurs, or `None` where it occurs nowhere. The empty word occurs at place 0.
     pub fn first_place(&self, sub: &Word) -> Option<usize>
         ensures found { IfSome result (IsFirstPlace self.now sub.now) }
         ensures absent { IfNone result (OccursNowhere self.now sub.now) }

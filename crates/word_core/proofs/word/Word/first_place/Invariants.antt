@@ -2,6 +2,6 @@ use Rattle.std.proofs.Common.{ℕ, ◌<◌}
 use Rattle.word_core.specs.Occurrence.{OccursAt}
 use Rattle.word_core.proofs.word.Word.first_place.Given as goal
 
--- it stands at no place that was passed
+-- it occurs at no place so far
 abbrev pub invariant-loop-place : goal.invariant-loop-place
 invariant-loop-place l = (earlier : ℕ) → earlier < l.place → OccursAt l.self l.sub earlier → ⊥
