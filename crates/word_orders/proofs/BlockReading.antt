@@ -41,7 +41,7 @@ or-true : (b : Bool) → (b || true) ≡ true
 or-true true = refl
 or-true false = refl
 
--- one letter more at the end
+-- one more letter at the end
 is_listed-more : (block : List Letter) (letter : Letter) (number : ℕ) → is_listed (block ++ (letter ∷ [])) number ≡ (is_listed block number || nat_eq letter.0 number)
 is_listed-more block letter number =
     list_any-append (λ l. nat_eq l.0 number) block (letter ∷ []) ∙ ap (λ b. is_listed block number || b) (or-false (nat_eq letter.0 number))

@@ -16,11 +16,11 @@ module _ {A : Type 0} where
   tail_is : (x y : A) (xs ys : List A) → x ∷ xs ≡ y ∷ ys → xs ≡ ys
   tail_is x y xs ys e = cc
 
-  -- a list is what stands before a place, what stands there, and the rest
+  -- a list is the items before a place, the item there, and the rest
   pub split_at : (xs : List A) (i : ℕ) (d : A) → i < length xs → take i xs ++ (get_or xs i d ∷ drop (suc i) xs) ≡ xs
   split_at xs i d inside = ap (λ rest. take i xs ++ rest) (sym (drop-cons xs i d inside)) ∙ take-append-drop i xs
 
-  -- where a list with one item more is cut at an item: at the last one, or inside the list
+  -- where a list with one more item is cut at an item: at the last one, or inside the list
   pub record CutInside (xs before : List A) (item : A) : Type 0 where
     rest : List A
     splits : xs ≡ before ++ (item ∷ rest)

@@ -50,7 +50,7 @@ module _ (letters : ℕ) (compare : Compare) (rank : List ℕ → List ℕ) (law
     less = laws.around l u v r below.less;
   }
 
-  -- a word is at most the word with letters in front of it, and with letters behind it
+  -- a word is at most the word with letters before it, and with letters after it
   front_le : (l u : List ℕ) → (u ≡ l ++ u) ⊎ (compare u (l ++ u) ≡ Less)
   front_le l u = go (laws.least l)
     where

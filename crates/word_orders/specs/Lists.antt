@@ -8,7 +8,7 @@ use Rattle.word_core.specs.declared.letter.Letter.{Letter}
 abbrev pub is_listed : List Letter → ℕ → Bool
 is_listed listed number = list_any (λ letter. nat_eq letter.0 number) listed
 
--- the weight that the list gives it, where it gives it one
+-- the weight that the list gives it, if it gives it one
 abbrev pub listed_weight : List (Letter × ℕ) → ℕ → Option ℕ
 listed_weight weights number = option_map (λ entry. entry.1) (find (λ entry. nat_eq entry.0.0 number) weights)
 

@@ -1,4 +1,4 @@
--- Admissible orders as what a proof about words asks of them.
+-- Admissible orders, as proofs about words use them.
 use Rattle.std.specs.Prelude.{◌≡◌, ◌⊎◌, ℕ, List, ◌++◌}
 use Rattle.std.specs.declared.cmp.Ordering.TheVariants.{Less}
 use Rattle.word_core.specs.Letters.{IsOver}

@@ -1,4 +1,4 @@
--- The orders that can be asked for, and those that are made.
+-- The orders that can be asked for, and those that are made of them.
 use Rattle.std.specs.Prelude.{◌^◌, ℕ, List, length, Bool, true, false}
 use Rattle.std.specs.List.{sum_by, count_by}
 use Rattle.word_core.specs.Canonical.{word_cmp}
@@ -20,13 +20,13 @@ asked_cmp asked.Degree = word_cmp
 asked_cmp (asked.Weight weights) = weight_cmp (weight_of weights)
 asked_cmp (asked.Block block) = block_cmp (is_listed block)
 
--- nothing is wrong with its list
+-- its list has no fault
 abbrev pub IsSound : ℕ → OrderSpec → Type 0
 IsSound letters asked.Degree = Unit {0}
 IsSound letters (asked.Weight weights) = HasNoFault (entry_fault letters) weights
 IsSound letters (asked.Block block) = HasNoFault (block_fault letters) block
 
--- what its first fault is
+-- its first fault
 abbrev pub ExplainsSpec : ℕ → OrderSpec → OrderFault → Type 0
 ExplainsSpec letters asked.Degree fault = ⊥
 ExplainsSpec letters (asked.Weight weights) fault = Explains (entry_fault letters) weights fault

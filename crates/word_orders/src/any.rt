@@ -15,7 +15,7 @@ use std::alloc::Global;
 use std::cmp::Ordering;
 use word_core::{Letter, Word};
 
-/// What an order is to compare first.
+/// What an order compares first.
 #[derive(Drop)]
 pub enum OrderSpec {
     /// Nothing: the canonical order.
@@ -39,7 +39,7 @@ pub enum AnyOrder {
 
 impl AnyOrder {
     /// The order that is asked for, for words over the letters below `letters`; no word has a letter past 65,535. The
-    /// fault is that of the first item of the list that has one; for one item a number that is no letter's counts
+    /// fault is that of the first item of the list that has one; for one item a number that is no letter's comes
     /// before a repetition, and that before a weight that is 0 or above 1,000.
     pub fn new(alloc: Global, spec: &OrderSpec, letters: u32) -> Result<AnyOrder, OrderFault>
         ensures order { IfOk result (λ o. (u v : List ℕ) → made_cmp o u v ≡ asked_cmp spec.now u v) }

@@ -32,7 +32,7 @@ impl Model for BlockLex {
 
 impl BlockLex {
     /// The order by this block, for words over the letters below `letters`. The fault is that of the first letter that
-    /// has one: that its number is no letter's, else that it is listed before.
+    /// has one: that its number is no letter's, or else that it is listed before.
     pub fn new(alloc: Global, block: &[Letter], letters: u32) -> Result<BlockLex, OrderFault>
         ensures block { IfOk result (λ o. (letter : ℕ) → is_in o letter ≡ is_listed block.now letter) }
         ensures letters { IfOk result (λ o. length o ≡ letters) }
@@ -55,7 +55,7 @@ impl BlockLex {
         })
     }
 
-    // Puts a letter into the block, unless it is there or is no letter; all stays then.
+    // Puts a letter into the block, unless it is there or is no letter; then nothing changes.
     fn put(&mut self, letter: Letter) -> Result<(), OrderFault>
         ensures ok { OnOk result (self.new ≡ set self.old letter.0 true) }
         ensures fault { MatchResult result (λ _. fault_in_block self.old letter ≡ None)

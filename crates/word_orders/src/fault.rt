@@ -1,4 +1,4 @@
-//! What can be wrong with the list of an order.
+//! The faults of the list of an order.
 
 ghost use Rattle.word_orders.specs.Faults.{IsMemory};
 
@@ -6,7 +6,7 @@ use std::alloc::{AllocError, AllocFailed};
 use thiserror::Error;
 use word_core::Letter;
 
-/// What is wrong with the list of an order.
+/// The fault of the list of an order.
 #[derive(Debug, Drop, Error)]
 pub enum OrderFault {
     /// The weight of a letter is 0 or above 1,000.

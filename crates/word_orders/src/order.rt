@@ -36,13 +36,13 @@ pub trait WordOrder {
         requires right_over { IsOver (letters self.now) right.now }
         ensures { result ≡ compare self.now left.now right.now };
 
-    /// The number of a word that is compared first, and then canonically: 0 by degree, the sum of the weights, or how
+    /// The number of a word that is compared first, before a canonical comparison: 0 by degree, the sum of the weights, or how
     /// many letters are in the block. It takes no memory.
     fn measure(&self, word: &Word) -> u32
         requires short { length word.now ≤ measured_letters }
         ensures { result ≡ measure_of self.now word.now };
 
-    /// Whether the order is the canonical one, by which the measure of each word is 0.
+    /// Whether the order is the canonical one, in which the measure of each word is 0.
     fn is_canonical(&self) -> bool
         ensures { result ≡ is_plain self.now };
 

@@ -22,7 +22,7 @@ pub const WEIGHT_LIMIT: u32 = 1000;
 /// The order by the sum of the letters' weights, and canonically where two sums are equal.
 #[derive(Drop)]
 pub struct WeightLex {
-    // The weights that are given, in the order of the letters' numbers.
+    // The weights of the list, in the order of the letters' numbers.
     weights: Vec<Option<u32>>,
 }
 
@@ -67,7 +67,7 @@ impl WeightLex {
         })
     }
 
-    // Gives a letter its weight, unless the letter has one or the entry is no entry of a list of weights; all stays then.
+    // Gives a letter its weight, unless the letter has one or the entry is none of a list of weights; then nothing changes.
     fn put(&mut self, entry: &(Letter, u32)) -> Result<(), OrderFault>
         ensures ok { OnOk result (self.new ≡ set self.old entry.now.0.0 (Some entry.now.1)) }
         ensures fault { MatchResult result (λ _. fault_in self.old entry.now ≡ None)
