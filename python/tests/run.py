@@ -19,7 +19,7 @@ from pathlib import Path
 from typing import List
 
 TESTS = Path(__file__).resolve().parent
-QUICK = ["check", "models", "language", "types", "tools", "text", "notation", "star", "library"]
+QUICK = ["check", "models", "language", "types", "tools", "text", "notation", "star", "library", "rows"]
 
 
 def run(name: str) -> bool:

@@ -2,7 +2,7 @@
 use Rattle.std.proofs.Common.{◌≡◌, ℕ, zero, suc, ◌<◌, ℤ, pos, negsuc, Bool, true, false, cond, List, [], ◌∷◌, sym, refl, ap, ap₂, subst, ◌∙◌, eqb-true}
 use Rattle.definitions.specs.Category.{Structure, IsArrow, PreadditiveLaws}
 use Rattle.definitions.specs.Quiver.{Quiver, letters, source, target, leads, is_path}
-use Rattle.definitions.specs.Representation.{Representation, Represents, Cancels, natural_multiple, multiple, path_value, word_value, value_at}
+use Rattle.definitions.specs.Representation.{Representation, Represents, natural_multiple, multiple, path_value, word_value, value_at}
 use Rattle.definitions.proofs.Group.{IsGroup, zero_add}
 use Rattle.definitions.proofs.Multiples.{natural_times, times, times-none}
 use Rattle.definitions.proofs.Linear.{linear, linear_in}
@@ -76,9 +76,3 @@ module _ {Object Arrow : Type 0} {s : Structure Object Arrow} (laws : Preadditiv
           go false e h =
               let rest = linear (s.zero (f.object u) (f.object v)) s.add s.negate (word_at u v) p in
               h ∙ sym (ap (λ x. s.add x rest) (times-none group_at t.0) ∙ zero_add group_at rest (linear_in group_at (word_at u v) word_at_is_arrow p))
-
--- The number 1 cancels in each category.
-pub one_cancels : {Object Arrow : Type 0} {s : Structure Object Arrow} → PreadditiveLaws s → Cancels s (pos 1)
-one_cancels {s = s} laws = record {
-  at = λ a p e. sym (laws.add_zero (s.source a) (s.target a) a (record { arrow = p; source = refl; target = refl })) ∙ e;
-}

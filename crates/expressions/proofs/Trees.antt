@@ -4,7 +4,7 @@ use Rattle.nc_polynomial.specs.declared.fault.PolyFault.{PolyFault}
 use Rattle.quiver.specs.Declarations.{Declaration, quiver_of}
 use Rattle.statement_syntax.specs.declared.tree.Factor.{Factor}
 use Rattle.statement_syntax.specs.declared.tree.Term.{Term, Term', out-Term, outs-Term', Row_of-Factor, end_of-Factor, more_of-Factor, items-the_row-Factor, items_shown-the_row-Factor-1}
-use Rattle.statement_syntax.specs.declared.tree.Sum.{Sum, Sum', out-Sum, outs-Sum', Row_of-Term, end_of-Term, more_of-Term, items-the_row-Term, items_shown-the_row-Term-0}
+use Rattle.statement_syntax.specs.declared.tree.Sum.{Sum, Sum', out-Sum, Row_of-Term, end_of-Term, more_of-Term, items-the_row-Term, items_shown-the_row-Term-0}
 use Rattle.expressions.specs.declared.fault.SignatureFault.{SignatureFault}
 use Rattle.expression_names.proofs.Trees.{of_sum, of_term}
 use Rattle.expressions.specs.Results.{◌>>=◌}
@@ -47,9 +47,6 @@ signature-sum ds (Sum' at shape terms) =
 
 pub place-term : (t : Term) → signatures.term_at t ≡ (out-Term t).at
 place-term (Term' at negative literal shape factors) = ap (λ r. r.at) (sym (outs-Term' at negative literal shape factors))
-
-pub place-sum : (s : Sum) → signatures.sum_at s ≡ (out-Sum s).at
-place-sum (Sum' at shape terms) = ap (λ r. r.at) (sym (outs-Sum' at shape terms))
 
 -- polynomials
 polys-factors : (ds : List Declaration) (n : _) (k : Row_of-Factor n) → polynomials.factor_polys ds k ≡ each (polynomials.factor_poly ds) (items-the_row-Factor n k)

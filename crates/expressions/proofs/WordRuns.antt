@@ -166,7 +166,3 @@ no-word p canonical = ap sized (same p) ∙ sized-canonical p canonical
 pub bind-assoc : {A B C E : Type 0} (r : Result A E) (f : A → Result B E) (g : B → Result C E) → ((r >>= f) >>= g) ≡ (r >>= λ x. f x >>= g)
 bind-assoc (Ok x) f g = refl
 bind-assoc (Err e) f g = refl
-
-pub bind-ok : {A E : Type 0} (r : Result A E) → (r >>= λ x. Ok x) ≡ r
-bind-ok (Ok x) = refl
-bind-ok (Err e) = refl

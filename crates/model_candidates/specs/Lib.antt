@@ -12,3 +12,4 @@ pub mod Equations
 pub mod Factors
 pub mod Known
 pub mod WordRows
+pub mod Laws

@@ -9,6 +9,7 @@ mod entries;
 mod equations;
 mod factor_rows;
 mod given_values;
+mod laws;
 mod letter_numbers;
 mod letter_tables;
 mod one_candidate;
@@ -25,6 +26,7 @@ mod value_rows;
 mod word_rows;
 
 pub use candidate_count::{all_candidates, candidates};
+pub use laws::{candidates_are_unique, each_number_has_a_candidate};
 pub use letter_tables::LetterTable;
 pub use one_candidate::{candidate, candidate_by, candidate_values};
 pub use plan::{LinearAssumption, LinearAssumptions, Plan, plan_of};

@@ -1,11 +1,11 @@
 -- The answers to the tests of candidates in a row, and the first of them that breaks a claim.
-use Rattle.std.proofs.Common.{◌≡◌, ℕ, zero, suc, ◌+◌, ◌-◌, ◌<◌, ◌≤◌, Bool, true, false, List, [], ◌∷◌, length, get_or, Option, Some, None, IsNone, Result, Ok, Err, IfOk, sym, subst, ◌∙◌, arith}
+use Rattle.std.proofs.Common.{◌≡◌, ℕ, zero, suc, ◌+◌, ◌-◌, ◌<◌, ◌≤◌, Bool, false, List, [], ◌∷◌, length, get_or, Option, Some, None, IsNone, Result, Ok, Err, IfOk, sym, subst, ◌∙◌, arith}
 use Rattle.std.specs.List.{AllZip, range_with_len}
 use Rattle.std.proofs.lemmas.List.FromFn.{length-range_with_len}
 use Rattle.std.proofs.lemmas.Slice.Zip.{AllZip-long}
 use Rattle.adjoint_rules.specs.declared.problem.Problem.{Problem}
 use Rattle.model_search.specs.declared.found.Found.{Found}
-use Rattle.model_search.specs.Searches.{BreaksAt, NoneBreaksAt, TellsBreaks, flag_at, IsTested, AreTested, HasFlag, IsFlag, AreUnbroken, IsFirstBroken, AreTold, IsFoundAt, IsFirstFrom}
+use Rattle.model_search.specs.Searches.{NoneBreaksAt, TellsBreaks, flag_at, IsTested, AreTested, HasFlag, IsFlag, AreUnbroken, IsFirstBroken, AreTold, IsFoundAt, IsFirstFrom}
 
 -- lists side by side
 at_place : {Y : Type 0} (R : ℕ → Y → Type 0) (ys : List Y) (first n : ℕ) → AllZip R (range_with_len first n) ys → (j : ℕ) (d : Y) → j < n
@@ -42,9 +42,6 @@ module _ {E : Type 0} (problem : Problem) (seed number : ℕ) where
         → TellsBreaks problem claim seed number k flag
     flagged k flag (Err e) is here = absurd here
     flagged k flag (Ok broken) is here = subst (TellsBreaks problem claim seed number k) here is
-
-    pub breaks_at_first : (j : ℕ) → IsFirstBroken place answers j → BreaksAt problem claim seed number (first + j)
-    breaks_at_first j is = flagged (first + j) true (get_or answers j (Ok None)) (told.each j is.within) is.broken
 
     pub none_of_answers : (n : ℕ) → n ≤ length answers → AreUnbroken place n answers → (k : ℕ) → first ≤ k → k < first + n
         → NoneBreaksAt problem claim seed number k

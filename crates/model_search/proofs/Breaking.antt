@@ -139,9 +139,6 @@ module _ (problem : Problem) (claim number seed k : ℕ) (c : Option Model) (is 
       let b = breaks.1 in
       candidate_is_unique problem number b.shape seed k c (Some b.candidate) (is b.shape b.numbered) b.is_candidate
 
-  pub some_where_one_breaks : c ≡ None → ⊥
-  some_where_one_breaks none = let other = sym none ∙ there in absurd (cc)
-
   pub breaks_as_named : (m : Model) → c ≡ Some m → Breaks problem claim seed number k (naming claim m)
   breaks_as_named m some =
       let same : breaks.1.candidate ≡ m = some_is (sym there ∙ some) in

@@ -1,7 +1,7 @@
 -- What is known of claims after each block of a shape, and after each shape.
-use Rattle.std.proofs.Common.{◌≡◌, ℕ, ◌+◌, ◌<◌, ◌≤◌, List, [], ◌∷◌, ◌++◌, length, get_or, replicate, Option, Some, None, IfSome, IfNone, IsNone, MatchOption, ◌⊎◌, inl, inr, refl, sym, ap, subst, ◌∙◌, arith, suc, set, not, false, true≢false, is_none}
+use Rattle.std.proofs.Common.{◌≡◌, ℕ, ◌+◌, ◌<◌, ◌≤◌, List, [], ◌∷◌, ◌++◌, length, get_or, Option, Some, None, IfSome, IfNone, IsNone, MatchOption, ◌⊎◌, inl, inr, refl, sym, ap, subst, ◌∙◌, arith, suc, set, not, false, true≢false, is_none}
 use Rattle.std.specs.List.{AllZip, list_any}
-use Rattle.std.proofs.lemmas.List.{length-replicate, get_or-replicate, length-set, get_or-set_same, get_or-set_other}
+use Rattle.std.proofs.lemmas.List.{length-set, get_or-set_same, get_or-set_other}
 use Rattle.std.proofs.lemmas.List.Folds.{list_any_at}
 use Rattle.std.proofs.lemmas.Bool.{cases_lt}
 use Rattle.std.proofs.lemmas.Option.{slice_get_within}
@@ -72,11 +72,7 @@ module _ (problem : Problem) (claim seed : ℕ) where
               let there : IsShapeOf problem number b.shape = subst (λ n. IsShapeOf problem n b.shape) same b.numbered in
               is i j (inr (same, subst (λ n. j < n) (sym (exact b.shape there)) b.in_range)) m b
 
-  -- before all shapes, and after them
-  pub none_searched : IsSearchedTo problem claim seed 1 0 None
-  none_searched i j (inr same) m b = absurd (omega (arith, same.1))
-  none_searched i j (inl earlier) m b = absurd (omega (arith, earlier, b.numbered.numbered))
-
+  -- after all shapes
   pub least_found : (number k : ℕ) (found : Option Found) → IsSearchedTo problem claim seed number k found
       → IfSome found (λ f. IsLeastBreaking problem claim seed f.shape f.candidate f.model)
   least_found number k None is = tt
@@ -91,15 +87,6 @@ module _ (problem : Problem) (claim seed : ℕ) where
       none i j m b =
           let inside = slice_get_within problem.parts.shapes b.numbered.before b.shape b.numbered.there in
           is i j (inl (omega (arith, b.numbered.numbered, inside, past))) m b
-
--- claims
-pub all_none : (problem : Problem) (seed : ℕ) (claims : List ℕ) (found : List (Option Found)) → found ≡ replicate (length claims) None
-    → AreSearchedTo problem seed 1 0 claims found
-all_none problem seed claims found is = record {
-  one_each = ap length is ∙ length-replicate (length claims) None;
-  each = λ place within. subst (IsSearchedTo problem (get_or claims place 0) seed 1 0)
-      (sym (ap (λ os. get_or os place None) is ∙ get_or-replicate (length claims) place None None within)) (none_searched problem (get_or claims place 0) seed);
-}
 
 pub zip_by_places : (R : ℕ → Option Found → Type 0) (claims : List ℕ) (found : List (Option Found)) → length found ≡ length claims
     → ((place : ℕ) → place < length claims → R (get_or claims place 0) (get_or found place None)) → AllZip R claims found

@@ -2,7 +2,7 @@
 use Rattle.std.proofs.Common.{◌≡◌, ℕ, ◌+◌, ◌*◌, ◌≤◌, true, false, List, [], ◌∷◌, ◌++◌, length, refl, ◌∙◌, arith}
 use Rattle.std.specs.List.{flat_map}
 use Rattle.definitions.specs.Quiver.{letters}
-use Rattle.quiver.specs.Declarations.{Declaration, object, arrow, objects_of, letters_of, object_count, map_count, letter_count, turns_from, objects_made, letters_made, object_table, letter_table, naming_table, quiver_of}
+use Rattle.quiver.specs.Declarations.{Declaration, object, arrow, objects_of, letters_of, object_count, map_count, letter_count, turns_from, objects_made, letters_made, object_table, letter_table, quiver_of}
 use Rattle.std.proofs.lemmas.List.{length-map}
 
 length-turns_from : (p v a : ℕ) (ds : List Declaration) → length (turns_from p v a ds) ≡ length ds
@@ -21,9 +21,6 @@ letters_from p v a (arrow name x y true ∷ ds) = omega (arith, letters_from (p 
 letters_from p v a (arrow name x y false ∷ ds) = omega (arith, letters_from (p + 1) (v + 0) (a + 2) ds)
 
 module _ (ds : List Declaration) where
-  pub length-naming_table : length (naming_table ds) ≡ length ds
-  length-naming_table = length-map _ _ ∙ length-turns_from 0 0 0 ds
-
   pub length-object_table : length (object_table ds) ≡ object_count ds
   length-object_table = objects_from 0 0 0 ds
 

@@ -5,7 +5,7 @@ use Rattle.definitions.specs.Quiver.{Quiver, source, target}
 use Rattle.definitions.specs.Representation.{word_value}
 use Rattle.definitions.proofs.Values.{letter_is_arrow, word_value_is_arrow}
 use Rattle.representations.specs.Listed.{listed, IsRepresentation}
-use Rattle.representations.proofs.Suffixes.{HasPath, suffix_path, letter_within, letters_meet, value-last, value-next}
+use Rattle.representations.proofs.Suffixes.{HasPath, suffix_path, letter_within, letters_meet, value-next}
 
 module _ {Object Arrow : Type 0} {s : Structure Object Arrow} (laws : PreadditiveLaws s) {q : Quiver} {objects : List Object} {arrows : List Arrow}
     (rep : IsRepresentation s q objects arrows) {w : List ℕ} (whole : HasPath q w) where
@@ -38,12 +38,6 @@ module _ {Object Arrow : Type 0} {s : Structure Object Arrow} (laws : Preadditiv
     ends_meet x y x_ends y_ends =
         let o = s.source x in
         (x_ends o).source ∙ ap (λ n. get_or objects n o) (letters_meet q whole.source whole.target w place whole.path next_within ∙ ap (λ n. target q (get_or w n 0)) follows) ∙ sym (y_ends o).target
-
-  -- the value at the last letter, and at a letter before others
-  pub value_from_last : (place letter : ℕ) → suc place ≡ length w → letter ≡ get_or w place 0 → (x y : Arrow) → ((a : Arrow) → x ≡ get_or arrows letter a) → y ≡ x
-      → (o : Object) (a none : Arrow) → y ≡ word_value s (listed objects arrows o a) none (drop place w)
-  value_from_last place letter last is x y x_is same o a none =
-      same ∙ x_is a ∙ ap (λ n. get_or arrows n a) is ∙ sym (value-last s (listed objects arrows o a) none w place last)
 
   pub value_from_next : (place next letter : ℕ) → suc place ≡ next → next < length w → letter ≡ get_or w place 0 → (x y z : Arrow) → ((a : Arrow) → x ≡ get_or arrows letter a)
       → ((o : Object) (a none : Arrow) → y ≡ word_value s (listed objects arrows o a) none (drop next w)) → z ≡ s.compose x y

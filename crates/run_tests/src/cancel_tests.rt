@@ -1,7 +1,5 @@
 //! Runs of `cancel`.
-use crate::cancel_rows::{
-    ACCEPTED, BLOCKS, CALLS, ITEMS, KEPT, LETTERS, LINES, ROWS, SOUND, SUMS, TEXTS,
-};
+use crate::cancel_rows::{ACCEPTED, BLOCKS, CALLS, ITEMS, KEPT, LETTERS, ROWS, SOUND};
 use crate::gallery_rows::CANCELLATIONS;
 use crate::limit_tests::tell_limits;
 use crate::tests::{tell, tell_all, tell_words};
@@ -16,9 +14,6 @@ fn letters_come_off_that_are_declared(rt: HostRuntime) -> Result<(), Fail> {
     tell_all(&rt, alloc, CANCEL, ACCEPTED)?;
     tell_all(&rt, alloc, CANCEL, CANCELLATIONS)?;
     tell_all(&rt, alloc, CANCEL, LETTERS)?;
-    tell_all(&rt, alloc, CANCEL, SUMS)?;
-    tell_all(&rt, alloc, CANCEL, LINES)?;
-    tell_all(&rt, alloc, CANCEL, TEXTS)?;
     tell_words(&rt, alloc, CALLS, SOUND.0, SOUND.1)
 }
 

@@ -1,7 +1,6 @@
 //! Runs of `confirm`.
 use crate::confirm_rows::{
-    BLOCKS, CALLS, COMPLETED, COUNTED, GROWN, LINES, OTHERS, REPORTS, RULES, SHARP, SOUND, STEPS,
-    TERMS, TEXTS, WORDS,
+    BLOCKS, CALLS, COUNTED, GROWN, REPORTS, RULES, SHARP, SOUND, STEPS, TERMS, TEXTS, WORDS,
 };
 use crate::limit_tests::tell_limits;
 use crate::tests::{answer, tell, tell_all, tell_words};
@@ -12,11 +11,8 @@ const CONFIRM: &[&str] = &["confirm", "s", "c"];
 #[test]
 fn bases_are_closed_or_refused(rt: HostRuntime) -> Result<(), Fail> {
     let alloc = rt.alloc();
-    tell_all(&rt, alloc, CONFIRM, COMPLETED)?;
-    tell_all(&rt, alloc, CONFIRM, OTHERS)?;
     tell_all(&rt, alloc, CONFIRM, BLOCKS)?;
     tell_all(&rt, alloc, CONFIRM, SHARP)?;
-    tell_all(&rt, alloc, CONFIRM, LINES)?;
     tell_all(&rt, alloc, CONFIRM, TEXTS)?;
     tell_words(&rt, alloc, CALLS, SOUND.0, SOUND.1)
 }

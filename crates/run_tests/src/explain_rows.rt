@@ -25,16 +25,6 @@ const SCALED: &[Part] = &[Plain(
     "object P\nmap u v : P -> P\nassume 3 u = 2 v\nassume 4 v = 6 u u\nclaim u = u u\nclaim v = v\n",
 )];
 
-// A starred statement: its second generator is zero, and its third is the adjoint of the first, f' e - f'.
-const STARRED: &[Part] = &[Plain(
-    "object P Q\nmap f : P -> Q\nmap e : Q -> Q self\nassume e f = f\nassume f = f\nclaim f' e = f'\nclaim f = f\n",
-)];
-
-// The claim has the greatest coefficient that there is.
-const GREATEST: &[Part] = &[Plain(
-    "object P\nmap u v : P -> P\nassume u = v\nclaim 170141183460469231731687303715884105727 u = 170141183460469231731687303715884105727 v\n",
-)];
-
 const EQUAL: &[Part] = &[Plain("object P\nmap u v : P -> P\nassume u = v\nclaim u = v\n")];
 
 const ROW_1: Part = Plain("row -1 () 5 ()\n");
@@ -46,8 +36,6 @@ const ROW_3: Part = Plain("row 1 () 3 (f)\n");
 const ROW_4: Part = Plain("row 1 (g) 1 ()\n");
 
 const ROW_5: Part = Plain("row 1 () 6 ()\n");
-
-const GREATEST_ROW: Part = Plain("row 170141183460469231731687303715884105727 () 1 ()\n");
 
 const HEAD: Part = Plain("certificate 1\nclaim 1\ndenominator 1\n");
 
@@ -105,79 +93,6 @@ pub const STEPS: &[LimitRow] = &[
             Plain("line - l [V] + l\nuse -1 () 8 ()\nline 0\nend\n"),
         ],
     ),
-    // five steps, and the same from the other end
-    (
-        EXPLAIN,
-        INVERSES,
-        &[HEAD, ROW_1, ROW_2, ROW_3, ROW_4, ROW_5, END],
-        ANSWER,
-    ),
-    (
-        EXPLAIN,
-        INVERSES,
-        &[HEAD, ROW_5, ROW_4, ROW_3, ROW_2, ROW_1, END],
-        &[
-            BLOCK,
-            Plain(
-                " explained claim 1 denominator 1 steps 5\nchain 1\nclaim 1\ndenominator 1\nline - g + f\n",
-            ),
-            Plain(
-                "use 1 () 6 ()\nline - g [P] + f\nuse 1 (g) 1 ()\nline - g s f + f\nuse 1 () 3 (f)\n",
-            ),
-            Plain(
-                "line - f s f + f\nuse -1 (f) 1 ()\nline - f [P] + f\nuse -1 () 5 ()\nline 0\nend\n",
-            ),
-        ],
-    ),
-    // rows with words that are no paths, and with paths of another signature
-    (
-        EXPLAIN,
-        INVERSES,
-        &[
-            HEAD,
-            ROW_1,
-            Plain("row 2 (f) 3 (g)\n"),
-            ROW_2,
-            ROW_3,
-            ROW_4,
-            ROW_5,
-            Plain("row -2 (f) 3 (g)\n"),
-            END,
-        ],
-        ANSWER,
-    ),
-    (
-        EXPLAIN,
-        INVERSES,
-        &[
-            HEAD,
-            Plain("row 1 () 1 ()\n"),
-            ROW_1,
-            ROW_2,
-            ROW_3,
-            ROW_4,
-            ROW_5,
-            Plain("row -1 () 1 ()\n"),
-            END,
-        ],
-        ANSWER,
-    ),
-    // rows with coefficient 0, the second with words of 501 letters and more
-    (
-        EXPLAIN,
-        INVERSES,
-        &[
-            HEAD,
-            Plain("row 0 () 3 (f)\n"),
-            ROW_1,
-            ROW_2,
-            ROW_3,
-            ROW_4,
-            ROW_5,
-            END,
-        ],
-        ANSWER,
-    ),
     (
         EXPLAIN,
         INVERSES,
@@ -196,239 +111,6 @@ pub const STEPS: &[LimitRow] = &[
             END,
         ],
         ANSWER,
-    ),
-];
-
-/// Certificates in other forms: steps in two, multiples, adjoints of identities, blanks.
-pub const FORMS: &[LimitRow] = &[
-    // a step that is made in two, too far and back
-    (
-        EXPLAIN,
-        INVERSES,
-        &[
-            HEAD,
-            ROW_1,
-            ROW_2,
-            Plain("row 3 () 3 (f)\nrow -2 () 3 (f)\n"),
-            ROW_4,
-            ROW_5,
-            END,
-        ],
-        &[
-            BLOCK,
-            Plain(
-                " explained claim 1 denominator 1 steps 6\nchain 1\nclaim 1\ndenominator 1\nline - g + f\n",
-            ),
-            Plain(
-                "use -1 () 5 ()\nline f [P] - g\nuse -1 (f) 1 ()\nline f s f - g\nuse 3 () 3 (f)\n",
-            ),
-            Plain(
-                "line 3 g s f - 2 f s f - g\nuse -2 () 3 (f)\nline g s f - g\nuse 1 (g) 1 ()\nline g [P] - g\n",
-            ),
-            Plain("use 1 () 6 ()\nline 0\nend\n"),
-        ],
-    ),
-    // twice the claim
-    (
-        EXPLAIN,
-        INVERSES,
-        &[
-            Plain("certificate 1\nclaim 1\ndenominator 2\n"),
-            Plain(
-                "row -2 () 5 ()\nrow -2 (f) 1 ()\nrow 2 () 3 (f)\nrow 2 (g) 1 ()\nrow 2 () 6 ()\n",
-            ),
-            END,
-        ],
-        &[
-            BLOCK,
-            Plain(
-                " explained claim 1 denominator 2 steps 5\nchain 1\nclaim 1\ndenominator 2\nline - 2 g + 2 f\n",
-            ),
-            Plain(
-                "use -2 () 5 ()\nline 2 f [P] - 2 g\nuse -2 (f) 1 ()\nline 2 f s f - 2 g\nuse 2 () 3 (f)\n",
-            ),
-            Plain(
-                "line 2 g s f - 2 g\nuse 2 (g) 1 ()\nline 2 g [P] - 2 g\nuse 2 () 6 ()\nline 0\nend\n",
-            ),
-        ],
-    ),
-    // the adjoint of an identity
-    (
-        EXPLAIN,
-        INVERSES,
-        &[
-            HEAD,
-            ROW_1,
-            Plain("row 1 () 5 ([P]')\nrow -1 () 5 ([P])\n"),
-            ROW_2,
-            ROW_3,
-            ROW_4,
-            ROW_5,
-            END,
-        ],
-        &[
-            BLOCK,
-            Plain(
-                " explained claim 1 denominator 1 steps 7\nchain 1\nclaim 1\ndenominator 1\nline - g + f\n",
-            ),
-            Plain(
-                "use -1 () 5 ()\nline f [P] - g\nuse 1 () 5 ([P])\nline - f [P] [P] + 2 f [P] - g\n",
-            ),
-            Plain(
-                "use -1 () 5 ([P])\nline f [P] - g\nuse -1 (f) 1 ()\nline f s f - g\nuse 1 () 3 (f)\n",
-            ),
-            Plain("line g s f - g\nuse 1 (g) 1 ()\nline g [P] - g\nuse 1 () 6 ()\nline 0\nend\n"),
-        ],
-    ),
-    // CR LF, a comment, a blank line, leading zeros, blanks
-    (
-        EXPLAIN,
-        INVERSES,
-        &[
-            Plain(
-                "certificate 1\r\n# a comment\r\n\r\nclaim 01\r\ndenominator 1\r\nrow -01 ( ) 5 ()\r\n",
-            ),
-            Plain(
-                "row -1 (f) 1 ()\r\nrow 1 () 3 (f)\r\nrow 1 (g) 1 ()\r\nrow 1 () 6 ()\r\nend\r\n",
-            ),
-        ],
-        ANSWER,
-    ),
-];
-
-/// Generators with factors, and claims that are zero.
-pub const FACTORS: &[LimitRow] = &[
-    // generators with factors
-    (
-        EXPLAIN,
-        SCALED,
-        &[
-            Plain("certificate 1\nclaim 1\ndenominator 6\n"),
-            Plain("row 2 () 1 ()\nrow 1 () 2 ()\n"),
-            END,
-        ],
-        &[
-            BLOCK,
-            Plain(
-                " explained claim 1 denominator 6 steps 2\nchain 1\nclaim 1\ndenominator 6\nline - 6 u u + 6 u\n",
-            ),
-            Plain("use 2 () 1 ()\nline - 6 u u + 4 v\nuse 1 () 2 ()\nline 0\nend\n"),
-        ],
-    ),
-    (
-        EXPLAIN,
-        SCALED,
-        &[
-            Plain("certificate 1\nclaim 1\ndenominator 12\n"),
-            Plain("row 4 () 1 ()\nrow 2 () 2 ()\n"),
-            END,
-        ],
-        &[
-            BLOCK,
-            Plain(" explained claim 1 denominator 12 steps 2\nchain 1\nclaim 1\ndenominator 12\n"),
-            Plain(
-                "line - 12 u u + 12 u\nuse 4 () 1 ()\nline - 12 u u + 8 v\nuse 2 () 2 ()\nline 0\nend\n",
-            ),
-        ],
-    ),
-    // a claim that is zero
-    (
-        EXPLAIN,
-        SCALED,
-        &[Plain("certificate 1\nclaim 2\ndenominator 5\n"), END],
-        &[
-            BLOCK,
-            Plain(
-                " explained claim 2 denominator 5 steps 0\nchain 1\nclaim 2\ndenominator 5\nline 0\nend\n",
-            ),
-        ],
-    ),
-    (
-        EXPLAIN,
-        SCALED,
-        &[
-            Plain("certificate 1\nclaim 2\ndenominator 1\n"),
-            Plain("row 1 (v) 2 ()\nrow -1 (v) 2 ()\n"),
-            END,
-        ],
-        &[
-            BLOCK,
-            Plain(
-                " explained claim 2 denominator 1 steps 2\nchain 1\nclaim 2\ndenominator 1\nline 0\n",
-            ),
-            Plain("use 1 (v) 2 ()\nline 6 v u u - 4 v v\nuse -1 (v) 2 ()\nline 0\nend\n"),
-        ],
-    ),
-];
-
-/// Adjoints, and the signature of a claim that is zero.
-pub const ADJOINTS: &[LimitRow] = &[
-    // adjoints; a generator that is zero; letters that are their own adjoints
-    (
-        EXPLAIN,
-        STARRED,
-        &[HEAD, Plain("row 1 () 3 ()\n"), END],
-        &[
-            BLOCK,
-            Plain(
-                " explained claim 1 denominator 1 steps 1\nchain 1\nclaim 1\ndenominator 1\nline f' e - f'\n",
-            ),
-            Plain("use 1 () 3 ()\nline 0\nend\n"),
-        ],
-    ),
-    (
-        EXPLAIN,
-        STARRED,
-        &[
-            HEAD,
-            Plain("row 7 () 2 ()\nrow 1 () 3 ()\nrow -4 (f') 1 (f' e')\nrow 4 (f') 1 (f' e)\n"),
-            END,
-        ],
-        &[
-            BLOCK,
-            Plain(
-                " explained claim 1 denominator 1 steps 3\nchain 1\nclaim 1\ndenominator 1\nline f' e - f'\n",
-            ),
-            Plain(
-                "use 1 () 3 ()\nline 0\nuse -4 (f') 1 (f' e)\nline 4 f' e f f' e - 4 f' f f' e\n",
-            ),
-            Plain("use 4 (f') 1 (f' e)\nline 0\nend\n"),
-        ],
-    ),
-    (
-        EXPLAIN,
-        STARRED,
-        &[
-            HEAD,
-            Plain("row 1 () 3 (e')\nrow -1 () 3 (e)\nrow 1 () 3 ()\n"),
-            END,
-        ],
-        &[
-            BLOCK,
-            Plain(
-                " explained claim 1 denominator 1 steps 3\nchain 1\nclaim 1\ndenominator 1\nline f' e - f'\n",
-            ),
-            Plain(
-                "use 1 () 3 (e)\nline - f' e e + 2 f' e - f'\nuse -1 () 3 (e)\nline f' e - f'\nuse 1 () 3 ()\n",
-            ),
-            Plain("line 0\nend\n"),
-        ],
-    ),
-    // the signature of a claim that is zero
-    (
-        EXPLAIN,
-        STARRED,
-        &[
-            Plain("certificate 1\nclaim 2\ndenominator 1\n"),
-            Plain("row 1 () 3 ()\nrow -1 () 3 ()\n"),
-            END,
-        ],
-        &[
-            BLOCK,
-            Plain(
-                " explained claim 2 denominator 1 steps 0\nchain 1\nclaim 2\ndenominator 1\nline 0\nend\n",
-            ),
-        ],
     ),
 ];
 
@@ -487,265 +169,35 @@ pub const LONG_WORDS: &[LimitRow] = &[
             Plain("u) 1 ()\nline 0\nend\n"),
         ],
     ),
-    // the greatest coefficients
-    (
-        EXPLAIN,
-        GREATEST,
-        &[HEAD, GREATEST_ROW, END],
-        &[
-            BLOCK,
-            Plain(" explained claim 1 denominator 1 steps 1\nchain 1\nclaim 1\ndenominator 1\n"),
-            Plain(
-                "line - 170141183460469231731687303715884105727 v + 170141183460469231731687303715884105727 u\n",
-            ),
-            Plain("use 170141183460469231731687303715884105727 () 1 ()\nline 0\nend\n"),
-        ],
-    ),
-    (
-        EXPLAIN,
-        GREATEST,
-        &[
-            HEAD,
-            Plain("row 170141183460469231731687303715884105726 () 1 ()\nrow 1 () 1 ()\n"),
-            END,
-        ],
-        &[
-            BLOCK,
-            Plain(" explained claim 1 denominator 1 steps 2\nchain 1\nclaim 1\ndenominator 1\n"),
-            Plain(
-                "line - 170141183460469231731687303715884105727 v + 170141183460469231731687303715884105727 u\n",
-            ),
-            Plain(
-                "use 170141183460469231731687303715884105726 () 1 ()\nline - v + u\nuse 1 () 1 ()\nline 0\nend\n",
-            ),
-        ],
-    ),
 ];
 
 /// Blocks one after another.
-pub const BLOCKS: &[LimitRow] = &[
-    // a block after another, and a hundred
-    (
-        EXPLAIN,
-        GREATEST,
-        &[
-            HEAD,
-            Plain("row 170141183460469231731687303715884105727 () 1 ()\n"),
-            END,
-            HEAD,
-            Plain(
-                "row -1 () 1 ()\nrow 170141183460469231731687303715884105727 () 1 ()\nrow 1 () 1 ()\n",
-            ),
-            END,
-        ],
-        &[
-            Plain(
-                "7 # block 1 explained claim 1 denominator 1 steps 1\nchain 1\nclaim 1\ndenominator 1\n",
-            ),
-            Plain(
-                "line - 170141183460469231731687303715884105727 v + 170141183460469231731687303715884105727 u\n",
-            ),
-            Plain("use 170141183460469231731687303715884105727 () 1 ()\nline 0\nend\n"),
-            Plain("# block 2 refused E2 row 1 -170141183460469231731687303715884105727 plus -1\n"),
-        ],
-    ),
-    (
-        EXPLAIN,
-        INVERSES,
-        &[
-            HEAD,
-            ROW_1,
-            ROW_2,
-            ROW_3,
-            ROW_4,
-            ROW_5,
-            END,
-            Plain("certificate 2\nclaim 1\ndenominator 1\ngoal scale 1\nend\n"),
-        ],
-        &[Plain("7 # block 1"), CHAIN, Plain("# block 2 refused E1\n")],
-    ),
-    (
-        EXPLAIN,
-        INVERSES,
-        &[
-            HEAD, ROW_1, ROW_2, ROW_3, ROW_4, ROW_5, END, HEAD, ROW_1, ROW_2, ROW_3, ROW_4, END,
-        ],
-        &[
-            Plain("7 # block 1"),
-            CHAIN,
-            Plain("# block 2 refused C6 word g want -1 got 0\n"),
-        ],
-    ),
-    (
-        EXPLAIN,
-        INVERSES,
-        &[Times(
-            "certificate 1\nclaim 1\ndenominator 1\nrow -1 () 5 ()\nrow -1 (f) 1 ()\nrow 1 () 3 (f)\nrow 1 (g) 1 ()\nrow 1 () 6 ()\nend\n",
-            100,
-        )],
-        &[Plain("0 "), Numbers("# block ", 1, 100, CHAIN_TEXT, "")],
-    ),
-    (
-        EXPLAIN,
-        INVERSES,
-        &[Times(
-            "certificate 1\nclaim 1\ndenominator 1\nrow -1 () 5 ()\nrow -1 (f) 1 ()\nrow 1 () 3 (f)\nrow 1 (g) 1 ()\nrow 1 () 6 ()\nend\n",
-            101,
-        )],
-        &[Plain("7 # refused K5 line 901 limit 100\n")],
-    ),
-    // blocks of other kinds
-    (
-        EXPLAIN,
-        INVERSES,
-        &[
-            Plain("model 1\nclaim 1\nmodulus 2\nmap f = 1\nend\n"),
-            HEAD,
-            ROW_1,
-            ROW_2,
-            ROW_3,
-            ROW_4,
-            ROW_5,
-            END,
-            Plain("basis 1\nclaim 1\nrule f - g\nrest 0\nend\n"),
-        ],
-        ANSWER,
-    ),
-];
-
-/// Steps that leave the range.
-pub const OVERFLOWS: &[LimitRow] = &[
-    // E2; a row with coefficient 0 is counted
-    (
-        EXPLAIN,
-        GREATEST,
-        &[
-            HEAD,
-            Plain("row -1 () 1 ()\n"),
-            GREATEST_ROW,
-            Plain("row 1 () 1 ()\n"),
-            END,
-        ],
-        &[
-            REFUSED,
-            Plain("E2 row 1 -170141183460469231731687303715884105727 plus -1\n"),
-        ],
-    ),
-    (
-        EXPLAIN,
-        GREATEST,
-        &[
-            HEAD,
-            Plain("row 0 () 1 ()\nrow -1 () 1 ()\n"),
-            GREATEST_ROW,
-            Plain("row 1 () 1 ()\n"),
-            END,
-        ],
-        &[
-            REFUSED,
-            Plain("E2 row 2 -170141183460469231731687303715884105727 plus -1\n"),
-        ],
-    ),
-];
+pub const BLOCKS: &[LimitRow] = &[(
+    EXPLAIN,
+    INVERSES,
+    &[Times(
+        "certificate 1\nclaim 1\ndenominator 1\nrow -1 () 5 ()\nrow -1 (f) 1 ()\nrow 1 () 3 (f)\nrow 1 (g) 1 ()\nrow 1 () 6 ()\nend\n",
+        100,
+    )],
+    &[Plain("0 "), Numbers("# block ", 1, 100, CHAIN_TEXT, "")],
+)];
 
 /// What `check` refuses.
-pub const CHECKED: &[LimitRow] = &[
-    // C1 to C6, before any step
-    (
-        EXPLAIN,
-        GREATEST,
-        &[
-            HEAD,
-            GREATEST_ROW,
-            Plain("row 1 () 1 ()\nrow -1 () 1 ()\n"),
-            END,
-        ],
-        &[
-            REFUSED,
-            Plain("C4 row 2 -170141183460469231731687303715884105727 plus -1\n"),
-        ],
-    ),
-    (
-        EXPLAIN,
-        GREATEST,
-        &[Plain("certificate 1\nclaim 1\ndenominator 2\n"), END],
-        &[
-            REFUSED,
-            Plain("C4 row 0 2 times -170141183460469231731687303715884105727\n"),
-        ],
-    ),
-    (
-        EXPLAIN,
-        INVERSES,
-        &[
-            Plain("certificate 1\nclaim 2\ndenominator 1\n"),
-            ROW_1,
-            ROW_2,
-            ROW_3,
-            ROW_4,
-            ROW_5,
-            END,
-        ],
-        &[REFUSED, Plain("C1\n")],
-    ),
-    (
-        EXPLAIN,
-        INVERSES,
-        &[
-            Plain("certificate 1\nclaim 1\ndenominator 0\n"),
-            ROW_1,
-            ROW_2,
-            ROW_3,
-            ROW_4,
-            ROW_5,
-            END,
-        ],
-        &[REFUSED, Plain("C3\n")],
-    ),
-    (
-        EXPLAIN,
-        INVERSES,
-        &[
-            HEAD,
-            ROW_1,
-            ROW_2,
-            Plain("row 1 () 8 ()\n"),
-            ROW_3,
-            ROW_4,
-            ROW_5,
-            END,
-        ],
-        &[REFUSED, Plain("C2 row 3\n")],
-    ),
-    (
-        EXPLAIN,
-        INVERSES,
-        &[HEAD, ROW_1, ROW_2, ROW_3, ROW_5, END],
-        &[REFUSED, Plain("C6 word g [P] want 0 got 1\n")],
-    ),
-    (
-        EXPLAIN,
-        EQUAL,
-        &[
-            HEAD,
-            Plain("row 1 ("),
-            Times("u ", 500),
-            Plain(") 1 ()\n"),
-            END,
-        ],
-        &[REFUSED, Plain("C6 word u want 1 got 0\n")],
-    ),
-];
+pub const CHECKED: &[LimitRow] = &[(
+    EXPLAIN,
+    EQUAL,
+    &[
+        HEAD,
+        Plain("row 1 ("),
+        Times("u ", 500),
+        Plain(") 1 ()\n"),
+        END,
+    ],
+    &[REFUSED, Plain("C6 word u want 1 got 0\n")],
+)];
 
 /// Lemmas, and words that grow too long.
 pub const GROWN: &[LimitRow] = &[
-    // E1, whatever else is wrong
-    (
-        EXPLAIN,
-        INVERSES,
-        &[Plain("certificate 2\nclaim 9\ndenominator 0\ngoal scale 0\nend\n")],
-        &[REFUSED, Plain("E1\n")],
-    ),
     // E3: words of 501 letters, in steps alone
     (
         EXPLAIN,
@@ -819,62 +271,18 @@ pub const GROWN: &[LimitRow] = &[
 ];
 
 /// Texts with faults.
-pub const TEXTS: &[LimitRow] = &[
-    // texts with faults; a chain is no evidence
-    (
-        EXPLAIN,
-        INVERSES,
-        &[Plain("# block 1"), CHAIN],
-        &[Plain("7 # refused K2 line 2\n")],
-    ),
-    (
-        EXPLAIN,
-        INVERSES,
-        &[Plain("cancellation 1\nend\n")],
-        &[Plain("7 # refused K2 line 1\n")],
-    ),
-    (EXPLAIN, INVERSES, &[], &[Plain("7 # refused K7\n")]),
-    (
-        EXPLAIN,
-        INVERSES,
-        &[HEAD, ROW_1, ROW_2, ROW_3, ROW_4, ROW_5],
-        &[Plain("7 # refused K6\n")],
-    ),
-    (
-        EXPLAIN,
-        INVERSES,
-        &[HEAD, Plain("row 1 (t) 1 ()\n"), END],
-        &[Plain("7 # refused K3 line 4\n")],
-    ),
-    (
-        EXPLAIN,
-        INVERSES,
-        &[
-            HEAD,
-            Plain("row 170141183460469231731687303715884105728 () 1 ()\n"),
-            END,
-        ],
-        &[Plain("7 # refused K4 line 4\n")],
-    ),
-    (
-        EXPLAIN,
-        INVERSES,
-        &[
-            HEAD,
-            Plain("row 1 ("),
-            Times("f ", 501),
-            Plain(") 1 ()\n"),
-            END,
-        ],
-        &[Plain("7 # refused K5 line 4 limit 500\n")],
-    ),
-    (
-        EXPLAIN,
-        &[Plain("object P\nclaim f = f\n")],
-        &[HEAD, END],
-        &[Plain("3 # refused S6 line 2 column 7\n")],
-    ),
-];
+pub const TEXTS: &[LimitRow] = &[(
+    EXPLAIN,
+    INVERSES,
+    &[
+        HEAD,
+        Plain("row 1 ("),
+        Times("f ", 501),
+        Plain(") 1 ()\n"),
+        END,
+    ],
+    &[Plain("7 # refused K5 line 4 limit 500\n")],
+)];
 
 /// Files that can't be had, and words that name no call.
 pub const CALLS: &[LimitRow] = &[

@@ -1,8 +1,7 @@
 //! Runs of `explain`.
 use crate::calls::{owned, shelf_of};
 use crate::explain_rows::{
-    ADJOINTS, BLOCKS, CALLS, CHECKED, FACTORS, FORMS, GROWN, LENGTHS, LONG_WORDS, OVERFLOWS,
-    REPORTS, SIZES, STEPS, TEXTS,
+    BLOCKS, CALLS, CHECKED, GROWN, LENGTHS, LONG_WORDS, REPORTS, SIZES, STEPS, TEXTS,
 };
 use crate::limit_rows::LimitRow;
 use crate::limit_tests::{tell_limits, text_of};
@@ -22,9 +21,6 @@ const ROOM: usize = 50_000_000;
 #[test]
 fn certificates_are_explained_or_refused(rt: HostRuntime) -> Result<(), Fail> {
     tell_limits(&rt, rt.alloc(), STEPS)?;
-    tell_limits(&rt, rt.alloc(), FORMS)?;
-    tell_limits(&rt, rt.alloc(), FACTORS)?;
-    tell_limits(&rt, rt.alloc(), ADJOINTS)?;
     tell_limits(&rt, rt.alloc(), BLOCKS)?;
     tell_limits(&rt, rt.alloc(), CHECKED)?;
     tell_limits(&rt, rt.alloc(), TEXTS)?;
@@ -34,7 +30,6 @@ fn certificates_are_explained_or_refused(rt: HostRuntime) -> Result<(), Fail> {
 #[test]
 fn words_and_numbers_of_steps_are_limited(rt: HostRuntime) -> Result<(), Fail> {
     tell_limits(&rt, rt.alloc(), LONG_WORDS)?;
-    tell_limits(&rt, rt.alloc(), OVERFLOWS)?;
     tell_limits(&rt, rt.alloc(), GROWN)
 }
 

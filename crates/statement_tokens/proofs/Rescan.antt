@@ -39,10 +39,6 @@ one_token before c cs rest k line column past given =
     (omega arith) (spot line column) past k given
     ∙ ap (λ to. with_front (token ∷ []) (tokens_from (before ++ token ∷ []) rest 0 (spot line to) to)) (omega arith)
 
-pub blank_back : (before : List Token) (rest : List ℕ) → item_at before 32 rest ≡ Ok (item.Gap 0)
-unfolding item_in
-blank_back before rest = refl
-
 pub name_read : (before : List Token) (c : ℕ) (cs rest : List ℕ) → starts_name c ≡ true → prefix_len is_xid_continue (cs ++ rest) ≡ length cs
     → item_at before c (cs ++ rest) ≡ name_of (encode_utf8_all (c ∷ cs)) (length cs)
 unfolding item_in
