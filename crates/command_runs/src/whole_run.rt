@@ -21,6 +21,7 @@ use crate::call::call_files;
 use crate::files::load_files;
 use cancel_rules::cancellation_sound;
 use category_laws::Preadditive;
+use command_shape::status::{OUT_OF_MEMORY, SINK_FAILED};
 use command_shape::{Ending, Stop};
 use command_words::{Call, Refusal, read_words, usage_text};
 use flow_io::{Shelf, Sink, put_all};
@@ -30,10 +31,6 @@ use representations::sound;
 use statement_meaning::says_equations;
 use std::alloc::{AllocError, Global};
 use std::thread::Threads;
-
-const SINK_FAILED: u8 = 5;
-
-const OUT_OF_MEMORY: u8 = 6;
 
 // The contents of the call's files, or how the run ends at the first that can't be loaded.
 fn load_call<L: Shelf>(

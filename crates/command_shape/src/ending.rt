@@ -2,6 +2,7 @@
 ghost use Rattle.std.specs.Prelude.{◌≡◌, IfOk};
 ghost use Rattle.command_shape.specs.Ending.{usage, load_failed, too_long, refused_statement, refused_evidence};
 
+use crate::status::{ACCEPTED, FAULTY_STATEMENT, NOT_LOADED, OTHER_WORDS, REFUSED_EVIDENCE};
 use block_text::{put, put_labelled};
 use std::alloc::{AllocError, Global};
 use std::marker::Model;
@@ -42,7 +43,10 @@ impl Ending {
     {
         let mut report = text;
         put(&mut report, "\n")?;
-        Ok(Ending { status: 2, report })
+        Ok(Ending {
+            status: OTHER_WORDS,
+            report,
+        })
     }
 
     /// A file that could not be loaded.
@@ -53,7 +57,10 @@ impl Ending {
         put(&mut report, "# load failed ")?;
         put(&mut report, name)?;
         put(&mut report, "\n")?;
-        Ok(Ending { status: 4, report })
+        Ok(Ending {
+            status: NOT_LOADED,
+            report,
+        })
     }
 
     /// A file that is longer than its limit.
@@ -65,7 +72,10 @@ impl Ending {
         put(&mut report, name)?;
         put_labelled(&mut report, " limit ", u128::from(limit))?;
         put(&mut report, "\n")?;
-        Ok(Ending { status: 4, report })
+        Ok(Ending {
+            status: NOT_LOADED,
+            report,
+        })
     }
 
     /// The statement is refused, for what the text says.
@@ -74,7 +84,10 @@ impl Ending {
     {
         let mut report = text;
         put(&mut report, "\n")?;
-        Ok(Ending { status: 3, report })
+        Ok(Ending {
+            status: FAULTY_STATEMENT,
+            report,
+        })
     }
 
     /// The evidence text is refused, for what the text says.
@@ -83,7 +96,10 @@ impl Ending {
     {
         let mut report = text;
         put(&mut report, "\n")?;
-        Ok(Ending { status: 7, report })
+        Ok(Ending {
+            status: REFUSED_EVIDENCE,
+            report,
+        })
     }
 
     /// Each block is accepted, as the lines say.
@@ -91,7 +107,7 @@ impl Ending {
         ensures { result ≡ record { status = 0; report = lines.items } }
     {
         Ending {
-            status: 0,
+            status: ACCEPTED,
             report: lines,
         }
     }
@@ -101,7 +117,7 @@ impl Ending {
         ensures { result ≡ record { status = 7; report = lines.items } }
     {
         Ending {
-            status: 7,
+            status: REFUSED_EVIDENCE,
             report: lines,
         }
     }

@@ -5,6 +5,7 @@ mod ending;
 mod fault;
 mod files;
 mod judge;
+pub mod status;
 mod stop;
 
 pub use ending::Ending;

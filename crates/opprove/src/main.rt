@@ -2,14 +2,13 @@
 #![tactic(auto)]
 
 use command_runs::run;
+use command_shape::status::OUT_OF_MEMORY;
 use flow_io::{RealShelf, RealSink};
 use in_order_parallel::OpenGate;
 use matrix_models::Matrices;
 use std::env;
 use std::io::ErrorKind;
 use std::process::ExitCode;
-
-const OUT_OF_MEMORY: u8 = 6;
 
 fn main(rt: HostRuntime) -> ExitCode {
     let alloc = rt.alloc();

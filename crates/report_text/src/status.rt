@@ -6,6 +6,16 @@ ghost use Rattle.report_text.specs.Report.{is_proved, is_refuted, is_undecided, 
 
 use crate::Verdict;
 
+const PROVED: u8 = 0;
+
+const NOT_DERIVABLE: u8 = 10;
+
+const REFUTED: u8 = 11;
+
+const UNDECIDED: u8 = 12;
+
+const NOT_REFUTED: u8 = 13;
+
 fn is_proved(verdict: &Verdict) -> bool
     ensures { result ≡ is_proved verdict.now }
 {
@@ -60,14 +70,14 @@ pub fn status_of(verdicts: &[Verdict]) -> u8
     ensures { result ≡ status_of verdicts.now }
 {
     if some_is_undecided(verdicts) {
-        12
+        UNDECIDED
     } else if some_is_not_refuted(verdicts) {
-        13
+        NOT_REFUTED
     } else if some_is_refuted(verdicts) {
-        11
+        REFUTED
     } else if all_are_proved(verdicts) {
-        0
+        PROVED
     } else {
-        10
+        NOT_DERIVABLE
     }
 }
