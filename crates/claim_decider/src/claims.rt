@@ -22,6 +22,14 @@ use std::mem;
 use std::thread::Threads;
 use traced_completion::{Budget, Completion, Step};
 
+// The threads of a run: at most this many work, and each item passes the gate.
+#[derive(Drop)]
+struct Crew<'a, R, G> {
+    rt: &'a R,
+    workers: u32,
+    gate: &'a G,
+}
+
 /// The outcome of each claim of the problem, in one run of the completion for all of them. A claim leaves when it has its
 /// outcome, and the run ends with the last one.
 pub fn decide_all<R: Threads + Sync, G: Gate + Sync>(
@@ -40,7 +48,8 @@ pub fn decide_all<R: Threads + Sync, G: Gate + Sync>(
     ensures rules { IfOk result (λ d. AreLastRules (setting_of problem.now budget) format problem.now (claim_numbers problem.now) d.rules) }
 {
     let cases = open_all(alloc, problem, format)?;
-    run(rt, alloc, problem, budget, format, workers, gate, cases)
+    let crew = Crew { rt, workers, gate };
+    run(&crew, alloc, problem, budget, format, cases)
 }
 
 /// The outcome of the claim with this number.
@@ -63,7 +72,8 @@ pub fn decide<R: Threads + Sync, G: Gate + Sync>(
 {
     let mut cases = Vec::new(alloc);
     cases.push(open_case(alloc, problem, format, claim)?)?;
-    run(rt, alloc, problem, budget, format, workers, gate, cases)
+    let crew = Crew { rt, workers, gate };
+    run(&crew, alloc, problem, budget, format, cases)
 }
 
 // All claims before the first round.
@@ -81,49 +91,36 @@ fn open_all(alloc: Global, problem: &Problem, format: Format) -> Result<Vec<Case
 
 // Runs the completion until each of the claims has its outcome.
 fn run<R: Threads + Sync, G: Gate + Sync>(
-    rt: &R,
+    crew: &Crew<'_, R, G>,
     alloc: Global,
     problem: &Problem,
     budget: Budget,
     format: Format,
-    workers: u32,
-    gate: &G,
     cases: Vec<Case>,
 ) -> Result<Decided, AllocError>
     requires budget { IsBudget budget }
-    requires some_worker { 0 < workers }
-    requires few_workers { workers ≤ worker_limit }
+    requires some_worker { 0 < crew.now.workers }
+    requires few_workers { crew.now.workers ≤ worker_limit }
     requires numbers { All (IsOfProblem problem.now) cases.items }
     requires cases { All (IsCase (setting_of problem.now budget) format problem.now 0 start) cases.items }
     ensures outcomes { IfOk result (λ d. AreOutcomesOf (setting_of problem.now budget) format problem.now (case_numbers cases.items) d.outcomes) }
     ensures rules { IfOk result (λ d. AreLastRules (setting_of problem.now budget) format problem.now (case_numbers cases.items) d.rules) }
 {
     let mut completion = Completion::start(alloc, problem, budget)?;
-    decide_cases(
-        rt,
-        alloc,
-        problem,
-        format,
-        workers,
-        gate,
-        &mut completion,
-        cases,
-    )
+    decide_cases(crew, alloc, problem, format, &mut completion, cases)
 }
 
 // The outcomes of the claims, by a completion before its first round.
 fn decide_cases<R: Threads + Sync, G: Gate + Sync>(
-    rt: &R,
+    crew: &Crew<'_, R, G>,
     alloc: Global,
     problem: &Problem,
     format: Format,
-    workers: u32,
-    gate: &G,
     completion: &mut Completion,
     mut cases: Vec<Case>,
 ) -> Result<Decided, AllocError>
-    requires some_worker { 0 < workers }
-    requires few_workers { workers ≤ worker_limit }
+    requires some_worker { 0 < crew.now.workers }
+    requires few_workers { crew.now.workers ≤ worker_limit }
     requires of_problem { IsCompletionOf problem.now completion.old }
     requires no_round { completion.old.rounds ≡ 0 }
     requires numbers { All (IsOfProblem problem.now) cases.items }
@@ -133,9 +130,7 @@ fn decide_cases<R: Threads + Sync, G: Gate + Sync>(
         (case_numbers cases.items) d.outcomes) }
     ensures rules { IfOk result (λ d. AreLastRules (setting_of problem.now completion.old.budget) format problem.now (case_numbers cases.items) d.rules) }
 {
-    settle(
-        rt, alloc, problem, format, workers, gate, completion, &mut cases,
-    )?;
+    settle(crew, alloc, problem, format, completion, &mut cases)?;
     let rules = polynomials(alloc, completion.rules.rules.as_slice())?;
     let outcomes = outcomes(alloc, cases)?;
     Ok(Decided { outcomes, rules })
@@ -143,17 +138,15 @@ fn decide_cases<R: Threads + Sync, G: Gate + Sync>(
 
 // Makes rounds of a completion until each of the claims has its outcome.
 fn settle<R: Threads + Sync, G: Gate + Sync>(
-    rt: &R,
+    crew: &Crew<'_, R, G>,
     alloc: Global,
     problem: &Problem,
     format: Format,
-    workers: u32,
-    gate: &G,
     completion: &mut Completion,
     cases: &mut Vec<Case>,
 ) -> Result<(), AllocError>
-    requires some_worker { 0 < workers }
-    requires few_workers { workers ≤ worker_limit }
+    requires some_worker { 0 < crew.now.workers }
+    requires few_workers { crew.now.workers ≤ worker_limit }
     requires of_problem { IsCompletionOf problem.now completion.old }
     requires no_round { completion.old.rounds ≡ 0 }
     requires numbers { All (IsOfProblem problem.now) cases.old.items }
@@ -169,7 +162,7 @@ fn settle<R: Threads + Sync, G: Gate + Sync>(
         (case_numbers cases.new.items) completion.new.rounds) }
 {
     while !are_settled(cases.as_slice()) {
-        let step = completion.round(rt, alloc, problem, workers, gate)?;
+        let step = completion.round(crew.rt, alloc, problem, crew.workers, crew.gate)?;
         follow_all(alloc, problem, format, completion, step, cases)?;
     }
     Ok(())
