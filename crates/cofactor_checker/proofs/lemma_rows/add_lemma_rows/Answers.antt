@@ -2,12 +2,12 @@ use Rattle.std.proofs.Common.{rules, ◌≡◌, ◌+◌, ◌++◌, ◌<◌, ◌�
 use mir.Syntax.{w128}
 use Rattle.std.proofs.lemmas.List.{length-map}
 use Rattle.std.proofs.lemmas.Option.{slice_get_read}
-use Rattle.std.specs.BTreeMap.{btree_map_len}
+use Rattle.std.specs.HashMap.{hash_map_len}
 use Rattle.coef_int.specs.Operations.{first_overflow}
 use Rattle.definitions.specs.Combination.{generator_at}
-use Rattle.nc_polynomial.specs.Collected.{coefficient_in}
 use Rattle.adjoint_rules.specs.Problem.{polynomials}
 use Rattle.cofactor_checker.specs.Operations.{adding_operations}
+use Rattle.cofactor_checker.specs.Table.{coefficient_at}
 use Rattle.cofactor_checker.specs.Rows.{IsNumberUpTo, RowsPass}
 use Rattle.cofactor_checker.proofs.RowSums.{IsAdded}
 use Rattle.cofactor_checker.specs.PlainRows.{place_of, plain_row, plain_rows, IsGenerator, IsLemma}
@@ -33,7 +33,7 @@ added : (c : After-len) → NamesAt c.args.generators.now c.args.lemmas.now c.ro
     → IsAdded (all c.args.generators.now c.args.lemmas.now) c.loop-row.sum c.add_row.new.sum (plain c.args.generators.now c.args.lemmas.now c.row-item.result)
 added c named =
     let is : to_z w128 (of_z w128 c.row-item.result.coef) ≡ c.row-item.result.coef = search rules in
-    record { generator = named.number; operations = rw (← is, ← named.terms_are) (search rules); running = search rules; adds = rw (← is, ← named.terms_are) (search rules); ordered = search rules }
+    record { generator = named.number; operations = rw (← is, ← named.terms_are) (search rules); kept = search rules; adds = rw (← is, ← named.terms_are) (search rules); unique = search rules }
 
 pub returns-in_default-clause-refused : goal.returns-in_default-clause-refused
 returns-in_default-clause-refused c =
@@ -55,22 +55,22 @@ returns-in-Err-Overflow-clause-refused c =
     let row = c.row-item.result in
     let named = names passed.After-as_slice-terms in
     let is : to_z w128 (of_z w128 row.coef) ≡ row.coef = search rules in
-    let first : first_overflow (adding_operations (coefficient_in c.loop-row.sum) row.coef row.left (generator_at (all gs ls) (plain gs ls row).generator) row.right) ≡ Some c.in-Err-Overflow.overflow =
+    let first : first_overflow (adding_operations (coefficient_at c.loop-row.sum) row.coef row.left (generator_at (all gs ls) (plain gs ls row).generator) row.right) ≡ Some c.in-Err-Overflow.overflow =
     rw (← is, ← named.terms_are) (search rules) in
     subst (OverflowsAt (polynomials gs) (polynomials ls) c.args.before c.args.rows.now (c.loop-row.number + 1)) (sym c.in-Err-Overflow.overflow-is) (overflows_at (next passed.After-named) named.number first)
 
 pub returns-then-len-gt-SUM_LIMIT-clause-refused : goal.returns-then-len-gt-SUM_LIMIT-clause-refused
 returns-then-len-gt-SUM_LIMIT-clause-refused c =
     let passed = goal.at.returns-then-len-gt-SUM_LIMIT-clause-refused c in
-    let large : 200000 < btree_map_len c.add_row.new.sum = search rules in
+    let large : 200000 < hash_map_len c.add_row.new.sum = search rules in
     outgrows_at (next passed.After-named) (added passed.After-len (names passed.After-as_slice-terms)) large
 
 pub loop-row-preserved : goal.loop-row-preserved
 loop-row-preserved c =
     let passed = goal.at.loop-row-preserved c in
     let more = added passed.After-len (names passed.After-as_slice-terms) in
-    let small : btree_map_len c.add_row.new.sum ≤ 200000 = search rules in
-    record { numbered = omega arith; ordered = more.ordered; sums = passes_at (next passed.After-named) more small }
+    let small : hash_map_len c.add_row.new.sum ≤ 200000 = search rules in
+    record { numbered = omega arith; sums = passes_at (next passed.After-named) more small }
 
 pub returns-clause-passed : goal.returns-clause-passed
 returns-clause-passed c =
