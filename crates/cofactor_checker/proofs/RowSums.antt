@@ -1,7 +1,8 @@
 -- the running sum behind some rows
 use Rattle.std.proofs.Common.{◌≡◌, ℕ, zero, suc, ◌+◌, ◌-◌, ◌<◌, ◌≤◌, ℤ, pos, ◌+ℤ◌, List, [], ◌∷◌, ◌++◌, length, take, get_or, slice_get, Some, None, unwrap_or, ◌⊎◌, inl, inr, sym, refl, ap, ◌∙◌, subst, arith}
+use Rattle.std.specs.BTreeMap.{BTreeMap}
 use Rattle.std.specs.HashMap.{get, hash_map_len, IsUnique, IsEmpty}
-use Rattle.std.proofs.lemmas.List.{take_more, length-map}
+use Rattle.std.proofs.lemmas.List.{take_all, take_more, length-map}
 use Rattle.std.proofs.lemmas.Bool.{cases_eq}
 use Rattle.std.specs.Option.{option_map}
 use Rattle.std.proofs.lemmas.Option.{slice_get_within, get_or_from_slice_get, slice_get-map, slice_get_read}
@@ -17,6 +18,8 @@ use Rattle.nc_polynomial.specs.declared.poly.Poly.{Poly}
 use Rattle.traced_rows.specs.declared.certificate.CertRow.{CertRow}
 use Rattle.traced_rows.specs.Rows.{row_of, rows_of}
 use Rattle.adjoint_rules.specs.Problem.{polynomials}
+use Rattle.nc_polynomial.specs.Collected.{coefficient_in}
+use Rattle.cofactor_checker.specs.Running.{IsSumOf}
 use Rattle.cofactor_checker.specs.Operations.{adding_operations, row_operations}
 use Rattle.cofactor_checker.specs.Rows.{term_count, IsNumberUpTo, RowPasses, RowsPass, Reaches, LacksGenerator, Overflows, Outgrows}
 use Rattle.cofactor_checker.specs.Table.{Table, coefficient_at, IsTable, Adds}
@@ -109,6 +112,14 @@ begins generators rows m empty = record {
   where
     absent : (w : List ℕ) → get word_eq m w ≡ None
     absent w = ap (lookup (word_eq w)) empty
+
+-- behind the last one
+module _ {generators : List (List (ℤ × List ℕ))} {rows : List Row} {m : Table} {i : ℕ} (so_far : SumsUpTo generators rows m i) (all : length rows ≤ i) where
+  pub whole_sum : (sum : BTreeMap (List ℕ) ℤ) → ((w : List ℕ) → coefficient_in sum w ≡ coefficient_at m w) → IsSumOf sum (row_sum generators rows)
+  whole_sum sum same = record { at = λ w. same w ∙ so_far.sum w ∙ ap (λ rs. coefficient_of (row_sum generators rs) w) (take_all i rows all) }
+
+  pub all_pass : RowsPass generators rows (length rows)
+  all_pass = record { at = λ j r below there. so_far.passed.at j r (omega arith) there }
 
 -- a row of the certificate
 pub row_there : (rows : List CertRow) (i : ℕ) (row : CertRow) → i < length rows → row ≡ get_or rows i row → slice_get (rows_of rows) i ≡ Some (row_of row)

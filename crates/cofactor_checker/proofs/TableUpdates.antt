@@ -1,6 +1,6 @@
 -- one change of the table in which rows are added up
 use Rattle.std.proofs.Common.{◌≡◌, ◌≢◌, ℕ, ℤ, pos, ◌+ℤ◌, List, [], ◌∷◌, Bool, true, false, cond, Option, Some, unwrap_or, sym, refl, ap, ◌∙◌, subst}
-use Rattle.std.specs.HashMap.{get, Updates}
+use Rattle.std.specs.HashMap.{get}
 use Rattle.std.proofs.Math.IntN.{+ℤ_idr}
 use Rattle.coef_int.specs.Range.{IsCoefficient}
 use Rattle.definitions.specs.Poly.{word_eq}

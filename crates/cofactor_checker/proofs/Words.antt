@@ -1,15 +1,13 @@
 -- the test of words is that of their order, so it has its laws; words letter by letter
-use Rattle.std.proofs.Common.{◌≡◌, ◌≢◌, ℕ, ◌+◌, ◌*◌, ◌%◌, ◌^◌, ◌<◌, ◌≤◌, List, [], ◌∷◌, length, take, get_or, Bool, true, false, sym, ap, subst, ◌∙◌, arith}
+use Rattle.std.proofs.Common.{◌≡◌, ◌≢◌, ℕ, ◌≤◌, List, length, take, get_or, Bool, true, false, sym, ap, subst, ◌∙◌, arith}
 use Rattle.std.specs.Cmp.{IsEquivalence}
 use Rattle.std.specs.Ordering.{eq_by_cmp}
 use Rattle.std.proofs.lemmas.Cmp.{eq_by_cmp_equiv}
 use Rattle.std.proofs.lemmas.Bool.{false_from_ne_true}
-use Rattle.std.proofs.lemmas.List.{take_more, take_all}
-use Rattle.std.proofs.lemmas.List.Sums.{fold-append}
+use Rattle.std.proofs.lemmas.List.{take_all}
 use Rattle.word_core.specs.Canonical.{word_cmp, word_cmp_total}
 use Rattle.definitions.specs.Poly.{word_eq}
 use Rattle.definitions.proofs.Linear.{word_eq-same, word_eq-true}
-use Rattle.cofactor_checker.specs.Table.{digest}
 use Rattle.nc_polynomial.proofs.Words.{word_eq-cmp}
 
 pub by_word_cmp : ◌≡◌ {A = List ℕ → List ℕ → Bool} (eq_by_cmp word_cmp) word_eq
@@ -31,7 +29,3 @@ pub same_by_letters : (v w : List ℕ) (i : ℕ) → take i v ≡ take i w → l
 same_by_letters v w i agree all lengths =
     let is : v ≡ w = sym (take_all i v all) ∙ agree ∙ take_all i w (omega arith) in
     ap (word_eq v) (sym is) ∙ word_eq-same v
-
--- the number of a word with one letter more
-pub digest_more : (w : List ℕ) (i : ℕ) → i < length w → digest (take (i + 1) w) ≡ (digest (take i w) * 0x9e37_79b9_7f4a_7c15 % 2 ^ 64 + get_or w i 0) % 2 ^ 64
-digest_more w i below = ap digest (take_more w i 0 below) ∙ fold-append (λ d a. (d * 0x9e37_79b9_7f4a_7c15 % 2 ^ 64 + a) % 2 ^ 64) 0 (take i w) (get_or w i 0 ∷ [])

@@ -8,9 +8,9 @@ ghost use Rattle.nc_polynomial.specs.Shape.{IsShaped};
 ghost use Rattle.cofactor_checker.specs.Running.{IsStoppedBy};
 ghost use Rattle.cofactor_checker.specs.Table.{coefficient_at, IsTable, Adds};
 
+use crate::table::{Key, add_term};
 use coef_int::times;
 use nc_polynomial::SumFault;
-use crate::table::{Key, add_term};
 use std::collections::HashMap;
 use word_core::Word;
 

@@ -1,4 +1,4 @@
-use Rattle.std.proofs.Common.{rules, ◌≡◌, ◌+◌, ◌++◌, ◌<◌, ◌≤◌, length, Some, sym, refl, subst, ◌∙◌, arith, to_z, of_z}
+use Rattle.std.proofs.Common.{rules, ◌≡◌, ◌+◌, ◌<◌, ◌≤◌, length, Some, sym, refl, subst, arith, to_z, of_z}
 use mir.Syntax.{w128}
 use Rattle.std.proofs.lemmas.List.{length-map}
 use Rattle.std.proofs.lemmas.Option.{slice_get_read}
@@ -8,13 +8,13 @@ use Rattle.definitions.specs.Combination.{generator_at}
 use Rattle.adjoint_rules.specs.Problem.{polynomials}
 use Rattle.cofactor_checker.specs.Operations.{adding_operations}
 use Rattle.cofactor_checker.specs.Table.{coefficient_at}
-use Rattle.cofactor_checker.specs.Rows.{IsNumberUpTo, RowsPass}
-use Rattle.cofactor_checker.proofs.RowSums.{IsAdded}
-use Rattle.cofactor_checker.specs.PlainRows.{place_of, plain_row, plain_rows, IsGenerator, IsLemma}
+use Rattle.cofactor_checker.specs.Rows.{IsNumberUpTo}
+use Rattle.cofactor_checker.proofs.RowSums.{IsAdded, whole_sum, all_pass}
+use Rattle.cofactor_checker.specs.PlainRows.{place_of, plain_rows, IsGenerator, IsLemma}
 use Rattle.cofactor_checker.specs.Lemmas.{OverflowsAt}
 use Rattle.cofactor_checker.proofs.RowSteps.{all, plain, IsNextAt, NamesAt, named_at, lacks_at, overflows_at, outgrows_at, passes_at}
 use Rattle.cofactor_checker.proofs.lemma_rows.add_lemma_rows.Goals as goal
-use Rattle.cofactor_checker.proofs.lemma_rows.add_lemma_rows.Goals.{in-Generator, in-Lemma, After-named, After-as_slice-terms, After-len}
+use Rattle.cofactor_checker.proofs.lemma_rows.add_lemma_rows.Goals.{in-Generator, in-Lemma, After-named, After-as_slice-terms, After-len, After-loop-row}
 
 -- the row is next
 next : (c : After-named) → IsNextAt c.args.generators.now c.args.lemmas.now c.args.before c.args.rows.now c.loop-row.sum (c.loop-row.number + 1) c.loop-row.row-index c.row-item.result
@@ -72,10 +72,12 @@ loop-row-preserved c =
     let small : hash_map_len c.add_row.new.sum ≤ 200000 = search rules in
     record { numbered = omega arith; sums = passes_at (next passed.After-named) more small }
 
+-- all rows are added
+all_added : (c : After-loop-row) → length (plain_rows (polynomials c.args.generators.now) (polynomials c.args.lemmas.now) c.args.rows.now) ≤ c.loop-row.row-index
+all_added c = let count = length-map c.args.rows.now (plain c.args.generators.now c.args.lemmas.now) in omega arith
+
+pub returns-clause-sum : goal.returns-clause-sum
+returns-clause-sum c = whole_sum c.loop-row.invariant.sums (all_added (goal.at.returns-clause-sum c).After-loop-row) c.in_ok-in_order.field-0 (search rules)
+
 pub returns-clause-passed : goal.returns-clause-passed
-returns-clause-passed c =
-    let gs = polynomials c.args.generators.now in
-    let ls = polynomials c.args.lemmas.now in
-    let all_read : c.loop-row.row-index ≡ length c.args.rows.now = omega arith in
-    let count = length-map c.args.rows.now (plain_row (length gs) (length ls)) in
-    subst (RowsPass (gs ++ ls) (plain_rows gs ls c.args.rows.now)) (all_read ∙ sym count) c.loop-row.invariant.sums.passed
+returns-clause-passed c = all_pass c.loop-row.invariant.sums (all_added (goal.at.returns-clause-passed c).After-loop-row)

@@ -1,5 +1,6 @@
 use Rattle.std.proofs.Common.{rules, ◌≡◌, ◌+◌, ◌<◌, ◌≤◌, length, Some, sym, ◌∙◌, subst, arith, to_z, of_z}
 use mir.Syntax.{w128}
+use Rattle.std.proofs.lemmas.List.{length-map}
 use Rattle.std.specs.HashMap.{hash_map_len}
 use Rattle.coef_int.specs.Operations.{first_overflow}
 use Rattle.definitions.specs.Combination.{generator_at}
@@ -8,9 +9,9 @@ use Rattle.adjoint_rules.specs.Problem.{polynomials}
 use Rattle.cofactor_checker.specs.Operations.{adding_operations}
 use Rattle.cofactor_checker.specs.Table.{coefficient_at}
 use Rattle.cofactor_checker.specs.Rows.{IsNumberUpTo, Overflows}
-use Rattle.cofactor_checker.proofs.RowSums.{IsNext, IsAdded, Names, row_there, length-polynomials, named, lacks_generator, overflows, outgrows, passes}
+use Rattle.cofactor_checker.proofs.RowSums.{IsNext, IsAdded, Names, row_there, length-polynomials, named, lacks_generator, overflows, outgrows, passes, whole_sum, all_pass}
 use Rattle.cofactor_checker.proofs.rows.add_rows.Goals as goal
-use Rattle.cofactor_checker.proofs.rows.add_rows.Goals.{After-numbered, After-as_slice-terms, After-len}
+use Rattle.cofactor_checker.proofs.rows.add_rows.Goals.{After-numbered, After-as_slice-terms, After-len, After-loop-row}
 
 -- the row is next
 next : (c : After-numbered) → IsNext (polynomials c.args.generators.now) (rows_of c.args.rows.now) c.loop-row.sum (c.loop-row.number + 1) c.loop-row.row-index (row_of c.row-item.result)
@@ -63,3 +64,13 @@ loop-row-preserved c =
     let more = added passed.After-len (generator passed.After-as_slice-terms) in
     let small : hash_map_len c.add_row.new.sum ≤ 200000 = search rules in
     record { numbered = omega arith; sums = passes (next passed.After-numbered) more small }
+
+-- all rows are added
+all_added : (c : After-loop-row) → length (rows_of c.args.rows.now) ≤ c.loop-row.row-index
+all_added c = let count = length-map c.args.rows.now row_of in omega arith
+
+pub returns-clause-sum : goal.returns-clause-sum
+returns-clause-sum c = whole_sum c.loop-row.invariant.sums (all_added (goal.at.returns-clause-sum c).After-loop-row) c.in_ok-in_order.field-0 (search rules)
+
+pub returns-clause-passed : goal.returns-clause-passed
+returns-clause-passed c = all_pass c.loop-row.invariant.sums (all_added (goal.at.returns-clause-passed c).After-loop-row)

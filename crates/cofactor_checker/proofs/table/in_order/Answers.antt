@@ -1,4 +1,4 @@
-use Rattle.std.proofs.Common.{rules, ◌≡◌, [], ◌∷◌, Some}
+use Rattle.std.proofs.Common.{rules, ◌≡◌, ◌∷◌, Some}
 use Rattle.std.specs.BTreeMap.{Updates}
 use Rattle.std.specs.HashMap.{IsUnique}
 use Rattle.word_core.specs.Canonical.{word_cmp}
