@@ -61,8 +61,10 @@ impl Hash for Key {
     }
 }
 
+// An odd number near 2^64 divided by the golden ratio.
 const FACTOR: u64 = 0x9e37_79b9_7f4a_7c15;
 
+// The number by which a word is hashed: one pass over its letters, and one write to the hasher.
 fn digest(word: &Word) -> u64
     ensures { result ≡ digest word.now }
 {
@@ -74,6 +76,7 @@ fn digest(word: &Word) -> u64
     digest
 }
 
+// Whether two words have the same letters, which is quicker to tell than their order.
 fn are_same(word: &Word, other: &Word) -> bool
     ensures { result ≡ word_eq word.now other.now }
 {
