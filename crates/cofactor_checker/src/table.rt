@@ -13,7 +13,7 @@ ghost use Rattle.definitions.proofs.Linear.{word_eq-true};
 ghost use Rattle.nc_polynomial.specs.Collected.{coefficient_in};
 ghost use Rattle.nc_polynomial.proofs.Words.{word_eq-cmp};
 ghost use Rattle.cofactor_checker.specs.Running.{IsRunning, IsStoppedBy};
-ghost use Rattle.cofactor_checker.specs.Table.{digest, coefficient_at, IsTable, Adds};
+ghost use Rattle.cofactor_checker.specs.Table.{digest, mixed, coefficient_at, IsTable, Adds};
 
 use nc_polynomial::SumFault;
 use std::alloc::{AllocError, Global};
@@ -64,14 +64,22 @@ impl Hash for Key {
 // An odd number near 2^64 divided by the golden ratio.
 const FACTOR: u64 = 0x9e37_79b9_7f4a_7c15;
 
+// The number of a word with a letter more. Its upper half is mixed into the lower one, so that no sums of letters tell which words
+// have one number.
+fn mixed(digest: u64, letter: u64) -> u64
+    ensures { result ≡ mixed digest letter }
+{
+    let sum = digest.wrapping_mul(FACTOR).wrapping_add(letter);
+    sum ^ (sum >> 32)
+}
+
 // The number by which a word is hashed: one pass over its letters, and one write to the hasher.
 fn digest(word: &Word) -> u64
     ensures { result ≡ digest word.now }
 {
     let mut digest = 0u64;
     for place in 0..word.len() {
-        let letter = u64::from(word.letter(place).0);
-        digest = digest.wrapping_mul(FACTOR).wrapping_add(letter);
+        digest = mixed(digest, u64::from(word.letter(place).0));
     }
     digest
 }
