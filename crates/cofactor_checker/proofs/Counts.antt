@@ -1,6 +1,6 @@
--- the number of terms of a sum is the length of its map
-use Rattle.std.proofs.Common.{◌≡◌, ◌≢◌, ℕ, ℤ, pos, List, [], ◌∷◌, map, not, Bool, true, false, ◌||◌, Option, Some, None, unwrap_or, is_some, sym, refl, ap, ◌∙◌, subst}
-use Rattle.std.specs.BTreeMap.{BTreeMap, get, is_at, keys, btree_map_len, IsOrdered}
+-- the number of terms of a sum is the length of its table
+use Rattle.std.proofs.Common.{◌≡◌, ◌≢◌, ℕ, ℤ, pos, List, [], ◌∷◌, map, not, Bool, true, false, ◌||◌, Option, Some, None, unwrap_or, is_some, sym, refl, ap, ◌∙◌}
+use Rattle.std.specs.HashMap.{get, keys, hash_map_len, IsUnique}
 use Rattle.std.specs.List.{AllByRecursion, IsDistinct}
 use Rattle.std.specs.declared.cmp.Ordering.TheVariants.{Greater}
 use Rattle.std.proofs.lemmas.List.{length-map}
@@ -9,19 +9,19 @@ use Rattle.std.specs.Ordering.{int_eq}
 use Rattle.std.proofs.lemmas.Bool.{false_from_ne_true}
 use Rattle.std.proofs.lemmas.Bool.Decides.{Decides-int_eq}
 use Rattle.std.proofs.lemmas.Map.Entries.{length-keys_of}
-use Rattle.std.proofs.lemmas.Map.Keys.{IsDistinct-from_sorted, IsDistinct-cons}
+use Rattle.std.proofs.lemmas.Map.Keys.{IsDistinct-cons}
 use Rattle.std.proofs.lemmas.Map.Made.{length-from_same_keys, is_some-lookup}
 use Rattle.word_core.specs.Canonical.{word_cmp}
 use Rattle.definitions.specs.Poly.{word_eq, coefficient_of}
 use Rattle.definitions.proofs.Linear.{word_eq-true, coefficient_other}
 use Rattle.cofactor_checker.specs.Rows.{term_count}
-use Rattle.cofactor_checker.specs.Running.{IsRunning, IsSumOf}
+use Rattle.cofactor_checker.specs.Table.{Table, coefficient_at, IsTable}
 use Rattle.nc_polynomial.specs.Collected.{collected}
 use Rattle.nc_polynomial.proofs.CollectedTerms.{coefficient_of-collected, descending-collected, nonzero-collected}
 use Rattle.nc_polynomial.proofs.Distinct.{first_coefficient}
 use Rattle.nc_polynomial.proofs.Shapes.{Descends}
 use Rattle.nc_polynomial.proofs.Words.{word_eq-turned}
-use Rattle.cofactor_checker.proofs.Words.{by_word_cmp, word_eq_equivalence}
+use Rattle.cofactor_checker.proofs.Words.{word_eq_equivalence}
 use Rattle.cofactor_checker.proofs.Descending.{apart_greater, weaker}
 
 -- whether the word has a coefficient other than zero
@@ -57,22 +57,21 @@ distinct (t ∷ q) descends = IsDistinct-cons word_eq t.1 (map (λ u. u.1) q) (w
     words [] below = tt
     words (u ∷ q) below = (apart_greater t.1 u.1 below.0, words q below.1)
 
-module _ (m : BTreeMap (List ℕ) ℤ) (p : List (ℤ × List ℕ)) (ordered : IsOrdered word_cmp m) (running : IsRunning m) (sum : IsSumOf m p) where
-  -- the words that are in the map
+module _ (m : Table) (p : List (ℤ × List ℕ)) (unique : IsUnique word_eq m) (kept : IsTable m) (sum : (w : List ℕ) → coefficient_at m w ≡ coefficient_of p w) where
+  -- the words that are in the table
   stored : (w : List ℕ) → is_member word_eq (keys m) w ≡ has p w
   stored w =
-      ap (λ e. is_member e (keys m) w) (sym by_word_cmp) ∙ sym (is_some-lookup (is_at (word_cmp w)) m.entries)
-      ∙ go (get word_cmp m w) refl ∙ ap (λ k. not (int_eq k (pos 0))) (sum.at w)
+      sym (is_some-lookup (word_eq w) m.entries) ∙ go (get word_eq m w) refl ∙ ap (λ k. not (int_eq k (pos 0))) (sum w)
     where
-      go : (o : Option ℤ) → get word_cmp m w ≡ o → is_some o ≡ not (int_eq (unwrap_or o (pos 0)) (pos 0))
+      go : (o : Option ℤ) → get word_eq m w ≡ o → is_some o ≡ not (int_eq (unwrap_or o (pos 0)) (pos 0))
       go None absent = sym (ap not int_eq_zero)
-      go (Some k) there = sym (ap not (false_from_ne_true (int_eq k (pos 0)) (λ zero. running.nonzero w (there ∙ ap Some ((Decides-int_eq k (pos 0)).0 zero)))))
+      go (Some k) there = sym (ap not (false_from_ne_true (int_eq k (pos 0)) (λ zero. kept.nonzero w (there ∙ ap Some ((Decides-int_eq k (pos 0)).0 zero)))))
 
-  pub len-term_count : btree_map_len m ≡ term_count p
+  pub len-term_count : hash_map_len m ≡ term_count p
   len-term_count =
       sym (length-keys_of m.entries)
       ∙ length-from_same_keys word_eq_equivalence (keys m) (map (λ t. t.1) (collected p))
-      (subst (λ e. IsDistinct e (keys m)) by_word_cmp (IsDistinct-from_sorted word_cmp (keys m) ordered))
+      unique
       (distinct (collected p) (descending-collected p))
       (λ w. stored w ∙ sym (listed (collected p) (descending-collected p) (nonzero-collected p) w ∙ ap (λ k. not (int_eq k (pos 0))) (coefficient_of-collected p w)))
       ∙ length-map (collected p) (λ t. t.1)

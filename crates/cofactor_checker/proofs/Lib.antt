@@ -3,6 +3,8 @@ pub mod First
 pub mod Adding
 pub mod Descending
 pub mod Comparing
+pub mod TableUpdates
+pub mod InOrder
 pub mod Counts
 pub mod RowSums
 pub mod Outcomes

@@ -1,7 +1,8 @@
 -- the running sum behind some rows
 use Rattle.std.proofs.Common.{◌≡◌, ℕ, zero, suc, ◌+◌, ◌-◌, ◌<◌, ◌≤◌, ℤ, pos, ◌+ℤ◌, List, [], ◌∷◌, ◌++◌, length, take, get_or, slice_get, Some, None, unwrap_or, ◌⊎◌, inl, inr, sym, refl, ap, ◌∙◌, subst, arith}
-use Rattle.std.specs.BTreeMap.{BTreeMap, get, is_at, btree_map_len, IsOrdered, IsEmpty}
-use Rattle.std.proofs.lemmas.List.{take_more, length-map}
+use Rattle.std.specs.BTreeMap.{BTreeMap}
+use Rattle.std.specs.HashMap.{get, hash_map_len, IsUnique, IsEmpty}
+use Rattle.std.proofs.lemmas.List.{take_all, take_more, length-map}
 use Rattle.std.proofs.lemmas.Bool.{cases_eq}
 use Rattle.std.specs.Option.{option_map}
 use Rattle.std.proofs.lemmas.Option.{slice_get_within, get_or_from_slice_get, slice_get-map, slice_get_read}
@@ -10,18 +11,18 @@ use Rattle.std.specs.Map.{lookup}
 use Rattle.coef_int.specs.Range.{IsCoefficient}
 use Rattle.coef_int.specs.declared.Overflow.{Overflow}
 use Rattle.coef_int.specs.Operations.{first_overflow}
-use Rattle.word_core.specs.Canonical.{word_cmp}
-use Rattle.definitions.specs.Poly.{coefficient_of}
+use Rattle.definitions.specs.Poly.{word_eq, coefficient_of}
 use Rattle.definitions.specs.Combination.{Row, generator_at, row_poly, row_sum}
 use Rattle.definitions.proofs.Coefficients.{coefficient_of-append}
 use Rattle.nc_polynomial.specs.declared.poly.Poly.{Poly}
 use Rattle.traced_rows.specs.declared.certificate.CertRow.{CertRow}
 use Rattle.traced_rows.specs.Rows.{row_of, rows_of}
-use Rattle.nc_polynomial.specs.Collected.{coefficient_in}
 use Rattle.adjoint_rules.specs.Problem.{polynomials}
+use Rattle.nc_polynomial.specs.Collected.{coefficient_in}
+use Rattle.cofactor_checker.specs.Running.{IsSumOf}
 use Rattle.cofactor_checker.specs.Operations.{adding_operations, row_operations}
 use Rattle.cofactor_checker.specs.Rows.{term_count, IsNumberUpTo, RowPasses, RowsPass, Reaches, LacksGenerator, Overflows, Outgrows}
-use Rattle.cofactor_checker.specs.Running.{IsRunning, IsSumOf, Adds}
+use Rattle.cofactor_checker.specs.Table.{Table, coefficient_at, IsTable, Adds}
 use Rattle.cofactor_checker.proofs.Counts.{len-term_count}
 
 -- one row more at the end
@@ -34,61 +35,59 @@ row_sum-push generators (s ∷ rows) r w =
     ∙ sym (+ℤ_assoc (coefficient_of (row_poly generators s) w) (coefficient_of (row_sum generators rows) w) (coefficient_of (row_poly generators r) w))
     ∙ sym (ap (λ k. k +ℤ coefficient_of (row_poly generators r) w) (coefficient_of-append (row_poly generators s) (row_sum generators rows) w))
 
--- The map is the sum of the first i rows, and each of them passes.
-pub record SumsUpTo (generators : List (List (ℤ × List ℕ))) (rows : List Row) (m : BTreeMap (List ℕ) ℤ) (i : ℕ) : Type 0 where
-  pub running : IsRunning m
-  pub sum : IsSumOf m (row_sum generators (take i rows))
+-- The table is the sum of the first i rows, and each of them passes.
+pub record SumsUpTo (generators : List (List (ℤ × List ℕ))) (rows : List Row) (m : Table) (i : ℕ) : Type 0 where
+  pub kept : IsTable m
+  pub sum : (w : List ℕ) → coefficient_at m w ≡ coefficient_of (row_sum generators (take i rows)) w
   pub passed : RowsPass generators rows i
 
--- The turn of the row with this number: it stands behind the first i rows, whose sum is the map.
-pub record IsNext (generators : List (List (ℤ × List ℕ))) (rows : List Row) (m : BTreeMap (List ℕ) ℤ) (number i : ℕ) (r : Row) : Type 0 where
+-- The turn of the row with this number: it stands behind the first i rows, whose sum is the table.
+pub record IsNext (generators : List (List (ℤ × List ℕ))) (rows : List Row) (m : Table) (number i : ℕ) (r : Row) : Type 0 where
   pub numbered : number ≡ i + 1
   pub there : slice_get rows i ≡ Some r
   pub so_far : SumsUpTo generators rows m i
 
--- The row is over a generator, and is added to one map, which gives the other.
-pub record IsAdded (generators : List (List (ℤ × List ℕ))) (m n : BTreeMap (List ℕ) ℤ) (r : Row) : Type 0 where
+-- The row is over a generator, and is added to one table, which gives the other.
+pub record IsAdded (generators : List (List (ℤ × List ℕ))) (m n : Table) (r : Row) : Type 0 where
   pub generator : IsNumberUpTo (length generators) r.generator
-  pub operations : first_overflow (adding_operations (coefficient_in m) r.coefficient r.left (generator_at generators r.generator) r.right) ≡ None
-  pub running : IsRunning n
+  pub operations : first_overflow (adding_operations (coefficient_at m) r.coefficient r.left (generator_at generators r.generator) r.right) ≡ None
+  pub kept : IsTable n
   pub adds : Adds m n (row_poly generators r)
-  pub ordered : IsOrdered word_cmp n
+  pub unique : IsUnique word_eq n
 
-module _ {generators : List (List (ℤ × List ℕ))} {rows : List Row} {m : BTreeMap (List ℕ) ℤ} {number i : ℕ} {r : Row} (next : IsNext generators rows m number i r) where
+module _ {generators : List (List (ℤ × List ℕ))} {rows : List Row} {m : Table} {number i : ℕ} {r : Row} (next : IsNext generators rows m number i r) where
   reached : Reaches generators rows number i r
   reached = record { numbered = next.numbered; row = next.there; earlier = next.so_far.passed }
 
-  -- the operations by what the map has
-  operations_are : adding_operations (coefficient_in m) r.coefficient r.left (generator_at generators r.generator) r.right ≡ row_operations generators rows i r
-  operations_are = ap (λ (f : List ℕ → ℤ). adding_operations f r.coefficient r.left (generator_at generators r.generator) r.right) (λ k w. next.so_far.sum.at w k)
+  -- the operations by what the table has
+  operations_are : adding_operations (coefficient_at m) r.coefficient r.left (generator_at generators r.generator) r.right ≡ row_operations generators rows i r
+  operations_are = ap (λ (f : List ℕ → ℤ). adding_operations f r.coefficient r.left (generator_at generators r.generator) r.right) (λ k w. next.so_far.sum w k)
 
   pub lacks_generator : (IsNumberUpTo (length generators) r.generator → ⊥) → LacksGenerator generators rows number
   lacks_generator none = record { before = i; row = r; reached = reached; generator = none }
 
   pub overflows : {o : Overflow} → IsNumberUpTo (length generators) r.generator
-      → first_overflow (adding_operations (coefficient_in m) r.coefficient r.left (generator_at generators r.generator) r.right) ≡ Some o → Overflows generators rows number o
+      → first_overflow (adding_operations (coefficient_at m) r.coefficient r.left (generator_at generators r.generator) r.right) ≡ Some o → Overflows generators rows number o
   overflows generator first = record { before = i; row = r; reached = reached; generator = generator; operations = sym (ap first_overflow operations_are) ∙ first }
 
-  module _ {n : BTreeMap (List ℕ) ℤ} (added : IsAdded generators m n r) where
+  module _ {n : Table} (added : IsAdded generators m n r) where
     operations_pass : first_overflow (row_operations generators rows i r) ≡ None
     operations_pass = sym (ap first_overflow operations_are) ∙ added.operations
 
-    -- the map with the row
-    sum_more : IsSumOf n (row_sum generators (take (i + 1) rows))
-    sum_more = record {
-      at = λ w.
-          added.adds.at w ∙ ap (λ k. k +ℤ coefficient_of (row_poly generators r) w) (next.so_far.sum.at w) ∙ sym (row_sum-push generators (take i rows) r w)
-          ∙ ap (λ rs. coefficient_of (row_sum generators rs) w) (sym (take_more rows i r (slice_get_within rows i r next.there) ∙ ap (λ x. take i rows ++ x ∷ []) (get_or_from_slice_get rows i r r next.there)));
-    }
+    -- the table with the row
+    sum_more : (w : List ℕ) → coefficient_at n w ≡ coefficient_of (row_sum generators (take (i + 1) rows)) w
+    sum_more w =
+        added.adds.at w ∙ ap (λ k. k +ℤ coefficient_of (row_poly generators r) w) (next.so_far.sum w) ∙ sym (row_sum-push generators (take i rows) r w)
+        ∙ ap (λ rs. coefficient_of (row_sum generators rs) w) (sym (take_more rows i r (slice_get_within rows i r next.there) ∙ ap (λ x. take i rows ++ x ∷ []) (get_or_from_slice_get rows i r r next.there)))
 
-    size_is : btree_map_len n ≡ term_count (row_sum generators (take (i + 1) rows))
-    size_is = len-term_count n (row_sum generators (take (i + 1) rows)) added.ordered added.running sum_more
+    size_is : hash_map_len n ≡ term_count (row_sum generators (take (i + 1) rows))
+    size_is = len-term_count n (row_sum generators (take (i + 1) rows)) added.unique added.kept sum_more
 
-    pub outgrows : 200000 < btree_map_len n → Outgrows generators rows number
+    pub outgrows : 200000 < hash_map_len n → Outgrows generators rows number
     outgrows large = record { before = i; row = r; reached = reached; generator = added.generator; operations = operations_pass; size = subst (λ k. 200000 < k) size_is large }
 
-    pub passes : btree_map_len n ≤ 200000 → SumsUpTo generators rows n (i + 1)
-    passes small = record { running = added.running; sum = sum_more; passed = record { at = each } }
+    pub passes : hash_map_len n ≤ 200000 → SumsUpTo generators rows n (i + 1)
+    passes small = record { kept = added.kept; sum = sum_more; passed = record { at = each } }
       where
         here : RowPasses generators rows i r
         here = record { generator = added.generator; operations = operations_pass; size = subst (λ k. k ≤ 200000) size_is small }
@@ -101,18 +100,26 @@ module _ {generators : List (List (ℤ × List ℕ))} {rows : List Row} {m : BTr
             by (inr earlier) = next.so_far.passed.at j s (omega arith) at
 
 -- before the first row
-pub begins : (generators : List (List (ℤ × List ℕ))) (rows : List Row) (m : BTreeMap (List ℕ) ℤ) → IsEmpty m → SumsUpTo generators rows m 0
+pub begins : (generators : List (List (ℤ × List ℕ))) (rows : List Row) (m : Table) → IsEmpty m → SumsUpTo generators rows m 0
 begins generators rows m empty = record {
-  running = record {
+  kept = record {
     nonzero = λ w there. let none = absent w in (cc);
     in_range = λ w. subst IsCoefficient (sym (ap (λ o. unwrap_or o (pos 0)) (absent w))) (omega arith);
   };
-  sum = record { at = λ w. ap (λ o. unwrap_or o (pos 0)) (absent w) };
+  sum = λ w. ap (λ o. unwrap_or o (pos 0)) (absent w);
   passed = record { at = λ i r below there. absurd (omega arith) };
 }
   where
-    absent : (w : List ℕ) → get word_cmp m w ≡ None
-    absent w = ap (lookup (is_at (word_cmp w))) empty
+    absent : (w : List ℕ) → get word_eq m w ≡ None
+    absent w = ap (lookup (word_eq w)) empty
+
+-- behind the last one
+module _ {generators : List (List (ℤ × List ℕ))} {rows : List Row} {m : Table} {i : ℕ} (so_far : SumsUpTo generators rows m i) (all : length rows ≤ i) where
+  pub whole_sum : (sum : BTreeMap (List ℕ) ℤ) → ((w : List ℕ) → coefficient_in sum w ≡ coefficient_at m w) → IsSumOf sum (row_sum generators rows)
+  whole_sum sum same = record { at = λ w. same w ∙ so_far.sum w ∙ ap (λ rs. coefficient_of (row_sum generators rs) w) (take_all i rows all) }
+
+  pub all_pass : RowsPass generators rows (length rows)
+  all_pass = record { at = λ j r below there. so_far.passed.at j r (omega arith) there }
 
 -- a row of the certificate
 pub row_there : (rows : List CertRow) (i : ℕ) (row : CertRow) → i < length rows → row ≡ get_or rows i row → slice_get (rows_of rows) i ≡ Some (row_of row)

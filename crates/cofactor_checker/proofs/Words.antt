@@ -1,10 +1,13 @@
--- the test of words is that of their order, so it has its laws
-use Rattle.std.proofs.Common.{◌≡◌, ℕ, List, Bool, sym, subst}
+-- the test of words is that of their order, so it has its laws; words letter by letter
+use Rattle.std.proofs.Common.{◌≡◌, ◌≢◌, ℕ, ◌≤◌, List, length, take, get_or, Bool, true, false, sym, ap, subst, ◌∙◌, arith}
 use Rattle.std.specs.Cmp.{IsEquivalence}
 use Rattle.std.specs.Ordering.{eq_by_cmp}
 use Rattle.std.proofs.lemmas.Cmp.{eq_by_cmp_equiv}
+use Rattle.std.proofs.lemmas.Bool.{false_from_ne_true}
+use Rattle.std.proofs.lemmas.List.{take_all}
 use Rattle.word_core.specs.Canonical.{word_cmp, word_cmp_total}
 use Rattle.definitions.specs.Poly.{word_eq}
+use Rattle.definitions.proofs.Linear.{word_eq-same, word_eq-true}
 use Rattle.nc_polynomial.proofs.Words.{word_eq-cmp}
 
 pub by_word_cmp : ◌≡◌ {A = List ℕ → List ℕ → Bool} (eq_by_cmp word_cmp) word_eq
@@ -12,3 +15,17 @@ by_word_cmp = λ i v w. sym (word_eq-cmp v w) i
 
 pub word_eq_equivalence : IsEquivalence word_eq
 word_eq_equivalence = subst IsEquivalence by_word_cmp (eq_by_cmp_equiv word_cmp_total)
+
+-- words of two lengths are apart
+pub apart_by_length : (v w : List ℕ) → length v ≢ length w → word_eq v w ≡ false
+apart_by_length v w differ = false_from_ne_true (word_eq v w) (λ same. differ (ap length (word_eq-true v w same)))
+
+-- and so are words with two letters at one place
+pub apart_by_letter : (v w : List ℕ) (i : ℕ) → get_or v i 0 ≢ get_or w i 0 → word_eq v w ≡ false
+apart_by_letter v w i differ = false_from_ne_true (word_eq v w) (λ same. differ (ap (λ u. get_or u i 0) (word_eq-true v w same)))
+
+-- words that agree up to their ends are the same
+pub same_by_letters : (v w : List ℕ) (i : ℕ) → take i v ≡ take i w → length v ≤ i → length v ≡ length w → word_eq v w ≡ true
+same_by_letters v w i agree all lengths =
+    let is : v ≡ w = sym (take_all i v all) ∙ agree ∙ take_all i w (omega arith) in
+    ap (word_eq v) (sym is) ∙ word_eq-same v

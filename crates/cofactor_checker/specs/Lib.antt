@@ -3,6 +3,7 @@ pub mod Rows
 pub mod RowRefusals
 pub mod Acceptance
 pub mod Running
+pub mod Table
 pub mod Difference
 pub mod PlainRows
 pub mod Lemmas

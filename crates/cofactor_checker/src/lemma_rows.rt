@@ -13,9 +13,10 @@ ghost use Rattle.cofactor_checker.specs.Lemmas.{LemmaRowsPass, RefusesLemmaRows}
 use crate::Refusal;
 use crate::rows::{SUM_LIMIT, numbered};
 use crate::sum::add_row;
+use crate::table::in_order;
 use nc_polynomial::{Poly, SumFault};
 use std::alloc::Global;
-use std::collections::BTreeMap;
+use std::collections::{BTreeMap, HashMap};
 use traced_rows::{CertFrom, LemmaRow};
 use word_core::Word;
 
@@ -52,7 +53,7 @@ pub(crate) fn add_lemma_rows(
     ensures passed { OnOk result (LemmaRowsPass (polynomials generators.now) (polynomials lemmas.now) rows.now) }
     ensures refused { IfErr result (RefusesLemmaRows (polynomials generators.now) (polynomials lemmas.now) before rows.now) }
 {
-    let mut sum = BTreeMap::new(alloc);
+    let mut sum = HashMap::new(alloc);
     let mut number = before;
     for row in rows {
         number += 1;
@@ -77,5 +78,5 @@ pub(crate) fn add_lemma_rows(
             return Err(Refusal::Size { row: number });
         }
     }
-    Ok(sum)
+    Ok(in_order(alloc, sum)?)
 }

@@ -16,6 +16,7 @@ mod refusal;
 mod rows;
 mod scales;
 mod sum;
+mod table;
 
 pub use accepted::Accepted;
 pub use certificate::{check, check_over};

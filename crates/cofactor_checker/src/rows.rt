@@ -10,9 +10,10 @@ ghost use Rattle.cofactor_checker.specs.RowRefusals.{RefusesRow};
 
 use crate::Refusal;
 use crate::sum::add_row;
+use crate::table::in_order;
 use nc_polynomial::{Poly, SumFault};
 use std::alloc::Global;
-use std::collections::BTreeMap;
+use std::collections::{BTreeMap, HashMap};
 use traced_rows::CertRow;
 use word_core::Word;
 
@@ -42,7 +43,7 @@ pub(crate) fn add_rows(
     ensures passed { OnOk result (RowsPass (polynomials generators.now) (rows_of rows.now) (length (rows_of rows.now))) }
     ensures refused { IfErr result (RefusesRow (polynomials generators.now) (rows_of rows.now)) }
 {
-    let mut sum = BTreeMap::new(alloc);
+    let mut sum = HashMap::new(alloc);
     let mut number = 0u32;
     for row in rows {
         number += 1;
@@ -64,5 +65,5 @@ pub(crate) fn add_rows(
             return Err(Refusal::Size { row: number });
         }
     }
-    Ok(sum)
+    Ok(in_order(alloc, sum)?)
 }

@@ -1,24 +1,22 @@
 //! A row added to a running sum.
 ghost use Rattle.std.specs.Prelude.{◌≡◌, OnOk, MatchResult, None};
-ghost use Rattle.std.specs.BTreeMap.{IsOrdered};
 ghost use Rattle.coef_int.specs.Operations.{first_overflow};
 ghost use Rattle.coef_int.specs.Range.{IsCoefficient};
-ghost use Rattle.word_core.specs.Canonical.{word_cmp};
 ghost use Rattle.definitions.specs.Poly.{poly_multiple, poly_between};
 ghost use Rattle.cofactor_checker.specs.Operations.{adding_operations};
 ghost use Rattle.nc_polynomial.specs.Shape.{IsShaped};
-ghost use Rattle.nc_polynomial.specs.Collected.{coefficient_in};
-ghost use Rattle.cofactor_checker.specs.Running.{IsRunning, Adds, IsStoppedBy};
+ghost use Rattle.cofactor_checker.specs.Running.{IsStoppedBy};
+ghost use Rattle.cofactor_checker.specs.Table.{coefficient_at, IsTable, Adds};
 
+use crate::table::{Key, add_term};
 use coef_int::times;
 use nc_polynomial::SumFault;
-use nc_polynomial::table::add_term;
-use std::collections::BTreeMap;
+use std::collections::HashMap;
 use word_core::Word;
 
 /// Adds the row c l G r to the sum, where G has these terms.
 pub(crate) fn add_row(
-    sum: &mut BTreeMap<Word, i128>,
+    sum: &mut HashMap<Key, i128>,
     coefficient: i128,
     left: &Word,
     terms: &[(i128, Word)],
@@ -26,12 +24,10 @@ pub(crate) fn add_row(
 ) -> Result<(), SumFault>
     requires coefficient { IsCoefficient coefficient }
     requires shaped { IsShaped terms.now }
-    requires running { IsRunning sum.old }
-    requires ordered { IsOrdered word_cmp sum.old }
-    ensures running { OnOk result (IsRunning sum.new) }
-    ensures ordered { OnOk result (IsOrdered word_cmp sum.new) }
+    requires kept { IsTable sum.old }
+    ensures kept { OnOk result (IsTable sum.new) }
     ensures added { OnOk result (Adds sum.old sum.new (poly_multiple coefficient (poly_between left.now terms.now right.now))) }
-    ensures exact { let first = first_overflow (adding_operations (coefficient_in sum.old) coefficient left.now terms.now right.now) in
+    ensures exact { let first = first_overflow (adding_operations (coefficient_at sum.old) coefficient left.now terms.now right.now) in
         MatchResult result (λ _. first ≡ None) (IsStoppedBy first) }
 {
     for term in terms {

@@ -1,20 +1,20 @@
-use Rattle.std.proofs.Common.{rules, ◌≡◌, ◌+◌, ◌++◌, ◌<◌, ◌≤◌, length, Some, sym, refl, subst, ◌∙◌, arith, to_z, of_z}
+use Rattle.std.proofs.Common.{rules, ◌≡◌, ◌+◌, ◌<◌, ◌≤◌, length, Some, sym, refl, subst, arith, to_z, of_z}
 use mir.Syntax.{w128}
 use Rattle.std.proofs.lemmas.List.{length-map}
 use Rattle.std.proofs.lemmas.Option.{slice_get_read}
-use Rattle.std.specs.BTreeMap.{btree_map_len}
+use Rattle.std.specs.HashMap.{hash_map_len}
 use Rattle.coef_int.specs.Operations.{first_overflow}
 use Rattle.definitions.specs.Combination.{generator_at}
-use Rattle.nc_polynomial.specs.Collected.{coefficient_in}
 use Rattle.adjoint_rules.specs.Problem.{polynomials}
 use Rattle.cofactor_checker.specs.Operations.{adding_operations}
-use Rattle.cofactor_checker.specs.Rows.{IsNumberUpTo, RowsPass}
-use Rattle.cofactor_checker.proofs.RowSums.{IsAdded}
-use Rattle.cofactor_checker.specs.PlainRows.{place_of, plain_row, plain_rows, IsGenerator, IsLemma}
+use Rattle.cofactor_checker.specs.Table.{coefficient_at}
+use Rattle.cofactor_checker.specs.Rows.{IsNumberUpTo}
+use Rattle.cofactor_checker.proofs.RowSums.{IsAdded, whole_sum, all_pass}
+use Rattle.cofactor_checker.specs.PlainRows.{place_of, plain_rows, IsGenerator, IsLemma}
 use Rattle.cofactor_checker.specs.Lemmas.{OverflowsAt}
 use Rattle.cofactor_checker.proofs.RowSteps.{all, plain, IsNextAt, NamesAt, named_at, lacks_at, overflows_at, outgrows_at, passes_at}
 use Rattle.cofactor_checker.proofs.lemma_rows.add_lemma_rows.Goals as goal
-use Rattle.cofactor_checker.proofs.lemma_rows.add_lemma_rows.Goals.{in-Generator, in-Lemma, After-named, After-as_slice-terms, After-len}
+use Rattle.cofactor_checker.proofs.lemma_rows.add_lemma_rows.Goals.{in-Generator, in-Lemma, After-named, After-as_slice-terms, After-len, After-loop-row}
 
 -- the row is next
 next : (c : After-named) → IsNextAt c.args.generators.now c.args.lemmas.now c.args.before c.args.rows.now c.loop-row.sum (c.loop-row.number + 1) c.loop-row.row-index c.row-item.result
@@ -33,7 +33,7 @@ added : (c : After-len) → NamesAt c.args.generators.now c.args.lemmas.now c.ro
     → IsAdded (all c.args.generators.now c.args.lemmas.now) c.loop-row.sum c.add_row.new.sum (plain c.args.generators.now c.args.lemmas.now c.row-item.result)
 added c named =
     let is : to_z w128 (of_z w128 c.row-item.result.coef) ≡ c.row-item.result.coef = search rules in
-    record { generator = named.number; operations = rw (← is, ← named.terms_are) (search rules); running = search rules; adds = rw (← is, ← named.terms_are) (search rules); ordered = search rules }
+    record { generator = named.number; operations = rw (← is, ← named.terms_are) (search rules); kept = search rules; adds = rw (← is, ← named.terms_are) (search rules); unique = search rules }
 
 pub returns-in_default-clause-refused : goal.returns-in_default-clause-refused
 returns-in_default-clause-refused c =
@@ -55,27 +55,29 @@ returns-in-Err-Overflow-clause-refused c =
     let row = c.row-item.result in
     let named = names passed.After-as_slice-terms in
     let is : to_z w128 (of_z w128 row.coef) ≡ row.coef = search rules in
-    let first : first_overflow (adding_operations (coefficient_in c.loop-row.sum) row.coef row.left (generator_at (all gs ls) (plain gs ls row).generator) row.right) ≡ Some c.in-Err-Overflow.overflow =
+    let first : first_overflow (adding_operations (coefficient_at c.loop-row.sum) row.coef row.left (generator_at (all gs ls) (plain gs ls row).generator) row.right) ≡ Some c.in-Err-Overflow.overflow =
     rw (← is, ← named.terms_are) (search rules) in
     subst (OverflowsAt (polynomials gs) (polynomials ls) c.args.before c.args.rows.now (c.loop-row.number + 1)) (sym c.in-Err-Overflow.overflow-is) (overflows_at (next passed.After-named) named.number first)
 
 pub returns-then-len-gt-SUM_LIMIT-clause-refused : goal.returns-then-len-gt-SUM_LIMIT-clause-refused
 returns-then-len-gt-SUM_LIMIT-clause-refused c =
     let passed = goal.at.returns-then-len-gt-SUM_LIMIT-clause-refused c in
-    let large : 200000 < btree_map_len c.add_row.new.sum = search rules in
+    let large : 200000 < hash_map_len c.add_row.new.sum = search rules in
     outgrows_at (next passed.After-named) (added passed.After-len (names passed.After-as_slice-terms)) large
 
 pub loop-row-preserved : goal.loop-row-preserved
 loop-row-preserved c =
     let passed = goal.at.loop-row-preserved c in
     let more = added passed.After-len (names passed.After-as_slice-terms) in
-    let small : btree_map_len c.add_row.new.sum ≤ 200000 = search rules in
-    record { numbered = omega arith; ordered = more.ordered; sums = passes_at (next passed.After-named) more small }
+    let small : hash_map_len c.add_row.new.sum ≤ 200000 = search rules in
+    record { numbered = omega arith; sums = passes_at (next passed.After-named) more small }
+
+-- all rows are added
+all_added : (c : After-loop-row) → length (plain_rows (polynomials c.args.generators.now) (polynomials c.args.lemmas.now) c.args.rows.now) ≤ c.loop-row.row-index
+all_added c = let count = length-map c.args.rows.now (plain c.args.generators.now c.args.lemmas.now) in omega arith
+
+pub returns-clause-sum : goal.returns-clause-sum
+returns-clause-sum c = whole_sum c.loop-row.invariant.sums (all_added (goal.at.returns-clause-sum c).After-loop-row) c.in_ok-in_order.field-0 (search rules)
 
 pub returns-clause-passed : goal.returns-clause-passed
-returns-clause-passed c =
-    let gs = polynomials c.args.generators.now in
-    let ls = polynomials c.args.lemmas.now in
-    let all_read : c.loop-row.row-index ≡ length c.args.rows.now = omega arith in
-    let count = length-map c.args.rows.now (plain_row (length gs) (length ls)) in
-    subst (RowsPass (gs ++ ls) (plain_rows gs ls c.args.rows.now)) (all_read ∙ sym count) c.loop-row.invariant.sums.passed
+returns-clause-passed c = all_pass c.loop-row.invariant.sums (all_added (goal.at.returns-clause-passed c).After-loop-row)

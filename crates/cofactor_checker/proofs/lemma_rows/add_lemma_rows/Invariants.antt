@@ -1,6 +1,4 @@
 use Rattle.std.proofs.Common.{◌≡◌, ◌+◌, ◌++◌}
-use Rattle.std.specs.BTreeMap.{IsOrdered}
-use Rattle.word_core.specs.Canonical.{word_cmp}
 use Rattle.adjoint_rules.specs.Problem.{polynomials}
 use Rattle.cofactor_checker.proofs.RowSums.{SumsUpTo}
 use Rattle.cofactor_checker.specs.PlainRows.{plain_rows}
@@ -9,6 +7,5 @@ use Rattle.cofactor_checker.proofs.lemma_rows.add_lemma_rows.Given as goal
 abbrev pub invariant-loop-row : goal.invariant-loop-row
 invariant-loop-row l = record {
   numbered : l.number ≡ l.before + l.row-index;
-  ordered : IsOrdered word_cmp l.sum;
   sums : SumsUpTo (polynomials l.generators ++ polynomials l.lemmas) (plain_rows (polynomials l.generators) (polynomials l.lemmas) l.rows) l.sum l.row-index;
 }

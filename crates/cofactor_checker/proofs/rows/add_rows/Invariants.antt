@@ -1,6 +1,4 @@
 use Rattle.std.proofs.Common.{◌≡◌}
-use Rattle.std.specs.BTreeMap.{IsOrdered}
-use Rattle.word_core.specs.Canonical.{word_cmp}
 use Rattle.traced_rows.specs.Rows.{rows_of}
 use Rattle.adjoint_rules.specs.Problem.{polynomials}
 use Rattle.cofactor_checker.proofs.RowSums.{SumsUpTo}
@@ -9,6 +7,5 @@ use Rattle.cofactor_checker.proofs.rows.add_rows.Given as goal
 abbrev pub invariant-loop-row : goal.invariant-loop-row
 invariant-loop-row l = record {
   numbered : l.number ≡ l.row-index;
-  ordered : IsOrdered word_cmp l.sum;
   sums : SumsUpTo (polynomials l.generators) (rows_of l.rows) l.sum l.row-index;
 }

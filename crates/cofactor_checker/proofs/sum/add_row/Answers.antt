@@ -3,18 +3,17 @@ use mir.Syntax.{w128}
 use Rattle.coef_int.specs.Range.{IsCoefficient}
 use Rattle.definitions.specs.Poly.{poly_multiple, poly_between}
 use Rattle.coef_int.specs.Operations.{product_of, first_overflow}
-use Rattle.nc_polynomial.specs.Collected.{coefficient_in}
 use Rattle.nc_polynomial.proofs.Results.{err_whole}
 use Rattle.cofactor_checker.specs.Operations.{adding_operations}
-use Rattle.cofactor_checker.specs.Running.{Adds, IsStoppedBy}
+use Rattle.cofactor_checker.specs.Running.{IsStoppedBy}
+use Rattle.cofactor_checker.specs.Table.{coefficient_at, Adds}
 use Rattle.cofactor_checker.proofs.Adding.{AddsUpTo, IsNextTerm, begins, ends, product_fails, sum_stopped, goes_on}
 use Rattle.cofactor_checker.proofs.sum.add_row.Goals as goal
 use Rattle.cofactor_checker.proofs.sum.add_row.Goals.{After-term-item, After-loop-term}
 
 pub loop-term-init : goal.loop-term-init
 loop-term-init c = record {
-  running = c.requires.running;
-  ordered = c.requires.ordered;
+  kept = c.requires.kept;
   added = begins c.args.sum.now (to_z w128 (of_z w128 c.args.coefficient)) c.args.left.now c.args.terms.now c.args.right.now;
 }
 
@@ -33,7 +32,7 @@ returns-in_err-product-clause-exact c =
     let first = product_fails (next (goal.at.returns-in_err-product-clause-exact c).After-term-item) fails in
     let told : c.in_err-product.field-0.0 ≡ product_of k t.0 = search rules in
     err_whole c.from_residual.result _
-    (λ e same. subst (IsStoppedBy (first_overflow (adding_operations (coefficient_in c.args.sum.now) k c.args.left.now c.args.terms.now c.args.right.now))) (sym same) (first ∙ ap Some (sym told)))
+    (λ e same. subst (IsStoppedBy (first_overflow (adding_operations (coefficient_at c.args.sum.now) k c.args.left.now c.args.terms.now c.args.right.now))) (sym same) (first ∙ ap Some (sym told)))
     c.from_residual.ensures.1
 
 pub returns-in_err-add_term-clause-exact : goal.returns-in_err-add_term-clause-exact
@@ -49,15 +48,14 @@ loop-term-preserved c =
     let here = next (goal.at.loop-term-preserved c).After-term-item in
     let added = goes_on here c.in_ok-product.product c.in_ok-word.word (search rules) (search rules) (search rules) {new = c.add_term.new.table} c.requires.shaped.descending (search rules) (search rules) in
     record {
-      running = search rules;
-      ordered = search rules;
+      kept = search rules;
       added = subst (λ z. AddsUpTo c.args.sum.now c.add_term.new.table z c.args.left.now c.args.terms.now c.args.right.now (c.loop-term.term-index + 1)) (sym is) added;
     }
 
 -- all terms are added
 whole : (c : After-loop-term)
     → Adds c.args.sum.now c.loop-term.sum (poly_multiple c.args.coefficient (poly_between c.args.left.now c.args.terms.now c.args.right.now))
-    × (first_overflow (adding_operations (coefficient_in c.args.sum.now) c.args.coefficient c.args.left.now c.args.terms.now c.args.right.now) ≡ None)
+    × (first_overflow (adding_operations (coefficient_at c.args.sum.now) c.args.coefficient c.args.left.now c.args.terms.now c.args.right.now) ≡ None)
 whole c =
     let is : to_z w128 (of_z w128 c.args.coefficient) ≡ c.args.coefficient = search rules in
     let added = subst (λ z. AddsUpTo c.args.sum.now c.loop-term.sum z c.args.left.now c.args.terms.now c.args.right.now c.loop-term.term-index) is c.loop-term.invariant.added in
