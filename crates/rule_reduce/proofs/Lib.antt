@@ -5,6 +5,7 @@ pub mod Exits
 pub mod InFront
 pub mod InPlace
 pub mod Rounds
+pub mod ShownStates
 pub mod Runs
 pub mod Balance
 pub mod Multipliers

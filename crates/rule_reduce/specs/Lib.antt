@@ -16,6 +16,7 @@ pub mod RuleLists
 pub mod Choices
 pub mod Adding
 pub mod Steps
+pub mod Stores
 pub mod NormalForms
 pub mod Laws
 pub mod KeptWords
