@@ -14,6 +14,7 @@ pub mod Irreducible
 pub mod Matched
 pub mod AtMost
 pub mod BetterChoices
+pub mod Measures
 pub mod FirstChoices
 pub mod Chosen
 pub mod WordsKept

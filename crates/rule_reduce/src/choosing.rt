@@ -1,6 +1,6 @@
 //! The choice of a step: the greatest word that can be reduced, the least rule for it, and its leftmost place.
 
-ghost use Rattle.std.specs.Prelude.{◌≡◌, ◌↔◌, ◌≤◌, length, take, IfOk, IfSome, IfNone, IsTrue, None};
+ghost use Rattle.std.specs.Prelude.{◌≡◌, ◌↔◌, ◌≤◌, length, take, IfOk, IfSome, IfNone, IsSomeAnd, IsTrue, None};
 ghost use Rattle.std.specs.List.{All};
 ghost use Rattle.std.specs.declared.cmp.Ordering.TheVariants.{Greater};
 ghost use Rattle.coef_int.specs.Range.{IsCoefficient};
@@ -100,7 +100,11 @@ fn best_choice<'a, O: WordOrder>(
     }
     let mut best = None;
     for place in 0..terms.len() {
-        best = improve(order, index, last, place < above, best, &terms[place]);
+        let (better, is_last) = improve(order, index, last, place < above, best, &terms[place]);
+        best = better;
+        if is_last {
+            return best;
+        }
     }
     best
 }
@@ -138,7 +142,8 @@ fn count_above_last(terms: &[(i128, Word)], last: Option<&Word>) -> usize
     }
 }
 
-// The better of the choice so far and a term behind it. The term's word is searched only where it is greater.
+// The better of the choice so far and a term behind it, and whether no term behind that is better still. The term's word is
+// searched only where it is greater.
 fn improve<'a, O: WordOrder>(
     order: &O,
     index: &Index,
@@ -146,27 +151,45 @@ fn improve<'a, O: WordOrder>(
     is_above: bool,
     best: Option<Found<'a>>,
     term: &'a (i128, Word),
-) -> Option<Found<'a>>
+) -> (Option<Found<'a>>, bool)
     requires last_short { IfSome last (λ w. length w.now ≤ measured_letters) }
     requires above { IfSome last (λ w. IsTrue is_above → word_cmp term.now.1 w.now ≡ Greater) }
     requires settled { IfSome last (λ w. IsSettled (O.compare order.now) index.now w.now term.now.1) }
     requires best_short { IfSome best (λ c. length c.word ≤ measured_letters) }
     requires behind { IfSome best (λ c. word_cmp c.word term.now.1 ≡ Greater) }
     requires short { length term.now.1 ≤ measured_letters }
-    ensures { result ≡ better_choice (O.compare order.now) index.now best.entry term.now }
+    ensures better { result.0 ≡ better_choice (O.compare order.now) index.now best.entry term.now }
+    ensures last { IsTrue result.1 → IsSomeAnd last.entry (λ w. IsSomeAnd result.0
+        (λ c. O.measure_of order.now w.now ≤ O.measure_of order.now c.word)) }
 {
     if let Some(old) = &best {
         if !is_greater(order, &term.1, &old.term.1) {
-            return best;
+            return (best, false);
         }
     }
     match first_match(order, index, last, is_above, &term.1) {
-        Some((number, place)) => Some(Found {
-            term,
-            number,
-            place,
-        }),
-        None => best,
+        Some((number, place)) => {
+            let found = Found {
+                term,
+                number,
+                place,
+            };
+            (Some(found), reaches(order, &term.1, last))
+        }
+        None => (best, false),
+    }
+}
+
+// Whether there is a last word and the word has its measure at least. Then no word canonically below it that can be reduced
+// is greater.
+fn reaches<O: WordOrder>(order: &O, word: &Word, last: Option<&Word>) -> bool
+    requires short { length word.now ≤ measured_letters }
+    requires last_short { IfSome last (λ w. length w.now ≤ measured_letters) }
+    ensures { IsTrue result → IsSomeAnd last.entry (λ w. O.measure_of order.now w.now ≤ O.measure_of order.now word.now) }
+{
+    match last {
+        Some(last) => order.measure(word) >= order.measure(last),
+        None => false,
     }
 }
 

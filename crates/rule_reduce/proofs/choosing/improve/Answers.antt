@@ -29,6 +29,6 @@ choice_kept compare entries best t fails = go (compare t.1 best.word) fails
     go Equal same = refl
     go Greater more = absurd (more refl)
 
-pub returns-in-None : goal.returns-in-None
-returns-in-None g c =
+pub returns-in-None-clause-better : goal.returns-in-None-clause-better
+returns-in-None-clause-better g c =
     choice_stays (g.O.WordOrder.compare c.args.order.now) c.args.index.now c.args.best (c.args.term.now.0, c.args.term.now.1) (sym c.first_match.ensures ∙ c.in-None.is)

@@ -1,0 +1,61 @@
+-- Words by their measures: which is greater, and where no term behind the choice so far can be better.
+use Rattle.std.proofs.Common.{◌≡◌, ◌<◌, ◌≤◌, ℕ, List, [], ◌∷◌, Option, Some, None, IfSome, IsSomeAnd, refl, sym, ap, ◌∙◌, arith}
+use Rattle.std.specs.List.{AllByRecursion}
+use Rattle.std.proofs.lemmas.Cmp.{ranked}
+use Rattle.std.specs.Cmp.{nat_cmp_is}
+use Rattle.std.specs.Ordering.{nat_cmp, ordering_then}
+use Rattle.std.specs.declared.cmp.Ordering.{Ordering}
+use Rattle.std.specs.declared.cmp.Ordering.TheVariants.{Less, Equal, Greater}
+use Rattle.definitions.specs.Poly.{Term}
+use Rattle.word_core.specs.Canonical.{word_cmp}
+use Rattle.word_core.proofs.Order.{word_cmp-turned_back}
+use Rattle.word_orders.specs.Admissible.{Compare}
+use Rattle.word_orders.specs.Measured.{measured_cmp}
+use Rattle.nc_polynomial.specs.Terms.{by_order}
+use Rattle.rule_index.specs.Matches.{match_of}
+use Rattle.rule_reduce.specs.declared.state.Choice.{Choice}
+use Rattle.rule_reduce.specs.Choices.{choice_or, choice_from, IsSettled}
+
+unlike : Less ≡ Greater → ⊥
+unlike e = cc
+
+module _ (measure : List ℕ → ℕ) (u v : List ℕ) where
+  pub greater_if : measure v < measure u → measured_cmp measure u v ≡ Greater
+  greater_if more = ap (λ o. ordering_then o (word_cmp u v)) (sym (nat_cmp_is (measure u) (measure v) Greater more))
+
+  pub greater_only_if : word_cmp v u ≡ Greater → measured_cmp measure u v ≡ Greater → measure v < measure u
+  greater_only_if above greater = go (nat_cmp (measure u) (measure v)) refl greater
+    where
+      below : word_cmp u v ≡ Less
+      below = word_cmp-turned_back v u above
+
+      go : (o : Ordering) → o ≡ nat_cmp (measure u) (measure v) → ordering_then o (word_cmp u v) ≡ Greater → measure v < measure u
+      go Less is k = absurd (unlike k)
+      go Equal is k = absurd (unlike (sym below ∙ k))
+      go Greater is k = ranked (measure u) (measure v) Greater is
+
+module _ (compare : Compare) (measure : List ℕ → ℕ) (by_measure : (u v : List ℕ) → compare u v ≡ measured_cmp measure u v) (entries : List (List ℕ × ℕ)) where
+  -- where the words above the last one cannot be reduced, a choice with its measure is better than all terms canonically below it
+  choice_stays : (last : List ℕ) (b : Choice) (p : List Term) → measure last ≤ measure b.word → AllByRecursion (λ t. IsSettled compare entries last t.1) p
+      → AllByRecursion (λ t. word_cmp b.word t.1 ≡ Greater) p → choice_from compare entries (Some b) p ≡ Some b
+  choice_stays last b [] reached settled behind = refl
+  choice_stays last b (t ∷ p) reached settled behind =
+      ap (λ best. choice_from compare entries best p) (stays (compare t.1 b.word) refl) ∙ choice_stays last b p reached settled.1 behind.1
+    where
+      unmatched : compare t.1 b.word ≡ Greater → match_of entries t.1 ≡ None
+      unmatched greater =
+          let more = greater_only_if measure t.1 b.word behind.0 (sym (by_measure t.1 b.word) ∙ greater) in
+          settled.0 (by_measure t.1 last ∙ greater_if measure t.1 last (omega (arith, reached, more)))
+
+      stays : (o : Ordering) → compare t.1 b.word ≡ o → by_order o (Some b) (Some b) (choice_or t (match_of entries t.1) (Some b)) ≡ Some b
+      stays Less e = refl
+      stays Equal e = refl
+      stays Greater e = ap (λ m. choice_or t m (Some b)) (unmatched e)
+
+  -- the same where there may be no last word, and no choice
+  pub ends_search : {X : Type 0} (word : X → List ℕ) (last : Option X) (best : Option Choice) (p : List Term)
+      → IsSomeAnd last (λ x. IsSomeAnd best (λ b. measure (word x) ≤ measure b.word)) → IfSome last (λ x. AllByRecursion (λ t. IsSettled compare entries (word x) t.1) p)
+      → IfSome best (λ b. AllByRecursion (λ t. word_cmp b.word t.1 ≡ Greater) p) → choice_from compare entries best p ≡ best
+  ends_search word None best p reached settled behind = absurd reached
+  ends_search word (Some x) None p reached settled behind = absurd reached
+  ends_search word (Some x) (Some b) p reached settled behind = choice_stays (word x) b p reached settled behind
