@@ -1,4 +1,4 @@
-use Rattle.std.proofs.Common.{rules, ◌≡◌, ℕ, ◌+◌, ◌<◌, ◌≤◌, List, ◌∷◌, length, take, drop, get_or, Option, None, IfSome, IsSomeAnd, true, sym, ap, subst, ◌∙◌, arith}
+use Rattle.std.proofs.Common.{rules, ◌≡◌, ℕ, ◌+◌, ◌<◌, ◌≤◌, List, ◌∷◌, length, take, drop, get_or, nat_lt, Bool, Option, Some, None, IsTrue, IfSome, IsSomeAnd, true, sym, ap, subst, ◌∙◌, arith}
 use Rattle.std.specs.List.{All, AllByRecursion}
 use Rattle.std.specs.declared.cmp.Ordering.TheVariants.{Greater}
 use Rattle.std.proofs.lemmas.List.{get_or-take, length-take}
@@ -13,11 +13,14 @@ use Rattle.nc_polynomial.specs.Shape.{IsCanonical}
 use Rattle.nc_polynomial.proofs.Steps.{drop_next}
 use Rattle.nc_polynomial.proofs.Shapes.{Descends, recursion_from_IsDescending}
 use Rattle.word_orders.specs.Admissible.{Compare}
+use Rattle.word_orders.specs.Measured.{measured_cmp}
+use Rattle.rule_index.specs.Matches.{match_of}
+use Rattle.std.specs.Option.{option_map}
 use Rattle.word_orders.specs.Limits.{measured_letters}
 use Rattle.rule_reduce.specs.declared.state.Choice.{Choice}
-use Rattle.rule_reduce.specs.Choices.{better_choice, choice_from, IsSettled}
+use Rattle.rule_reduce.specs.Choices.{better_choice, choice_from, IsSettled, Passes}
 use Rattle.rule_reduce.proofs.BetterChoices.{holds-better}
-use Rattle.rule_reduce.proofs.Measures.{ends_search}
+use Rattle.rule_reduce.proofs.Measures.{ends_search, passes_greater}
 use Rattle.rule_reduce.proofs.FirstChoices.{plain_order, settled_front, holds-choice}
 use Rattle.rule_reduce.proofs.choosing.best_choice.Goals as goal
 
@@ -40,13 +43,31 @@ in_front p t i n w all inside is front =
 abbrev IsBehind : List Term → Choice → Type 0
 IsBehind p c = AllByRecursion (λ t. word_cmp c.word t.1 ≡ Greater) p
 
+-- a term whose measure passes that of the last word is settled
+passed : {X : Type 0} (compare : Compare) (measure : List ℕ → ℕ) → ((u v : List ℕ) → compare u v ≡ measured_cmp measure u v) → (entries : List (List ℕ × ℕ)) (word : X → List ℕ) (last : Option X) (t : Term) (is_above : Bool)
+    → IfSome last (λ x. IsTrue is_above → word_cmp t.1 (word x) ≡ Greater) → IfSome last (λ x. IsSettled compare entries (word x) t.1)
+    → IfSome (option_map (λ x. measure (word x)) last) (λ b. Passes b (measure t.1) is_above → match_of entries t.1 ≡ None)
+passed compare measure by_measure entries word None t is_above above settled = tt
+passed compare measure by_measure entries word (Some x) t is_above above settled = λ passes. settled (passes_greater compare measure by_measure (word x) t.1 is_above above passes)
+
 pub improve-better-requires-clause-settled : goal.improve-better-requires-clause-settled
 improve-better-requires-clause-settled g c =
-    let compare = g.O.WordOrder.compare c.args.order.now in
+    let order = c.args.order.now in
+    let compare = g.O.WordOrder.compare order in
+    let measure = g.O.WordOrder.measure_of order in
     let entries = c.args.index.now in
+    let p = c.args.terms.now in
+    let i = c.loop-place.place in
+    let n = c.args.above in
     let t : Term = c.index-terms-place.result in
-    IfSome_then c.args.last c.requires.settled
-    (λ w all. subst (λ (u : Term). IsSettled compare entries w.now u.1) (sym c.index-terms-place.is) (all c.loop-place.place t c.loop-place-test.true))
+    let settled = IfSome_then c.args.last c.requires.settled
+    (λ w all. subst (λ (u : Term). IsSettled compare entries w.now u.1) (sym c.index-terms-place.is) (all i t c.loop-place-test.true)) in
+    let front : IsTrue (nat_lt i n) → i < n = λ yes. search (rules, yes) in
+    let above = IfSome_then c.args.last c.requires.above
+    (λ w all yes. in_front p t i n w.now all c.loop-place-test.true c.index-terms-place.is (front yes)) in
+    let bound = c.last_measure-bound.ensures in
+    let whole = passed compare measure (λ u v. g.met.O.WordOrder.by_measure order u v) entries (λ w. w.now) c.args.last t (nat_lt i n) above settled in
+    subst (λ o. IfSome o (λ b. Passes b (measure t.1) (nat_lt i n) → match_of entries t.1 ≡ None)) (sym bound) whole
 
 pub improve-better-requires-clause-behind : goal.improve-better-requires-clause-behind
 improve-better-requires-clause-behind g c =
@@ -55,15 +76,6 @@ improve-better-requires-clause-behind g c =
     let t : Term = c.index-terms-place.result in
     let back : drop i p ≡ t ∷ drop (i + 1) p = drop_next p i t c.loop-place-test.true c.index-terms-place.is in
     IfSome_then c.loop-place.best c.loop-place.invariant.behind (λ b below. (subst (λ q. IsBehind q b) back below).0)
-
-pub improve-better-requires-clause-above : goal.improve-better-requires-clause-above
-improve-better-requires-clause-above g c =
-    let p = c.args.terms.now in
-    let i = c.loop-place.place in
-    let n = c.args.above in
-    let t : Term = c.index-terms-place.result in
-    IfSome_then c.args.last c.requires.above
-    (λ w all yes. in_front p t i n w.now all c.loop-place-test.true c.index-terms-place.is (search rules))
 
 pub improve-better-requires-clause-short : goal.improve-better-requires-clause-short
 improve-better-requires-clause-short g c =
@@ -78,6 +90,7 @@ loop-place-init g c =
       best_in = search rules;
       best_over = search rules;
       best_short = search rules;
+      most = search rules;
       behind = search rules;
       descends = recursion_from_IsDescending c.args.terms.now c.requires.canonical.shaped.descending;
       same = search rules;
@@ -128,6 +141,7 @@ loop-place-preserved g c =
       best_in = kept_by (λ b. IsCoefficient b.coefficient) compare entries t c.loop-place.best next exact (λ m. in_range_there letters p t i inside is canonical) at.best_in;
       best_over = kept_by (λ b. IsOver letters b.word) compare entries t c.loop-place.best next exact (λ m. over_there letters p t i inside is canonical c.requires.over) at.best_over;
       best_short = kept_by (λ b. length b.word ≤ measured_letters) compare entries t c.loop-place.best next exact (λ m. short_there letters p t i inside is canonical) at.best_short;
+      most = search rules;
       behind = next_behind letters p t i inside is canonical compare entries c.loop-place.best next exact at.descends at.behind;
       descends = (subst Descends back at.descends).1;
       same = next_choice compare entries p t i c.loop-place.best next _ back exact at.same;
@@ -176,7 +190,9 @@ returns-then-is_last-clause-exact g c =
     let behind = next_behind 0 p t i inside is c.requires.canonical compare entries c.loop-place.best next exact at.descends at.behind in
     let settled = IfSome_then c.args.last c.requires.settled
     (λ w all. recursion_from_All (λ u. IsSettled compare entries w.now u.1) (drop (i + 1) p) (All-drop (λ u. IsSettled compare entries w.now u.1) (i + 1) p all)) in
-    let reached : IsSomeAnd c.args.last (λ w. IsSomeAnd next (λ b. measure w.now ≤ measure b.word)) = search rules in
+    let bound : c.last_measure-bound.result ≡ option_map (λ w. measure w.now) c.args.last = search rules in
+    let told : IsSomeAnd c.last_measure-bound.result (λ m. IsSomeAnd next (λ b. m ≤ measure b.word)) = search rules in
+    let reached = subst (λ o. IsSomeAnd o (λ m. IsSomeAnd next (λ b. m ≤ measure b.word))) bound told in
     let stays = ends_search compare measure (λ u v. g.met.O.WordOrder.by_measure order u v) entries (λ w. w.now) c.args.last next (drop (i + 1) p) reached settled behind in
     sym stays ∙ next_choice compare entries p t i c.loop-place.best next _ back exact at.same
 
