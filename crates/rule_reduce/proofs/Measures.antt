@@ -16,7 +16,8 @@ use Rattle.word_orders.specs.Measured.{measured_cmp}
 use Rattle.nc_polynomial.specs.Terms.{by_order}
 use Rattle.rule_index.specs.Matches.{match_of}
 use Rattle.rule_reduce.specs.declared.state.Choice.{Choice}
-use Rattle.rule_reduce.specs.Choices.{better_choice, choice_or, choice_from, IsSettled, Passes}
+use Rattle.rule_reduce.specs.Choices.{better_choice, choice_or, choice_from, IsSettled}
+use Rattle.rule_reduce.specs.Passing.{Passes}
 
 unlike : Less ≡ Greater → ⊥
 unlike e = cc

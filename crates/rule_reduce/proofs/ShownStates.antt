@@ -8,7 +8,8 @@ use Rattle.coef_int.specs.Operations.{product_of, first_overflow}
 use Rattle.traced_rows.specs.declared.Row.{Row}
 use Rattle.rule_reduce.specs.declared.state.State.{State}
 use Rattle.rule_reduce.specs.declared.state.Progress.{Progress}
-use Rattle.rule_reduce.specs.Steps.{coefficients, products_by, row_operations, multiplied_row, IsInRange}
+use Rattle.rule_reduce.specs.Steps.{row_operations, multiplied_row, IsInRange}
+use Rattle.rule_reduce.specs.Stores.{coefficients, products_by}
 use Rattle.rule_reduce.specs.Stores.{with_rows, Shows, IsBounded, without_rows}
 
 pub products-coefficients : (rows : List Row) (by : ℤ) → products_by by (coefficients rows) ≡ row_operations rows by

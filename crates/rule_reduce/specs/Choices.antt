@@ -1,5 +1,5 @@
 -- The term that is reduced next, by which rule, and at which place.
-use Rattle.std.specs.Prelude.{◌≡◌, ◌<◌, ◌↔◌, ◌⊎◌, ℕ, Bool, IsTrue, List, [], ◌∷◌, Option, Some, None, Contains}
+use Rattle.std.specs.Prelude.{◌≡◌, ◌<◌, ◌↔◌, ℕ, List, [], ◌∷◌, Option, Some, None, Contains}
 use Rattle.std.specs.List.{All}
 use Rattle.std.specs.declared.cmp.Ordering.TheVariants.{Greater}
 use Rattle.word_core.specs.Canonical.{word_cmp}
@@ -49,10 +49,6 @@ IsPlain compare = (u v : List ℕ) → compare u v ≡ word_cmp u v
 -- no leading word occurs in the word if it is above the last one that was reduced
 abbrev pub IsSettled : Compare → List (List ℕ × ℕ) → List ℕ → List ℕ → Type 0
 IsSettled compare entries last w = compare w last ≡ Greater → match_of entries w ≡ None
-
--- a measure above that of the last word, or the same one of a word that is canonically above it
-abbrev pub Passes : ℕ → ℕ → Bool → Type 0
-Passes bound measure is_above = (bound < measure) ⊎ (IsTrue is_above × (measure ≡ bound))
 
 -- In an admissible order, the choice that this computes is the one that there is.
 abbrev pub ChoicesAreExact : Type 0

@@ -36,13 +36,6 @@ multiplied_row by row = record row { coef = row.coef *ℤ by }
 abbrev pub row_operations : List Row → ℤ → List Overflow
 row_operations rows by = map (λ row. product_of row.coef by) rows
 
--- the coefficients of rows, and the products of coefficients with a number
-abbrev pub coefficients : List Row → List ℤ
-coefficients rows = map (λ row. row.coef) rows
-
-abbrev pub products_by : ℤ → List ℤ → List Overflow
-products_by by numbers = map (λ z. product_of z by) numbers
-
 -- everything times a number, and its products: of the multiplier, of the polynomial, of the rows
 abbrev pub multiplied_state : ℤ → State → State
 multiplied_state by s = record s { multiplier = s.multiplier *ℤ by; rest = multiplied s.rest by; rows = map (multiplied_row by) s.rows }

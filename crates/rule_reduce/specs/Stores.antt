@@ -1,12 +1,21 @@
 -- Reductions of whose rows a store keeps something.
-use Rattle.std.specs.Prelude.{◌≡◌, ℕ, ℤ, List, Result, Ok, Err}
+use Rattle.std.specs.Prelude.{◌≡◌, ℕ, ℤ, List, map, Result, Ok, Err}
 use Rattle.std.specs.List.{All}
+use Rattle.coef_int.specs.declared.Overflow.{Overflow}
 use Rattle.coef_int.specs.Range.{IsCoefficient}
+use Rattle.coef_int.specs.Operations.{product_of}
 use Rattle.definitions.specs.Poly.{Term}
 use Rattle.nc_polynomial.specs.Shape.{IsCanonical}
 use Rattle.traced_rows.specs.declared.Row.{Row}
 use Rattle.rule_reduce.specs.declared.state.State.{State}
 use Rattle.rule_reduce.specs.declared.state.Progress.{Progress}
+
+-- the coefficients of rows, and the products of coefficients with a number
+abbrev pub coefficients : List Row → List ℤ
+coefficients rows = map (λ row. row.coef) rows
+
+abbrev pub products_by : ℤ → List ℤ → List Overflow
+products_by by numbers = map (λ z. product_of z by) numbers
 
 -- how far a reduction has come, with these rows
 abbrev pub with_rows : {S : Type 0} → Progress S → List Row → State

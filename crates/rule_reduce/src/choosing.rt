@@ -12,7 +12,8 @@ ghost use Rattle.word_orders.specs.Limits.{measured_letters};
 ghost use Rattle.nc_polynomial.specs.Shape.{IsCanonical};
 ghost use Rattle.nc_polynomial.specs.Terms.{IsDescending};
 ghost use Rattle.rule_index.specs.Matches.{match_of};
-ghost use Rattle.rule_reduce.specs.Choices.{better_choice, choice_of, IsPlain, IsSettled, Passes};
+ghost use Rattle.rule_reduce.specs.Choices.{better_choice, choice_of, IsPlain, IsSettled};
+ghost use Rattle.rule_reduce.specs.Passing.{Passes};
 
 use crate::adding::count_above;
 use crate::state::Choice;

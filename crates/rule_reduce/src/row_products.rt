@@ -4,7 +4,8 @@ ghost use Rattle.std.specs.Prelude.{◌≡◌, ◌*ℤ◌, map, MatchResult, IfO
 ghost use Rattle.std.specs.List.{All};
 ghost use Rattle.coef_int.specs.Range.{IsCoefficient};
 ghost use Rattle.coef_int.specs.Operations.{first_overflow};
-ghost use Rattle.rule_reduce.specs.Steps.{multiplied_row, products_by, row_operations};
+ghost use Rattle.rule_reduce.specs.Steps.{multiplied_row, row_operations};
+ghost use Rattle.rule_reduce.specs.Stores.{products_by};
 
 use coef_int::Overflow;
 use lists::Listing;

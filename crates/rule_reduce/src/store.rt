@@ -5,7 +5,8 @@ ghost use Rattle.std.specs.List.{All};
 ghost use Rattle.coef_int.specs.Range.{IsCoefficient};
 ghost use Rattle.coef_int.specs.Operations.{first_overflow};
 ghost use Rattle.traced_rows.specs.declared.Row.{Row};
-ghost use Rattle.rule_reduce.specs.Steps.{multiplied_row, coefficients, products_by};
+ghost use Rattle.rule_reduce.specs.Steps.{multiplied_row};
+ghost use Rattle.rule_reduce.specs.Stores.{coefficients, products_by};
 
 use crate::row_products::{multiply_numbers, multiply_rows};
 use coef_int::Overflow;

@@ -18,7 +18,8 @@ use Rattle.rule_index.specs.Matches.{match_of}
 use Rattle.std.specs.Option.{option_map}
 use Rattle.word_orders.specs.Limits.{measured_letters}
 use Rattle.rule_reduce.specs.declared.state.Choice.{Choice}
-use Rattle.rule_reduce.specs.Choices.{better_choice, choice_from, IsSettled, Passes}
+use Rattle.rule_reduce.specs.Choices.{better_choice, choice_from, IsSettled}
+use Rattle.rule_reduce.specs.Passing.{Passes}
 use Rattle.rule_reduce.proofs.BetterChoices.{holds-better}
 use Rattle.rule_reduce.proofs.Measures.{ends_search, passes_greater}
 use Rattle.rule_reduce.proofs.FirstChoices.{plain_order, settled_front, holds-choice}
