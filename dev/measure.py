@@ -1,6 +1,6 @@
 #!/usr/bin/env -S PYTHONPATH=python/src:python/tests python3 -B
-"""Measures opprove beside plain programs: measure.py [WORD | TABLE [NAME] ..], with prove, counts, workers, refute, explain, confirm
-or cancel for TABLE
+"""Measures opprove beside plain programs: measure.py [WORD | TABLE [NAME] ..], with prove, counts, workers, orders, refute, explain,
+confirm or cancel for TABLE
 
 Makes statements and certificates that are small and cost much, or are as large as may be, runs `opprove check` and
 dev/plain.rs on each, and prints a table in Markdown: processor time and peak memory of both, the least of three
@@ -256,7 +256,8 @@ def check_rows(words: List[str], folder: Path) -> Text:
 
 
 TABLES = {
-    "prove": measure_prove.rows, "counts": measure_prove.count_rows, "workers": measure_prove.worker_rows, "refute": measure_refute.rows,
+    "prove": measure_prove.rows, "counts": measure_prove.count_rows, "workers": measure_prove.worker_rows,
+    "orders": measure_prove.order_rows, "refute": measure_refute.rows,
     "explain": measure_explain.rows, "confirm": measure_confirm.rows, "cancel": measure_cancel.rows,
 }  # fmt: skip
 

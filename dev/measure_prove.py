@@ -1,10 +1,11 @@
-"""The tables of `measure.py prove`, `counts` and `workers`: runs of `prove` beside those of dev/plain_run.rs.
+"""The tables of `measure.py prove`, `counts`, `workers` and `orders`: runs of `prove` beside those of dev/plain_run.rs.
 
 Ten problems of the examples and of the generators beside this file, each with so many pairs, in format 1, with one worker
 and without models. Both programs have to print the same head lines. What `prove` reads is the statement; the plain program
 reads the tree that tree.py makes of it. PAIRS behind the word makes the rows with so many pairs, and NAME those whose name
 begins so. `growth` is by how many times the seconds of `prove` grow from one number of pairs to the next. `counts` has the
-instructions of both by valgrind's callgrind, which no other work on the machine changes.
+instructions of both by valgrind's callgrind, which no other work on the machine changes, and `orders` those of a step
+of its reductions, for the files of the library with `eliminate` or `order weight` and for the same by degrees.
 """
 from __future__ import annotations
 
@@ -129,3 +130,58 @@ def worker_rows(words: List[str], folder: Path) -> Text:
             alone, report = alone or usage, report or out.read_text(encoding="utf-8")
             shares = [f"{alone.wall / usage.wall:.2f}", quotient_text(usage, alone)]
             yield line(name, f"{pairs:,}", f"{workers}", f"{usage.wall:.3f}", f"{usage.seconds:.3f}", *shares)
+
+
+ORDER = re.compile(r"^(?:eliminate|order weight) .*$", re.MULTILINE)
+
+
+def ordered(starts: Tuple[str, ...]) -> List[Path]:
+    """The files of the library with an order that isn't by degrees, whose paths begin with one of the words."""
+    paths = sorted(path for path in LIBRARY.rglob("*.op") if str(path.relative_to(LIBRARY)).startswith(starts))
+    return [path for path in paths if ORDER.search(path.read_text(encoding="utf-8"))]
+
+
+def steps_counted(counts: Path) -> Tuple[int, int]:
+    """The calls of a step in callgrind's file, and the instructions of all choices and steps with what they call.
+
+    A function's name stands behind its number once; the line behind that of a call ends with the instructions.
+    """
+    names: Dict[str, str] = {}
+    called, steps, instructions = "", 0, 0
+    with counts.open(encoding="utf-8", errors="replace") as lines:
+        for text in lines:
+            named = re.match(r"(c?)fn=\((\d+)\) ?(.*)", text)
+            if named:
+                names.setdefault(named.group(2), named.group(3))
+                called = names[named.group(2)] if named.group(1) else ""
+            elif text.startswith("calls=") and re.search("::(choose|take_step)\\b", called):
+                steps += int(text[len("calls="):].split()[0]) * ("take_step" in called)
+                instructions += int(next(lines).split()[-1])
+    return steps, instructions
+
+
+def per_step(text: str, pairs: int, folder: Path) -> Tuple[int, float]:
+    """How many steps a run of `prove` makes, and the instructions of its reductions over them."""
+    statement = folder / "statement.op"
+    write(statement, iter([text]))
+    counted(prove_words(statement, pairs, 1), folder)
+    steps, instructions = steps_counted(folder / "counts")
+    return steps, instructions / max(steps, 1)
+
+
+def order_rows(words: List[str], folder: Path) -> Text:
+    """Instructions a step of a reduction, its choice included, in the order of a file and by degrees."""
+    counts = [int(word) for word in words if word.isdecimal()]
+    starts = tuple(word for word in words if not word.isdecimal()) or ("",)
+    yield head("pairs", "steps", "instructions a step", "by degrees: steps", "instructions a step", "quotient")
+    for pairs in counts or PAIRS[:1]:
+        shares = []
+        for path in ordered(starts):
+            text = path.read_text(encoding="utf-8")
+            steps, own = per_step(text, pairs, folder)
+            others, other = per_step(ORDER.sub("order degree", text), pairs, folder)
+            shares.append(own / other)
+            cells = [f"{steps:,}", f"{own:,.0f}", f"{others:,}", f"{other:,.0f}", f"{shares[-1]:.2f}"]
+            yield line(str(path.relative_to(LIBRARY)), f"{pairs:,}", *cells)
+        if shares:
+            yield line("mean; greatest", f"{pairs:,}", "", "", "", "", f"{sum(shares) / len(shares):.2f}; {max(shares):.2f}")

@@ -51,8 +51,8 @@ fn reduce(rules: &Rules<AnyOrder>, poly: &Poly) -> Result<Poly, ReduceFault>
     requires { All (λ t. IsOver (letters_of rules.now.order) t.1) poly.now.terms }
     ensures { IsAnswer result (rest_by (made_cmp rules.now.order) rules.now.rules (Ok poly.now.terms)) }
 {
-    let reduced = rules.normal_form(poly, step_limit())?;
-    Ok(reduced.rest)
+    let remainder = rules.remainder(poly, step_limit())?;
+    Ok(remainder.rest)
 }
 
 // What they leave of the S-polynomial of an ambiguity.

@@ -33,7 +33,7 @@ pub all-negated : (p : List Term) → All (λ t. IsCoefficient t.0) p → All (�
 all-negated p h = All-from_recursion (λ t. IsCoefficient t.0) (negated p) (all_negated p (recursion_from_All (λ t. IsCoefficient t.0) p h))
 
 -- want of memory explains anything
-pub memory-explains : {A : Type 0} (r : Result A PolyFault) → IsErr r × IsErrAnd r IsMemory → (P : A → Type 0) (whole : Result A PolyFault) → MatchResult r P (Explains whole)
+pub memory-explains : {A B : Type 0} (r : Result A PolyFault) → IsErr r × IsErrAnd r IsMemory → (P : A → Type 0) (whole : Result B PolyFault) → MatchResult r P (Explains whole)
 memory-explains (Ok x) is P whole = absurd is.1
 memory-explains (Err e) is P whole = go e is.1
   where

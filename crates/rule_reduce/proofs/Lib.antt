@@ -5,6 +5,7 @@ pub mod Exits
 pub mod InFront
 pub mod InPlace
 pub mod Rounds
+pub mod ShownStates
 pub mod Runs
 pub mod Balance
 pub mod Multipliers
@@ -13,6 +14,7 @@ pub mod Irreducible
 pub mod Matched
 pub mod AtMost
 pub mod BetterChoices
+pub mod Measures
 pub mod FirstChoices
 pub mod Chosen
 pub mod WordsKept

@@ -14,8 +14,10 @@ pub use Rattle.rule_index.specs.Matches
 pub mod Leading
 pub mod RuleLists
 pub mod Choices
+pub mod Passing
 pub mod Adding
 pub mod Steps
+pub mod Stores
 pub mod NormalForms
 pub mod Laws
 pub mod KeptWords

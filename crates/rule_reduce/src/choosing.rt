@@ -1,7 +1,8 @@
 //! The choice of a step: the greatest word that can be reduced, the least rule for it, and its leftmost place.
 
-ghost use Rattle.std.specs.Prelude.{◌≡◌, ◌↔◌, ◌≤◌, length, take, IfOk, IfSome, IfNone, IsTrue, None};
+ghost use Rattle.std.specs.Prelude.{◌≡◌, ◌↔◌, ◌≤◌, length, take, IfOk, IfSome, IfNone, IsSomeAnd, IsTrue, None};
 ghost use Rattle.std.specs.List.{All};
+ghost use Rattle.std.specs.Option.{option_map};
 ghost use Rattle.std.specs.declared.cmp.Ordering.TheVariants.{Greater};
 ghost use Rattle.coef_int.specs.Range.{IsCoefficient};
 ghost use Rattle.word_core.specs.Canonical.{word_cmp};
@@ -12,6 +13,7 @@ ghost use Rattle.nc_polynomial.specs.Shape.{IsCanonical};
 ghost use Rattle.nc_polynomial.specs.Terms.{IsDescending};
 ghost use Rattle.rule_index.specs.Matches.{match_of};
 ghost use Rattle.rule_reduce.specs.Choices.{better_choice, choice_of, IsPlain, IsSettled};
+ghost use Rattle.rule_reduce.specs.Passing.{Passes};
 
 use crate::adding::count_above;
 use crate::state::Choice;
@@ -98,11 +100,37 @@ fn best_choice<'a, O: WordOrder>(
     if order.is_canonical() {
         return first_choice(index, terms, above);
     }
+    let bound = last_measure(order, last);
     let mut best = None;
+    let mut most = 0;
     for place in 0..terms.len() {
-        best = improve(order, index, last, place < above, best, &terms[place]);
+        let (better, measure, is_last) = improve(
+            order,
+            index,
+            bound,
+            place < above,
+            best,
+            most,
+            &terms[place],
+        );
+        best = better;
+        most = measure;
+        if is_last {
+            return best;
+        }
     }
     best
+}
+
+// The measure of the last word that was reduced, if there is one.
+fn last_measure<O: WordOrder>(order: &O, last: Option<&Word>) -> Option<u32>
+    requires { IfSome last (λ w. length w.now ≤ measured_letters) }
+    ensures { result ≡ option_map (λ w. O.measure_of order.now w.now) last.entry }
+{
+    match last {
+        Some(last) => Some(order.measure(last)),
+        None => None,
+    }
 }
 
 // The first term from the place on that can be reduced, which in the canonical order is the greatest one.
@@ -138,78 +166,77 @@ fn count_above_last(terms: &[(i128, Word)], last: Option<&Word>) -> usize
     }
 }
 
-// The better of the choice so far and a term behind it. The term's word is searched only where it is greater.
+// The better of the choice so far, whose measure is `most`, and a term behind it, the measure of the better one, and whether no
+// term behind is better still. The term's word is searched only where it is greater.
 fn improve<'a, O: WordOrder>(
     order: &O,
     index: &Index,
-    last: Option<&Word>,
+    bound: Option<u32>,
     is_above: bool,
     best: Option<Found<'a>>,
+    most: u32,
     term: &'a (i128, Word),
-) -> Option<Found<'a>>
-    requires last_short { IfSome last (λ w. length w.now ≤ measured_letters) }
-    requires above { IfSome last (λ w. IsTrue is_above → word_cmp term.now.1 w.now ≡ Greater) }
-    requires settled { IfSome last (λ w. IsSettled (O.compare order.now) index.now w.now term.now.1) }
-    requires best_short { IfSome best (λ c. length c.word ≤ measured_letters) }
-    requires behind { IfSome best (λ c. word_cmp c.word term.now.1 ≡ Greater) }
+) -> (Option<Found<'a>>, u32, bool)
     requires short { length term.now.1 ≤ measured_letters }
-    ensures { result ≡ better_choice (O.compare order.now) index.now best.entry term.now }
+    requires settled { IfSome bound (λ b. Passes b (O.measure_of order.now term.now.1) is_above → match_of index.now term.now.1 ≡ None) }
+    requires most { IfSome best (λ c. most ≡ O.measure_of order.now c.word) }
+    requires behind { IfSome best (λ c. word_cmp c.word term.now.1 ≡ Greater) }
+    ensures better { result.0 ≡ better_choice (O.compare order.now) index.now best.entry term.now }
+    ensures most { IfSome result.0 (λ c. result.1 ≡ O.measure_of order.now c.word) }
+    ensures last { IsTrue result.2 → IsSomeAnd bound (λ b. IsSomeAnd result.0 (λ c. b ≤ O.measure_of order.now c.word)) }
 {
-    if let Some(old) = &best {
-        if !is_greater(order, &term.1, &old.term.1) {
-            return best;
+    let measure = order.measure(&term.1);
+    if best.is_some() && measure <= most {
+        return (best, most, false);
+    }
+    match first_match(index, bound, is_above, measure, &term.1) {
+        Some((number, place)) => {
+            let found = Found {
+                term,
+                number,
+                place,
+            };
+            (Some(found), measure, reaches(measure, bound))
         }
+        None => (best, most, false),
     }
-    match first_match(order, index, last, is_above, &term.1) {
-        Some((number, place)) => Some(Found {
-            term,
-            number,
-            place,
-        }),
-        None => best,
-    }
-}
-
-// Whether a word is greater than one that is canonically above it.
-fn is_greater<O: WordOrder>(order: &O, word: &Word, above: &Word) -> bool
-    requires short { length word.now ≤ measured_letters }
-    requires above_short { length above.now ≤ measured_letters }
-    requires above { word_cmp above.now word.now ≡ Greater }
-    ensures { IsTrue result ↔ (O.compare order.now word.now above.now ≡ Greater) }
-{
-    order.measure(word) > order.measure(above)
 }
 
 // The first rule whose leading word occurs in the word, and its leftmost place.
-fn first_match<O: WordOrder>(
-    order: &O,
+fn first_match(
     index: &Index,
-    last: Option<&Word>,
+    bound: Option<u32>,
     is_above: bool,
+    measure: u32,
     word: &Word,
 ) -> Option<(u32, usize)>
-    requires short { length word.now ≤ measured_letters }
-    requires last_short { IfSome last (λ w. length w.now ≤ measured_letters) }
-    requires above { IfSome last (λ w. IsTrue is_above → word_cmp word.now w.now ≡ Greater) }
-    requires settled { IfSome last (λ w. IsSettled (O.compare order.now) index.now w.now word.now) }
+    requires settled { IfSome bound (λ b. Passes b measure is_above → match_of index.now word.now ≡ None) }
     ensures { result ≡ match_of index.now word.now }
 {
-    if let Some(last) = last {
-        if exceeds(order, word, last, is_above) {
-            return None;
-        }
+    if passes(measure, bound, is_above) {
+        return None;
     }
     index.first_match(word)
 }
 
-// Whether the measures show that a word is greater than another one. Where `is_above` is set, it is canonically above it.
-fn exceeds<O: WordOrder>(order: &O, word: &Word, other: &Word, is_above: bool) -> bool
-    requires short { length word.now ≤ measured_letters }
-    requires other_short { length other.now ≤ measured_letters }
-    requires above { IsTrue is_above → word_cmp word.now other.now ≡ Greater }
-    ensures { IsTrue result → O.compare order.now word.now other.now ≡ Greater }
+// Whether a measure shows that a word is greater than the last one, whose measure is the bound. Where `is_above` is set, it is
+// canonically above it.
+fn passes(measure: u32, bound: Option<u32>, is_above: bool) -> bool
+    ensures { IsTrue result → IsSomeAnd bound (λ b. Passes b measure is_above) }
 {
-    let measure = order.measure(word);
-    let bound = order.measure(other);
-    measure > bound || is_above && measure == bound
+    match bound {
+        Some(bound) => measure > bound || is_above && measure == bound,
+        None => false,
+    }
+}
+
+// Whether there is a last word and the measure is at least its own. Then no word canonically below that of the measure that
+// can be reduced is greater.
+fn reaches(measure: u32, bound: Option<u32>) -> bool
+    ensures { IsTrue result → IsSomeAnd bound (λ b. b ≤ measure) }
+{
+    match bound {
+        Some(bound) => measure >= bound,
+        None => false,
+    }
 }

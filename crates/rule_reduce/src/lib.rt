@@ -12,6 +12,7 @@ mod rule;
 mod rules;
 mod state;
 mod stepping;
+mod store;
 
 pub use fault::ReduceFault;
 pub use laws::{
@@ -20,4 +21,4 @@ pub use laws::{
 };
 pub use row_products::multiply_rows;
 pub use rule::{Rule, lead_place, leading_place, rule_with};
-pub use rules::{Reduced, Rules};
+pub use rules::{Reduced, Remainder, Rules};

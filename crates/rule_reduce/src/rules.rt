@@ -7,10 +7,11 @@ ghost use Rattle.rule_reduce.specs.RuleLists.{IsRule, entries_of};
 use crate::choosing::choose;
 use crate::fault::halt;
 use crate::making::{has_no_empty_word, is_led_by_positive, is_primitive, make_rule};
-use crate::state::State;
-use crate::stepping::take_step;
+use crate::state::Progress;
+use crate::stepping::{start, take_step};
+use crate::store::RowStore;
 use crate::{ReduceFault, Rule};
-use lists::{Duplicate, Listing};
+use lists::Listing;
 use nc_polynomial::Poly;
 use rule_index::Index;
 use std::alloc::{AllocError, Global};
@@ -27,6 +28,17 @@ pub struct Reduced {
     pub rest: Poly,
     /// The multiples of rules that were taken away, in the order of the steps.
     pub rows: Listing<Row>,
+    /// The number of steps.
+    pub used: u32,
+}
+
+/// A normal form without its rows: the multiplier times the polynomial is the rest plus a sum of multiples of rules.
+#[derive(Drop)]
+pub struct Remainder {
+    /// By what the polynomial is multiplied.
+    pub multiplier: i128,
+    /// What is left. No word of it has a leading word in it.
+    pub rest: Poly,
     /// The number of steps.
     pub used: u32,
 }
@@ -55,8 +67,8 @@ impl<O: WordOrder + Drop> Rules<O> {
     ghost use Rattle.nc_polynomial.specs.Shape.{IsCanonical};
     ghost use Rattle.rule_reduce.specs.Leading.{leading_term};
     ghost use Rattle.rule_reduce.specs.RuleLists.{rule_at, rule_from};
-    ghost use Rattle.rule_reduce.specs.Steps.{IsInRange};
-    ghost use Rattle.rule_reduce.specs.NormalForms.{normal_form_of, reduction, start_of, ExplainsHalt};
+    ghost use Rattle.rule_reduce.specs.Stores.{without_rows, IsBounded, Shows};
+    ghost use Rattle.rule_reduce.specs.NormalForms.{normal_form_of, ExplainsHalt};
 
     /// No rules, with an order of words.
     pub fn new(alloc: Global, order: O) -> Result<Rules<O>, AllocError>
@@ -163,13 +175,8 @@ impl<O: WordOrder + Drop> Rules<O> {
             ≡ Ok (record { multiplier = r.multiplier; rest = r.rest.terms; rows = r.rows; used = r.used }))
             (ExplainsHalt (normal_form_of (O.compare self.now.order) self.now.rules poly.now.terms steps)) }
     {
-        let start = State {
-            multiplier: 1,
-            rest: poly.terms.duplicate()?,
-            rows: Listing::new(self.rules.allocator()),
-            used: 0,
-        };
-        let end = self.reduce(start, steps)?;
+        let rows: Listing<Row> = Listing::new(self.rules.allocator());
+        let end = self.reduce(poly, rows, steps)?;
         Ok(Reduced {
             multiplier: end.multiplier,
             rest: Poly { terms: end.rest },
@@ -178,18 +185,43 @@ impl<O: WordOrder + Drop> Rules<O> {
         })
     }
 
-    // Steps until no word can be reduced.
-    fn reduce(&self, start: State, steps: u32) -> Result<State, ReduceFault>
-        requires over { All (λ t. IsOver (O.letters self.now.order) t.1) start.rest }
-        requires in_range { IsInRange start }
-        requires unused { start.used ≡ 0 }
-        ensures canonical { IfOk result (λ t. IsCanonical t.rest) }
-        ensures in_range { IfOk result IsInRange }
-        ensures over { IfOk result (λ t. All (λ u. IsOver (O.letters self.now.order) u.1) t.rest) }
-        ensures exact { MatchResult result (λ t. reduction steps (O.compare self.now.order) self.now.rules steps start ≡ Ok t)
-            (ExplainsHalt (reduction steps (O.compare self.now.order) self.now.rules steps start)) }
+    /// What the rules leave of the polynomial: the same normal form without its rows, of which the coefficients alone are
+    /// kept meanwhile.
+    pub fn remainder(&self, poly: &Poly, steps: u32) -> Result<Remainder, ReduceFault>
+        requires over { All (λ t. IsOver (O.letters self.now.order) t.1) poly.now.terms }
+        ensures over { IfOk result (λ r. All (λ t. IsOver (O.letters self.now.order) t.1) r.rest.terms) }
+        ensures multiplier_in { IfOk result (λ r. IsCoefficient r.multiplier) }
+        ensures exact { MatchResult result
+            (λ r. without_rows (normal_form_of (O.compare self.now.order) self.now.rules poly.now.terms steps)
+            ≡ Ok (r.multiplier, r.rest.terms, r.used))
+            (ExplainsHalt (normal_form_of (O.compare self.now.order) self.now.rules poly.now.terms steps)) }
     {
-        let mut state = start;
+        let numbers: Listing<i128> = Listing::new(self.rules.allocator());
+        let end = self.reduce(poly, numbers, steps)?;
+        Ok(Remainder {
+            multiplier: end.multiplier,
+            rest: Poly { terms: end.rest },
+            used: end.used,
+        })
+    }
+
+    // Steps until no word can be reduced. The store has no rows yet.
+    fn reduce<S: RowStore>(
+        &self,
+        poly: &Poly,
+        rows: S,
+        steps: u32,
+    ) -> Result<Progress<S>, ReduceFault>
+        requires over { All (λ t. IsOver (O.letters self.now.order) t.1) poly.now.terms }
+        requires none { rows ≡ S.of [] }
+        ensures canonical { IfOk result (λ t. IsCanonical t.rest) }
+        ensures in_range { IfOk result (IsBounded S.numbers) }
+        ensures over { IfOk result (λ t. All (λ u. IsOver (O.letters self.now.order) u.1) t.rest) }
+        ensures exact { MatchResult result
+            (Shows S.of (normal_form_of (O.compare self.now.order) self.now.rules poly.now.terms steps))
+            (ExplainsHalt (normal_form_of (O.compare self.now.order) self.now.rules poly.now.terms steps)) }
+    {
+        let mut state = start(poly, rows)?;
         let mut last: Option<Word> = None;
         for _ in 0..steps {
             let terms = state.rest.as_slice();

@@ -13,6 +13,15 @@ pub struct State {
     pub used: u32,
 }
 
+/// The same, with a store that keeps something of the rows.
+#[derive(Drop)]
+pub struct Progress<S> {
+    pub multiplier: i128,
+    pub rest: Listing<(i128, Word)>,
+    pub rows: S,
+    pub used: u32,
+}
+
 /// A term that can be reduced, with the number of a rule and the place of its leading word.
 #[derive(Drop)]
 pub struct Choice {

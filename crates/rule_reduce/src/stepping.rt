@@ -1,40 +1,59 @@
 //! One step of a reduction: a multiple of a rule is taken away, and a row is added.
 
-ghost use Rattle.std.specs.Prelude.{◌≡◌, ◌<◌, ◌≤◌, ◌<ℤ◌, ◌+◌, ◌^◌, ℕ, pos, map, length, MatchResult, IfOk, Ok};
+ghost use Rattle.std.specs.Prelude.{◌≡◌, ◌<◌, ◌≤◌, ◌<ℤ◌, ◌+◌, ◌^◌, ℕ, List, pos, length, MatchResult, IfOk, Ok};
 ghost use Rattle.std.specs.List.{All};
 ghost use Rattle.coef_int.specs.Range.{IsCoefficient};
 ghost use Rattle.word_core.specs.Letters.{IsOver};
 ghost use Rattle.nc_polynomial.specs.Shape.{IsShaped};
 ghost use Rattle.nc_polynomial.specs.Faults.{checked, finished, Explains};
 ghost use Rattle.rule_reduce.specs.Steps.{multiplied_state, state_operations, less_multiple};
-ghost use Rattle.rule_reduce.specs.Steps.{less_operations, move_of, move_row, move_result, step_result, IsInRange};
+ghost use Rattle.rule_reduce.specs.Steps.{less_operations, move_of, move_row, move_result, step_result};
+ghost use Rattle.rule_reduce.specs.Stores.{with_rows, IsBounded, Shows};
+ghost use Rattle.traced_rows.specs.declared.Row.{Row};
 
 use crate::Rule;
 use crate::adding::add_terms;
 use crate::parts::{back, front};
-use crate::row_products::multiply_rows;
 use crate::rule::rule_with;
-use crate::state::{Choice, State};
+use crate::state::{Choice, Progress};
+use crate::store::RowStore;
 use coef_int::{divisor, quotient};
-use lists::Listing;
+use lists::{Duplicate, Listing};
 use nc_polynomial::{Poly, PolyFault, multiply_terms, negate_terms, shift_terms};
 use std::alloc::{AllocError, Global};
 use traced_rows::{Origin, Row};
 use word_core::Word;
 
+// Once the polynomial, with a store of no rows.
+pub(crate) fn start<S: RowStore>(poly: &Poly, rows: S) -> Result<Progress<S>, AllocError>
+    ensures { IfOk result (λ s. s ≡ record { multiplier = pos 1; rest = poly.now.terms; rows = rows; used = 0 }) }
+{
+    Ok(Progress {
+        multiplier: 1,
+        rest: poly.terms.duplicate()?,
+        rows,
+        used: 0,
+    })
+}
+
 // Everything times a number. Where it is 1, everything stays.
-fn multiply_state(alloc: Global, state: State, by: i128) -> Result<State, PolyFault>
+fn multiply_state<S: RowStore>(
+    alloc: Global,
+    state: Progress<S>,
+    by: i128,
+) -> Result<Progress<S>, PolyFault>
     requires factor_in { IsCoefficient by }
-    requires in_range { IsInRange state }
-    ensures in_range { IfOk result IsInRange }
+    requires in_range { IsBounded S.numbers state }
+    ensures in_range { IfOk result (IsBounded S.numbers) }
     ensures used { IfOk result (λ t. t.used ≡ state.used) }
-    ensures exact { MatchResult result (λ t. checked (state_operations by state) (multiplied_state by state) ≡ Ok t)
-        (Explains (checked (state_operations by state) (multiplied_state by state))) }
+    ensures exact { (rows : List Row) → state.rows ≡ S.of rows → MatchResult result
+        (Shows S.of (checked (state_operations by (with_rows state rows)) (multiplied_state by (with_rows state rows))))
+        (Explains (checked (state_operations by (with_rows state rows)) (multiplied_state by (with_rows state rows)))) }
 {
     if by == 1 {
         return Ok(state);
     }
-    let State {
+    let Progress {
         multiplier,
         rest,
         rows,
@@ -45,8 +64,8 @@ fn multiply_state(alloc: Global, state: State, by: i128) -> Result<State, PolyFa
         Err(fault) => return Err(PolyFault::Overflow(fault)),
     };
     let rest = multiply_terms(alloc, rest, by)?;
-    let rows = multiply_rows(rows, by)?;
-    Ok(State {
+    let rows = rows.times(by)?;
+    Ok(Progress {
         multiplier,
         rest,
         rows,
@@ -90,16 +109,22 @@ fn row_of(rule: &Rule, choice: &Choice, times: i128) -> Result<Row, AllocError>
 }
 
 // The step with this choice by its rule.
-fn take_away(alloc: Global, rule: &Rule, choice: &Choice, state: State) -> Result<State, PolyFault>
+fn take_away<S: RowStore>(
+    alloc: Global,
+    rule: &Rule,
+    choice: &Choice,
+    state: Progress<S>,
+) -> Result<Progress<S>, PolyFault>
     requires leading_in { IsCoefficient rule.now.leading }
     requires positive { pos 0 <ℤ rule.now.leading }
     requires choice_in { IsCoefficient choice.now.coefficient }
-    requires in_range { IsInRange state }
+    requires in_range { IsBounded S.numbers state }
     requires steps { state.used + 1 < 2 ^ 32 }
-    ensures in_range { IfOk result IsInRange }
+    ensures in_range { IfOk result (IsBounded S.numbers) }
     ensures steps { IfOk result (λ t. t.used ≤ state.used + 1) }
-    ensures exact { MatchResult result (λ t. move_result (move_of choice.now rule.now) state ≡ Ok t)
-        (Explains (move_result (move_of choice.now rule.now) state)) }
+    ensures exact { (rows : List Row) → state.rows ≡ S.of rows → MatchResult result
+        (Shows S.of (move_result (move_of choice.now rule.now) (with_rows state rows)))
+        (Explains (move_result (move_of choice.now rule.now) (with_rows state rows))) }
 {
     let shared = divisor(choice.coefficient, rule.leading);
     let by = quotient(rule.leading, shared);
@@ -115,25 +140,24 @@ fn take_away(alloc: Global, rule: &Rule, choice: &Choice, state: State) -> Resul
 }
 
 // The step with this choice.
-pub(crate) fn take_step(
+pub(crate) fn take_step<S: RowStore>(
     alloc: Global,
     rules: &[Rule],
     choice: &Choice,
-    state: State,
-) -> Result<State, PolyFault>
+    state: Progress<S>,
+) -> Result<Progress<S>, PolyFault>
     requires leading_in { All (λ g. IsCoefficient g.leading) rules.now }
     requires positive { All (λ g. pos 0 <ℤ g.leading) rules.now }
     requires first { 0 < choice.now.number }
     requires last { choice.now.number ≤ length rules.now }
     requires choice_in { IsCoefficient choice.now.coefficient }
-    requires in_range { IsInRange state }
+    requires in_range { IsBounded S.numbers state }
     requires steps { state.used + 1 < 2 ^ 32 }
-    ensures in_range { IfOk result IsInRange }
+    ensures in_range { IfOk result (IsBounded S.numbers) }
     ensures steps { IfOk result (λ t. t.used ≤ state.used + 1) }
-    ensures letters { IfOk result (λ t. (n : ℕ) → All (λ g. All (λ u. IsOver n u.1) g.poly.terms) rules.now → IsOver n choice.now.word
-        → All (λ u. IsOver n u.1) state.rest → All (λ u. IsOver n u.1) t.rest) }
-    ensures exact { MatchResult result (λ t. step_result rules.now choice.now state ≡ Ok t)
-        (Explains (step_result rules.now choice.now state)) }
+    ensures exact { (rows : List Row) → state.rows ≡ S.of rows → MatchResult result
+        (Shows S.of (step_result rules.now choice.now (with_rows state rows)))
+        (Explains (step_result rules.now choice.now (with_rows state rows))) }
 {
     take_away(alloc, rule_with(rules, choice.number), choice, state)
 }

@@ -1,21 +1,27 @@
-use Rattle.std.proofs.Common.{rules, ◌≡◌, ℕ, ◌+◌, ◌<◌, ◌≤◌, List, ◌∷◌, length, take, drop, get_or, Option, None, IfSome, true, sym, ap, subst, ◌∙◌, arith}
+use Rattle.std.proofs.Common.{rules, ◌≡◌, ℕ, ◌+◌, ◌<◌, ◌≤◌, List, ◌∷◌, length, take, drop, get_or, nat_lt, Bool, Option, Some, None, IsTrue, IfSome, IsSomeAnd, true, sym, ap, subst, ◌∙◌, arith}
 use Rattle.std.specs.List.{All, AllByRecursion}
 use Rattle.std.specs.declared.cmp.Ordering.TheVariants.{Greater}
 use Rattle.std.proofs.lemmas.List.{get_or-take, length-take}
-use Rattle.std.proofs.lemmas.List.Elements.{recursion_from_All}
+use Rattle.std.proofs.lemmas.List.Elements.{recursion_from_All, All-drop}
 use Rattle.std.proofs.lemmas.Option.{IfSome_then}
 use Rattle.coef_int.specs.Range.{IsCoefficient}
 use Rattle.definitions.specs.Poly.{Term}
 use Rattle.word_core.specs.Canonical.{word_cmp}
 use Rattle.word_core.specs.Letters.{IsOver}
 use Rattle.nc_polynomial.specs.Limits.{word_limit}
+use Rattle.nc_polynomial.specs.Shape.{IsCanonical}
 use Rattle.nc_polynomial.proofs.Steps.{drop_next}
 use Rattle.nc_polynomial.proofs.Shapes.{Descends, recursion_from_IsDescending}
 use Rattle.word_orders.specs.Admissible.{Compare}
+use Rattle.word_orders.specs.Measured.{measured_cmp}
+use Rattle.rule_index.specs.Matches.{match_of}
+use Rattle.std.specs.Option.{option_map}
 use Rattle.word_orders.specs.Limits.{measured_letters}
 use Rattle.rule_reduce.specs.declared.state.Choice.{Choice}
 use Rattle.rule_reduce.specs.Choices.{better_choice, choice_from, IsSettled}
+use Rattle.rule_reduce.specs.Passing.{Passes}
 use Rattle.rule_reduce.proofs.BetterChoices.{holds-better}
+use Rattle.rule_reduce.proofs.Measures.{ends_search, passes_greater}
 use Rattle.rule_reduce.proofs.FirstChoices.{plain_order, settled_front, holds-choice}
 use Rattle.rule_reduce.proofs.choosing.best_choice.Goals as goal
 
@@ -38,33 +44,42 @@ in_front p t i n w all inside is front =
 abbrev IsBehind : List Term → Choice → Type 0
 IsBehind p c = AllByRecursion (λ t. word_cmp c.word t.1 ≡ Greater) p
 
-pub improve-best-requires-clause-settled : goal.improve-best-requires-clause-settled
-improve-best-requires-clause-settled g c =
-    let compare = g.O.WordOrder.compare c.args.order.now in
-    let entries = c.args.index.now in
-    let t : Term = c.index-terms-place.result in
-    IfSome_then c.args.last c.requires.settled
-    (λ w all. subst (λ (u : Term). IsSettled compare entries w.now u.1) (sym c.index-terms-place.is) (all c.loop-place.place t c.loop-place-test.true))
+-- a term whose measure passes that of the last word is settled
+passed : {X : Type 0} (compare : Compare) (measure : List ℕ → ℕ) → ((u v : List ℕ) → compare u v ≡ measured_cmp measure u v) → (entries : List (List ℕ × ℕ)) (word : X → List ℕ) (last : Option X) (t : Term) (is_above : Bool)
+    → IfSome last (λ x. IsTrue is_above → word_cmp t.1 (word x) ≡ Greater) → IfSome last (λ x. IsSettled compare entries (word x) t.1)
+    → IfSome (option_map (λ x. measure (word x)) last) (λ b. Passes b (measure t.1) is_above → match_of entries t.1 ≡ None)
+passed compare measure by_measure entries word None t is_above above settled = tt
+passed compare measure by_measure entries word (Some x) t is_above above settled = λ passes. settled (passes_greater compare measure by_measure (word x) t.1 is_above above passes)
 
-pub improve-best-requires-clause-behind : goal.improve-best-requires-clause-behind
-improve-best-requires-clause-behind g c =
+pub improve-better-requires-clause-settled : goal.improve-better-requires-clause-settled
+improve-better-requires-clause-settled g c =
+    let order = c.args.order.now in
+    let compare = g.O.WordOrder.compare order in
+    let measure = g.O.WordOrder.measure_of order in
+    let entries = c.args.index.now in
+    let p = c.args.terms.now in
+    let i = c.loop-place.place in
+    let n = c.args.above in
+    let t : Term = c.index-terms-place.result in
+    let settled = IfSome_then c.args.last c.requires.settled
+    (λ w all. subst (λ (u : Term). IsSettled compare entries w.now u.1) (sym c.index-terms-place.is) (all i t c.loop-place-test.true)) in
+    let front : IsTrue (nat_lt i n) → i < n = λ yes. search (rules, yes) in
+    let above = IfSome_then c.args.last c.requires.above
+    (λ w all yes. in_front p t i n w.now all c.loop-place-test.true c.index-terms-place.is (front yes)) in
+    let bound = c.last_measure-bound.ensures in
+    let whole = passed compare measure (λ u v. g.met.O.WordOrder.by_measure order u v) entries (λ w. w.now) c.args.last t (nat_lt i n) above settled in
+    subst (λ o. IfSome o (λ b. Passes b (measure t.1) (nat_lt i n) → match_of entries t.1 ≡ None)) (sym bound) whole
+
+pub improve-better-requires-clause-behind : goal.improve-better-requires-clause-behind
+improve-better-requires-clause-behind g c =
     let p = c.args.terms.now in
     let i = c.loop-place.place in
     let t : Term = c.index-terms-place.result in
     let back : drop i p ≡ t ∷ drop (i + 1) p = drop_next p i t c.loop-place-test.true c.index-terms-place.is in
     IfSome_then c.loop-place.best c.loop-place.invariant.behind (λ b below. (subst (λ q. IsBehind q b) back below).0)
 
-pub improve-best-requires-clause-above : goal.improve-best-requires-clause-above
-improve-best-requires-clause-above g c =
-    let p = c.args.terms.now in
-    let i = c.loop-place.place in
-    let n = c.args.above in
-    let t : Term = c.index-terms-place.result in
-    IfSome_then c.args.last c.requires.above
-    (λ w all yes. in_front p t i n w.now all c.loop-place-test.true c.index-terms-place.is (search rules))
-
-pub improve-best-requires-clause-short : goal.improve-best-requires-clause-short
-improve-best-requires-clause-short g c =
+pub improve-better-requires-clause-short : goal.improve-better-requires-clause-short
+improve-better-requires-clause-short g c =
     let t : Term = c.index-terms-place.result in
     let short : length t.1 ≤ word_limit = at_place (λ u. length u.1 ≤ word_limit) c.args.terms.now t c.loop-place.place c.requires.canonical.short c.loop-place-test.true c.index-terms-place.is in
     omega (arith, short)
@@ -76,10 +91,36 @@ loop-place-init g c =
       best_in = search rules;
       best_over = search rules;
       best_short = search rules;
+      most = search rules;
       behind = search rules;
       descends = recursion_from_IsDescending c.args.terms.now c.requires.canonical.shaped.descending;
       same = search rules;
     }
+
+-- What the choice so far keeps, the better of it and the next term keeps.
+kept_by : (P : Choice → Type 0) (compare : Compare) (entries : List (List ℕ × ℕ)) (t : Term) (best next : Option Choice) → next ≡ better_choice compare entries best t
+    → ((m : ℕ × ℕ) → P (record { coefficient = t.0; word = t.1; number = m.0; place = m.1 })) → IfSome best P → IfSome next P
+kept_by P compare entries t best next exact each held = subst (λ (o : Option Choice). IfSome o P) (sym exact) (holds-better P compare entries t each best held)
+
+-- at a place the terms are canonical and over the letters, and those behind it are below its word
+module _ (letters : ℕ) (p : List Term) (t : Term) (i : ℕ) (inside : i < length p) (is : t ≡ get_or p i t) (canonical : IsCanonical p) where
+  in_range_there : IsCoefficient t.0
+  in_range_there = at_place (λ u. IsCoefficient u.0) p t i canonical.shaped.in_range inside is
+
+  over_there : All (λ u. IsOver letters u.1) p → IsOver letters t.1
+  over_there over = at_place (λ u. IsOver letters u.1) p t i over inside is
+
+  short_there : length t.1 ≤ measured_letters
+  short_there =
+      let short : length t.1 ≤ word_limit = at_place (λ u. length u.1 ≤ word_limit) p t i canonical.short inside is in
+      omega (arith, short)
+
+  next_behind : (compare : Compare) (entries : List (List ℕ × ℕ)) (best next : Option Choice) → next ≡ better_choice compare entries best t → Descends (drop i p)
+      → IfSome best (IsBehind (drop i p)) → IfSome next (IsBehind (drop (i + 1) p))
+  next_behind compare entries best next exact descends behind =
+      let back : drop i p ≡ t ∷ drop (i + 1) p = drop_next p i t inside is in
+      kept_by (IsBehind (drop (i + 1) p)) compare entries t best next exact (λ m. (subst Descends back descends).0)
+      (IfSome_then best behind (λ b below. (subst (λ q. IsBehind q b) back below).1))
 
 pub loop-place-preserved : goal.loop-place-preserved
 loop-place-preserved g c =
@@ -92,25 +133,69 @@ loop-place-preserved g c =
     let inside = c.loop-place-test.true in
     let is = c.index-terms-place.is in
     let at = c.loop-place.invariant in
+    let canonical = c.requires.canonical in
+    let next = c.improve-better.result.0 in
     let back : drop i p ≡ t ∷ drop (i + 1) p = drop_next p i t inside is in
-    let exact : c.improve-best.result ≡ better_choice compare entries c.loop-place.best t = search rules in
-    let descends = subst Descends back at.descends in
-    let coefficient : IsCoefficient t.0 = at_place (λ u. IsCoefficient u.0) p t i c.requires.canonical.shaped.in_range inside is in
-    let over : IsOver letters t.1 = at_place (λ u. IsOver letters u.1) p t i c.requires.over inside is in
-    let short : length t.1 ≤ word_limit = at_place (λ u. length u.1 ≤ word_limit) p t i c.requires.canonical.short inside is in
-    let few : length t.1 ≤ measured_letters = omega (arith, short) in
-    let behind = IfSome_then c.loop-place.best at.behind (λ b below. (subst (λ q. IsBehind q b) back below).1) in
-    let better = λ (P : Choice → Type 0) (each : (m : ℕ × ℕ) → P (record { coefficient = t.0; word = t.1; number = m.0; place = m.1 })) (held : IfSome c.loop-place.best P).
-    subst (λ (o : Option Choice). IfSome o P) (sym exact) (holds-better P compare entries t each c.loop-place.best held) in
+    let exact : next ≡ better_choice compare entries c.loop-place.best t = search rules in
     record {
       within = omega (arith, inside);
-      best_in = better (λ b. IsCoefficient b.coefficient) (λ m. coefficient) at.best_in;
-      best_over = better (λ b. IsOver letters b.word) (λ m. over) at.best_over;
-      best_short = better (λ b. length b.word ≤ measured_letters) (λ m. few) at.best_short;
-      behind = better (IsBehind (drop (i + 1) p)) (λ m. descends.0) behind;
-      descends = descends.1;
-      same = next_choice compare entries p t i c.loop-place.best c.improve-best.result _ back exact at.same;
+      best_in = kept_by (λ b. IsCoefficient b.coefficient) compare entries t c.loop-place.best next exact (λ m. in_range_there letters p t i inside is canonical) at.best_in;
+      best_over = kept_by (λ b. IsOver letters b.word) compare entries t c.loop-place.best next exact (λ m. over_there letters p t i inside is canonical c.requires.over) at.best_over;
+      best_short = kept_by (λ b. length b.word ≤ measured_letters) compare entries t c.loop-place.best next exact (λ m. short_there letters p t i inside is canonical) at.best_short;
+      most = search rules;
+      behind = next_behind letters p t i inside is canonical compare entries c.loop-place.best next exact at.descends at.behind;
+      descends = (subst Descends back at.descends).1;
+      same = next_choice compare entries p t i c.loop-place.best next _ back exact at.same;
     }
+
+pub returns-then-is_last-clause-in_range : goal.returns-then-is_last-clause-in_range
+returns-then-is_last-clause-in_range g c =
+    let compare = g.O.WordOrder.compare c.args.order.now in
+    let t : Term = c.index-terms-place.result in
+    let exact : c.improve-better.result.0 ≡ better_choice compare c.args.index.now c.loop-place.best t = search rules in
+    kept_by (λ b. IsCoefficient b.coefficient) compare c.args.index.now t c.loop-place.best c.improve-better.result.0 exact
+    (λ m. in_range_there 0 c.args.terms.now t c.loop-place.place c.loop-place-test.true c.index-terms-place.is c.requires.canonical) c.loop-place.invariant.best_in
+
+pub returns-then-is_last-clause-over : goal.returns-then-is_last-clause-over
+returns-then-is_last-clause-over g c =
+    let compare = g.O.WordOrder.compare c.args.order.now in
+    let letters = g.O.WordOrder.letters c.args.order.now in
+    let t : Term = c.index-terms-place.result in
+    let exact : c.improve-better.result.0 ≡ better_choice compare c.args.index.now c.loop-place.best t = search rules in
+    kept_by (λ b. IsOver letters b.word) compare c.args.index.now t c.loop-place.best c.improve-better.result.0 exact
+    (λ m. over_there letters c.args.terms.now t c.loop-place.place c.loop-place-test.true c.index-terms-place.is c.requires.canonical c.requires.over) c.loop-place.invariant.best_over
+
+pub returns-then-is_last-clause-short : goal.returns-then-is_last-clause-short
+returns-then-is_last-clause-short g c =
+    let compare = g.O.WordOrder.compare c.args.order.now in
+    let t : Term = c.index-terms-place.result in
+    let exact : c.improve-better.result.0 ≡ better_choice compare c.args.index.now c.loop-place.best t = search rules in
+    kept_by (λ b. length b.word ≤ measured_letters) compare c.args.index.now t c.loop-place.best c.improve-better.result.0 exact
+    (λ m. short_there 0 c.args.terms.now t c.loop-place.place c.loop-place-test.true c.index-terms-place.is c.requires.canonical) c.loop-place.invariant.best_short
+
+pub returns-then-is_last-clause-exact : goal.returns-then-is_last-clause-exact
+returns-then-is_last-clause-exact g c =
+    let order = c.args.order.now in
+    let compare = g.O.WordOrder.compare order in
+    let measure = g.O.WordOrder.measure_of order in
+    let entries = c.args.index.now in
+    let p = c.args.terms.now in
+    let i = c.loop-place.place in
+    let t : Term = c.index-terms-place.result in
+    let inside = c.loop-place-test.true in
+    let is = c.index-terms-place.is in
+    let at = c.loop-place.invariant in
+    let next = c.improve-better.result.0 in
+    let back : drop i p ≡ t ∷ drop (i + 1) p = drop_next p i t inside is in
+    let exact : next ≡ better_choice compare entries c.loop-place.best t = search rules in
+    let behind = next_behind 0 p t i inside is c.requires.canonical compare entries c.loop-place.best next exact at.descends at.behind in
+    let settled = IfSome_then c.args.last c.requires.settled
+    (λ w all. recursion_from_All (λ u. IsSettled compare entries w.now u.1) (drop (i + 1) p) (All-drop (λ u. IsSettled compare entries w.now u.1) (i + 1) p all)) in
+    let bound : c.last_measure-bound.result ≡ option_map (λ w. measure w.now) c.args.last = search rules in
+    let told : IsSomeAnd c.last_measure-bound.result (λ m. IsSomeAnd next (λ b. m ≤ measure b.word)) = search rules in
+    let reached = subst (λ o. IsSomeAnd o (λ m. IsSomeAnd next (λ b. m ≤ measure b.word))) bound told in
+    let stays = ends_search compare measure (λ u v. g.met.O.WordOrder.by_measure order u v) entries (λ w. w.now) c.args.last next (drop (i + 1) p) reached settled behind in
+    sym stays ∙ next_choice compare entries p t i c.loop-place.best next _ back exact at.same
 
 pub first_choice-requires-clause-settled : goal.first_choice-requires-clause-settled
 first_choice-requires-clause-settled g c =

@@ -1,4 +1,4 @@
 use Rattle.rule_reduce.proofs.choosing.first_match.Goals as goal
 
 pub returns : goal.returns
-returns g c = c.first_match.ensures.exact
+returns c = c.first_match.ensures.exact

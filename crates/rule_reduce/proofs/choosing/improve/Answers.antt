@@ -1,4 +1,4 @@
-use Rattle.std.proofs.Common.{◌≡◌, ℕ, List, Option, Some, None, sym, refl, ap, ◌∙◌}
+use Rattle.std.proofs.Common.{rules, ◌≡◌, ◌≤◌, IsSome, ℕ, List, Option, Some, None, sym, refl, ap, ◌∙◌}
 use Rattle.std.specs.declared.cmp.Ordering.{Ordering}
 use Rattle.std.specs.declared.cmp.Ordering.TheVariants.{Less, Equal, Greater}
 use Rattle.definitions.specs.Poly.{Term}
@@ -7,6 +7,7 @@ use Rattle.rule_index.specs.Matches.{match_of}
 use Rattle.word_orders.specs.Admissible.{Compare}
 use Rattle.rule_reduce.specs.declared.state.Choice.{Choice}
 use Rattle.rule_reduce.specs.Choices.{better_choice, choice_or}
+use Rattle.rule_reduce.proofs.Measures.{keeps_choice}
 use Rattle.rule_reduce.proofs.choosing.improve.Goals as goal
 
 -- a term in whose word nothing occurs changes no choice
@@ -20,15 +21,14 @@ choice_stays compare entries (Some best) t none =
     any_order Equal = refl
     any_order Greater = refl
 
--- a term that is not greater changes no choice
-choice_kept : (compare : Compare) (entries : List (List ℕ × ℕ)) (best : Choice) (t : Term) → ¬ (compare t.1 best.word ≡ Greater) → Some best ≡ better_choice compare entries (Some best) t
-choice_kept compare entries best t fails = go (compare t.1 best.word) fails
-  where
-    go : (o : Ordering) → ¬ o ≡ Greater → Some best ≡ by_order o (Some best) (Some best) (choice_or t (match_of entries t.1) (Some best))
-    go Less below = refl
-    go Equal same = refl
-    go Greater more = absurd (more refl)
+pub returns-then-measure-most-clause-better : goal.returns-then-measure-most-clause-better
+returns-then-measure-most-clause-better g c =
+    let order = c.args.order.now in
+    let measure = g.O.WordOrder.measure_of order in
+    let some : IsSome c.args.best = search rules in
+    let less : measure c.args.term.now.1 ≤ c.args.most = search rules in
+    keeps_choice (g.O.WordOrder.compare order) measure (λ u v. g.met.O.WordOrder.by_measure order u v) c.args.index.now c.args.best c.args.term.now c.args.most some less c.requires.most c.requires.behind
 
-pub returns-in-None : goal.returns-in-None
-returns-in-None g c =
+pub returns-in-None-clause-better : goal.returns-in-None-clause-better
+returns-in-None-clause-better g c =
     choice_stays (g.O.WordOrder.compare c.args.order.now) c.args.index.now c.args.best (c.args.term.now.0, c.args.term.now.1) (sym c.first_match.ensures ∙ c.in-None.is)

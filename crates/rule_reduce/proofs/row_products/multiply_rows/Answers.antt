@@ -21,7 +21,7 @@ returns-in_err-row-clause-exact c =
     let below : i < length xs = search rules in
     let is = still_there (multiplied_row c.args.by) xs ys i row below so_far here in
     let too_large : IsCoefficient (row.coef *ℤ c.args.by) → ⊥ = search rules in
-    let at = overflow_at xs i row c.args.by below is too_large in
+    let at = overflow_at (λ (r : Row). r.coef) xs i row c.args.by below is too_large in
     let first : first_overflow (row_operations xs c.args.by) ≡ Some (product_of row.coef c.args.by) = none_yet ∙ at in
     search (rules, first)
 
@@ -38,7 +38,7 @@ loop-row-preserved c =
     let more = written_more (multiplied_row c.args.by) xs ys i row (multiplied_row c.args.by row) below so_far here (λ _. multiplied_row c.args.by row) in
     let is = still_there (multiplied_row c.args.by) xs ys i row below so_far here in
     let fits : IsCoefficient (row.coef *ℤ c.args.by) = search rules in
-    let none = none_yet ∙ none_before xs i row c.args.by below is fits in
+    let none = none_yet ∙ none_before (λ (r : Row). r.coef) xs i row c.args.by below is fits in
     record {
       so_far = search (rules, more);
       in_range = All-set (λ (r : Row). IsCoefficient r.coef) ys i _ (search rules) c.loop-row.invariant.in_range;

@@ -1,4 +1,4 @@
-use Rattle.std.proofs.Common.{rules, ◌≡◌, ℕ, Option, pos, ◌<ℤ◌, ◌<◌, ◌≤◌, ◌+◌, ◌-◌, suc, length, zero, List, Some, None, Ok, Err, Result, IfSome, arith, refl, sym, ap, ◌∙◌, subst}
+use Rattle.std.proofs.Common.{rules, ◌≡◌, ℕ, Option, pos, ◌<ℤ◌, ◌<◌, ◌≤◌, ◌+◌, ◌-◌, suc, length, zero, List, [], Some, None, Err, Result, IfSome, arith, sym, ap, ◌∙◌, subst}
 use Rattle.std.specs.List.{All}
 use Rattle.coef_int.specs.Range.{IsCoefficient}
 use Rattle.nc_polynomial.specs.Shape.{IsCanonical}
@@ -10,16 +10,21 @@ use Rattle.nc_polynomial.specs.Faults.{Explains}
 use Rattle.rule_reduce.specs.declared.rule.Rule.{Rule}
 use Rattle.rule_reduce.specs.declared.state.Choice.{Choice}
 use Rattle.rule_reduce.specs.declared.state.State.{State}
+use Rattle.rule_reduce.specs.declared.state.Progress.{Progress}
+use Rattle.traced_rows.specs.declared.Row.{Row}
 use Rattle.rule_reduce.specs.declared.fault.ReduceFault.{ReduceFault}
 use Rattle.rule_reduce.specs.declared.fault.ReduceFault.TheVariants as halt
 use Rattle.rule_reduce.specs.RuleLists.{entries_of}
 use Rattle.rule_reduce.specs.Choices.{choice_of, IsSettled}
 use Rattle.rule_reduce.specs.Steps.{step_result}
-use Rattle.rule_reduce.specs.NormalForms.{halt_of, reduction, ExplainsHalt}
+use Rattle.rule_reduce.specs.NormalForms.{halt_of, reduction, normal_form_of, ExplainsHalt}
+use Rattle.rule_reduce.specs.Stores.{with_rows, Shows, IsBounded}
 use Rattle.rule_reduce.proofs.Settled.{if_borrowed, step_settles}
 use Rattle.rule_reduce.proofs.Rounds.{stops, goes_on, explains_fault, runs_out}
 use Rattle.rule_reduce.proofs.Chosen.{found}
 use Rattle.rule_reduce.proofs.RowsByRules.{number_within}
+use Rattle.rule_reduce.proofs.LettersKept.{step_letters}
+use Rattle.rule_reduce.proofs.ShownStates.{LeadsTo}
 use Rattle.rule_reduce.proofs.rules.Rules.reduce.Goals as goal
 
 -- the choice by the index is that by the rules' entries
@@ -38,15 +43,25 @@ pub loop-init : goal.loop-init
 loop-init g c =
     let compare = g.O.WordOrder.compare c.args.self.now.order in
     let limit = c.args.steps in
+    let p = c.args.poly.now in
+    let numbers = g.S.RowStore.numbers in
+    let state = c.in_ok-state.state in
+    let is : state ≡ record { multiplier = pos 1; rest = p.terms; rows = c.args.rows; used = 0 } = search rules in
+    let one : IsCoefficient (pos 1) = search rules in
+    let none : numbers c.args.rows ≡ [] = ap numbers c.requires.none ∙ g.met.S.RowStore.of_rows [] in
     let whole : limit - 0 ≡ limit = omega arith in
     record {
       within = omega arith;
-      used = omega (arith, c.requires.unused);
-      in_range = c.requires.in_range;
-      over = c.requires.over;
+      used = omega (arith, ap (λ (s : Progress g.row.S.Denot). s.used) is);
+      in_range = subst (IsBounded numbers) (sym is) (record { multiplier = one; rest = p.canonical; rows = subst (All IsCoefficient) (sym none) (λ k d inside. absurd (omega (arith, inside))) });
+      over = subst (λ (s : Progress g.row.S.Denot). All (λ t. IsOver (g.O.WordOrder.letters c.args.self.now.order) t.1) s.rest) (sym is) c.requires.over;
       last_short = tt;
       settled = tt;
-      same = ap (λ n. reduction limit compare c.args.self.now.rules n c.args.start) whole;
+      same = record {
+        rows = [];
+        kept = ap (λ (s : Progress g.row.S.Denot). s.rows) is ∙ c.requires.none;
+        same = ap (λ n. reduction limit compare c.args.self.now.rules n (with_rows state [])) whole ∙ ap (λ (s : Progress g.row.S.Denot). reduction limit compare c.args.self.now.rules limit (with_rows s [])) is;
+      };
     }
 
 pub take_step-requires-clause-leading_in : goal.take_step-requires-clause-leading_in
@@ -80,14 +95,16 @@ returns-in-Err-clause-exact g c =
     let compare = g.O.WordOrder.compare c.args.self.now.order in
     let all = c.args.self.now.rules in
     let limit = c.args.steps in
-    let s = c.loop.state in
+    let so_far = c.loop.invariant.same in
+    let s = with_rows c.loop.state so_far.rows in
     let choice = c.in-Some.choice in
     let e = c.in-Err.fault in
     let left = limit - c.loop.counter - 1 in
     let pick : choice_of compare (entries_of all) s.rest ≡ Some choice = over_entries compare c.args.self.now.index (entries_of all) s.rest (Some choice) c.args.self.now.indexed (search rules) in
-    let why : Explains (step_result all choice s) e = search rules in
+    let same_rules : c.as_slice.result.now ≡ all = search rules in
+    let why : Explains (step_result all choice s) e = subst (λ (rs : List Rule). Explains (step_result rs choice s) e) same_rules (c.in-Err.ensures.exact so_far.rows so_far.kept) in
     let more : suc left ≡ limit - c.loop.counter = omega arith in
-    let same : reduction limit compare all (suc left) s ≡ reduction limit compare all limit c.args.start = ap (λ n. reduction limit compare all n s) more ∙ c.loop.invariant.same in
+    let same : reduction limit compare all (suc left) s ≡ normal_form_of compare all c.args.poly.now.terms limit = ap (λ n. reduction limit compare all n s) more ∙ so_far.same in
     let halted : c.halt.result ≡ halt_of e = search rules in
     rw halted (subst (λ (r : Result State ReduceFault). ExplainsHalt r (halt_of e)) same (explains_fault limit compare all s left choice e pick why))
 
@@ -97,27 +114,33 @@ loop-preserved g c =
     let letters = g.O.WordOrder.letters c.args.self.now.order in
     let all = c.args.self.now.rules in
     let limit = c.args.steps in
-    let s = c.loop.state in
+    let so_far = c.loop.invariant.same in
+    let s = with_rows c.loop.state so_far.rows in
     let choice = c.in-Some.choice in
     let next = c.in-Ok.next in
     let left = limit - c.loop.counter - 1 in
     let pick : choice_of compare (entries_of all) s.rest ≡ Some choice = over_entries compare c.args.self.now.index (entries_of all) s.rest (Some choice) c.args.self.now.indexed (search rules) in
     let same_rules : c.as_slice.result.now ≡ all = search rules in
-    let stepped : step_result all choice s ≡ Ok next = search rules in
+    let stepped : Shows g.S.RowStore.of (step_result all choice s) next = subst (λ (rs : List Rule). Shows g.S.RowStore.of (step_result rs choice s) next) same_rules (c.in-Ok.ensures.exact so_far.rows so_far.kept) in
+    let after = with_rows next stepped.rows in
     let more : suc left ≡ limit - c.loop.counter = omega arith in
     let fewer : limit - (c.loop.counter + 1) ≡ left = omega arith in
     let rules_over : All (λ f. All (λ u. IsOver letters u.1) f.poly.terms) all = λ k d inside. (c.args.self.now.each k d inside).over in
     let word_over : IsOver letters choice.word = search rules in
-    let above : All (λ t. IsSettled compare (entries_of all) choice.word t.1) next.rest = step_settles letters compare (g.O.WordOrder.rank c.args.self.now.order) (g.met.O.WordOrder.admissible c.args.self.now.order) all choice c.args.self.now.each s next pick stepped in
+    let above : All (λ t. IsSettled compare (entries_of all) choice.word t.1) next.rest = step_settles letters compare (g.O.WordOrder.rank c.args.self.now.order) (g.met.O.WordOrder.admissible c.args.self.now.order) all choice c.args.self.now.each s after pick stepped.is in
     let above_index : All (λ t. IsSettled compare c.args.self.now.index choice.word t.1) next.rest = subst (λ es. All (λ t. IsSettled compare es choice.word t.1) next.rest) (sym c.args.self.now.indexed) above in
     record {
       within = omega arith;
       used = search rules;
       in_range = search rules;
-      over = c.in-Ok.ensures.letters letters (subst (λ (rs : List Rule). All (λ f. All (λ u. IsOver letters u.1) f.poly.terms) rs) (sym same_rules) rules_over) word_over c.loop.invariant.over;
+      over = step_letters letters all choice s after stepped.is rules_over word_over c.loop.invariant.over;
       last_short = search rules;
       settled = above_index;
-      same = after_round (λ n t. reduction limit compare all n t) s next left (limit - c.loop.counter) (limit - (c.loop.counter + 1)) _ fewer more (goes_on limit compare all s left choice next pick stepped) c.loop.invariant.same;
+      same = record {
+        rows = stepped.rows;
+        kept = stepped.kept;
+        same = after_round (λ n t. reduction limit compare all n t) s after left (limit - c.loop.counter) (limit - (c.loop.counter + 1)) _ fewer more (goes_on limit compare all s left choice after pick stepped.is) so_far.same;
+      };
     }
 
 pub returns-in-Some-2-clause-exact : goal.returns-in-Some-2-clause-exact
@@ -125,29 +148,34 @@ returns-in-Some-2-clause-exact g c =
     let compare = g.O.WordOrder.compare c.args.self.now.order in
     let all = c.args.self.now.rules in
     let limit = c.args.steps in
-    let s = c.loop.state in
+    let so_far = c.loop.invariant.same in
+    let s = with_rows c.loop.state so_far.rows in
     let choice = c.in-Some-2.field-0 in
     let pick : choice_of compare (entries_of all) s.rest ≡ Some choice = over_entries compare c.args.self.now.index (entries_of all) s.rest (Some choice) c.args.self.now.indexed (search rules) in
     let none_left : limit - c.loop.counter ≡ zero = omega arith in
-    ends_as (λ n. reduction limit compare all n s) (limit - c.loop.counter) zero (reduction limit compare all limit c.args.start) (Err (halt.Steps limit)) none_left (runs_out limit compare all s choice pick) c.loop.invariant.same
+    ends_as (λ n. reduction limit compare all n s) (limit - c.loop.counter) zero (normal_form_of compare all c.args.poly.now.terms limit) (Err (halt.Steps limit)) none_left (runs_out limit compare all s choice pick) so_far.same
+
+-- where no word can be reduced, the state is the normal form
+stays : {S : Type 0} (of : List Row → S) (limit : ℕ) (compare : Compare) (rules : List Rule) (n : ℕ) (whole : Result State ReduceFault) (p : Progress S)
+    → LeadsTo of (reduction limit compare rules n) whole p → choice_of compare (entries_of rules) p.rest ≡ None → Shows of whole p
+stays of limit compare rules n whole p so_far none =
+    record { rows = so_far.rows; kept = so_far.kept; is = sym so_far.same ∙ stops limit compare rules (with_rows p so_far.rows) n none }
 
 pub returns-in-None-2-clause-exact : goal.returns-in-None-2-clause-exact
 returns-in-None-2-clause-exact g c =
     let compare = g.O.WordOrder.compare c.args.self.now.order in
     let all = c.args.self.now.rules in
-    let limit = c.args.steps in
     let s = c.loop.state in
     let pick : choice_of compare (entries_of all) s.rest ≡ None = over_entries compare c.args.self.now.index (entries_of all) s.rest None c.args.self.now.indexed (search rules) in
-    ends_as (λ n. reduction limit compare all n s) (limit - c.loop.counter) (limit - c.loop.counter) (reduction limit compare all limit c.args.start) (Ok s) refl (stops limit compare all s (limit - c.loop.counter) pick) c.loop.invariant.same
+    stays g.S.RowStore.of c.args.steps compare all (c.args.steps - c.loop.counter) (normal_form_of compare all c.args.poly.now.terms c.args.steps) s c.loop.invariant.same pick
 
 pub returns-in-None-clause-exact : goal.returns-in-None-clause-exact
 returns-in-None-clause-exact g c =
     let compare = g.O.WordOrder.compare c.args.self.now.order in
     let all = c.args.self.now.rules in
-    let limit = c.args.steps in
     let s = c.loop.state in
     let pick : choice_of compare (entries_of all) s.rest ≡ None = over_entries compare c.args.self.now.index (entries_of all) s.rest None c.args.self.now.indexed (search rules) in
-    ends_as (λ n. reduction limit compare all n s) (limit - c.loop.counter) (limit - c.loop.counter) (reduction limit compare all limit c.args.start) (Ok s) refl (stops limit compare all s (limit - c.loop.counter) pick) c.loop.invariant.same
+    stays g.S.RowStore.of c.args.steps compare all (c.args.steps - c.loop.counter) (normal_form_of compare all c.args.poly.now.terms c.args.steps) s c.loop.invariant.same pick
 
 -- the rule that is chosen is there
 is_there : (compare : Compare) (rules : List Rule) (terms : List Term) (choice : Choice) → choice_of compare (entries_of rules) terms ≡ Some choice → (0 < choice.number) × (choice.number ≤ length rules)
