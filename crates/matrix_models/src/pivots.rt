@@ -19,6 +19,8 @@ pub struct Pivots {
     rows: Vec<Option<Listing<u32>>>,
     // for each unknown that has a pivot a place before which the pivot's factors are 0
     firsts: Vec<usize>,
+    // room for a row that isn't reduced
+    wide: Vec<u64>,
 }
 
 impl Model for Pivots {
@@ -28,7 +30,7 @@ impl Model for Pivots {
 
     ghost view = { λ p. record { modulus = p.modulus; rows = p.rows.items } };
 
-    ghost invariant = { λ p. AreRows (record { modulus = p.modulus; rows = p.rows.items }) p.firsts.items };
+    ghost invariant = { λ p. AreRows (record { modulus = p.modulus; rows = p.rows.items }) p.firsts.items p.wide.items };
 }
 
 impl Pivots {
@@ -41,6 +43,7 @@ impl Pivots {
             modulus,
             rows: no_rows(alloc, unknowns)?,
             firsts: vec![in alloc; 0; unknowns as usize]?,
+            wide: vec![in alloc; 0; unknowns as usize + 1]?,
         })
     }
 
@@ -55,7 +58,8 @@ impl Pivots {
         ensures against { IsFalse result → AreAgainst (equation_of row.items ∷ []) self.old }
         ensures unchanged { IsFalse result → self.new ≡ self.old }
     {
-        insert(self.modulus, &mut self.rows, &mut self.firsts, row)
+        let (rows, firsts, wide) = (&mut self.rows, &mut self.firsts, &mut self.wide);
+        insert(self.modulus, rows, firsts, wide, row)
     }
 
     /// The greedy solution of all equations that were added, by preferred values: from the first unknown to the last, one
