@@ -227,19 +227,6 @@ fn residue(modulus: u32, number: u64) -> u32
     }
 }
 
-// The number with a multiple of another number, modulo the modulus. A multiple of 0 costs no division.
-pub(crate) fn with_multiple(modulus: u32, number: u32, times: u32, other: u32) -> u32
-    requires { number < modulus }
-    ensures value { result ≡ (number + times * other) % modulus }
-    ensures below { result < modulus }
-{
-    if other == 0 {
-        return number;
-    }
-    let sum = u64::from(number) + u64::from(times) * u64::from(other);
-    (sum % u64::from(modulus)) as u32
-}
-
 // Makes the row, whose numbers are 0, a multiple of another one, which lies in the stretch.
 fn scale(modulus: u32, row: &mut [u32], wide: &[u64], times: u32, stretch: Stretch)
     requires modulus { 0 < modulus }
