@@ -11,7 +11,7 @@ pub mul_alike : (m t a b : ℕ) → a % m ≡ b % m → (t * a) % m ≡ (t * b) 
 mul_alike m t a b same = sym (mul-mod_second t a m) ∙ ap (λ x. (t * x) % m) same ∙ mul-mod_second t b m
 
 -- what brings c to a multiple of m
-complete : (m a c : ℕ) → 0 < m → (a + c + (m - c % m)) % m ≡ a % m
+pub complete : (m a c : ℕ) → 0 < m → (a + c + (m - c % m)) % m ≡ a % m
 complete m a c positive =
     let whole = div-add-mod' c m in
     let below : c % m < m = mod-lt c positive in

@@ -4,6 +4,7 @@ pub mod Congruences
 pub mod Primes
 pub mod Rows
 pub mod Stretches
+pub mod Reducing
 pub mod BackSolving
 pub mod Reduction
 pub mod AddedEquations

@@ -83,6 +83,12 @@ field_positive m is = go (cases_eq m 0)
     go (inl zero_is) = absurd (false≢true (subst IsFieldModulus zero_is is))
     go (inr other) = omega arith
 
+-- and at most the greatest of them
+pub field_small : (m : ℕ) → IsFieldModulus m → m ≤ 65537
+field_small m is =
+    let large : AllByRecursion (λ k. k ≤ 65537) (7 ∷ 101 ∷ 32003 ∷ 65537 ∷ []) = (omega arith, (omega arith, (omega arith, (omega arith, tt)))) in
+    any_of (λ k. k ≤ 65537) m field_moduli (omega arith, (omega arith, (omega arith, large))) is
+
 -- the product of r with the modulus less its quotient by r is congruent to its remainder by r
 pub remainder_alike : (m r : ℕ) → 0 < r → r < m → (r * (m - m / r)) % m ≡ m % r
 remainder_alike m r positive below =

@@ -1,5 +1,5 @@
 -- Rows and equations, pivots that stand for a system, and what they say of its solutions.
-use Rattle.std.proofs.Common.{◌≡◌, ◌↔◌, ℕ, ◌+◌, ◌*◌, ◌-◌, ◌%◌, ◌<◌, ◌≤◌, List, [], ◌∷◌, ◌++◌, length, get_or, take, replicate}
+use Rattle.std.proofs.Common.{◌≡◌, ◌↔◌, ℕ, ◌+◌, ◌*◌, ◌-◌, ◌%◌, ◌<◌, ◌≤◌, ◌^◌, List, [], ◌∷◌, ◌++◌, length, get_or, take, replicate}
 use Rattle.std.proofs.Common.{Option, None, All, ◌⊎◌, inl, inr, sym, refl, ap, subst, ◌∙◌, arith}
 use Rattle.std.proofs.lemmas.Bool.{cases_lt}
 use Rattle.std.proofs.lemmas.Option.{none-some}
@@ -73,10 +73,13 @@ stand_for-none m n field = record {
   same = λ w. (λ _. All-nil (λ equation. Meets m n w (row_of equation)), λ _ place row found. absurd (none-some row (sym (none_at n place) ∙ found)));
 }
 
-pub are_rows-none : (m n : ℕ) (places : List ℕ) → IsFieldModulus m → length places ≡ n
-    → AreRows (record { modulus = m; rows = replicate n None }) places
-are_rows-none m n places field size = record {
+pub are_rows-none : (m n : ℕ) (places wide : List ℕ) → IsFieldModulus m → n < 2 ^ 32 → length places ≡ n → length wide ≡ n + 1
+    → AreRows (record { modulus = m; rows = replicate n None }) places wide
+are_rows-none m n places wide field few size room = record {
   modulus = field;
+  few = omega (arith, few, length-replicate {A = Option (List ℕ)} n None);
+  small = λ place row found. absurd (none-some row (sym (none_at n place) ∙ found));
+  room = omega (arith, room, length-replicate {A = Option (List ℕ)} n None);
   rows = λ place row found. absurd (none-some row (sym (none_at n place) ∙ found));
   firsts = record {
     size = size ∙ sym (length-replicate n None);

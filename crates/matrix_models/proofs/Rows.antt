@@ -1,18 +1,18 @@
 -- What a step of elimination keeps: multiples of pivots are taken off a row, a row is multiplied, and a new pivot is set.
-use Rattle.std.proofs.Common.{◌≡◌, ◌↔◌, ℕ, ◌+◌, ◌-◌, ◌*◌, ◌%◌, ◌<◌, ◌≤◌, List, length, get_or, set, Option, Some, None, ◌⊎◌, inl, inr, sym, ap, ap₂, subst, ◌∙◌, arith, add-mul, mul_assoc, mul_comm, zero-mul}
+use Rattle.std.proofs.Common.{◌≡◌, ◌↔◌, ℕ, ◌+◌, ◌-◌, ◌*◌, ◌%◌, ◌<◌, List, length, get_or, set, Option, Some, None, All, ◌⊎◌, inl, inr, sym, ap, ap₂, subst, ◌∙◌, arith, add-mul, mul_assoc, mul_comm, zero-mul}
 use Rattle.std.proofs.lemmas.Bool.{cases_eq}
 use Rattle.std.proofs.lemmas.Option.{none-some}
-use Rattle.std.proofs.Math.Nat.{mod-mod, mod_self, zero-mod, mod-eq_of_lt}
+use Rattle.std.proofs.Math.Nat.{mod-mod, zero-mod}
 use Rattle.std.proofs.lemmas.Nat.{mul-mod_first}
 use Rattle.std.proofs.lemmas.List.{get_or-set_same, get_or-set_other}
 use Rattle.matrix_models.specs.Matrices.{total}
 use Rattle.matrix_models.specs.Totals.{total_mod, total_zero, total_add, total_mul, total_mul_right}
-use Rattle.matrix_models.specs.Elimination.{Meets, MeetsAll, IsPivot, ArePivots, IsFree, HasLast, HasNoFactor, MeetsAlike, IsAdded, IsAgainst}
-use Rattle.matrix_models.proofs.Congruences.{add_alike, mul_alike, add_cancel, mul_cancel}
+use Rattle.matrix_models.specs.Elimination.{Meets, MeetsAll, IsPivot, ArePivots, AreSmall, IsFree, HasLast, HasNoFactor, MeetsAlike, IsAdded, IsAgainst}
+use Rattle.matrix_models.proofs.Congruences.{complete, add_alike, mul_alike, add_cancel, mul_cancel}
 
 -- a multiple of a pivot
 sum-multiple : (m n t : ℕ) (w : ℕ → ℕ) (row pivot new : List ℕ)
-    → ((k : ℕ) → k < n + 1 → get_or new k 0 ≡ (get_or row k 0 + t * get_or pivot k 0) % m)
+    → ((k : ℕ) → k < n + 1 → get_or new k 0 % m ≡ (get_or row k 0 + t * get_or pivot k 0) % m)
     → total n (λ k. get_or new k 0 * w k) % m ≡ (total n (λ k. get_or row k 0 * w k) + t * total n (λ k. get_or pivot k 0 * w k)) % m
 sum-multiple m n t w row pivot new each =
     total_mod m n _ (λ k. get_or row k 0 * w k + t * (get_or pivot k 0 * w k)) term
@@ -20,13 +20,14 @@ sum-multiple m n t w row pivot new each =
   where
     term : (k : ℕ) → k < n → (get_or new k 0 * w k) % m ≡ (get_or row k 0 * w k + t * (get_or pivot k 0 * w k)) % m
     term k l =
-        ap (λ x. (x * w k) % m) (each k (omega arith))
+        sym (mul-mod_first (get_or new k 0) (w k) m)
+        ∙ ap (λ x. (x * w k) % m) (each k (omega arith))
         ∙ mul-mod_first (get_or row k 0 + t * get_or pivot k 0) (w k) m
         ∙ ap (λ x. x % m) (add-mul (get_or row k 0) (t * get_or pivot k 0) (w k) ∙ ap (λ x. get_or row k 0 * w k + x) (mul_assoc t (get_or pivot k 0) (w k)))
 
 -- a row says the same with a multiple of one that holds
 pub meets-multiple : (m n t : ℕ) (w : ℕ → ℕ) (row pivot new : List ℕ) → 0 < m → Meets m n w pivot
-    → ((k : ℕ) → k < n + 1 → get_or new k 0 ≡ (get_or row k 0 + t * get_or pivot k 0) % m)
+    → ((k : ℕ) → k < n + 1 → get_or new k 0 % m ≡ (get_or row k 0 + t * get_or pivot k 0) % m)
     → Meets m n w row ↔ Meets m n w new
 meets-multiple m n t w row pivot new positive pivot_holds each = (
   λ holds. left_is ∙ add_alike m _ (get_or row n 0) _ (t * get_or pivot n 0) holds multiple ∙ sym right_is,
@@ -37,28 +38,49 @@ meets-multiple m n t w row pivot new positive pivot_holds each = (
     left_is = sum-multiple m n t w row pivot new each
 
     right_is : get_or new n 0 % m ≡ (get_or row n 0 + t * get_or pivot n 0) % m
-    right_is = ap (λ x. x % m) (each n (omega arith)) ∙ mod-mod _ m
+    right_is = each n (omega arith)
 
     multiple : (t * total n (λ k. get_or pivot k 0 * w k)) % m ≡ (t * get_or pivot n 0) % m
     multiple = mul_alike m t _ _ pivot_holds
 
--- the multiple that takes the unknown away
-pub gone-multiple : (m n place : ℕ) (row pivot new : List ℕ) → IsPivot n place pivot → place < n → get_or row place 0 < m
-    → ((k : ℕ) → place + 1 ≤ k → k < n → get_or row k 0 ≡ 0)
-    → ((k : ℕ) → k < n + 1 → get_or new k 0 ≡ (get_or row k 0 + (m - get_or row place 0) * get_or pivot k 0) % m)
-    → (k : ℕ) → place ≤ k → k < n → get_or new k 0 ≡ 0
-gone-multiple m n place row pivot new is_pivot within below gone each k from within_k = go (cases_eq k place)
+-- it says the same as one whose numbers are congruent to its own
+pub meets-congruent : (m n : ℕ) (w : ℕ → ℕ) (row new : List ℕ) → ((k : ℕ) → k < n + 1 → get_or new k 0 % m ≡ get_or row k 0 % m)
+    → Meets m n w row ↔ Meets m n w new
+meets-congruent m n w row new each = (
+  λ holds. left_is ∙ holds ∙ sym (each n (omega arith)),
+  λ holds. sym left_is ∙ holds ∙ each n (omega arith),
+)
   where
-    go : (k ≡ place) ⊎ (k ≡ place → ⊥) → get_or new k 0 ≡ 0
+    left_is : total n (λ k. get_or new k 0 * w k) % m ≡ total n (λ k. get_or row k 0 * w k) % m
+    left_is = total_mod m n _ _ (λ k l.
+        sym (mul-mod_first (get_or new k 0) (w k) m) ∙ ap (λ x. (x * w k) % m) (each k (omega arith)) ∙ mul-mod_first (get_or row k 0) (w k) m)
+
+-- a number is replaced by one that is congruent to it
+pub set-congruent : (m place value : ℕ) (row : List ℕ) → place < length row → value % m ≡ get_or row place 0 % m
+    → (k : ℕ) → get_or (set row place value) k 0 % m ≡ get_or row k 0 % m
+set-congruent m place value row within alike k = go (cases_eq k place)
+  where
+    go : (k ≡ place) ⊎ (k ≡ place → ⊥) → get_or (set row place value) k 0 % m ≡ get_or row k 0 % m
     go (inl here) =
+        ap (λ x. get_or (set row place value) x 0 % m) here ∙ ap (λ x. x % m) (get_or-set_same row place value 0 within)
+        ∙ alike ∙ ap (λ x. get_or row x 0 % m) (sym here)
+    go (inr other) = ap (λ x. x % m) (get_or-set_other row place k value 0 other)
+
+-- the multiple of a pivot that takes its unknown away, which becomes 0
+pub without-unknown : (m n place : ℕ) (row pivot new : List ℕ) → IsPivot n place pivot → place < length new → 0 < m
+    → ((k : ℕ) → k < n + 1 → get_or new k 0 ≡ get_or row k 0 + (m - get_or row place 0 % m) * get_or pivot k 0)
+    → (k : ℕ) → k < n + 1 → get_or (set new place 0) k 0 % m ≡ (get_or row k 0 + (m - get_or row place 0 % m) * get_or pivot k 0) % m
+without-unknown m n place row pivot new is_pivot within positive each k l = go (cases_eq k place)
+  where
+    go : (k ≡ place) ⊎ (k ≡ place → ⊥)
+        → get_or (set new place 0) k 0 % m ≡ (get_or row k 0 + (m - get_or row place 0 % m) * get_or pivot k 0) % m
+    go (inl here) =
+        let zero_is : get_or (set new place 0) k 0 ≡ 0 = ap (λ x. get_or (set new place 0) x 0) here ∙ get_or-set_same new place 0 0 within in
         let factor : get_or pivot k 0 ≡ 1 = subst (λ x. get_or pivot x 0 ≡ 1) (sym here) is_pivot.one in
-        let entry : get_or row k 0 ≡ get_or row place 0 = ap (λ x. get_or row x 0) here in
-        let sum : get_or row k 0 + (m - get_or row place 0) * get_or pivot k 0 ≡ m = ap₂ (λ x y. x + (m - get_or row place 0) * y) entry factor ∙ omega (arith, below) in
-        each k (omega arith) ∙ ap (λ x. x % m) sum ∙ mod_self m
-    go (inr other) =
-        let sum : get_or row k 0 + (m - get_or row place 0) * get_or pivot k 0 ≡ 0 =
-        ap₂ (λ x y. x + (m - get_or row place 0) * y) (gone k (omega arith) within_k) (is_pivot.last k (omega arith) within_k) ∙ omega arith in
-        each k (omega arith) ∙ ap (λ x. x % m) sum ∙ zero-mod m
+        let sum : get_or row k 0 + (m - get_or row place 0 % m) * get_or pivot k 0 ≡ get_or row place 0 + (m - get_or row place 0 % m) =
+        ap₂ (λ x y. x + (m - get_or row place 0 % m) * y) (ap (λ x. get_or row x 0) here) factor ∙ omega arith in
+        ap (λ x. x % m) zero_is ∙ sym (ap (λ x. x % m) (sum ∙ omega arith) ∙ complete m 0 (get_or row place 0) positive)
+    go (inr other) = ap (λ x. x % m) (get_or-set_other new place k 0 0 other ∙ each k l)
 
 -- by what has an inverse: it says the same
 pub meets-scaled : (m n u f : ℕ) (w : ℕ → ℕ) (row new : List ℕ) → (f * u) % m ≡ 1
@@ -103,6 +125,18 @@ pivots-set n place pivots row within pivots_are is_pivot at found found_is = go 
         subst (λ x. IsPivot n x found) (sym here) (subst (IsPivot n place) row_is is_pivot)
     go (inr other) = pivots_are at found (sym (get_or-set_other pivots place at (Some row) None other) ∙ found_is)
 
+-- a row of small numbers is set
+pub small-set : (m place : ℕ) (pivots : List (Option (List ℕ))) (row : List ℕ) → place < length pivots → AreSmall m pivots
+    → All (λ entry. entry < m) row → AreSmall m (set pivots place (Some row))
+small-set m place pivots row within small below at found found_is = go (cases_eq at place)
+  where
+    go : (at ≡ place) ⊎ (at ≡ place → ⊥) → All (λ entry. entry < m) found
+    go (inl here) =
+        let same : Some row ≡ Some found = sym (get_or-set_same pivots place (Some row) None within) ∙ ap (λ x. get_or (set pivots place (Some row)) x None) (sym here) ∙ found_is in
+        let row_is : row ≡ found = cc in
+        subst (All (λ entry. entry < m)) row_is below
+    go (inr other) = small at found (sym (get_or-set_other pivots place at (Some row) None other) ∙ found_is)
+
 pub meets-set : (m n place : ℕ) (w : ℕ → ℕ) (pivots : List (Option (List ℕ))) (row : List ℕ) → place < length pivots → get_or pivots place None ≡ None
     → (MeetsAll m n w pivots × Meets m n w row) ↔ MeetsAll m n w (set pivots place (Some row))
 meets-set m n place w pivots row within free = (λ both. forth both.0 both.1, λ all. (back all, all place row (get_or-set_same pivots place (Some row) None within)))
@@ -128,13 +162,13 @@ meets-set m n place w pivots row within free = (λ both. forth both.0 both.1, λ
 pub no_factor_sum : (n : ℕ) (w : ℕ → ℕ) (row : List ℕ) → HasNoFactor n row → total n (λ k. get_or row k 0 * w k) ≡ 0
 no_factor_sum n w row none = total_zero n _ (λ k l. ap (λ x. x * w k) (none k l) ∙ zero-mul (w k))
 
--- it holds where its right side is 0
-pub meets-no_factor : (m n : ℕ) (w : ℕ → ℕ) (row : List ℕ) → HasNoFactor n row → get_or row n 0 ≡ 0 → Meets m n w row
-meets-no_factor m n w row none right = ap (λ x. x % m) (no_factor_sum n w row none ∙ sym right)
+-- it holds where its right side is 0 modulo the modulus
+pub meets-no_factor : (m n : ℕ) (w : ℕ → ℕ) (row : List ℕ) → HasNoFactor n row → get_or row n 0 % m ≡ 0 → Meets m n w row
+meets-no_factor m n w row none right = ap (λ x. x % m) (no_factor_sum n w row none) ∙ zero-mod m ∙ sym right
 
 -- and nowhere else
-pub right-no_factor : (m n : ℕ) (w : ℕ → ℕ) (row : List ℕ) → HasNoFactor n row → get_or row n 0 < m → Meets m n w row → get_or row n 0 ≡ 0
-right-no_factor m n w row none below holds = sym (mod-eq_of_lt below) ∙ sym holds ∙ ap (λ x. x % m) (no_factor_sum n w row none) ∙ zero-mod m
+pub right-no_factor : (m n : ℕ) (w : ℕ → ℕ) (row : List ℕ) → HasNoFactor n row → Meets m n w row → get_or row n 0 % m ≡ 0
+right-no_factor m n w row none holds = sym holds ∙ ap (λ x. x % m) (no_factor_sum n w row none) ∙ zero-mod m
 
 -- a further step that says the same where the pivots hold
 pub alike_through : (m n : ℕ) (pivots : List (Option (List ℕ))) (start row new : List ℕ) → MeetsAlike m n pivots start row
@@ -152,11 +186,11 @@ added-pivot m n place pivots start row free alike w =
     )
 
 -- the row says nothing
-pub added-nothing : (m n : ℕ) (pivots : List (Option (List ℕ))) (start row : List ℕ) → HasNoFactor n row → get_or row n 0 ≡ 0 → MeetsAlike m n pivots start row
+pub added-nothing : (m n : ℕ) (pivots : List (Option (List ℕ))) (start row : List ℕ) → HasNoFactor n row → get_or row n 0 % m ≡ 0 → MeetsAlike m n pivots start row
     → IsAdded m n start pivots pivots
 added-nothing m n pivots start row none right alike w = (λ holds. holds.0, λ all. (all, (alike w all).1 (meets-no_factor m n w row none right)))
 
 -- the row can't hold
-pub against-all : (m n : ℕ) (pivots : List (Option (List ℕ))) (start row : List ℕ) → HasNoFactor n row → get_or row n 0 < m → (get_or row n 0 ≡ 0 → ⊥)
+pub against-all : (m n : ℕ) (pivots : List (Option (List ℕ))) (start row : List ℕ) → HasNoFactor n row → (get_or row n 0 % m ≡ 0 → ⊥)
     → MeetsAlike m n pivots start row → IsAgainst m n start pivots
-against-all m n pivots start row none below nonzero alike w all holds = nonzero (right-no_factor m n w row none below ((alike w all).0 holds))
+against-all m n pivots start row none nonzero alike w all holds = nonzero (right-no_factor m n w row none ((alike w all).0 holds))

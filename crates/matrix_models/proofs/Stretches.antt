@@ -3,21 +3,28 @@ use Rattle.std.proofs.Common.{◌≡◌, ℕ, zero, suc, ◌+◌, ◌-◌, ◌*�
 use Rattle.std.specs.Int.RustNames.{bit_or}
 use Rattle.std.proofs.lemmas.Bool.{cases_eq, cases_lt}
 use Rattle.std.proofs.lemmas.Nat.{le_or_l, le_or_r}
-use Rattle.std.proofs.lemmas.List.{get_or-set_same, get_or-set_other, length-set}
-use Rattle.std.proofs.Math.Nat.{zero-mod, mod-eq_of_lt}
+use Rattle.std.proofs.lemmas.List.{get_or-set_same, get_or-set_other, get_or_past, length-set}
+use Rattle.std.proofs.Math.Nat.{zero-mod}
 use Rattle.matrix_models.specs.Matrices.{total}
 use Rattle.matrix_models.specs.Elimination.{IsPivot, HasNoFactor, LiesIn, AreFirsts}
 use Rattle.matrix_models.proofs.Rows.{no_factor_sum}
 
+-- a number that becomes 0, or is 0
+pub none_set : (place : ℕ) (row : List ℕ) (k : ℕ) → get_or row k 0 ≡ 0 → get_or (set row place 0) k 0 ≡ 0
+none_set place row k none = go (cases_eq k place) (cases_lt place (length row))
+  where
+    go : (k ≡ place) ⊎ (k ≡ place → ⊥) → (place < length row) ⊎ (length row ≤ place) → get_or (set row place 0) k 0 ≡ 0
+    go (inl here) (inl within) = ap (λ x. get_or (set row place 0) x 0) here ∙ get_or-set_same row place 0 0 within
+    go (inl here) (inr past) = get_or_past (set row place 0) k 0 (omega (arith, length-set row place 0, past, here))
+    go (inr other) _ = get_or-set_other row place k 0 0 other ∙ none
+
 -- a multiple of 0
-pub nothing_added : (m t x y : ℕ) → x < m → y ≡ 0 → x ≡ (x + t * y) % m
-nothing_added m t x y below none =
-    let same : x + t * y ≡ x = ap (λ z. x + z) (ap (λ z. t * z) none ∙ mul-zero t) ∙ omega arith in
-    sym (ap (λ z. z % m) same ∙ mod-eq_of_lt below)
+pub nothing_added : (t x y : ℕ) → y ≡ 0 → x ≡ x + t * y
+nothing_added t x y none = sym (ap (λ z. x + z) (ap (λ z. t * z) none ∙ mul-zero t) ∙ omega arith)
 
 -- a product with 0
-pub nothing_scaled : (m t x : ℕ) → x ≡ 0 → x ≡ (x * t) % m
-nothing_scaled m t x none = none ∙ sym (ap (λ z. (z * t) % m) none ∙ ap (λ z. z % m) (zero-mul t) ∙ zero-mod m)
+pub nothing_scaled : (m t x : ℕ) → x ≡ 0 → 0 ≡ (x * t) % m
+nothing_scaled m t x none = sym (ap (λ z. (z * t) % m) none ∙ ap (λ z. z % m) (zero-mul t) ∙ zero-mod m)
 
 -- the sum before the first factor
 pub none_before_sum : (m first : ℕ) (w : ℕ → ℕ) (row : List ℕ) → HasNoFactor first row → 0 ≡ total first (λ k. get_or row k 0 * w k) % m
@@ -69,15 +76,15 @@ done_right f now n value size value_is done k within =
     subst (λ x. get_or (set now x value) k 0 ≡ f k) (sym last)
     (done_with f now now (n + 1) n value (omega (arith, size)) value_is done (λ _ _. refl) (λ j after l. absurd (omega (arith, after, l))) k within)
 
--- what a step leaves before both firsts
-pub none_before_multiple : (m n t first second least : ℕ) (row pivot new : List ℕ) → HasNoFactor first row → HasNoFactor second pivot
+-- what a step leaves before both firsts, where the last unknown becomes 0
+pub none_before_multiple : (n t first second least place : ℕ) (row pivot new : List ℕ) → HasNoFactor first row → HasNoFactor second pivot
     → least ≤ first → least ≤ second → least ≤ n
-    → ((k : ℕ) → k < n + 1 → get_or new k 0 ≡ (get_or row k 0 + t * get_or pivot k 0) % m)
-    → HasNoFactor least new
-none_before_multiple m n t first second least row pivot new none pivot_none by_first by_second within each k before =
-    each k (omega (arith, within, before))
-    ∙ ap₂ (λ x y. (x + y) % m) (none k (omega (arith, before, by_first))) (ap (λ y. t * y) (pivot_none k (omega (arith, before, by_second))) ∙ mul-zero t)
-    ∙ zero-mod m
+    → ((k : ℕ) → k < n + 1 → get_or new k 0 ≡ get_or row k 0 + t * get_or pivot k 0)
+    → HasNoFactor least (set new place 0)
+none_before_multiple n t first second least place row pivot new none pivot_none by_first by_second within each k before =
+    none_set place new k
+    (each k (omega (arith, within, before))
+    ∙ ap₂ (λ x y. x + y) (none k (omega (arith, before, by_first))) (ap (λ y. t * y) (pivot_none k (omega (arith, before, by_second))) ∙ mul-zero t))
 
 -- a new pivot with its first factor
 pub firsts-set : (pivots : List (Option (List ℕ))) (firsts : List ℕ) (place first : ℕ) (row : List ℕ) → place < length pivots → AreFirsts pivots firsts

@@ -1,5 +1,5 @@
 -- What elimination keeps: a row is a list of factors with the right side behind them.
-use Rattle.std.specs.Prelude.{◌≡◌, ◌↔◌, ℕ, ◌+◌, ◌-◌, ◌*◌, ◌%◌, ◌<◌, ◌≤◌, List, [], ◌∷◌, ◌++◌, take, length, get_or, Option, Some, None}
+use Rattle.std.specs.Prelude.{◌≡◌, ◌↔◌, ℕ, ◌+◌, ◌-◌, ◌*◌, ◌%◌, ◌<◌, ◌≤◌, List, [], ◌∷◌, ◌++◌, take, length, get_or, Option, Some, None, All}
 use Rattle.matrix_models.specs.Matrices.{total}
 use Rattle.matrix_models.specs.declared.system.LinearRow.{LinearRow}
 
@@ -19,6 +19,10 @@ pub record IsPivot (n place : ℕ) (row : List ℕ) : Type 0 where
 
 abbrev pub ArePivots : ℕ → List (Option (List ℕ)) → Type 0
 ArePivots n pivots = (place : ℕ) (row : List ℕ) → get_or pivots place None ≡ Some row → IsPivot n place row
+
+-- all factors and right sides of the pivots are below the modulus
+abbrev pub AreSmall : ℕ → List (Option (List ℕ)) → Type 0
+AreSmall m pivots = (place : ℕ) (row : List ℕ) → get_or pivots place None ≡ Some row → All (λ entry. entry < m) row
 
 -- the unknown at this place has no pivot
 pub record IsFree (pivots : List (Option (List ℕ))) (place : ℕ) : Type 0 where

@@ -1,22 +1,25 @@
 -- Pivots that equations are added to, and the systems that they stand for.
-use Rattle.std.specs.Prelude.{◌≡◌, ◌↔◌, ℕ, ◌+◌, List, [], ◌++◌, length, Option, All}
+use Rattle.std.specs.Prelude.{◌≡◌, ◌↔◌, ℕ, ◌+◌, ◌<◌, ◌^◌, List, [], ◌++◌, length, Option, All}
 use Rattle.definitions.specs.Moduli.{IsFieldModulus}
 use Rattle.matrix_models.specs.declared.system.LinearRow.{LinearRow}
 use Rattle.matrix_models.specs.declared.system.System.{System}
 use Rattle.matrix_models.specs.Systems.{IsSystem, HasNoSolution}
 use Rattle.matrix_models.specs.Greedy.{IsGreedy}
-use Rattle.matrix_models.specs.Elimination.{Meets, MeetsAll, ArePivots, AreFirsts, row_of}
+use Rattle.matrix_models.specs.Elimination.{Meets, MeetsAll, ArePivots, AreSmall, AreFirsts, row_of}
 
 -- A modulus, and for each unknown its pivot, where it has one.
 pub record Pivots : Type 0 where
   pub modulus : ℕ
   pub rows : List (Option (List ℕ))
 
--- They are pivots over a field, and their factors before these places are 0.
-pub record AreRows (p : Pivots) (places : List ℕ) : Type 0 where
+-- They are pivots over a field, their factors before these places are 0, and the wide row has room for one.
+pub record AreRows (p : Pivots) (places wide : List ℕ) : Type 0 where
   pub modulus : IsFieldModulus p.modulus
+  pub few : length p.rows < 2 ^ 32
   pub rows : ArePivots (length p.rows) p.rows
+  pub small : AreSmall p.modulus p.rows
   pub firsts : AreFirsts p.rows places
+  pub room : length wide ≡ length p.rows + 1
 
 -- the row has a factor for each unknown and a right side
 abbrev pub HasRowSize : Pivots → List ℕ → Type 0

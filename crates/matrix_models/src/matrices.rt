@@ -134,8 +134,8 @@ fn product_entry(left: &Matrix, right: &Matrix, row: u32, column: u32) -> u32
     (sum % modulus) as u32
 }
 
-// The sum with the product of two numbers below the modulus, up to a multiple of it, and below its square as the sum is.
-fn add_product(modulus: u64, sum: u64, left: u32, right: u32) -> u64
+/// The sum with the product of two numbers below the modulus, up to a multiple of it, and below its square as the sum is.
+pub(crate) fn add_product(modulus: u64, sum: u64, left: u32, right: u32) -> u64
     requires modulus { modulus ≤ modulus_limit }
     requires sum_below { sum < modulus * modulus }
     requires left_below { left < modulus }

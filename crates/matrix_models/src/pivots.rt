@@ -6,7 +6,8 @@ ghost use Rattle.matrix_models.specs.Matrices.{total};
 ghost use Rattle.matrix_models.specs.Elimination.{HasNoFactor, equation_of};
 ghost use Rattle.matrix_models.specs.Pivots.{no_equations, StandFor, HasRowSize, Add, AreAgainst, AreGreedyFor};
 
-use crate::elimination::{insert, with_multiple};
+use crate::elimination::insert;
+use crate::matrices::add_product;
 use lists::Listing;
 use std::alloc::{AllocError, Global};
 use std::marker::Model;
@@ -19,6 +20,8 @@ pub struct Pivots {
     rows: Vec<Option<Listing<u32>>>,
     // for each unknown that has a pivot a place before which the pivot's factors are 0
     firsts: Vec<usize>,
+    // room for a row that isn't reduced
+    wide: Vec<u64>,
 }
 
 impl Model for Pivots {
@@ -28,7 +31,7 @@ impl Model for Pivots {
 
     ghost view = { λ p. record { modulus = p.modulus; rows = p.rows.items } };
 
-    ghost invariant = { λ p. AreRows (record { modulus = p.modulus; rows = p.rows.items }) p.firsts.items };
+    ghost invariant = { λ p. AreRows (record { modulus = p.modulus; rows = p.rows.items }) p.firsts.items p.wide.items };
 }
 
 impl Pivots {
@@ -41,6 +44,7 @@ impl Pivots {
             modulus,
             rows: no_rows(alloc, unknowns)?,
             firsts: vec![in alloc; 0; unknowns as usize]?,
+            wide: vec![in alloc; 0; unknowns as usize + 1]?,
         })
     }
 
@@ -55,7 +59,8 @@ impl Pivots {
         ensures against { IsFalse result → AreAgainst (equation_of row.items ∷ []) self.old }
         ensures unchanged { IsFalse result → self.new ≡ self.old }
     {
-        insert(self.modulus, &mut self.rows, &mut self.firsts, row)
+        let (rows, firsts, wide) = (&mut self.rows, &mut self.firsts, &mut self.wide);
+        insert(self.modulus, rows, firsts, wide, row)
     }
 
     /// The greedy solution of all equations that were added, by preferred values: from the first unknown to the last, one
@@ -95,19 +100,23 @@ fn no_rows(alloc: Global, unknowns: u32) -> Result<Vec<Option<Listing<u32>>>, Al
 }
 
 // What the values leave of the row's right side, which stands at its end, where the row has no factor before the first place.
+// The sum is reduced once.
 fn value_left(modulus: u32, row: &[u32], first: usize, values: &[u32]) -> u32
-    requires modulus { 0 < modulus }
+    requires modulus { IsFieldModulus modulus }
     requires within { length values.now < length row.now }
     requires first { first ≤ length values.now }
     requires none { HasNoFactor first row.now }
+    requires small { All (λ entry. entry < modulus) row.now }
+    requires values_below { All (λ value. value < modulus) values.now }
     ensures below { result < modulus }
     ensures left { (total (length values.now) (λ k. get_or row.now k 0 * get_or values.now k 0) + result) % modulus
         ≡ get_or row.now (length row.now - 1) 0 % modulus }
 {
+    let modulus = u64::from(modulus);
     let mut sum = 0;
     for k in first..values.len() {
-        sum = with_multiple(modulus, sum, values[k], row[k]);
+        sum = add_product(modulus, sum, row[k], values[k]);
     }
-    let left = u64::from(row[row.len() - 1]) + u64::from(modulus) - u64::from(sum);
-    (left % u64::from(modulus)) as u32
+    let left = u64::from(row[row.len() - 1]) + modulus - sum % modulus;
+    (left % modulus) as u32
 }

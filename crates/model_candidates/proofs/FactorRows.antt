@@ -52,6 +52,18 @@ total_split a (suc b) f =
     let sum : total a f + total b (λ k. f (a + k)) + f (a + b) ≡ total a f + (total b (λ k. f (a + k)) + f (a + b)) = omega arith in
     ap (λ n. total n f) next ∙ ap (λ x. x + f (a + b)) (total_split a b f) ∙ sum
 
+-- a place with nothing behind it adds nothing
+pub place_skipped : (t : SolvedTerm) (i j inner other k : ℕ) → entry_at t.right other j ≡ 0 → other < t.right.rows
+    → line_factor t i j k inner other ≡ line_factor t i j k inner (other + 1)
+place_skipped t i j inner other k none in_width =
+    let place = inner * t.right.rows + other in
+    let beside : entry_at t.left i (place / t.right.rows) * entry_at t.right (place % t.right.rows) j ≡ 0 =
+    ap (λ y. entry_at t.left i (place / t.right.rows) * entry_at t.right y j) (mod-mul-add inner t.right.rows other in_width)
+    ∙ ap (λ y. entry_at t.left i (place / t.right.rows) * y) none ∙ mul-zero _ in
+    let nothing : place_factor t i j k place ≡ 0 =
+    ap (λ y. cond (nat_eq (get_or t.numbers place 0) k) 1 0 * y) beside ∙ mul-zero _ in
+    omega (arith, nothing) ∙ sym (total_more other (λ l. place_factor t i j k (inner * t.right.rows + l)))
+
 -- the factors after one place more of a row
 module _ (m : ℕ) (t : SolvedTerm) (i j inner : ℕ) (start factors : List ℕ) (other number times before behind : ℕ)
     (number_is : get_or t.numbers (inner * t.right.rows + other) 0 ≡ number) (times_is : times ≡ (t.coefficient * before) % m)

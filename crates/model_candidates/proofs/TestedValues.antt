@@ -1,9 +1,10 @@
 -- Values of candidates: which candidate they are, and what the tests of them tell.
-use Rattle.std.proofs.Common.{◌≡◌, ◌↔◌, ℕ, not, List, [], map, get_or, Option, None, Some, slice_get, option_map, IfNone, IfSome, IfOk, IsTrue, Result, Ok, Err, refl, sym, ap, ◌∙◌}
+use Rattle.std.proofs.Common.{◌≡◌, ◌↔◌, ℕ, ℤ, Bool, true, filter, not, List, [], map, get_or, Option, None, Some, slice_get, option_map, IfNone, IfSome, IfOk, IsTrue, Result, Ok, Err, refl, sym, ap, subst, ◌∙◌, true≢false}
 use Rattle.std.specs.List.{AllByRecursion}
+use Rattle.std.proofs.lemmas.Bool.{not-true}
 use Rattle.std.proofs.lemmas.List.{get_or-map}
 use Rattle.std.proofs.lemmas.List.Elements.{All-from_recursion}
-use Rattle.std.proofs.lemmas.Option.{get_or_from_slice_get, slice_get-map, slice_get_within}
+use Rattle.std.proofs.lemmas.Option.{get_or_from_slice_get, none-some, slice_get-map, slice_get_within}
 use Rattle.definitions.specs.Soundness.{HasValueZeroAt}
 use Rattle.nc_polynomial.specs.declared.poly.Poly.{Poly}
 use Rattle.quiver.specs.declared.named.Sig.{Sig}
@@ -18,8 +19,10 @@ use Rattle.model_checker.specs.Representations.{representation_of}
 use Rattle.model_checker.proofs.Places.{all_at}
 use Rattle.model_checker.proofs.Values.{zero_from_value}
 use Rattle.model_candidates.specs.Candidates.{IsCandidate, IsGreedy, IsSolution, draws, is_exhaustive, model_by}
-use Rattle.model_candidates.specs.Plans.{AreEntryValues}
+use Rattle.model_candidates.specs.Plans.{AreEntryValues, linear_assumptions}
 use Rattle.model_candidates.specs.Residues.{residues}
+use Rattle.model_candidates.proofs.AssumptionEntries.{kept_one}
+use Rattle.model_candidates.proofs.AssumptionsSuffice.{linear_assumptions_are_zero}
 
 -- the greedy values of draws
 module _ (problem : Problem) (number seed k : ℕ) (s : Shape) where
@@ -38,6 +41,16 @@ pub greedy_are_values : (problem : Problem) (s : Shape) (drawn : List ℕ) (foun
     → IfSome found (AreEntryValues problem s)
 greedy_are_values problem s _ None greedy = tt
 greedy_are_values problem s _ (Some values) greedy = record { one_each = greedy.solution.one_each; below = greedy.solution.below }
+
+-- in a candidate that is drawn the linear assumptions are zero
+pub linear_in_candidate : (problem : Problem) (number seed k : ℕ) (s : Shape) (m : Model) → IsTrue (not (is_exhaustive (quiver_of problem.parts.quiver) s))
+    → IsCandidate problem number s seed k (Some m) → AllByRecursion (IsZeroIn problem m) (linear_assumptions problem)
+linear_in_candidate problem number seed k s m other (IsCandidate.numbered all _) = absurd (true≢false (sym all ∙ not-true _ other))
+linear_in_candidate problem number seed k s m other (IsCandidate.drawn _ values greedy is) =
+    let made = model_by (quiver_of problem.parts.quiver) s 0 values in
+    let m_is : m ≡ made = cc in
+    subst (λ x. AllByRecursion (IsZeroIn problem x) (linear_assumptions problem)) (sym m_is) (linear_assumptions_are_zero problem made greedy.solution.zero)
+linear_in_candidate problem number seed k s m other (IsCandidate.unsolvable _ _ is) = absurd (none-some _ (sym is))
 
 -- the coefficients at the place of a polynomial
 pub residues_at : (m : ℕ) (ps : List Poly) (each : List (List ℕ)) (place : ℕ) (p : Poly) (x : List ℕ) → each ≡ map (λ r. residues m r.terms) ps
@@ -64,3 +77,12 @@ module _ (problem : Problem) (m : Model) where
   zero_at ps place p all is =
       all_at (IsZeroIn problem m) (polynomials ps) place p.terms (All-from_recursion (IsZeroIn problem m) (polynomials ps) all)
       (slice_get-map (λ r. r.terms) ps place ∙ ap (option_map (λ r. r.terms)) is)
+
+  -- one of the linear ones, which are all zero
+  pub zero_linear : (ps : List Poly) (keep : List (ℤ × List ℕ) → Bool) (place : ℕ) (p : Poly) → slice_get ps place ≡ Some p → keep p.terms ≡ true
+      → AllByRecursion (IsZeroIn problem m) (polynomials (filter (λ r. keep r.terms) ps)) → IsZeroIn problem m p.terms
+  zero_linear ps keep place p is kept all =
+      let here : get_or (polynomials ps) place [] ≡ p.terms =
+      get_or_from_slice_get (polynomials ps) place p.terms [] (slice_get-map (λ r. r.terms) ps place ∙ ap (option_map (λ r. r.terms)) is) in
+      subst (IsZeroIn problem m) here
+      (kept_one (IsZeroIn problem m) keep ps place (slice_get_within ps place p is) (ap keep here ∙ kept) all)

@@ -120,6 +120,9 @@ fn add_line(modulus: u32, factors: &mut [u32], term: &SolvedTerm, row: u32, inne
     let width = term.right.rows();
     for other in 0..width {
         let behind = term.right.entry(other, column);
+        if behind == 0 {
+            continue;
+        }
         let number = *term.numbers.at((inner * width + other) as usize) as usize;
         factors[number] = with_multiple(modulus, factors[number], times as u32, behind);
     }

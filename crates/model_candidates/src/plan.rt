@@ -167,8 +167,8 @@ fn is_asked(quiver: &Quiver, solved: &[Letter], poly: &Poly, known: bool) -> boo
     }
 }
 
-// Whether each word of the polynomial has so many solved letters at most.
-fn has_few(quiver: &Quiver, solved: &[Letter], poly: &Poly, most: usize) -> bool
+/// Whether each word of the polynomial has so many solved letters at most.
+pub(crate) fn has_few(quiver: &Quiver, solved: &[Letter], poly: &Poly, most: usize) -> bool
     requires quiver { IsQuiver (quiver_of quiver.now) }
     requires solved { All (λ l. l.0 < letter_count quiver.now) solved.now }
     requires letters { All (λ t. IsOver (letter_count quiver.now) t.1) poly.now.terms }

@@ -16,7 +16,7 @@ use adjoint_rules::Problem;
 use in_order_parallel::{Gate, Job, map_in_order};
 use lists::Listing;
 use model_candidates::{
-    Plan, are_assumptions_zero, candidate_by, candidate_values, candidates, is_claim_zero, plan_of,
+    Plan, candidate_by, candidate_values, candidates, is_claim_zero, is_model, plan_of,
 };
 use std::alloc::{AllocError, Global};
 use std::thread::Threads;
@@ -71,7 +71,7 @@ fn test(pass: &Pass, found: &[Option<Found>], candidate: u32) -> Result<Broken, 
         return Ok(None);
     };
     let entries = values.as_slice();
-    if !are_assumptions_zero(pass.problem, pass.plan, entries) {
+    if !is_model(pass.problem, pass.plan, entries) {
         return Ok(None);
     }
     Ok(Some(broken_claims(pass, found, entries)?))

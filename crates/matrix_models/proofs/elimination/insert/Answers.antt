@@ -1,9 +1,8 @@
-use Rattle.std.proofs.Common.{◌≡◌, ◌<◌, length, get_or, sym, ap, subst, ◌∙◌, arith}
-use Rattle.std.proofs.lemmas.List.{take_at, get_or_default}
-use Rattle.std.proofs.lemmas.List.Elements.{All-get_or}
+use Rattle.std.proofs.Common.{◌≡◌, ◌<◌, All, length, sym, ap, subst, ◌∙◌}
+use Rattle.std.proofs.lemmas.List.{take_at}
 use Rattle.std.proofs.lemmas.Bool.{eqb-true, eqb-false}
 use Rattle.matrix_models.specs.Elimination.{IsPivot, HasNoFactor, MeetsAlike}
-use Rattle.matrix_models.proofs.Rows.{pivots-set, added-pivot, added-nothing, against-all}
+use Rattle.matrix_models.proofs.Rows.{pivots-set, small-set, added-pivot, added-nothing, against-all}
 use Rattle.matrix_models.proofs.Stretches.{firsts-set}
 use Rattle.matrix_models.proofs.elimination.insert.Goals as goal
 
@@ -30,26 +29,25 @@ returns-in-Some-clause-added c = λ _.
     added-pivot c.args.modulus (length c.args.pivots.now) c.in-Some.stretch.last c.args.pivots.now c.args.row.items c.from_vec.result c.in-Some.ensures.free
     (subst (MeetsAlike c.args.modulus (length c.args.pivots.now) c.args.pivots.now c.args.row.items) (sym row_is) alike)
 
+pub returns-in-Some-clause-small : goal.returns-in-Some-clause-small
+returns-in-Some-clause-small c =
+    let kept : length c.normalize.new.row ≡ c.args.row.len = c.normalize.ensures.len ∙ ap length c.deref_mut.ensures.value ∙ sym c.args.row.ok.0 in
+    let row_is : c.from_vec.result ≡ c.normalize.new.row = c.from_vec.ensures ∙ take_at c.normalize.new.row _ _ kept in
+    small-set c.args.modulus c.in-Some.stretch.last c.args.pivots.now c.from_vec.result c.in-Some.ensures.free.within c.requires.small
+    (subst (All (λ entry. entry < c.args.modulus)) (sym row_is) c.in-Some.ensures.small)
+
 pub returns-in-None-clause-added : goal.returns-in-None-clause-added
 returns-in-None-clause-added c = λ is_zero.
     let n = length c.args.pivots.now in
-    let row = c.normalize.new.row in
-    let size : length row ≡ length c.args.row.items = c.normalize.ensures.len ∙ ap length c.deref_mut.ensures.value in
-    let right_is : c.index.result.now ≡ get_or row n 0 =
-    c.index.ensures ∙ ap (λ xs. get_or xs n c.index.result.now) (take_at row _ _ (size ∙ sym c.args.row.ok.0))
-    ∙ get_or_default row n c.index.result.now 0 (omega (arith, size, c.requires.size)) in
-    let alike = subst (λ x. MeetsAlike c.args.modulus n c.args.pivots.now x row) c.deref_mut.ensures.value c.in-None.ensures.alike in
-    added-nothing c.args.modulus n c.args.pivots.now c.args.row.items row c.in-None.ensures.none (sym right_is ∙ eqb-true _ 0 is_zero) alike
+    let wide = c.normalize.new.wide in
+    let alike = subst (λ x. MeetsAlike c.args.modulus n c.args.pivots.now x wide) c.deref_mut.ensures.value c.in-None.ensures.wide_alike in
+    added-nothing c.args.modulus n c.args.pivots.now c.args.row.items wide c.in-None.ensures.none
+    (sym c.residue.ensures.value ∙ eqb-true _ 0 is_zero) alike
 
 pub returns-in-None-clause-against : goal.returns-in-None-clause-against
 returns-in-None-clause-against c = λ is_other.
     let n = length c.args.pivots.now in
-    let row = c.normalize.new.row in
-    let size : length row ≡ length c.args.row.items = c.normalize.ensures.len ∙ ap length c.deref_mut.ensures.value in
-    let right_is : c.index.result.now ≡ get_or row n 0 =
-    c.index.ensures ∙ ap (λ xs. get_or xs n c.index.result.now) (take_at row _ _ (size ∙ sym c.args.row.ok.0))
-    ∙ get_or_default row n c.index.result.now 0 (omega (arith, size, c.requires.size)) in
-    let alike = subst (λ x. MeetsAlike c.args.modulus n c.args.pivots.now x row) c.deref_mut.ensures.value c.in-None.ensures.alike in
-    against-all c.args.modulus n c.args.pivots.now c.args.row.items row c.in-None.ensures.none
-    (All-get_or (λ entry. entry < c.args.modulus) row n 0 (omega (arith, size, c.requires.size)) c.in-None.ensures.below)
-    (λ zero_is. eqb-false _ 0 is_other (right_is ∙ zero_is)) alike
+    let wide = c.normalize.new.wide in
+    let alike = subst (λ x. MeetsAlike c.args.modulus n c.args.pivots.now x wide) c.deref_mut.ensures.value c.in-None.ensures.wide_alike in
+    against-all c.args.modulus n c.args.pivots.now c.args.row.items wide c.in-None.ensures.none
+    (λ none. eqb-false _ 0 is_other (c.residue.ensures.value ∙ none)) alike

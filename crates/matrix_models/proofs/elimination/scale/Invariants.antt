@@ -5,6 +5,6 @@ use Rattle.matrix_models.proofs.elimination.scale.Given as goal
 abbrev pub invariant-loop-place : goal.invariant-loop-place
 invariant-loop-place l = record {
   size : length l.row ≡ length l.initial.row;
-  done : (k : ℕ) → k < l.place → get_or l.row k 0 ≡ (get_or l.initial.row k 0 * l.times) % l.modulus;
+  done : (k : ℕ) → k < l.place → get_or l.row k 0 ≡ (get_or l.wide k 0 * l.times) % l.modulus;
   rest : (k : ℕ) → l.place ≤ k → get_or l.row k 0 ≡ get_or l.initial.row k 0;
 }

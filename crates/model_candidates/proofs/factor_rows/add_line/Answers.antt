@@ -3,7 +3,7 @@ use Rattle.std.proofs.lemmas.List.{length-set}
 use Rattle.std.proofs.lemmas.List.Elements.{All-get_or, All-set}
 use Rattle.std.proofs.lemmas.Option.{get_or_from_slice_get, slice_get_within}
 use Rattle.matrix_models.specs.Matrix.{entry_at}
-use Rattle.model_candidates.proofs.FactorRows.{line_nothing, place_added}
+use Rattle.model_candidates.proofs.FactorRows.{line_nothing, place_added, place_skipped}
 use Rattle.model_candidates.proofs.factor_rows.add_line.Goals as goal
 
 pub returns-then-before-eq0-clause-each : goal.returns-then-before-eq0-clause-each
@@ -34,6 +34,22 @@ bounds-factors-number-in-loop-other c =
     let below = All-get_or (λ k. k < length c.args.factors.now) t.numbers place 0 (slice_get_within t.numbers place number c.at.ensures)
     c.requires.term.below in
     omega (arith, number_is, below, c.loop-other.invariant.size)
+
+pub loop-other-preserved-then-behind-eq0 : goal.loop-other-preserved-then-behind-eq0
+loop-other-preserved-then-behind-eq0 c =
+    let now = c.loop-other.invariant in
+    let t = c.args.term.now in
+    let other = c.loop-other.other in
+    let in_width : other < t.right.rows = subst (λ n. other < n) c.rows-width.ensures c.loop-other-test.true in
+    let none : entry_at t.right other c.args.column ≡ 0 = sym c.entry-behind.ensures.value ∙ c.if-behind-eq0.true in
+    record {
+      size = now.size;
+      below = now.below;
+      each = λ k inside.
+          now.each k inside
+          ∙ ap (λ x. (get_or c.args.factors.now k 0 + t.coefficient * x) % c.args.modulus)
+          (place_skipped t c.args.row c.args.column c.args.inner other k none in_width);
+    }
 
 pub loop-other-preserved : goal.loop-other-preserved
 loop-other-preserved c =

@@ -1,6 +1,6 @@
-use Rattle.std.proofs.Common.{◌≡◌, ◌+◌, ◌<◌, ◌++◌, ◌∷◌, [], All, length, drop, take, refl, sym, ap, subst, ◌∙◌}
+use Rattle.std.proofs.Common.{◌≡◌, ◌+◌, ◌<◌, ◌^◌, ◌++◌, ◌∷◌, [], All, length, drop, take, refl, sym, ap, subst, ◌∙◌}
 use Rattle.std.proofs.lemmas.List.{take_at}
-use Rattle.matrix_models.specs.Elimination.{ArePivots, AreFirsts, IsAdded, IsAgainst, equation_of}
+use Rattle.matrix_models.specs.Elimination.{ArePivots, AreSmall, AreFirsts, IsAdded, IsAgainst, equation_of}
 use Rattle.matrix_models.specs.Pivots.{Pivots, StandFor, with_equations}
 use Rattle.matrix_models.proofs.Reduction.{row_is_equation, row_of-equation_of, stand_for-more, no_solution}
 use Rattle.matrix_models.proofs.pivots.Pivots.add.Goals as goal
@@ -18,9 +18,16 @@ invariant_of-self c =
     let firsts_size : length c.insert.new.firsts ≡ length firsts.items = c.insert.ensures.firsts.size ∙ size ∙ sym c.self.invariant.firsts.size in
     let firsts_are : take firsts.len (c.insert.new.firsts ++ drop (length c.insert.new.firsts) firsts.items) ≡ c.insert.new.firsts =
     take_at c.insert.new.firsts _ _ (firsts_size ∙ sym firsts.ok.0) in
+    let wide = c.self.inside.wide in
+    let wide_size : length c.insert.new.wide ≡ length wide.items = c.insert.ensures.room ∙ ap length c.deref_mut-3.ensures.value in
+    let wide_are : take wide.len (c.insert.new.wide ++ drop (length c.insert.new.wide) wide.items) ≡ c.insert.new.wide =
+    take_at c.insert.new.wide _ _ (wide_size ∙ sym wide.ok.0) in
     let pivots : ArePivots (length new) new = subst (λ n. ArePivots n new) (sym c.insert.ensures.len) c.insert.ensures.pivots in
     record {
       modulus = c.self.invariant.modulus;
+      few = subst (λ k. k < 2 ^ 32) (sym size ∙ ap length (sym rows_are)) c.self.invariant.few;
+      small = subst (AreSmall c.self.inside.modulus) (sym rows_are) c.insert.ensures.small;
+      room = ap length wide_are ∙ wide_size ∙ c.self.invariant.room ∙ ap (λ k. k + 1) (sym size ∙ ap length (sym rows_are));
       rows = subst (λ xs. ArePivots (length xs) xs) (sym rows_are) pivots;
       firsts = subst (λ xs. AreFirsts xs (take firsts.len (c.insert.new.firsts ++ drop (length c.insert.new.firsts) firsts.items))) (sym rows_are)
           (subst (AreFirsts new) (sym firsts_are) c.insert.ensures.firsts);

@@ -1,4 +1,4 @@
-use Rattle.std.proofs.Common.{◌≡◌, length, sym, subst, arith}
+use Rattle.std.proofs.Common.{◌≡◌, ◌+◌, length, sym, subst, arith}
 use Rattle.matrix_models.specs.Pivots.{AreRows, StandFor, no_equations}
 use Rattle.matrix_models.proofs.Reduction.{stand_for-none, are_rows-none}
 use Rattle.matrix_models.proofs.pivots.Pivots.new.Goals as goal
@@ -7,9 +7,11 @@ use Rattle.matrix_models.proofs.pivots.Pivots.new.Goals as goal
 pub invariant_of-result : goal.invariant_of-result
 invariant_of-result c =
     let places = c.in_ok-vec.field-0.items in
+    let wide = c.in_ok-vec-2.field-0.items in
     let size : length places ≡ c.args.unknowns = omega (arith, c.in_ok-vec.ensures.len) in
-    subst (λ rows. AreRows (record { modulus = c.args.modulus; rows = rows }) places) (sym c.in_ok-no_rows.ensures)
-    (are_rows-none c.args.modulus c.args.unknowns places c.requires size)
+    let room : length wide ≡ c.args.unknowns + 1 = omega (arith, c.in_ok-vec-2.ensures.len) in
+    subst (λ rows. AreRows (record { modulus = c.args.modulus; rows = rows }) places wide) (sym c.in_ok-no_rows.ensures)
+    (are_rows-none c.args.modulus c.args.unknowns places wide c.requires c.ranges.unknowns.fits size room)
 
 pub returns : goal.returns
 returns c =

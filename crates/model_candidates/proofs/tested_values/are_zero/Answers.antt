@@ -1,5 +1,6 @@
 use Rattle.std.proofs.Common.{◌≤◌, length, refl, sym, ap, subst, ◌∙◌, arith, true≢false}
 use Rattle.std.specs.List.{AllByRecursion}
+use Rattle.std.proofs.lemmas.Bool.{and_parts}
 use Rattle.std.proofs.lemmas.List.{length-map, take_all}
 use Rattle.std.proofs.lemmas.Slice.Zip.{AllZip-long}
 use Rattle.quiver.specs.Declarations.{quiver_of}
@@ -7,10 +8,11 @@ use Rattle.adjoint_rules.specs.Problem.{HasObjects, IsTypedOf}
 use Rattle.model_checker.specs.Models.{IsZeroIn, assumptions_of}
 use Rattle.model_checker.proofs.Places.{all_at, zip_at, one_more}
 use Rattle.model_candidates.specs.Candidates.{model_by}
+use Rattle.model_candidates.specs.Plans.{has_few}
 use Rattle.model_candidates.specs.Residues.{residues}
 use Rattle.model_candidates.proofs.NumberedShapes.{posed_shape, shape_numbered, one_shape}
-use Rattle.model_candidates.proofs.TestedValues.{residues_at, zero_at, zero_tells}
-use Rattle.model_candidates.proofs.tested_values.are_assumptions_zero.Goals as goal
+use Rattle.model_candidates.proofs.TestedValues.{residues_at, zero_at, zero_linear, zero_tells}
+use Rattle.model_candidates.proofs.tested_values.are_zero.Goals as goal
 
 pub at-sig-requires : goal.at-sig-requires
 at-sig-requires c =
@@ -67,6 +69,20 @@ is_zero-requires-clause-coefficients c =
 
 pub loop-place-init : goal.loop-place-init
 loop-place-init c = tt
+
+-- a linear one is zero
+pub loop-place-preserved-then-is_passed : goal.loop-place-preserved-then-is_passed
+loop-place-preserved-then-is_passed c =
+    let problem = c.args.problem.now in
+    let parts = problem.parts in
+    let q = quiver_of parts.quiver in
+    let s = c.at-shape.result.now in
+    let p = c.at-assumption.result.now in
+    let m = model_by q s 0 c.args.values.now in
+    let both = and_parts c.args.known (has_few q parts.solved 1 p.terms) (sym c.is_passed.ensures ∙ c.if-is_passed.true) in
+    let linear = c.requires.linear s (shape_numbered problem c.args.plan.now.number s c.requires.plan.least c.at-shape.ensures) both.0 in
+    one_more (IsZeroIn problem m) parts.assumptions c.loop-place.place p c.at-assumption.ensures c.loop-place.invariant
+    (zero_linear problem m parts.assumptions (has_few q parts.solved 1) c.loop-place.place p c.at-assumption.ensures both.1 linear)
 
 pub returns-then-not-is_zero : goal.returns-then-not-is_zero
 returns-then-not-is_zero c = λ t numbered. (

@@ -2,7 +2,7 @@ use Rattle.std.proofs.Common.{take}
 use Rattle.std.specs.List.{AllByRecursion}
 use Rattle.model_checker.specs.Models.{IsZeroIn, assumptions_of}
 use Rattle.model_candidates.specs.WordRows.{model_in}
-use Rattle.model_candidates.proofs.tested_values.are_assumptions_zero.Given as goal
+use Rattle.model_candidates.proofs.tested_values.are_zero.Given as goal
 
 -- the assumptions that were passed are zero
 abbrev pub invariant-loop-place : goal.invariant-loop-place
