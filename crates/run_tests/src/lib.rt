@@ -1,28 +1,12 @@
-//! Tests of whole runs, over files and a sink in memory: rows of words and files with the status and the report.
+//! Runs over files and a sink in memory, told as texts, for tests; and tests of whole runs of `check`, `model`, `prove` and `refute`: rows
+//! of words and files with the status and the report, in both languages.
 #![tactic(auto)]
 
-#[cfg(test)]
-mod call_tests;
-#[cfg(test)]
-mod calls;
-#[cfg(test)]
-mod cancel_rows;
-#[cfg(test)]
-mod cancel_tests;
-#[cfg(test)]
-mod confirm_rows;
-#[cfg(test)]
-mod confirm_tests;
+pub mod answers;
 #[cfg(test)]
 mod decided_rows;
 #[cfg(test)]
-mod explain_rows;
-#[cfg(test)]
-mod explain_tests;
-#[cfg(test)]
 mod gallery_rows;
-#[cfg(test)]
-mod gate_tests;
 #[cfg(test)]
 mod language_rows;
 #[cfg(test)]
@@ -30,13 +14,10 @@ mod language_tests;
 #[cfg(test)]
 mod lemma_rows;
 #[cfg(test)]
-mod limit_rows;
-#[cfg(test)]
-mod limit_tests;
-#[cfg(test)]
 mod model_rows;
+pub mod parts;
 #[cfg(test)]
-mod steady_tests;
+mod telling;
 #[cfg(test)]
 mod test_rows;
 #[cfg(test)]
