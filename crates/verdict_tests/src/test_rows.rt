@@ -1,5 +1,5 @@
 //! Runs of the program: statements, evidence and reports, worked out by hand.
-use crate::answers::{Row, USAGE};
+use run_tests::answers::{Row, USAGE};
 
 const MAPS: &[u8] =
     b"object U V\nmap a b c z : U -> V\nassume a = b\nassume b = c\nassume a = c\nclaim a = c\n";

@@ -1,5 +1,4 @@
 //! Runs of the program over files and a sink in memory, each in both languages.
-use crate::answers::{Row, answer};
 use crate::decided_rows::{
     BROKEN, CallRow, INNER, OTHERS, PLAIN, PROVED, PROVED_PLAINLY, WITHOUT_FILES,
 };
@@ -8,6 +7,7 @@ use crate::lemma_rows::LEMMAS;
 use crate::model_rows::{FAULTS, MODELS};
 use crate::telling::tell;
 use crate::test_rows::{CALLS, EXAMPLES, JUDGED, REFUSED, SOUND};
+use run_tests::answers::{Row, answer};
 use std::alloc::{AllocError, Global};
 use std::process::Abort;
 use std::thread::Threads;

@@ -1,6 +1,6 @@
 //! Asserts that words are answered over files as rows say.
-use crate::answers::answer;
-use crate::parts::{LimitRow, text_of};
+use run_tests::answers::answer;
+use run_tests::parts::{LimitRow, text_of};
 use std::alloc::Global;
 use std::process::Abort;
 use std::thread::Threads;

@@ -1,5 +1,5 @@
 //! Runs of `prove`, `refute` and `bench`: words, a statement, and the status with the report, worked out by hand.
-use crate::answers::USAGE;
+use run_tests::answers::USAGE;
 
 /// The words, the statement that they name by `s`, and the status with the report.
 pub type CallRow = (&'static [&'static str], &'static [u8], &'static str);

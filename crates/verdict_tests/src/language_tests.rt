@@ -1,5 +1,4 @@
 //! Runs over statements of the second language.
-use crate::answers::answer;
 use crate::gallery_rows::MOORE_PENROSE_UNIQUE;
 use crate::language_rows::{
     ARITHMETIC, BEGINNINGS, EVIDENCE, FIRST_LINES, MAP_LIMITS, NUMBERS, ORDERS, POWERS, SIGNATURES,
@@ -7,6 +6,7 @@ use crate::language_rows::{
 };
 use crate::telling::{tell, tell_limits};
 use crate::tests::renamed;
+use run_tests::answers::answer;
 use std::alloc::Global;
 use std::process::Abort;
 use std::thread::Threads;
