@@ -128,15 +128,26 @@ fn write_fault(rt: &impl Abort, text: &mut String, fault: &TypeFault) {
     text.push('\n').expect(rt, "memory");
 }
 
-// Writes the first fault of a text; or its problem, or no more than that there is one where a row says no more.
-fn write_outcome(rt: &impl Abort, alloc: Global, told: &mut String, text: &[u8], is_whole: bool) {
-    assert!(rt; text.len() < 100_000, "the text is too long for a test");
-    let tree = read_tree(alloc, text).expect(rt, "the text is read");
-    match &elaborate(alloc, &tree) {
-        Ok(problem) if is_whole => write_problem(rt, alloc, told, problem),
+// Writes the fault; or the problem, or no more than that there is one where a row says no more.
+fn write_made(
+    rt: &impl Abort,
+    alloc: Global,
+    told: &mut String,
+    made: &Result<Problem, TypeFault>,
+    want: &str,
+) {
+    match made {
+        Ok(problem) if want != "read\n" => write_problem(rt, alloc, told, problem),
         Ok(_) => told.push_str("read\n").expect(rt, "memory"),
         Err(fault) => write_fault(rt, told, fault),
     }
+}
+
+// Writes what is made of a text, in the detail of what is wanted.
+fn write_outcome(rt: &impl Abort, alloc: Global, told: &mut String, text: &str, want: &str) {
+    assert!(rt; text.len() < 100_000, "the text is too long for a test");
+    let tree = read_tree(alloc, text.as_bytes()).expect(rt, "the text is read");
+    write_made(rt, alloc, told, &elaborate(alloc, &tree), want);
 }
 
 // Asserts that the outcome of each text is as its row says.
@@ -144,7 +155,7 @@ fn tell_outcomes(rt: &impl Abort, alloc: Global, rows: &str) {
     for row in rows.split("%\n") {
         let (text, want) = halves(rt, row);
         let mut told = String::new(alloc);
-        write_outcome(rt, alloc, &mut told, text.as_bytes(), want != "read\n");
+        write_outcome(rt, alloc, &mut told, text, want);
         same(rt, told.as_str(), want, row);
     }
 }
