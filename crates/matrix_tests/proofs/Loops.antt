@@ -1,7 +1,9 @@
 -- Representations of one object with two maps from it to itself.
-use Rattle.std.proofs.Common.{◌≡◌, ◌<◌, ℕ, zero, suc, List, [], ◌∷◌, ◌++◌, get_or, sym, refl, ap, subst, ◌∙◌, arith}
+use Rattle.std.proofs.Common.{◌≡◌, ◌<◌, ℕ, zero, suc, pos, negsuc, List, [], ◌∷◌, ◌++◌, get_or, sym, refl, ap, subst, ◌∙◌, arith}
 use Rattle.definitions.specs.Category.{Structure, IsArrow, PreadditiveLaws}
-use Rattle.definitions.specs.Quiver.{Quiver, source, target}
+use Rattle.definitions.specs.Quiver.{Quiver, IsTyped, source, target}
+use Rattle.definitions.specs.Poly.{Poly, SamePolynomial}
+use Rattle.definitions.proofs.Typed.{typed_from_terms}
 use Rattle.representations.specs.Listed.{IsRepresentation}
 
 -- the letters are the identity and two maps that are their own adjoints
@@ -42,3 +44,12 @@ pushed_once none one x empty pushed = pushed ∙ ap (λ xs. xs ++ x ∷ []) empt
 pub pushed_thrice : {A : Type 0} (none one two three : List A) (x y z : A) → none ≡ [] → one ≡ none ++ x ∷ [] → two ≡ one ++ y ∷ [] → three ≡ two ++ z ∷ [] → three ≡ x ∷ y ∷ z ∷ []
 pushed_thrice none one two three x y z empty first second third =
     third ∙ ap (λ xs. xs ++ z ∷ []) (second ∙ ap (λ xs. xs ++ y ∷ []) (pushed_once none one x empty first))
+
+-- 2 a b - a
+abbrev difference : Poly
+difference = (pos 2, 1 ∷ 2 ∷ []) ∷ (negsuc 0, 1 ∷ []) ∷ []
+
+pub difference_typed : (q : Quiver) (p : Poly) → q ≡ loops → SamePolynomial p difference → IsTyped q 0 0 p
+difference_typed q p q_is same =
+    let listed : IsTyped loops 0 0 difference = typed_from_terms loops 0 0 difference (refl, (refl, tt)) in
+    subst (λ r. IsTyped r 0 0 p) (sym q_is) (record { at = λ w nonzero. listed.at w (λ none. nonzero (same.at w ∙ none)) })

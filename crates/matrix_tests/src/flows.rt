@@ -12,7 +12,6 @@ use std::io::{self, ErrorKind, Read, Seek, SeekFrom, Write};
 use std::process::Abort;
 use std::rt::Files;
 use std::sync::atomic::{AtomicU64, Ordering};
-use std::test::Fail;
 
 enum Want {
     Bytes(&'static [u8]),
@@ -84,26 +83,20 @@ fn is_wanted(got: &Result<Vec<u8>, ShelfFault>, want: &Want) -> bool {
 }
 
 #[test]
-fn a_shelf_in_memory_gives_its_files(rt: HostRuntime) -> Result<(), Fail> {
-    let mut shelf = two_files(rt.alloc(), &[2])?;
-    load_all(&rt, rt.alloc(), &mut shelf);
-    Ok(())
-}
-
-fn load_all(rt: &impl Abort, alloc: Global, shelf: &mut MemoryShelf) {
+fn a_shelf_in_memory_gives_its_files(rt: HostRuntime) {
+    let mut shelf = two_files(rt.alloc(), &[2]).expect(&rt, "memory");
     for load in LOADS {
-        let got = shelf.load(alloc, load.name, load.most);
-        equal(rt, &is_wanted(&got, &load.want), &true, load.name);
+        let got = shelf.load(rt.alloc(), load.name, load.most);
+        assert!(rt; is_wanted(&got, &load.want), "{}", load.name);
     }
 }
 
 #[test]
-fn a_sink_in_memory_fails_where_it_is_to(rt: HostRuntime) -> Result<(), Fail> {
+fn a_sink_in_memory_fails_where_it_is_to(rt: HostRuntime) {
     let alloc = rt.alloc();
-    let failing = Listing::from_vec([3, 5].to_vec(alloc)?);
-    let mut sink = MemorySink::new(alloc, 2, 9, failing)?;
+    let failing = Listing::from_vec([3, 5].to_vec(alloc).expect(&rt, "memory"));
+    let mut sink = MemorySink::new(alloc, 2, 9, failing).expect(&rt, "memory");
     put_until_full(&rt, &mut sink);
-    Ok(())
 }
 
 fn put_until_full(rt: &impl Abort, sink: &mut MemorySink) {
@@ -124,28 +117,25 @@ fn put_until_full(rt: &impl Abort, sink: &mut MemorySink) {
 }
 
 #[test]
-fn files_of_the_machine_are_read_whole(rt: HostRuntime) -> Result<(), Fail> {
-    let alloc = rt.alloc();
+fn files_of_the_machine_are_read_whole(rt: HostRuntime) {
     let name = "flow_io_test_file";
-    let bytes = vec![in alloc; b'x'; 20_000]?;
-    fs::write(&rt, name, bytes.as_slice())?;
+    let bytes = vec![in rt.alloc(); b'x'; 20_000].expect(&rt, "memory");
+    fs::write(&rt, name, bytes.as_slice()).expect(&rt, "a file");
     let mut shelf = RealShelf::new(rt);
-    let whole = shelf.load(alloc, name, 20_000);
-    let long = shelf.load(alloc, name, 19_999);
-    fs::remove_file(&rt, name)?;
-    let missing = shelf.load(alloc, name, 20_000);
+    let whole = shelf.load(rt.alloc(), name, 20_000);
     assert!(rt; matches!(&whole, Ok(read) if read == &bytes));
+    let long = shelf.load(rt.alloc(), name, 19_999);
     assert!(rt; matches!(long, Err(ShelfFault::TooLong { got: 20_000 })));
+    fs::remove_file(&rt, name).expect(&rt, "no file");
+    let missing = shelf.load(rt.alloc(), name, 20_000);
     assert!(rt; matches!(missing, Err(ShelfFault::Failed)));
-    Ok(())
 }
 
 #[test]
-fn standard_output_takes_all_bytes(rt: HostRuntime) -> Result<(), Fail> {
+fn standard_output_takes_all_bytes(rt: HostRuntime) {
     let mut sink = RealSink::new(rt);
     equal(&rt, &put_all(&mut sink, b"put\n"), &Ok(()), "put");
     equal(&rt, &sink.finish(), &Ok(()), "a finish");
-    Ok(())
 }
 
 // An output that takes one byte a call.
@@ -174,7 +164,7 @@ impl Print for Slow {
 }
 
 #[test]
-fn a_write_that_takes_one_byte_is_told_as_one(rt: HostRuntime) -> Result<(), Fail> {
+fn a_write_that_takes_one_byte_is_told_as_one(rt: HostRuntime) {
     let output = Slow {
         calls: AtomicU64::new(0),
     };
@@ -182,7 +172,6 @@ fn a_write_that_takes_one_byte_is_told_as_one(rt: HostRuntime) -> Result<(), Fai
     equal(&rt, &sink.put(b"put"), &Ok(1), "a put");
     equal(&rt, &put_all(&mut sink, b"put"), &Ok(()), "put");
     equal(&rt, &output.calls.load(Ordering::SeqCst), &4, "calls");
-    Ok(())
 }
 
 // Reads so many bytes, one a call, and then fails.
@@ -294,11 +283,10 @@ impl Files for BrokenFiles {
 }
 
 #[test]
-fn a_read_that_fails_in_mid_stream_is_no_file(rt: HostRuntime) -> Result<(), Fail> {
+fn a_read_that_fails_in_mid_stream_is_no_file(rt: HostRuntime) {
     let mut shelf = RealShelf::new(BrokenFiles);
     let failed = shelf.load(rt.alloc(), "f", 9);
     assert!(rt; matches!(failed, Err(ShelfFault::Failed)));
     let past = shelf.load(rt.alloc(), "f", 2);
     assert!(rt; matches!(past, Err(ShelfFault::TooLong { got: 3 })));
-    Ok(())
 }

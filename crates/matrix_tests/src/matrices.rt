@@ -4,8 +4,6 @@ use adjoint_rules::Shape;
 use lists::Listing;
 use matrix_models::Matrix;
 use model_candidates::check_shape;
-use std::alloc::{AllocError, Global};
-use std::test::Fail;
 
 // Rows, columns and entries modulo 2, and what is told of them.
 const MADE: &[(u32, u32, &[u32], &str)] = &[
@@ -20,25 +18,15 @@ const MADE: &[(u32, u32, &[u32], &str)] = &[
     (2, 2, &[2, 2, 2], "BadShape"),
 ];
 
-fn told_of_matrix(
-    alloc: Global,
-    rows: u32,
-    columns: u32,
-    entries: &[u32],
-) -> Result<String, AllocError> {
-    match Matrix::new(alloc, 2, rows, columns, entries) {
-        Ok(_made) => String::from_str(alloc, "made"),
-        Err(fault) => format!(in alloc; "{fault:?}"),
-    }
-}
-
 #[test]
-fn sides_and_entries_are_refused(rt: HostRuntime) -> Result<(), Fail> {
+fn sides_and_entries_are_refused(rt: HostRuntime) {
     for (rows, columns, entries, want) in MADE {
-        let got = told_of_matrix(rt.alloc(), *rows, *columns, entries)?;
-        same(&rt, got.as_str(), want, want);
+        let got = match Matrix::new(rt.alloc(), 2, *rows, *columns, entries) {
+            Ok(_made) => String::from_str(rt.alloc(), "made"),
+            Err(fault) => format!(in rt.alloc(); "{fault:?}"),
+        };
+        same(&rt, got.expect(&rt, "memory").as_str(), want, want);
     }
-    Ok(())
 }
 
 // A modulus, the sides of the objects, and what is told of the shape.
@@ -53,19 +41,14 @@ const SHAPES: &[(u32, &[u32], &str)] = &[
     (4, &[7], "Err(BadModulus)"),
 ];
 
-fn told_of_shape(alloc: Global, modulus: u32, sides: &[u32]) -> Result<String, Fail> {
-    if sides.len() > 6 {
-        return Err(Fail::new("there are too many sides for a test"));
-    }
-    let sides = Listing::from_vec(sides.to_vec(alloc)?);
-    Ok(format!(in alloc; "{:?}", check_shape(&Shape { modulus, sides }))?)
-}
-
 #[test]
-fn the_modulus_counts_before_the_sides(rt: HostRuntime) -> Result<(), Fail> {
+fn the_modulus_counts_before_the_sides(rt: HostRuntime) {
     for (modulus, sides, want) in SHAPES {
-        let got = told_of_shape(rt.alloc(), *modulus, sides)?;
+        assert!(rt; sides.len() < 7, "there are too many sides for a test");
+        let modulus = *modulus;
+        let sides = Listing::from_vec(sides.to_vec(rt.alloc()).expect(&rt, "memory"));
+        let checked = check_shape(&Shape { modulus, sides });
+        let got = format!(in rt.alloc(); "{checked:?}").expect(&rt, "memory");
         same(&rt, got.as_str(), want, want);
     }
-    Ok(())
 }

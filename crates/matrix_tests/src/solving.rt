@@ -7,7 +7,7 @@ use adjoint_rules::is_field_modulus;
 use lists::Listing;
 use matrix_models::{LinearRow, System, solve};
 use std::alloc::{AllocError, Global};
-use std::test::Fail;
+use std::process::Abort;
 
 // The factors of an equation, and its right side.
 type Equation = (&'static [u32], u32);
@@ -90,22 +90,22 @@ fn system_of(alloc: Global, row: &Row) -> Result<System, AllocError> {
 }
 
 // The greedy solution of a row, or none.
-fn told(alloc: Global, row: &Row) -> Result<String, Fail> {
-    let system = system_of(alloc, row)?;
-    if !is_system(&system) || !are_values(&system, row.3) {
-        return Err(Fail::new("a system and preferred values are wanted"));
-    }
-    match solve(alloc, &system, row.3)? {
-        Some(values) => Ok(format!(in alloc; "{:?}", values.as_slice())?),
-        None => Ok(String::from_str(alloc, "none")?),
-    }
+fn told(rt: &impl Abort, alloc: Global, row: &Row) -> String {
+    let system = system_of(alloc, row).expect(rt, "memory");
+    assert!(rt;
+        is_system(&system) && are_values(&system, row.3),
+        "no system with values"
+    );
+    let told = match solve(alloc, &system, row.3).expect(rt, "memory") {
+        Some(values) => format!(in alloc; "{:?}", values.as_slice()),
+        None => String::from_str(alloc, "none"),
+    };
+    told.expect(rt, "memory")
 }
 
 #[test]
-fn preferred_values_are_taken_in_order(rt: HostRuntime) -> Result<(), Fail> {
+fn preferred_values_are_taken_in_order(rt: HostRuntime) {
     for row in ROWS {
-        let got = told(rt.alloc(), row)?;
-        same(&rt, got.as_str(), row.4, row.4);
+        same(&rt, told(&rt, rt.alloc(), row).as_str(), row.4, row.4);
     }
-    Ok(())
 }

@@ -1,16 +1,14 @@
 //! Overlaps of words, declarations that a quiver refuses, and adjoints of words.
-ghost use Rattle.std.specs.Prelude.{◌≡◌, IfOk, IsTrue};
+ghost use Rattle.std.specs.Prelude.{◌≡◌, IsTrue};
 ghost use Rattle.quiver.specs.Declarations.{object_count};
 ghost use Rattle.word_core.specs.Letters.{IsOver};
 
 use crate::comparing::equal;
 use crate::notation::word;
 use adjoint_rules::adjoint_word;
-use lists::Listing;
 use quiver::{Quiver, QuiverFault, QuiverStop};
-use std::alloc::{AllocError, Global};
+use std::alloc::Global;
 use std::process::Abort;
-use std::test::Fail;
 use word_core::{Object, Word};
 
 // Two words, and the lengths of what is an end of the first and a beginning of the second.
@@ -22,44 +20,35 @@ const OVERLAPS: &[(&str, &str, &[usize])] = &[
     ("", "b", &[]),
 ];
 
-fn overlaps_of(alloc: Global, left: &str, right: &str) -> Result<Listing<usize>, AllocError> {
-    let left = word(alloc, left)?;
-    let right = word(alloc, right)?;
-    left.overlaps(&right)
-}
-
 #[test]
-fn overlaps_are_proper(rt: HostRuntime) -> Result<(), Fail> {
+fn overlaps_are_proper(rt: HostRuntime) {
     for (left, right, want) in OVERLAPS {
-        let places = overlaps_of(rt.alloc(), left, right)?;
+        let first = word(&rt, rt.alloc(), left);
+        let second = word(&rt, rt.alloc(), right);
+        let places = first.overlaps(&second).expect(&rt, "memory");
         equal(&rt, &places.as_slice(), want, left);
     }
-    Ok(())
 }
 
 // The objects U and V with the letters 0 and 1, and the maps a : U -> V and x : V -> U with the letters 2 and 4.
-fn two_maps(alloc: Global) -> Result<Quiver, QuiverStop>
-    ensures { IfOk result (λ q. object_count q ≡ 2) }
+fn two_maps(rt: &impl Abort, alloc: Global) -> Quiver
+    ensures { object_count result ≡ 2 }
 {
-    let mut quiver = Quiver::new(alloc)?;
-    let source = quiver.add_object("U")?;
-    let target = quiver.add_object("V")?;
-    quiver.add_map("a", source, target, false)?;
-    quiver.add_map("x", target, source, false)?;
-    Ok(quiver)
+    let mut quiver = Quiver::new(alloc).expect(rt, "memory");
+    let source = quiver.add_object("U").expect(rt, "U");
+    let target = quiver.add_object("V").expect(rt, "V");
+    quiver.add_map("a", source, target, false).expect(rt, "a");
+    quiver.add_map("x", target, source, false).expect(rt, "x");
+    quiver
 }
 
 #[test]
-fn names_are_declared_once_and_loops_alone_are_their_own_adjoints(
-    rt: HostRuntime,
-) -> Result<(), Fail> {
-    let mut quiver = two_maps(rt.alloc())?;
-    let mut other = two_maps(rt.alloc())?;
-    let again = quiver.add_object("a");
-    let no_loop = other.add_map("p", Object(0), Object(1), true);
-    assert!(rt; matches!(again, Err(QuiverStop::Fault(QuiverFault::DoubleName))));
+fn names_are_declared_once_and_loops_alone_are_their_own_adjoints(rt: HostRuntime) {
+    let mut quiver = two_maps(&rt, rt.alloc());
+    let no_loop = quiver.add_map("p", Object(0), Object(1), true);
     assert!(rt; matches!(no_loop, Err(QuiverStop::Fault(QuiverFault::NotSquare))));
-    Ok(())
+    let again = quiver.add_object("a");
+    assert!(rt; matches!(again, Err(QuiverStop::Fault(QuiverFault::DoubleName))));
 }
 
 // Whether each letter of the word has a number below this one.
@@ -74,20 +63,20 @@ fn is_over(word: &Word, letters: u32) -> bool
     true
 }
 
-// The adjoint of a word.
-fn adjoint_of(alloc: Global, letters: &str) -> Result<Word, Fail> {
-    let quiver = two_maps(alloc)?;
-    let path = word(alloc, letters)?;
-    if !is_over(&path, quiver.letters()) {
-        return Err(Fail::new("a letter is not of the quiver"));
-    }
-    Ok(adjoint_word(alloc, &quiver, &path)?)
-}
-
 // That of a x is x' a'.
 #[test]
-fn an_adjoint_reverses_a_word(rt: HostRuntime) -> Result<(), Fail> {
-    let got = adjoint_of(rt.alloc(), "ce")?;
-    assert!(rt; got == word(rt.alloc(), "fd")?);
-    Ok(())
+fn an_adjoint_reverses_a_word(rt: HostRuntime) {
+    let quiver = two_maps(&rt, rt.alloc());
+    let path = word(&rt, rt.alloc(), "ce");
+    assert!(rt;
+        is_over(&path, quiver.letters()),
+        "a letter is not of the quiver"
+    );
+    let adjoint = adjoint_word(rt.alloc(), &quiver, &path).expect(&rt, "memory");
+    equal(
+        &rt,
+        &adjoint,
+        &word(&rt, rt.alloc(), "fd"),
+        "the adjoint of a x",
+    );
 }

@@ -2,17 +2,19 @@
 ghost use Rattle.coef_int.specs.Range.{IsCoefficient};
 
 use cofactor_trace::{Origin, Row};
-use nc_polynomial::{Poly, PolyFault};
+use nc_polynomial::Poly;
 use std::alloc::{AllocError, Global};
+use std::process::Abort;
 use word_core::{Letter, Word};
 
 /// The word that is written.
-pub fn word(alloc: Global, text: &str) -> Result<Word, AllocError> {
+pub fn word(rt: &impl Abort, alloc: Global, text: &str) -> Word {
     let mut word = Word::new(alloc);
     for byte in text.as_bytes() {
-        word.push(Letter(u16::from(byte.saturating_sub(b'a'))))?;
+        let letter = Letter(u16::from(byte.saturating_sub(b'a')));
+        word.push(letter).expect(rt, "memory");
     }
-    Ok(word)
+    word
 }
 
 /// Coefficients with their words.
@@ -26,27 +28,31 @@ fn coefficient(value: i128) -> i128
 }
 
 /// The sum of these terms.
-pub fn poly(alloc: Global, terms: Terms) -> Result<Poly, PolyFault> {
+pub fn poly(rt: &impl Abort, alloc: Global, terms: Terms) -> Poly {
     let mut list = Vec::new(alloc);
-    for term in terms {
-        list.push((coefficient(term.0), word(alloc, term.1)?))?;
+    for (value, letters) in terms {
+        let term = (coefficient(*value), word(rt, alloc, letters));
+        list.push(term).expect(rt, "memory");
     }
-    Poly::from_terms(alloc, &list)
+    Poly::from_terms(alloc, &list).expect(rt, "a polynomial")
 }
 
 /// Writes the terms and the rows, each with the number of its rule.
-pub fn write_sum(text: &mut String, poly: &Poly, rows: &[Row]) -> Result<(), AllocError> {
-    write!(text, "{:?}", poly.terms.as_slice())?;
+pub fn write_sum(rt: &impl Abort, text: &mut String, poly: &Poly, rows: &[Row]) {
+    write!(text, "{:?}", poly.terms.as_slice()).expect(rt, "memory");
     for row in rows {
-        let rule = match row.from {
-            Origin::Rule(number) => number,
-            Origin::Generator(_) => 0,
-        };
-        write!(
-            text,
-            " + {} {:?} {rule} {:?}",
-            row.coef, row.left, row.right
-        )?;
+        write_row(text, row).expect(rt, "memory");
     }
-    Ok(())
+}
+
+fn write_row(text: &mut String, row: &Row) -> Result<(), AllocError> {
+    let rule = match row.from {
+        Origin::Rule(number) => number,
+        Origin::Generator(_) => 0,
+    };
+    write!(
+        text,
+        " + {} {:?} {rule} {:?}",
+        row.coef, row.left, row.right
+    )
 }

@@ -1,5 +1,5 @@
 //! Ambiguities of rules, their overlap words and their S-polynomials.
-ghost use Rattle.std.specs.Prelude.{IfOk, IfSome};
+ghost use Rattle.std.specs.Prelude.{IfSome};
 ghost use Rattle.ambiguities.specs.Ambiguities.{IsAmbiguity};
 
 use crate::comparing::same;
@@ -7,8 +7,8 @@ use crate::notation::{Terms, write_sum};
 use crate::rules::rules_of;
 use ambiguities::{Ambiguity, Kind, between, overlap_word, s_poly};
 use rule_reduce::Rules;
-use std::alloc::{AllocError, Global};
-use std::test::Fail;
+use std::alloc::AllocError;
+use std::process::Abort;
 use word_orders::DegLex;
 
 // Rules, and what is told of their ambiguities: the rules, the kind and the place of each in their order, and then the overlap word
@@ -31,54 +31,48 @@ const ROWS: &[(&[Terms], &str)] = &[
 ];
 
 // Writes all ambiguities, and gives the first of them.
-fn first(text: &mut String, rules: &Rules<DegLex>) -> Result<Option<Ambiguity>, AllocError>
-    ensures { IfOk result (λ found. IfSome found (IsAmbiguity rules.now.rules)) }
+fn first(rt: &impl Abort, text: &mut String, rules: &Rules<DegLex>) -> Option<Ambiguity>
+    ensures { IfSome result (IsAmbiguity rules.now.rules) }
 {
-    let found = between(rules, 0)?;
-    write_all(text, found.as_slice())?;
+    let found = between(rules, 0).expect(rt, "memory");
+    for which in found.as_slice() {
+        write_place(text, which).expect(rt, "memory");
+    }
     if found.len() > 0 {
-        Ok(Some(*found.at(0)))
+        Some(*found.at(0))
     } else {
-        Ok(None)
+        None
     }
 }
 
-fn write_all(text: &mut String, found: &[Ambiguity]) -> Result<(), AllocError> {
-    for which in found {
-        let kind = match which.kind {
-            Kind::Overlap => "overlap",
-            Kind::Inclusion => "inclusion",
-        };
-        write!(text, "{} {} {kind} {}, ", which.i, which.j, which.place)?;
-    }
-    Ok(())
+fn write_place(text: &mut String, which: &Ambiguity) -> Result<(), AllocError> {
+    let kind = match which.kind {
+        Kind::Overlap => "overlap",
+        Kind::Inclusion => "inclusion",
+    };
+    write!(text, "{} {} {kind} {}, ", which.i, which.j, which.place)
 }
 
-fn write_made(text: &mut String, rules: &Rules<DegLex>, which: &Ambiguity) -> Result<(), AllocError>
+fn write_made(rt: &impl Abort, text: &mut String, rules: &Rules<DegLex>, which: &Ambiguity)
     requires { IsAmbiguity rules.now.rules which.now }
 {
-    write!(text, "{:?} ", overlap_word(rules, which)?)?;
+    let word = overlap_word(rules, which).expect(rt, "memory");
+    write!(text, "{word:?} ").expect(rt, "memory");
     match &s_poly(rules, which) {
-        Ok(made) => write_sum(text, &made.poly, made.rows.as_slice()),
-        Err(fault) => write!(text, "{fault:?}"),
+        Ok(made) => write_sum(rt, text, &made.poly, made.rows.as_slice()),
+        Err(fault) => write!(text, "{fault:?}").expect(rt, "memory"),
     }
-}
-
-fn told(alloc: Global, polys: &[Terms]) -> Result<String, Fail> {
-    let rules = rules_of(alloc, DegLex::new(), polys)?;
-    let mut text = String::new(alloc);
-    match first(&mut text, &rules)? {
-        Some(which) => write_made(&mut text, &rules, &which)?,
-        None => text.push_str("none")?,
-    }
-    Ok(text)
 }
 
 #[test]
-fn ambiguities_and_s_polynomials_are_as_worked_out(rt: HostRuntime) -> Result<(), Fail> {
+fn ambiguities_and_s_polynomials_are_as_worked_out(rt: HostRuntime) {
     for (polys, want) in ROWS {
-        let got = told(rt.alloc(), polys)?;
-        same(&rt, got.as_str(), want, want);
+        let rules = rules_of(&rt, rt.alloc(), polys);
+        let mut text = String::new(rt.alloc());
+        match first(&rt, &mut text, &rules) {
+            Some(which) => write_made(&rt, &mut text, &rules, &which),
+            None => text.push_str("none").expect(&rt, "memory"),
+        }
+        same(&rt, text.as_str(), want, want);
     }
-    Ok(())
 }

@@ -1,14 +1,14 @@
 //! Rules, and normal forms by them.
-ghost use Rattle.std.specs.Prelude.{◌≡◌, ◌≤◌, ◌^◌, IfOk};
+ghost use Rattle.std.specs.Prelude.{◌≤◌, ◌^◌};
 ghost use Rattle.std.specs.List.{All};
 ghost use Rattle.word_core.specs.Letters.{IsOver};
 
 use crate::comparing::same;
 use crate::notation::{Terms, poly, write_sum};
 use nc_polynomial::Poly;
-use rule_reduce::Rules;
+use rule_reduce::{ReduceFault, Reduced, Rules};
 use std::alloc::Global;
-use std::test::Fail;
+use std::process::Abort;
 use word_core::Word;
 use word_orders::{DegLex, WordOrder};
 
@@ -23,47 +23,39 @@ fn read_letters<O: WordOrder>(order: &O, terms: &[(i128, Word)])
 }
 
 // Pushes a polynomial that may be pushed.
-fn push<O: WordOrder + Drop>(rules: &mut Rules<O>, poly: Poly) -> Result<(), Fail>
-    requires { 2 ^ 16 ≤ O.letters rules.old.order }
-    ensures { rules.new.order ≡ rules.old.order }
-{
+fn push(rt: &impl Abort, rules: &mut Rules<DegLex>, poly: Poly) {
     read_letters(&rules.order, poly.terms.as_slice());
-    if !rules.may_push(&poly) {
-        return Err(Fail::new("the polynomial may not be pushed"));
-    }
-    rules.push(poly)?;
-    Ok(())
+    assert!(rt; rules.may_push(&poly), "the polynomial may not be pushed");
+    rules.push(poly).expect(rt, "memory");
 }
 
 /// The rules of polynomials that may be pushed.
-pub fn rules_of<O: WordOrder + Drop>(
-    alloc: Global,
-    order: O,
-    polys: &[Terms],
-) -> Result<Rules<O>, Fail>
-    requires { 2 ^ 16 ≤ O.letters order }
-    ensures { IfOk result (λ rules. rules.order ≡ order) }
-{
-    let mut rules = Rules::new(alloc, order)?;
+pub fn rules_of(rt: &impl Abort, alloc: Global, polys: &[Terms]) -> Rules<DegLex> {
+    let mut rules = Rules::new(alloc, DegLex::new()).expect(rt, "memory");
     for terms in polys {
-        push(&mut rules, poly(alloc, terms)?)?;
+        push(rt, &mut rules, poly(rt, alloc, terms));
     }
-    Ok(rules)
+    rules
 }
 
-// The multiplier, the number of steps, the rest and the rows of a normal form, or why there is none.
-fn told(alloc: Global, rules: &Rules<DegLex>, terms: Terms, steps: u32) -> Result<String, Fail> {
-    let poly = poly(alloc, terms)?;
+// Writes the multiplier, the number of steps, the rest and the rows of a normal form, or why there is none.
+fn write_form(rt: &impl Abort, text: &mut String, made: &Result<Reduced, ReduceFault>) {
+    match made {
+        Ok(form) => {
+            write!(text, "{} {} ", form.multiplier, form.used).expect(rt, "memory");
+            write_sum(rt, text, &form.rest, form.rows.as_slice());
+        }
+        Err(fault) => write!(text, "{fault:?}").expect(rt, "memory"),
+    }
+}
+
+// What is told of a normal form by so many steps.
+fn told(rt: &impl Abort, alloc: Global, rules: &Rules<DegLex>, terms: Terms, steps: u32) -> String {
+    let poly = poly(rt, alloc, terms);
     read_letters(&rules.order, poly.terms.as_slice());
     let mut text = String::new(alloc);
-    match &rules.normal_form(&poly, steps) {
-        Ok(form) => {
-            write!(text, "{} {} ", form.multiplier, form.used)?;
-            write_sum(&mut text, &form.rest, form.rows.as_slice())?;
-        }
-        Err(fault) => write!(text, "{fault:?}")?,
-    }
-    Ok(text)
+    write_form(rt, &mut text, &rules.normal_form(&poly, steps));
+    text
 }
 
 // A polynomial, the most steps, and what is told of its normal form by the rule 2 b - a.
@@ -85,11 +77,10 @@ const ROWS: &[Row] = &[
 ];
 
 #[test]
-fn normal_forms_are_as_worked_out(rt: HostRuntime) -> Result<(), Fail> {
-    let rules = rules_of(rt.alloc(), DegLex::new(), &[&[(2, "b"), (-1, "a")]])?;
+fn normal_forms_are_as_worked_out(rt: HostRuntime) {
+    let rules = rules_of(&rt, rt.alloc(), &[&[(2, "b"), (-1, "a")]]);
     for (terms, steps, want) in ROWS {
-        let got = told(rt.alloc(), &rules, terms, *steps)?;
+        let got = told(&rt, rt.alloc(), &rules, terms, *steps);
         same(&rt, got.as_str(), want, want);
     }
-    Ok(())
 }

@@ -6,7 +6,7 @@ use Rattle.cancellation_text.proofs.Readable.{readable_is_over}
 use Rattle.evidence_tests.proofs.block_tests.written_cancellations.Goals as goal
 
 pub write_cancellation-requires : goal.write_cancellation-requires
-write_cancellation-requires c =
+write_cancellation-requires g c =
     let ds = c.args.quiver.now in
     let each : All (IsReadableCancellation ds) c.as_slice-proof-items.result.now = rw c.as_slice-proof-items.ensures c.in_ok-proofs.ensures.readable in
     readable_is_over ds _ (subst (IsReadableCancellation ds) (sym c.proof-item.is)

@@ -16,5 +16,5 @@ loop-number-preserved g c =
     let cut : All (λ e. e.1 < number) c.truncate.new.self =
     subst (λ (entries : List (List ℕ × ℕ)). All (λ e. e.1 < number) entries) (sym c.truncate.ensures)
     (All-take (λ e. e.1 < number) c.match-number-rem50.kept c.loop-number.index c.loop-number.invariant) in
-    subst (λ (entries : List (List ℕ × ℕ)). All (λ e. e.1 < number + 1) entries) (sym c.in_ok-insert.ensures.ok)
+    subst (λ (entries : List (List ℕ × ℕ)). All (λ e. e.1 < number + 1) entries) (sym c.insert.ensures)
     (below-push c.truncate.new.self _ number (number + 1) cut (omega arith))

@@ -2,4 +2,4 @@ use Rattle.std.proofs.Common.{◌<◌, length}
 use Rattle.word_tests.proofs.matching.random.Given as goal
 
 abbrev pub invariant-loop : goal.invariant-loop
-invariant-loop l = 0 < length l.word
+invariant-loop g l = 0 < length l.word

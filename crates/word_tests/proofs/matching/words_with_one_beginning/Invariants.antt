@@ -3,4 +3,4 @@ use Rattle.std.specs.List.{All}
 use Rattle.word_tests.proofs.matching.words_with_one_beginning.Given as goal
 
 abbrev pub invariant-loop-number : goal.invariant-loop-number
-invariant-loop-number l = All (λ e. e.1 < l.number + 1) l.index
+invariant-loop-number g l = All (λ e. e.1 < l.number + 1) l.index

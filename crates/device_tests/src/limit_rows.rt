@@ -1,38 +1,6 @@
 //! Files at each limit and one past it: what they are put together from, and the status with the report.
-use crate::limit_rows::Part::{Identity, LongRows, Numbers, Padding, Plain, Times};
-
-/// A part of a text.
-pub enum Part {
-    /// A text.
-    Plain(&'static str),
-    /// A text so many times.
-    Times(&'static str, u32),
-    /// The numbers from one to another, each with a text before it and one behind it, and a sign between them.
-    Numbers(&'static str, u32, u32, &'static str, &'static str),
-    /// The terms m100 m200 to m1 m1, the greatest first, with a sign between them and a text so many times behind each.
-    Products(&'static str, &'static str, u32),
-    /// So many terms from the greatest number down to 0: a name with its number, then texts so many times, and a sign between
-    /// two terms.
-    Falling(&'static str, u32, &'static [(&'static str, u32)], &'static str),
-    /// The greatest words of 15 letters `s` and `t`, so many, with a plus sign between two.
-    Words(u32),
-    /// So many rows of a certificate with 500 letters on either side, and the factor 0: a letter of either side with a blank.
-    LongRows(&'static str, &'static str, u32),
-    /// The items with the numbers from one to another, each of which takes the letter off the one before it.
-    Cancels(&'static str, u32, u32),
-    /// The identity matrix of this side.
-    Identity(u32),
-    /// A last line of `#` that ends at so many bytes.
-    Padding(usize),
-}
-
-/// The words, the files `s` and `c`, and the status with the report.
-pub type LimitRow = (
-    &'static [&'static str],
-    &'static [Part],
-    &'static [Part],
-    &'static [Part],
-);
+use run_tests::parts::LimitRow;
+use run_tests::parts::Part::{self, Identity, LongRows, Numbers, Padding, Plain, Times};
 
 const CHECK: &[&str] = &["check", "s", "c"];
 

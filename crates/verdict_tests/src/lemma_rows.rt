@@ -1,5 +1,5 @@
 //! Runs of `check` over certificates with lemmas, worked out by hand.
-use crate::test_rows::Row;
+use run_tests::answers::Row;
 
 const DOUBLED: &[u8] = b"object U\nmap a : U -> U\nassume 2 a = 0\nclaim a = 0\n";
 

@@ -1,14 +1,11 @@
 //! Runs of the program: statements, evidence and reports, worked out by hand.
-use crate::calls::USAGE;
-
-/// A statement, an evidence text, and the status with the report.
-pub type Row = (&'static [u8], &'static [u8], &'static str);
+use run_tests::answers::{Row, USAGE};
 
 const MAPS: &[u8] =
     b"object U V\nmap a b c z : U -> V\nassume a = b\nassume b = c\nassume a = c\nclaim a = c\n";
 
-/// Two one-sided inverses of one map are equal.
-pub const INVERSES: &[u8] =
+// Two one-sided inverses of one map are equal.
+const INVERSES: &[u8] =
     b"object U V\nmap l : V -> U\nmap a : U -> V\nmap r : V -> U\nassume l a = [U]\nassume a r = [V]\nclaim l = r\n";
 
 // Two Moore-Penrose inverses of one map are equal.
@@ -237,12 +234,8 @@ pub const REFUSED: &[Row] = &[
 
 const ACCEPTED: &[u8] = b"certificate 1\nclaim 1\ndenominator 1\nrow 1 () 3 ()\nend\n";
 
-/// A statement whose certificate is accepted.
-pub const SOUND: Row = (
-    MAPS,
-    ACCEPTED,
-    "0 # block 1 accepted claim 1 denominator 1\n",
-);
+/// A statement and its certificate, which is accepted.
+pub const SOUND: (&[u8], &[u8]) = (MAPS, ACCEPTED);
 
 /// Other words, and files that aren't there.
 pub const CALLS: &[(&[&str], &str)] = &[

@@ -1,15 +1,14 @@
 //! What no clause says of the runs that decide and refute claims: that rounds and candidates are on threads, and that all claims
 //! share one run.
-use crate::calls::{owned, shelf_of};
-use crate::decided_rows::{POWER, POWER_TWICE, TWO_CANDIDATES};
+use crate::comparing::equal;
 use category_laws::Parity;
 use command_runs::run;
 use flow_io::MemorySink;
 use in_order_parallel::Gate;
 use lists::Listing;
+use run_tests::answers::{owned, shelf_of};
 use std::alloc::{AllocError, Global};
 use std::sync::atomic::{AtomicU64, Ordering};
-use std::test::Fail;
 use std::thread::Threads;
 
 const WORDS: &[&str] = &[
@@ -21,6 +20,15 @@ const WORDS: &[&str] = &[
     "2",
     "--no-models",
 ];
+
+// A letter 34 times, which overlaps itself at 33 places: a statement with one claim, and the same with two.
+const POWERS: &[&[u8]] = &[
+    b"object U\nmap a : U -> U\nassume a a a a a a a a a a a a a a a a a a a a a a a a a a a a a a a a a a = 0\nclaim a = 0\n",
+    b"object U\nmap a : U -> U\nassume a a a a a a a a a a a a a a a a a a a a a a a a a a a a a a a a a a = 0\nclaim a = 0\nclaim a = 0\n",
+];
+
+// A true claim with one shape of side 1 modulo 2.
+const TWO_CANDIDATES: &[u8] = b"object U\nmap a : U -> U\nclaim a = a\nmodel 2 U 1\n";
 
 // How many reductions passed.
 #[derive(Drop)]
@@ -76,19 +84,16 @@ fn status<R: Threads + Sync, G: Gate + Sync>(
     Ok(run(rt, alloc, &Parity, &words, &mut shelf, &mut sink, gate))
 }
 
-// A statement with one claim, and the same with two.
-const POWERS: &[&[u8]] = &[POWER, POWER_TWICE];
-
 #[test]
-fn claims_share_one_run(rt: HostRuntime) -> Result<(), Fail> {
+fn claims_share_one_run(rt: HostRuntime) {
     for statement in POWERS {
         let gate = Counting {
             passed: AtomicU64::new(0),
         };
-        assert_eq!(rt; status(&rt, rt.alloc(), WORDS, statement, &gate)?, 10);
-        assert_eq!(rt; gate.passed.load(Ordering::SeqCst), 33);
+        let status = status(&rt, rt.alloc(), WORDS, statement, &gate);
+        equal(&rt, &status.expect(&rt, "memory"), &10, "the status");
+        equal(&rt, &gate.passed.load(Ordering::SeqCst), &33, "reductions");
     }
-    Ok(())
 }
 
 // So many flags, none of which is set.
@@ -104,18 +109,18 @@ fn meeting_of(alloc: Global, items: u32) -> Result<Meeting, AllocError> {
 }
 
 #[test]
-fn reductions_of_a_round_meet(rt: HostRuntime) -> Result<(), Fail> {
-    let gate = meeting_of(rt.alloc(), 32)?;
-    assert_eq!(rt; status(&rt, rt.alloc(), WORDS, POWER, &gate)?, 10);
-    assert_eq!(rt; gate.met.load(Ordering::SeqCst), 33);
-    Ok(())
+fn reductions_of_a_round_meet(rt: HostRuntime) {
+    let gate = meeting_of(rt.alloc(), 32).expect(&rt, "memory");
+    let status = status(&rt, rt.alloc(), WORDS, POWERS[0], &gate);
+    equal(&rt, &status.expect(&rt, "memory"), &10, "the status");
+    equal(&rt, &gate.met.load(Ordering::SeqCst), &33, "meetings");
 }
 
 #[test]
-fn candidates_of_a_block_meet(rt: HostRuntime) -> Result<(), Fail> {
-    let gate = meeting_of(rt.alloc(), 2)?;
+fn candidates_of_a_block_meet(rt: HostRuntime) {
+    let gate = meeting_of(rt.alloc(), 2).expect(&rt, "memory");
     let words = &["refute", "s", "--workers", "2"];
-    assert_eq!(rt; status(&rt, rt.alloc(), words, TWO_CANDIDATES, &gate)?, 13);
-    assert_eq!(rt; gate.met.load(Ordering::SeqCst), 2);
-    Ok(())
+    let status = status(&rt, rt.alloc(), words, TWO_CANDIDATES, &gate);
+    equal(&rt, &status.expect(&rt, "memory"), &13, "the status");
+    equal(&rt, &gate.met.load(Ordering::SeqCst), &2, "meetings");
 }

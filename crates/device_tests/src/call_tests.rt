@@ -1,22 +1,34 @@
 //! What no clause says of the calls of the devices: their order, and that none comes after one that failed.
-use crate::calls::{equal, owned, shelf_of};
-use crate::decided_rows::{CallRow, PROVED, PROVED_PLAINLY};
-use crate::test_rows::INVERSES;
-use crate::tests::tell;
+use crate::comparing::equal;
+use crate::telling::tell;
 use category_laws::Parity;
 use command_runs::run;
 use flow_io::{MemoryShelf, MemorySink};
 use in_order_parallel::OpenGate;
 use lists::Listing;
+use run_tests::answers::{owned, shelf_of};
 use std::alloc::{AllocError, Global};
 use std::process::Abort;
-use std::test::Fail;
 use std::thread::Threads;
 
 const CHECK: &[&str] = &["check", "s", "c"];
 
+// Two one-sided inverses of one map are equal.
+const INVERSES: &[u8] =
+    b"object U V\nmap l : V -> U\nmap a : U -> V\nmap r : V -> U\nassume l a = [U]\nassume a r = [V]\nclaim l = r\n";
+
+const DOUBLED: &[u8] = b"object U\nmap x : U -> U\nassume 2 x = 0\nclaim x = 0\n";
+
 const EVIDENCE: &str =
     "certificate 1\nclaim 1\ndenominator 1\nrow 1 () 1 (r)\nrow -1 (l) 2 ()\nrow 1 () 6 ()\nrow -1 () 8 ()\nend\n";
+
+// The reports on the doubled map by rows over generators alone, and by lemmas.
+const PLAIN_REPORT: &str =
+    "# claim 1 proved denominator 2 rows 1\ncertificate 1\nclaim 1\ndenominator 2\nrow 1 () 1 ()\nend\n";
+
+const REPORT: &str =
+    "# claim 1 proved denominator 2 rows 2\ncertificate 2\nclaim 1\ndenominator 2\nlemma 1 scale 2\nrow 1 () 1 ()\ngoal scale 1\n\
+     row 1 () lemma 1 ()\nend\n";
 
 const FAULTY: &[u8] = b"object U\nclaim\n";
 
@@ -82,23 +94,24 @@ fn done_with<R: Threads + Sync>(
 }
 
 // What a run does over the statement, where these loads and these calls of the sink fail.
-fn done_over<R: Threads + Sync>(
+fn done_over<R: Threads + Sync + Abort>(
     rt: &R,
     alloc: Global,
     words: &[&str],
     statement: &[u8],
     loads: &[u64],
     puts: &[u64],
-) -> Result<Done, AllocError> {
-    let mut shelf = shelf_of(alloc, statement, EVIDENCE.as_bytes(), loads)?;
-    let mut sink = sink(alloc, puts)?;
-    done_with(rt, alloc, words, &mut shelf, &mut sink)
+) -> Done {
+    let shelf = shelf_of(alloc, statement, EVIDENCE.as_bytes(), loads);
+    let mut shelf = shelf.expect(rt, "memory");
+    let mut sink = sink(alloc, puts).expect(rt, "memory");
+    done_with(rt, alloc, words, &mut shelf, &mut sink).expect(rt, "memory")
 }
 
 #[test]
-fn no_call_comes_after_one_that_failed(rt: HostRuntime) -> Result<(), Fail> {
+fn no_call_comes_after_one_that_failed(rt: HostRuntime) {
     for (loads, puts, status, put, calls) in CALLS {
-        let done = done_over(&rt, rt.alloc(), CHECK, INVERSES, loads, puts)?;
+        let done = done_over(&rt, rt.alloc(), CHECK, INVERSES, loads, puts);
         equal(&rt, &(done.loads, done.calls), calls, put);
         equal(&rt, &done.put.as_slice(), &put.as_bytes(), put);
         let is_whole = done.status != 5;
@@ -109,57 +122,52 @@ fn no_call_comes_after_one_that_failed(rt: HostRuntime) -> Result<(), Fail> {
             put,
         );
     }
-    Ok(())
 }
 
 #[test]
-fn both_files_are_loaded_before_the_statement_is_read(rt: HostRuntime) -> Result<(), Fail> {
-    let done = done_over(&rt, rt.alloc(), CHECK, FAULTY, &[], &[])?;
+fn both_files_are_loaded_before_the_statement_is_read(rt: HostRuntime) {
+    let done = done_over(&rt, rt.alloc(), CHECK, FAULTY, &[], &[]);
     equal(
         &rt,
         &(done.status, done.loads),
         &(3, 2),
         "a faulty statement",
     );
-    Ok(())
 }
 
 // Ends the test where a report is not cut, at each of so many calls of the sink, to the bytes that were put before it.
 fn cut_at_each<R: Threads + Sync + Abort>(
     rt: &R,
     alloc: Global,
-    row: &CallRow,
+    words: &[&str],
+    report: &str,
     calls: u8,
-) -> Result<(), AllocError> {
-    let (words, statement, told) = row;
-    let report = told.strip_prefix("0 ").unwrap_or("").as_bytes();
+) {
     for before in 0..calls {
         let number = u64::from(before) + 1;
-        let done = done_over(rt, alloc, words, statement, &[], &[number])?;
-        let put = &report[..report.len().min(8 * usize::from(before))];
-        equal(rt, &done.put.as_slice(), &put, told);
-        equal(rt, &(done.status, done.calls), &(5, number), told);
-        equal(rt, &done.finished, &false, told);
+        let done = done_over(rt, alloc, words, DOUBLED, &[], &[number]);
+        let put = &report.as_bytes()[..report.len().min(8 * usize::from(before))];
+        equal(rt, &done.put.as_slice(), &put, report);
+        equal(rt, &(done.status, done.calls), &(5, number), report);
+        equal(rt, &done.finished, &false, report);
     }
-    Ok(())
 }
 
 #[test]
-fn a_report_is_cut_at_each_call_that_fails(rt: HostRuntime) -> Result<(), Fail> {
-    cut_at_each(&rt, rt.alloc(), &PROVED_PLAINLY[1], 13)?;
-    cut_at_each(&rt, rt.alloc(), &PROVED[2], 19)?;
-    Ok(())
+fn a_report_is_cut_at_each_call_that_fails(rt: HostRuntime) {
+    let plain = &["prove", "s", "--format", "1"];
+    cut_at_each(&rt, rt.alloc(), plain, PLAIN_REPORT, 13);
+    cut_at_each(&rt, rt.alloc(), &["prove", "s"], REPORT, 19);
 }
 
 #[test]
-fn a_certificate_is_refused_up_to_its_last_line(rt: HostRuntime) -> Result<(), Fail> {
+fn a_certificate_is_refused_up_to_its_last_line(rt: HostRuntime) {
     let mut first = String::new(rt.alloc());
     for line in EVIDENCE.lines() {
         let want = if first.is_empty() { NO_BLOCK } else { CUT_OFF };
-        tell(&rt, rt.alloc(), CHECK, INVERSES, first.as_bytes(), want)?;
-        first.push_str(line)?;
-        first.push('\n')?;
+        tell(&rt, rt.alloc(), CHECK, INVERSES, first.as_bytes(), want);
+        write!(first, "{line}\n").expect(&rt, "memory");
     }
     let want = "0 # block 1 accepted claim 1 denominator 1\n";
-    tell(&rt, rt.alloc(), CHECK, INVERSES, first.as_bytes(), want)
+    tell(&rt, rt.alloc(), CHECK, INVERSES, first.as_bytes(), want);
 }

@@ -1,5 +1,5 @@
 //! Runs of `model` over models, worked out by hand from the grammar and the tests of a model.
-use crate::test_rows::Row;
+use run_tests::answers::Row;
 
 const MAPS: &[u8] = b"object U V\nmap p : U -> U self\nmap a : U -> V\nclaim a = 0\n";
 

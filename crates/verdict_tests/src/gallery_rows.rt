@@ -1,8 +1,5 @@
-//! The known identities of `examples/gallery`: statements, and the head lines of their reports; and proofs that cancel maps.
-use crate::test_rows::Row as ProofRow;
-
-/// The words, a file byte for byte, and the status with the head lines.
-pub type Row = (&'static [&'static str], &'static [u8], &'static str);
+//! Known identities, as of `library/`: statements, and the head lines of their reports.
+use crate::decided_rows::CallRow;
 
 const PROVE: &[&str] = &["prove", "s"];
 
@@ -13,8 +10,9 @@ const BRIEFLY: &[&str] = &["prove", "s", "--pairs", "1", "--no-models"];
 pub const MOORE_PENROSE_UNIQUE: &[u8] =
     b"# The Moore-Penrose inverse is unique.\nobject U V\nmap a : U -> V\nmap x y : V -> U\npinv a x\npinv a y\nclaim x = y\n";
 
-/// The verdicts are known from algebra, and the numbers of rows from another program.
-pub const GALLERY: &[Row] = &[
+/// The words, a file, and the status with the head lines. The verdicts are known from algebra, and the numbers of rows from another
+/// program.
+pub const GALLERY: &[CallRow] = &[
     (
         PROVE,
         b"# The pseudoinverse of the adjoint is the adjoint of the pseudoinverse.\nobject U V\nmap a : U -> V\nmap x : V -> U\npinv a x\n\
@@ -140,35 +138,5 @@ pub const GALLERY: &[Row] = &[
         b"language 2\n# The Drazin inverse d of a map a of index 4 commutes with all that commutes with a.\nobject U\nmap a d b : U -> U\n\
           assume a d = d a\nassume d a d = d\nassume a^5 d = a^4\nassume a b = b a\nclaim d b = b d\n",
         "0 # claim 1 proved denominator 1 rows 66\n",
-    ),
-];
-
-/// Known proofs that cancel monic and epic maps, byte for byte, and what is accepted of them.
-pub const CANCELLATIONS: &[ProofRow] = &[
-    (
-        b"# Where f is monic and g is epic, an inner inverse x of f g has g x f = 1.\nobject U V W\nmap g : U -> W\nmap f : W -> V\n\
-          map x : V -> U\nassume f g x f g = f g\nclaim g x f = [W]\n",
-        b"cancellation 1\nclaim 1\ndenominator 1\nmonic f\nepic g\nlemma 1 scale 1\nrow 1 () 1 ()\nrow -1 () 4 (g)\ncancel 2 f left 1\n\
-          cancel 3 g right 2\ngoal scale 1\nrow 1 () lemma 3 ()\nend\n",
-        "0 # block 1 accepted claim 1 denominator 1 monic f epic g\n",
-    ),
-    (
-        b"# Normal equations by a thin factorization q r, with q' q = 1 and r' monic: two solutions have the same image under q r.\n\
-          object T U V W\nmap q : W -> V\nmap r : U -> W\nmap x y : T -> U\nassume q' q = [W]\nassume (q r)' (q r) x = (q r)' (q r) y\n\
-          claim q r x = q r y\n",
-        b"cancellation 1\nclaim 1\ndenominator 1\nmonic r'\nlemma 1 scale 1\nrow 1 () 2 ()\nrow -1 (r') 1 (r x)\nrow 1 (r') 1 (r y)\n\
-          row -1 (r') 7 (x)\nrow 1 (r') 7 (y)\ncancel 2 r' left 1\ngoal scale 1\nrow 1 (q) lemma 2 ()\nend\n",
-        "0 # block 1 accepted claim 1 denominator 1 monic r'\n",
-    ),
-    (
-        b"# The short five lemma, its half on monic maps: a monic and c monic make b monic, where b x = 0 and x = i y by exactness.\n\
-          object T A B C D E F\nmap i : A -> B\nmap p : B -> C\nmap j : D -> E\nmap n : E -> F\nmap a : A -> D\nmap b : B -> E\n\
-          map c : C -> F\nmap x : T -> B\nmap y : T -> A\nassume b i = j a\nassume n b = c p\nassume b x = 0\nassume x = i y\n\
-          claim p x = 0\nclaim x = 0\n",
-        b"# That p x = 0, by which exactness gives y.\ncancellation 1\nclaim 1\ndenominator 1\nmonic c\nlemma 1 scale 1\nrow 1 (n) 3 ()\n\
-          row -1 () 2 (x)\ncancel 2 c left 1\ngoal scale 1\nrow 1 () lemma 2 ()\nend\n# With x = i y, that x = 0.\ncancellation 1\n\
-          claim 2\ndenominator 1\nmonic j\nmonic a\nlemma 1 scale 1\nrow 1 () 3 ()\nrow -1 (b) 4 ()\nrow -1 () 1 (y)\ncancel 2 j left 1\n\
-          cancel 3 a left 2\ngoal scale 1\nrow 1 () 4 ()\nrow 1 (i) lemma 3 ()\nend\n",
-        "0 # block 1 accepted claim 1 denominator 1 monic c\n# block 2 accepted claim 2 denominator 1 monic j a\n",
     ),
 ];

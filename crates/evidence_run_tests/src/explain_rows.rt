@@ -1,7 +1,7 @@
 //! Runs of `explain`, worked out by hand: what the files are put together from, and the status with the report.
-use crate::calls::USAGE;
-use crate::limit_rows::LimitRow;
-use crate::limit_rows::Part::{self, Numbers, Padding, Plain, Products, Times};
+use run_tests::answers::USAGE;
+use run_tests::parts::LimitRow;
+use run_tests::parts::Part::{self, Numbers, Padding, Plain, Products, Times};
 
 const EXPLAIN: &[&str] = &["explain", "s", "c"];
 

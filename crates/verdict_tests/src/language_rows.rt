@@ -1,7 +1,7 @@
 //! Statements of both languages: powers, elimination, a thousand maps; worked out by hand.
 use crate::decided_rows::CallRow;
-use crate::limit_rows::LimitRow;
-use crate::limit_rows::Part::{Numbers, Plain};
+use run_tests::parts::LimitRow;
+use run_tests::parts::Part::{Numbers, Plain};
 
 /// A statement, and the status with the report of `prove`.
 pub type Told = (&'static [u8], &'static str);

@@ -1,10 +1,38 @@
-//! Runs over files at each limit and one past it, which are put together from parts.
-use crate::limit_rows::{BLOCKS, LIMITS, LimitRow, Part, SIZES};
-use crate::tests::answer;
+//! Texts that are put together from parts, and rows of such files with the answer over them.
 use std::alloc::{AllocError, Global};
-use std::process::Abort;
-use std::test::Fail;
-use std::thread::Threads;
+
+/// A part of a text.
+pub enum Part {
+    /// A text.
+    Plain(&'static str),
+    /// A text so many times.
+    Times(&'static str, u32),
+    /// The numbers from one to another, each with a text before it and one behind it, and a sign between them.
+    Numbers(&'static str, u32, u32, &'static str, &'static str),
+    /// The terms m100 m200 to m1 m1, the greatest first, with a sign between them and a text so many times behind each.
+    Products(&'static str, &'static str, u32),
+    /// So many terms from the greatest number down to 0: a name with its number, then texts so many times, and a sign between
+    /// two terms.
+    Falling(&'static str, u32, &'static [(&'static str, u32)], &'static str),
+    /// The greatest words of 15 letters `s` and `t`, so many, with a plus sign between two.
+    Words(u32),
+    /// So many rows of a certificate with 500 letters on either side, and the factor 0: a letter of either side with a blank.
+    LongRows(&'static str, &'static str, u32),
+    /// The items with the numbers from one to another, each of which takes the letter off the one before it.
+    Cancels(&'static str, u32, u32),
+    /// The identity matrix of this side.
+    Identity(u32),
+    /// A last line of `#` that ends at so many bytes.
+    Padding(usize),
+}
+
+/// The words, the files `s` and `c`, and the status with the report.
+pub type LimitRow = (
+    &'static [&'static str],
+    &'static [Part],
+    &'static [Part],
+    &'static [Part],
+);
 
 // The bits of 15 letters, the first letter's first.
 const MASKS: &[u32] = &[
@@ -164,42 +192,4 @@ pub fn text_of(alloc: Global, parts: &[Part]) -> Result<String, AllocError> {
         push_part(alloc, &mut text, part)?;
     }
     Ok(text)
-}
-
-/// Asserts that the words of each row are answered so over its files.
-pub fn tell_limits<R: Threads + Sync + Abort>(
-    rt: &R,
-    alloc: Global,
-    rows: &[LimitRow],
-) -> Result<(), Fail> {
-    for (place, (words, statement, second, want)) in rows.iter().enumerate() {
-        let statement = text_of(alloc, statement)?;
-        let second = text_of(alloc, second)?;
-        let got = answer(
-            rt,
-            alloc,
-            words,
-            statement.as_bytes(),
-            second.as_bytes(),
-            &[],
-        )?;
-        let want = text_of(alloc, want)?;
-        assert_eq!(rt; got.as_str(), want.as_str(), "row {place}");
-    }
-    Ok(())
-}
-
-#[test]
-fn limits_are_where_they_are_said(rt: HostRuntime) -> Result<(), Fail> {
-    tell_limits(&rt, rt.alloc(), LIMITS)
-}
-
-#[test]
-fn files_are_read_up_to_their_limits(rt: HostRuntime) -> Result<(), Fail> {
-    tell_limits(&rt, rt.alloc(), SIZES)
-}
-
-#[test]
-fn blocks_of_models_and_words_of_certificates_are_limited(rt: HostRuntime) -> Result<(), Fail> {
-    tell_limits(&rt, rt.alloc(), BLOCKS)
 }

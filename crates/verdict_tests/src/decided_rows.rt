@@ -1,5 +1,5 @@
 //! Runs of `prove`, `refute` and `bench`: words, a statement, and the status with the report, worked out by hand.
-use crate::calls::USAGE;
+use run_tests::answers::USAGE;
 
 /// The words, the statement that they name by `s`, and the status with the report.
 pub type CallRow = (&'static [&'static str], &'static [u8], &'static str);
@@ -14,7 +14,7 @@ const PAST_GREATEST: &[u8] =
     b"object U\nmap a : U -> U\nclaim 170141183460469231731687303715884105728 a = a\n";
 
 /// Twice a map is zero.
-pub const DOUBLED: &[u8] = b"object U\nmap x : U -> U\nassume 2 x = 0\nclaim x = 0\n";
+const DOUBLED: &[u8] = b"object U\nmap x : U -> U\nassume 2 x = 0\nclaim x = 0\n";
 
 const PSEUDOINVERSE: &[u8] =
     b"object U V\nmap a : U -> V\nmap x : V -> U\npinv a x\nclaim a' x' a' = a'\n";
@@ -38,15 +38,11 @@ const WEIGHTED: &[u8] =
     b"object V\nmap a b : V -> V\norder weight b 3\nassume a a = b\nclaim b b = a a a a\n";
 
 /// A letter 34 times, which overlaps itself at 33 places.
-pub const POWER: &[u8] =
+const POWER: &[u8] =
     b"object U\nmap a : U -> U\nassume a a a a a a a a a a a a a a a a a a a a a a a a a a a a a a a a a a = 0\nclaim a = 0\n";
 
-/// The same with its claim twice.
-pub const POWER_TWICE: &[u8] =
-    b"object U\nmap a : U -> U\nassume a a a a a a a a a a a a a a a a a a a a a a a a a a a a a a a a a a = 0\nclaim a = 0\nclaim a = 0\n";
-
 /// A true claim with one shape of side 1 modulo 2.
-pub const TWO_CANDIDATES: &[u8] = b"object U\nmap a : U -> U\nclaim a = a\nmodel 2 U 1\n";
+const TWO_CANDIDATES: &[u8] = b"object U\nmap a : U -> U\nclaim a = a\nmodel 2 U 1\n";
 
 /// A map and an inner inverse, which isn't determined by it. The candidates of its shape are drawn.
 pub const INNER: &[u8] =

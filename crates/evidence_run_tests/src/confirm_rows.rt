@@ -1,8 +1,7 @@
 //! Runs of `confirm`, worked out by hand: the files, and the status with the report.
-use crate::calls::USAGE;
-use crate::limit_rows::LimitRow;
-use crate::limit_rows::Part::{self, Falling, Numbers, Padding, Plain, Times, Words};
-use crate::test_rows::Row;
+use run_tests::answers::{Row, USAGE};
+use run_tests::parts::LimitRow;
+use run_tests::parts::Part::{self, Falling, Numbers, Padding, Plain, Times, Words};
 
 const BETWEEN: &[u8] =
     b"object X Y\nmap f g : X -> Y\nmap h : Y -> X\nassume f h g = g\nclaim h f h g = 0\nclaim f h g h = g h\nclaim h f = h g\n";
