@@ -33,4 +33,4 @@ pub use plan::{LinearAssumption, LinearAssumptions, Plan, plan_of};
 pub use shape_fault::ShapeFault;
 pub use shapes::check_shape;
 pub use tables::Tables;
-pub use tested_values::{are_assumptions_zero, is_claim_zero, is_model};
+pub use tested_values::{is_claim_zero, is_model};

@@ -14,16 +14,6 @@ use crate::word_rows::EntryValues;
 use adjoint_rules::Problem;
 use nc_polynomial::Poly;
 
-/// Whether all assumptions are zero in the model by these values of the entries of the plan's shape.
-pub fn are_assumptions_zero(problem: &Problem, plan: &Plan, values: &[u32]) -> bool
-    requires plan { IsPlan problem.now plan.now }
-    requires values { (s : ShapeValue) → IsShapeOf problem.now plan.now.number s → AreEntryValues problem.now s values.now }
-    ensures { (s : ShapeValue) → IsShapeOf problem.now plan.now.number s → IsTrue result ↔ AllByRecursion (IsZeroIn problem.now
-        (model_by (quiver_of problem.now.parts.quiver) s 0 values.now)) (assumptions_of problem.now) }
-{
-    are_zero(problem, plan, values, false)
-}
-
 /// Whether all assumptions are zero in the model by these values of the entries of the plan's shape. Where not all lists of values
 /// are tried, the assumptions that are linear in the solved maps are zero, and aren't tested.
 pub fn is_model(problem: &Problem, plan: &Plan, values: &[u32]) -> bool
