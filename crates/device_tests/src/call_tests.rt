@@ -143,10 +143,11 @@ fn cut_at_each<R: Threads + Sync + Abort>(
     report: &str,
     calls: u8,
 ) {
+    let bytes = report.as_bytes();
     for before in 0..calls {
         let number = u64::from(before) + 1;
         let done = done_over(rt, alloc, words, DOUBLED, &[], &[number]);
-        let put = &report.as_bytes()[..report.len().min(8 * usize::from(before))];
+        let put = &bytes[..bytes.len().min(8 * usize::from(before))];
         equal(rt, &done.put.as_slice(), &put, report);
         equal(rt, &(done.status, done.calls), &(5, number), report);
         equal(rt, &done.finished, &false, report);

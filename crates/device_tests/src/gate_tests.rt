@@ -90,8 +90,8 @@ fn claims_share_one_run(rt: HostRuntime) {
         let gate = Counting {
             passed: AtomicU64::new(0),
         };
-        let status = status(&rt, rt.alloc(), WORDS, statement, &gate);
-        equal(&rt, &status.expect(&rt, "memory"), &10, "the status");
+        let ended = status(&rt, rt.alloc(), WORDS, statement, &gate);
+        equal(&rt, &ended.expect(&rt, "memory"), &10, "the status");
         equal(&rt, &gate.passed.load(Ordering::SeqCst), &33, "reductions");
     }
 }
@@ -111,8 +111,8 @@ fn meeting_of(alloc: Global, items: u32) -> Result<Meeting, AllocError> {
 #[test]
 fn reductions_of_a_round_meet(rt: HostRuntime) {
     let gate = meeting_of(rt.alloc(), 32).expect(&rt, "memory");
-    let status = status(&rt, rt.alloc(), WORDS, POWERS[0], &gate);
-    equal(&rt, &status.expect(&rt, "memory"), &10, "the status");
+    let ended = status(&rt, rt.alloc(), WORDS, POWERS[0], &gate);
+    equal(&rt, &ended.expect(&rt, "memory"), &10, "the status");
     equal(&rt, &gate.met.load(Ordering::SeqCst), &33, "meetings");
 }
 
@@ -120,7 +120,7 @@ fn reductions_of_a_round_meet(rt: HostRuntime) {
 fn candidates_of_a_block_meet(rt: HostRuntime) {
     let gate = meeting_of(rt.alloc(), 2).expect(&rt, "memory");
     let words = &["refute", "s", "--workers", "2"];
-    let status = status(&rt, rt.alloc(), words, TWO_CANDIDATES, &gate);
-    equal(&rt, &status.expect(&rt, "memory"), &13, "the status");
+    let ended = status(&rt, rt.alloc(), words, TWO_CANDIDATES, &gate);
+    equal(&rt, &ended.expect(&rt, "memory"), &13, "the status");
     equal(&rt, &gate.met.load(Ordering::SeqCst), &2, "meetings");
 }
