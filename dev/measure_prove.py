@@ -12,7 +12,7 @@ from __future__ import annotations
 import itertools
 import re
 from pathlib import Path
-from typing import Callable, Dict, List, Tuple
+from typing import Callable, Counter, Dict, List, NamedTuple, Tuple
 
 import costly
 import presentations
@@ -141,47 +141,60 @@ def ordered(starts: Tuple[str, ...]) -> List[Path]:
     return [path for path in paths if ORDER.search(path.read_text(encoding="utf-8"))]
 
 
-def steps_counted(counts: Path) -> Tuple[int, int]:
-    """The calls of a step in callgrind's file, and the instructions of all choices and steps with what they call.
+class Reduced(NamedTuple):
+    """The steps of a run's reductions, the instructions of their choices and steps, and those of all measures of words."""
 
-    A function's name stands behind its number once; the line behind that of a call ends with the instructions.
+    steps: int
+    instructions: int
+    measures: int
+
+    @property
+    def cells(self) -> List[str]:
+        return [f"{self.steps:,}", f"{self.each:,.0f}", f"{self.measures / max(self.steps, 1):,.0f}"]
+
+    @property
+    def each(self) -> float:
+        return self.instructions / max(self.steps, 1)
+
+
+def reduced(counts: Path) -> Reduced:
+    """What callgrind's file says of them: a function's name stands behind its number once, and the line behind that of a call
+    ends with the instructions.
     """
+    called = ""
     names: Dict[str, str] = {}
-    called, steps, instructions = "", 0, 0
+    found: Counter[str] = Counter()
     with counts.open(encoding="utf-8", errors="replace") as lines:
         for text in lines:
             named = re.match(r"(c?)fn=\((\d+)\) ?(.*)", text)
             if named:
                 names.setdefault(named.group(2), named.group(3))
                 called = names[named.group(2)] if named.group(1) else ""
-            elif text.startswith("calls=") and re.search("::(choose|take_step)\\b", called):
-                steps += int(text[len("calls="):].split()[0]) * ("take_step" in called)
-                instructions += int(next(lines).split()[-1])
-    return steps, instructions
+            word = re.search("::(choose|take_step|measure)\\b", called) if text.startswith("calls=") else None
+            if word:
+                found["steps"] += int(text[len("calls="):].split()[0]) * (word.group(1) == "take_step")
+                found["measures" if word.group(1) == "measure" else "instructions"] += int(next(lines).split()[-1])
+    return Reduced(found["steps"], found["instructions"], found["measures"])
 
 
-def per_step(text: str, pairs: int, folder: Path) -> Tuple[int, float]:
-    """How many steps a run of `prove` makes, and the instructions of its reductions over them."""
+def run_reduced(text: str, pairs: int, folder: Path) -> Reduced:
     statement = folder / "statement.op"
     write(statement, iter([text]))
     counted(prove_words(statement, pairs, 1), folder)
-    steps, instructions = steps_counted(folder / "counts")
-    return steps, instructions / max(steps, 1)
+    return reduced(folder / "counts")
 
 
 def order_rows(words: List[str], folder: Path) -> Text:
     """Instructions a step of a reduction, its choice included, in the order of a file and by degrees."""
     counts = [int(word) for word in words if word.isdecimal()]
     starts = tuple(word for word in words if not word.isdecimal()) or ("",)
-    yield head("pairs", "steps", "instructions a step", "by degrees: steps", "instructions a step", "quotient")
+    yield head("pairs", "steps", "instructions a step", "of measures", "by degrees: steps", "instructions a step", "of measures", "quotient")
     for pairs in counts or PAIRS[:1]:
         shares = []
         for path in ordered(starts):
             text = path.read_text(encoding="utf-8")
-            steps, own = per_step(text, pairs, folder)
-            others, other = per_step(ORDER.sub("order degree", text), pairs, folder)
-            shares.append(own / other)
-            cells = [f"{steps:,}", f"{own:,.0f}", f"{others:,}", f"{other:,.0f}", f"{shares[-1]:.2f}"]
-            yield line(str(path.relative_to(LIBRARY)), f"{pairs:,}", *cells)
+            own, other = (run_reduced(each, pairs, folder) for each in (text, ORDER.sub("order degree", text)))
+            shares.append(own.each / other.each)
+            yield line(str(path.relative_to(LIBRARY)), f"{pairs:,}", *own.cells, *other.cells, f"{shares[-1]:.2f}")
         if shares:
-            yield line("mean; greatest", f"{pairs:,}", "", "", "", "", f"{sum(shares) / len(shares):.2f}; {max(shares):.2f}")
+            yield line("mean; greatest", f"{pairs:,}", *[""] * 6, f"{sum(shares) / len(shares):.2f}; {max(shares):.2f}")
