@@ -49,6 +49,7 @@ fn front(word: &Word) -> u64
     ensures exact { result ≡ front_of word.now }
     ensures over { IsOver (2 ^ 16) word.now }
 {
+    // its clause bounds the length of the word
     let _ = word.len();
     let first = letter_at(word, 0) * 65536 + letter_at(word, 1);
     let second = letter_at(word, 2) * 65536 + letter_at(word, 3);
