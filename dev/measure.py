@@ -1,6 +1,6 @@
 #!/usr/bin/env -S PYTHONPATH=python/src:python/tests python3 -B
 """Measures opprove beside plain programs: measure.py [WORD | TABLE [NAME] ..], with prove, counts, workers, orders, refute, explain,
-confirm or cancel for TABLE
+confirm, reductions or cancel for TABLE
 
 Makes statements and certificates that are small and cost much, or are as large as may be, runs `opprove check` and
 dev/plain.rs on each, and prints a table in Markdown: processor time and peak memory of both, the least of three
@@ -177,6 +177,12 @@ def few_words() -> Text:
     return rows_in_turn(200_000, [("", ""), ("a", ""), ("", "b"), ("a", "b")])
 
 
+def long_words() -> Text:
+    """2,000 rows whose two words have 500 letters, which are added and then taken off."""
+    texts = [" ".join(word(number * 5 + part, 50) for part in range(10)) for number in range(200)]
+    return rows_in_turn(2000, [(text[:499], text[500:]) for text in texts])
+
+
 def large_generators() -> Text:
     return rows_in_turn(200, [(" ".join("a" * count), "") for count in range(10)])
 
@@ -218,6 +224,7 @@ ACCEPTED = "# block 1 accepted"
 EVIDENCE = [
     Case("rows: 200,000 with 1,000,000 letters of distinct words", CYCLE, distinct_rows, ACCEPTED),
     Case("rows: 200,000 over four words", CYCLE, few_words, ACCEPTED),
+    Case("rows: 2,000 of 500 letters", CYCLE, long_words, ACCEPTED),
     Case("rows: 200 over a generator of 16,384 terms", of(f"assume {POWER} = 0"), large_generators, ACCEPTED),
     Case("rows: 100 blocks in 64 MiB", CYCLE, many_blocks, ACCEPTED),
     Case("lemmas: 20,000 with 200,000 rows", CYCLE, many_lemmas, ACCEPTED),
@@ -258,7 +265,7 @@ def check_rows(words: List[str], folder: Path) -> Text:
 TABLES = {
     "prove": measure_prove.rows, "counts": measure_prove.count_rows, "workers": measure_prove.worker_rows,
     "orders": measure_prove.order_rows, "refute": measure_refute.rows,
-    "explain": measure_explain.rows, "confirm": measure_confirm.rows, "cancel": measure_cancel.rows,
+    "explain": measure_explain.rows, "confirm": measure_confirm.rows, "reductions": measure_confirm.reduction_rows, "cancel": measure_cancel.rows,
 }  # fmt: skip
 
 

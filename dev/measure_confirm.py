@@ -4,6 +4,8 @@ The basis of the first row is what `prove` prints of the statement of `bench 60`
 are those of that `prove`. The rows that begin with `apart` have rules that don't overlap, and tell by how many times the seconds
 grow from one to the next; those that begin with `reading` end with a line that isn't in the grammar, so nothing is judged.
 NAME behind the word makes the rows whose name begins so.
+
+`measure.py reductions` has one reduction of 1,000,000 steps in three orders, which ends with B7, and reading at its dearest.
 """
 from __future__ import annotations
 
@@ -12,7 +14,7 @@ from pathlib import Path
 from random import Random
 from typing import Callable, Iterator, List, NamedTuple, Tuple
 
-from measuring import OPPROVE, Text, Usage, least, least_by, quotient_text, table, told, write
+from measuring import OPPROVE, Text, Usage, bound, head, least, least_by, line, quotient_text, table, told, write
 
 FINE, REFUSED, UNDERIVABLE = 0, 7, 10
 LIMIT = 2**26  # bytes of the text
@@ -105,3 +107,45 @@ def case_cells(case: Case, plain: str, folder: Path) -> Tuple[List[str], float]:
 
 
 rows = table(NAMES, [BENCH, *CASES], case_cells, "apart")
+
+
+# ---- A reduction of 1,000,000 steps, and rules that are dear to read or to search for
+
+LONG = "language 2\nobject A\nmap a b c d : A -> A\n{}claim b^248 a^248 ((c + d)^4 + c^3) = 0\n"
+SWAP = "basis 1\nclaim 1\nrule b a - a b\nrest c\nend\n"
+ORDERS = {"by degrees": "", "`order weight b 2`": "order weight b 2\n", "`eliminate b`": "eliminate b\n"}
+SHORT_RULES = "rule a\n" * 95_000
+
+
+def many_short_rules() -> Text:
+    """Blocks of lines `rule a` in 64 MiB."""
+    block = START + SHORT_RULES + END
+    return itertools.repeat(block, LIMIT // len(block))
+
+
+def one_letter(count: int) -> Text:
+    """Rules whose words begin with one letter, which stands nowhere else in them."""
+    return basis(f"rule a {word}\n" for word in words(count, 17))
+
+
+def asked(folder: Path, statement: str, text: Text, statuses: Tuple[int, ...]) -> Usage:
+    files = folder / "statement.op", folder / "text.basis"
+    write(files[0], iter([statement]))
+    write(files[1], text)
+    return least([str(OPPROVE), "confirm", *map(str, files)], folder / "out", lambda status, report: status in statuses)
+
+
+def reduction_rows(names: List[str], folder: Path) -> Text:
+    bound()
+    yield head("`confirm` s", "MB", "over the first")
+    first = 0.0
+    for name, order in ORDERS.items():
+        used = asked(folder, LONG.format(order), iter([SWAP]), (REFUSED,))
+        first = first or used.seconds
+        yield line(name, told(used), f"{used.seconds / first:.2f}")
+    yield line("64 MiB of `rule a`", told(asked(folder, STATEMENT, many_short_rules(), (FINE, REFUSED))), "")
+    first = 0.0
+    for count in (6000, 24_000, 96_000):
+        used = asked(folder, STATEMENT, one_letter(count), (FINE,))
+        first = first or used.seconds
+        yield line(f"{count:,} rules that begin with one letter", told(used), f"{used.seconds / first:.2f}")

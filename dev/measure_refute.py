@@ -76,6 +76,17 @@ SEARCHES: Dict[str, Callable[[], str]] = {
     ),
     "`pinv`, ten maps of side 6 modulo 65537": lambda: unused(10, ["a", "x"], "pinv a x", "claim x a x = x", "model 65537 V 6"),
     "60 maps of side 4, one `inverse`": lambda: unused(60, ["a", "x"], "inverse a x", "claim a a x = a", "model 2 V 4"),
+    "true: two inverses between three objects, modulo 101, side 4": lambda: text_of(
+        "object U V W", "map b : U -> V", "map a : V -> W", "map x : W -> V", "map y : V -> U", "inverse a x", "inverse b y",
+        "claim y x a b = [U]", "model 101 U 4 V 4 W 4",
+    ),
+    "true: two equations solved for `x` and `y`, modulo 101, side 4": lambda: text_of(
+        "object U", "map a b c d e f x y : U -> U", "solve x y", "assume a x - y b = c", "assume d x + y e = f",
+        "claim a x - y b - c = d x + y e - f", "model 101 U 4",
+    ),
+    "true: `pinv` between sides 6 and 5, modulo 3": lambda: text_of(
+        "object U V", "map a : U -> V", "map x : V -> U", "pinv a x", "claim x a x a x = x", "model 3 U 6 V 5",
+    ),
     "all candidates of four maps of side 2": lambda: unused(4, list("abcd"), "assume a b = b a", "claim a b c = b a c", "model 2 V 2"),
     "all candidates of sixteen numbers": lambda: unused(16, ["a", "b"], "assume a b = b", "claim a a b = b", "model 2"),
     "`inner`, modulo 7, side 2": lambda: text_of("object U V", "map a : U -> V", "map x : V -> U", "inner a x", "claim a x a = a", "model 7 U 2 V 2"),
