@@ -1,10 +1,11 @@
 #!/usr/bin/env -S PYTHONPATH=python/src:python/tests python3
-"""Makes library/README.md and library/index.tsv: library_index.py [page | --check]
+"""Makes library/README.md and library/index.tsv: library_index.py [page | lemmas | --check]
 
 Each file of the library opens with comments of one form, `# FIELD: text` with the fields below, which go on in lines `#   text`. The index
 is a table with a row for each: chapter, name, verdict, denominators, rows of all claims, steps of the longest chain, seconds, the sections
-of the documents where it is used, theorem and source. With `page` the page alone is made, which no run is needed for, and with --check both
-are compared, but for the seconds. The program is that which OPPROVE names, or the built one.
+of the documents where it stands, the theorems that it is proved from, by library_lemmas.py, theorem and source. With `page` the page alone
+is made, which no run is needed for, with `lemmas` the column of these theorems alone, and with --check both are compared, but for the
+seconds. The program is that which OPPROVE names, or the built one.
 """
 from __future__ import annotations
 
@@ -17,16 +18,17 @@ from concurrent.futures import ProcessPoolExecutor
 from pathlib import Path
 from typing import Dict, List, NamedTuple, Sequence, Tuple
 
+from library_lemmas import of_library
 from opprove.notation.expansion import HEAD, Expansion
-from opprove.page.pages import ordered, table_of, titles_of
+from opprove.page.pages import LEMMAS, entries_of, ordered, table_of, titles_of
 from opprove.translations import chain
 from trying import LIBRARY, PROGRAM, TOP
 
 INDEX = LIBRARY / "index.tsv"
 FIELDS = ("THEOREM", "SOURCE", "ASSUMES", "LEAVES OUT", "VERDICT")
-COLUMNS = ("chapter", "name", "verdict", "denominators", "rows", "steps", "seconds", "used in", "theorem", "source")
+COLUMNS = ("chapter", "name", "verdict", "denominators", "rows", "steps", "seconds", "documents", "proved from", "theorem", "source")
 BESIDE = re.compile("proved by (cancelling|search)|proved for complex|refuted")  # what evidence beside the file says alone
-DOCUMENTS = [TOP / "README.md", *(TOP / "docs" / f"{name}.md" for name in ("GUIDE", "TOOLS", "COMMANDS"))]  # where theorems are used
+DOCUMENTS = [TOP / "README.md", *(TOP / "docs" / f"{name}.md" for name in ("GUIDE", "TOOLS", "COMMANDS"))]  # where theorems stand
 DOCUMENTS += sorted((TOP / "docs" / "tutorials").glob("*.md"))
 
 
@@ -87,6 +89,11 @@ def words_of(verdict: str) -> List[str]:
     return found[1].split(" ") if found else []
 
 
+def names(path: Path) -> List[str]:
+    """The names of the statements of a file."""
+    return [one.name for one in Expansion(str(path)).statements()] if path.suffix == ".opn" else [path.stem]
+
+
 def statements(path: Path) -> List[str]:
     """The statements of a file: itself, with the order that its verdict names, or those that a file of the notation stands for."""
     if path.suffix == ".opn":
@@ -145,8 +152,8 @@ def steps(statement: str, report: str) -> int:
     return longest
 
 
-def used_in(path: Path) -> str:
-    """The sections of the documents in which a file is used."""
+def documents(path: Path) -> str:
+    """The sections of the documents in which a file stands."""
     found: Dict[str, None] = {}
     for document in DOCUMENTS:
         title, section = document.stem, ""
@@ -159,7 +166,7 @@ def used_in(path: Path) -> str:
 
 
 def row(path: Path, found: List[Proved]) -> Dict[str, str]:
-    """The row of a file in the index, of which `prove` said this."""
+    """The row of a file in the index, of which `prove` said this; what it is proved from is left open."""
     fields = header(path)
     texts = [(one.statement, one.report) for one in found] + [(statements(path)[0], text) for text in evidence(path)]
     proofs = [text for _, text in texts if has_proof(text)]
@@ -168,7 +175,7 @@ def row(path: Path, found: List[Proved]) -> Dict[str, str]:
     cells = (
         path.parent.name, path.name, fields["VERDICT"], " ".join(map(str, denominators)), str(rows or ""),
         str(max((steps(*pair) for pair in texts), default=0) or ""), f"{sum(one.seconds for one in found):.2f}" if found else "",
-        used_in(path), fields["THEOREM"], fields.get("SOURCE", ""),
+        documents(path), "", fields["THEOREM"], fields.get("SOURCE", ""),
     )  # fmt: skip
     return dict(zip(COLUMNS, cells))
 
@@ -205,8 +212,9 @@ What `prove` doesn't find by its defaults has its evidence beside it: `.cert` fo
 A `.report` has shorter proofs than `prove` prints, by `./opprove shortest`.
 
 [index.tsv](index.tsv) has a row for each file, with the denominators, the rows of all claims, the steps of the longest chain, the seconds
-of `prove`, and the sections of the documents where it is used; `dev/library_index.py` writes it and this page.
-"""
+of `prove`, the sections of the documents where it stands, and the theorems that it is proved from; `dev/library_index.py` writes it and
+this page. """
+INTRODUCTION += f"{LEMMAS}\n"
 
 
 def page(rows: List[Dict[str, str]]) -> str:
@@ -230,12 +238,14 @@ def named(path: Path) -> Dict[str, str]:
 
 def main(words: List[str]) -> int:
     """Writes the page and the table, or compares them."""
-    if words not in ([], ["page"], ["--check"]):
-        print("usage: library_index.py [page | --check]")
+    if words not in ([], ["page"], ["lemmas"], ["--check"]):
+        print("usage: library_index.py [page | lemmas | --check]")
         return 2
-    readme, text = LIBRARY / "README.md", page([named(path) for path in paths()])
+    readme, text, known = LIBRARY / "README.md", page([named(path) for path in paths()]), stored()
     with ProcessPoolExecutor() as pool:
-        rows = [] if words == ["page"] else list(pool.map(fresh_row, paths()))
+        rows = [] if words == ["page"] else list(known.values()) if words == ["lemmas"] else list(pool.map(fresh_row, paths()))
+        lemmas = of_library(list(entries_of(LIBRARY)), pool) if rows else {}
+    rows = [{**one, "proved from": "; ".join(lemmas[f"{one['chapter']}/{one['name']}"])} for one in rows]
     if words == ["--check"]:
         others = [*different(rows), *(["README.md"] if readme.read_text("utf-8") != text else [])]
         print(f"{len(rows)} files are as the index has them" if not others else f"not as stored: {', '.join(others)}")

@@ -1,17 +1,20 @@
 """Tries the whole library: try.py library
 
-Each verdict, and each row of the index; the site, whose links are followed and whose pages check themselves in a browser; ten searches of
+Each verdict, each row of the index, and what is proved from what; the site, whose links are followed and whose pages check themselves in a browser; ten searches of
 its box; a paper of each chapter, set by pdflatex; and the theorems of a chapter for Coq. It takes some minutes.
 """
 from __future__ import annotations
 
 import re
+from concurrent.futures import ProcessPoolExecutor
 from pathlib import Path
 from typing import Callable, Dict, List
 from unittest import SkipTest
 from urllib.parse import unquote
 
+import library_index as index
 from browser import Browser, Links
+from library_lemmas import of_library
 from opprove.page.pages import entries_of, titles_of
 from test_library import page, whole
 from trying import LIBRARY, Skipped, built, installed, need, run, tool
@@ -84,6 +87,20 @@ def searches(browser: Browser, index: Path) -> None:
         need({*wanted} <= {*found} and len(found) < len(every) / 2 and bool(found) == bool(wanted), (asked, wanted, found))
 
 
+# ---- Lemmas
+
+
+def lemmas(folder: Path) -> str:
+    """What the index has of each file as what it is proved from is what is found."""
+    built()
+    with ProcessPoolExecutor() as pool:
+        found = of_library(list(entries_of(LIBRARY)), pool)
+    known = {name: row["proved from"] for name, row in index.stored().items()}
+    wrong = [name for name, names in found.items() if "; ".join(names) != known[name]]
+    need(not wrong, f"not as stored: {wrong}")
+    return f"{sum(map(bool, found.values()))} files are proved from others, by {sum(map(len, found.values()))} arrows"
+
+
 # ---- Papers and Coq
 
 
@@ -125,4 +142,4 @@ def coq(folder: Path) -> str:
     return f"{count} theorems of {OF_COQ} are accepted by coqc"
 
 
-CHECKS: List[Callable[[Path], str]] = [whole, page, site, papers, coq]
+CHECKS: List[Callable[[Path], str]] = [whole, page, lemmas, site, papers, coq]

@@ -2,7 +2,8 @@
 
 Of a fixed sample of 40 files, or for `dev/try.py library` of all, the verdict that the header states is compared with what the program and
 the second checkers say: certificates go through `check` and check.py, bases through `confirm`, and what lies beside a file through the
-programs that read it; and the row of the file with that which the index has, of all with the steps of chains and the documents.
+programs that read it, where a .report has to be no worse than what `prove` prints; and the row of the file with that which the index has,
+of all with the steps of chains, the documents and the lemmas.
 """
 from __future__ import annotations
 
@@ -11,7 +12,7 @@ import functools
 import re
 import tempfile
 from pathlib import Path
-from typing import Callable, Counter, List, Set
+from typing import Callable, Counter, Dict, List, Set, Tuple
 
 import library_index as index
 from library_index import Part, Proved, paths
@@ -69,6 +70,26 @@ def beside(path: Path, suffix: str) -> str:
     return text
 
 
+def sizes(one: Proved) -> Dict[int, Tuple[int, int]]:
+    """The denominators and rows of the certificates of a report, by their claims."""
+    if "certificate " not in one.report:
+        return {}
+    found = Evidence(Problem(one.statement.encode()), one.report.encode()).certificates
+    return {made.claim: (made.denominator, sum(len(share.rows) for share in made.shares)) for made in found}
+
+
+def shorter(path: Path, found: List[Proved], folder: Path) -> None:
+    """The reports beside a file: both checkers accept them, and their denominators and rows are no more than those of `prove`."""
+    for name, one in zip(index.names(path), found):
+        report = path.with_name(f"{name}.report")
+        if report.exists():
+            better = one._replace(report=report.read_text("utf-8"))
+            checked(better, folder)
+            for claim, size in sizes(better).items():
+                known = sizes(one).get(claim, size)
+                need(size[0] <= known[0] and size[1] <= known[1], f"{report}: claim {claim} has {size}, and by `prove` {known}")
+
+
 def said_beside(part: Part, path: Path) -> Set[int]:
     """The claims of a part of a verdict that evidence beside the file has to say; it has to be of these denominators and moduli."""
     suffix, word = next((one for start, one in KINDS.items() if part.kind.startswith(start)), ("", ""))
@@ -120,11 +141,12 @@ def tried(path: Path, is_exact: bool) -> str:
     with tempfile.TemporaryDirectory() as folder:
         for one in found:
             checked(one, Path(folder))
+        shorter(path, found, Path(folder))
     claims = {claim for part in index.verdicts(verdict) for claim in needs(part, path, found)}
     texts = [beside(path, suffix) for suffix in (".cert", ".model", ".star") if path.with_suffix(suffix).exists()]
     shown = {int(number) for text in texts for number in re.findall("^claim ([0-9]+)$", text, re.MULTILINE)}
     need(shown == claims, f"{path}: claims {shown} have evidence, and not {claims}")
-    others = index.different([index.row(path, found)], ["seconds"] if is_exact else ["seconds", "steps", "used in"])
+    others = index.different([index.row(path, found)], ["seconds", "proved from"] if is_exact else ["seconds", "proved from", "steps", "documents"])
     need(not others, f"{path}: another row in the index, which dev/library_index.py writes")
     return verdict
 
@@ -157,6 +179,9 @@ def page(folder: Path) -> str:
     """The page has all files."""
     same = (LIBRARY / "README.md").read_text("utf-8") == index.page(list(map(index.named, paths())))
     need(same, "library/README.md is another page than dev/library_index.py writes")
+    names = {path.with_name(name) for path in paths() for name in index.names(path)}
+    others = [report.name for report in LIBRARY.glob("*/*.report") if report.with_suffix("") not in names]
+    need(not others, f"{others} are reports of no statement")
     return f"the page has {len(paths())} files"
 
 

@@ -30,6 +30,7 @@ FILES = {
     "what_is_false/right_inverse.model": MODEL,
     "rules.op": f"# A closed set of rules.\n{RULES}",
     "rules.cert": BASIS,
+    "index.tsv": "chapter\tname\tproved from\nrings\tunit.op\t/rules.op\n" + "what_is_false\tright_inverse.op\trings/unit.op; /rules.op\n",
     "rings/cases.opn": "# THEOREM: when a is its square.\na : V -> V\nequivalent:\n  (i) a a = a\n  (ii) a - a a = 0\n",
 }
 LINES = [
@@ -88,6 +89,15 @@ class Site(unittest.TestCase):
             self.assertNotIn("<b onclick", text)
             bare = re.sub('<span class="w">([^<]*)</span>', r"\1", text)
             self.assertIn("&lt;b onclick=&quot;x&quot;&gt;&#x27;&amp;amp; units is a unit.", bare)
+
+    def test_what_is_proved_from_what(self) -> None:
+        unit, index = (self.out.joinpath(name).read_text("utf-8") for name in ("rings/unit.html", "index.html"))
+        self.assertIn('<p class="about">Proved from <a href="../rules.html">rules</a></p>', unit)
+        self.assertIn('<p class="about">Used in <a href="../what_is_false/right_inverse.html">right inverse</a></p>', unit)
+        groups = re.findall('<g class="kind[0-9]">(<path d="([^"]*)"/>)?<a href="([^"]*)">', index)
+        arrows = {address: path.count("M") for _, path, address in groups}
+        # That from rules to right inverse is left out, as unit lies between.
+        self.assertEqual(arrows, {"rules.html": 1, "rings/unit.html": 1, "what_is_false/right_inverse.html": 0})
 
     def test_comments_by_their_words(self) -> None:
         want = {"THEOREM": "It holds.", "SOURCE": "A 1900", "ASSUMES": "", "LEAVES OUT": "", "VERDICT": "proved"}

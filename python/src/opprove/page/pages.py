@@ -7,7 +7,8 @@ has them by chapters, which are the folders, with a box that finds theorems by w
 Comments in front of a statement may say, each behind its word and a colon, THEOREM, SOURCE, ASSUMES, LEAVES OUT and VERDICT; of the last
 the options of `prove`, as --pairs 50000, are taken, and `by order weight c 3` as this line of the statement. Where it is there,
 LIBRARY/chapters.txt has a line for each folder with its title, in the order of the chapters, and LIBRARY/index.tsv a table with a row for
-each file, which the index shows. A line is printed for each statement, with its verdicts; then what is wrong.
+each file, which the index shows; of files whose row names others as `proved from`, the index has a graph and their pages links.
+A line is printed for each statement, with its verdicts; then what is wrong.
 
 Statuses: 0 where each page was made and no verdict differs from what its comments say; else the greatest of 3 (a statement is refused),
 4 (not loaded), 5 (a page isn't written), 6 (no memory), 7 (evidence is refused, or
@@ -31,6 +32,7 @@ from opprove.checkers.check import DONE, NO_MEMORY, NO_OUTPUT, NOT_LOADED, REFUS
 from opprove.notation import expand
 from opprove.notation.expansion import HEAD
 from opprove.page.formulas import sentence
+from opprove.page.graph import Drawing, Name
 from opprove.page.page import Found, badge, comments_of, found_in, head, navigation, page_with, part
 from opprove.program import Refused, path as path_of_program, run
 from opprove.search.findings import positive
@@ -44,9 +46,16 @@ FIELDS = ("THEOREM", "SOURCE", "ASSUMES", "LEAVES OUT", "VERDICT")
 OPTIONS = re.compile(r"--(?:pairs|steps|seed) [0-9]+|--no-models")
 ORDER = re.compile(r"\bby (order [^;,]*)")  # of words, in which a basis is
 COLUMNS = {  # of the table of a library, those that the index shows
-    "denominators": "denominator {}", "rows": "{} rows", "steps": "chains of up to {} steps", "seconds": "{} s", "used in": "used in {}",
+    "denominators": "denominator {}", "rows": "{} rows", "steps": "chains of up to {} steps", "seconds": "{} s", "documents": "in {}",
 }  # fmt: skip
 NO_VERDICT = 12
+# What it means that the table of a library names a theorem as one from which another one is proved.
+LEMMAS = (
+    "A theorem is proved from another one where that, with words of its maps in the place of the other's maps, assumes nothing but what it "
+    "assumes itself or what follows from that in one step, where the other's chain is the shorter one, and where its own chain becomes "
+    "shorter by citing the other."
+)
+Uses = Dict[str, List[Tuple[str, str]]]  # words, as Proved from, and behind them names with their addresses
 
 
 class Statement(NamedTuple):
@@ -75,6 +84,7 @@ class Job(NamedTuple):
     fields: Dict[str, str]
     links: List[Tuple[str, str]]
     seconds: int
+    uses: Uses = {}
 
 
 class Made(NamedTuple):
@@ -163,8 +173,43 @@ def place_of(chapter: str, name: str) -> str:
     return f"{chapter}/{name}.html" if chapter else f"{name}.html"
 
 
-def jobs_of(entries: Sequence[Entry], seconds: int, titles: Dict[str, str] = {}) -> List[Job]:
-    """The pages, each with links to the index, its chapter, by these titles, and its neighbours."""
+class Library(NamedTuple):
+    """What a site has of a library besides its files: its title, those of its chapters, and its table."""
+
+    title: str
+    titles: Dict[str, str] = {}
+    table: Dict[Tuple[str, str], Dict[str, str]] = {}
+
+    def facts(self, entry: Entry) -> str:
+        """What the table says of a file."""
+        row = self.table.get((entry.chapter, entry.path.name), {})
+        return " · ".join(said.format(row[column]) for column, said in COLUMNS.items() if row.get(column))
+
+    def lemmas(self, entries: Sequence[Entry]) -> List[Tuple[Entry, Entry]]:
+        """Theorems with those that are proved from them, by the table."""
+        files = {f"{entry.chapter}/{entry.path.name}": entry for entry in entries if entry.statements}
+        rows = {name: self.table.get((entry.chapter, entry.path.name), {}) for name, entry in files.items()}
+        pairs = [(other, name) for name, row in rows.items() for other in row.get("proved from", "").split("; ")]
+        return [(files[other], files[name]) for other, name in pairs if other in files]
+
+
+def first_page(entry: Entry) -> Tuple[str, str]:
+    """The name of a file, and the place of its first page."""
+    return title_of(entry.path.stem), quote(place_of(entry.chapter, entry.statements[0].name))
+
+
+def uses_of(entry: Entry, pairs: Sequence[Tuple[Entry, Entry]], up: str) -> Uses:
+    """What a theorem is proved from, and where it is used."""
+    found = {
+        "Proved from": [first_page(lemma) for lemma, one in pairs if one is entry],
+        "Used in": [first_page(one) for lemma, one in pairs if lemma is entry],
+    }
+    return {word: [(name, up + place) for name, place in pages] for word, pages in found.items()}
+
+
+def jobs_of(entries: Sequence[Entry], seconds: int, library: Library = Library("")) -> List[Job]:
+    """The pages, each with links to the index, its chapter, its neighbours, and the theorems that it is proved from or used in."""
+    titles, pairs = library.titles, library.lemmas(entries)
     flat = [(entry, one) for entry in entries for one in entry.statements]
     places = [place_of(entry.chapter, one.name) for entry, one in flat]
     jobs = []
@@ -174,7 +219,7 @@ def jobs_of(entries: Sequence[Entry], seconds: int, titles: Dict[str, str] = {})
         links += [(titles.get(entry.chapter) or title_of(entry.chapter), f"{up}index.html#{quote(entry.chapter)}")] * bool(entry.chapter)
         beside = (("←", number - 1), ("→", number + 1))
         links += [(f"{sign} {title_of(flat[at][1].name)}", up + quote(places[at])) for sign, at in beside if 0 <= at < len(flat)]
-        jobs.append(Job(places[number], one, entry.fields, links, seconds))
+        jobs.append(Job(places[number], one, entry.fields, links, seconds, uses_of(entry, pairs, up)))
     return jobs
 
 
@@ -217,13 +262,15 @@ def another(found: Found, said: str) -> str:
     return ""
 
 
-def about(fields: Dict[str, str], verdicts: str, is_map: Callable[[str], bool]) -> List[str]:
+def about(fields: Dict[str, str], verdicts: str, is_map: Callable[[str], bool], uses: Uses) -> List[str]:
     """The paragraphs in front of a statement, in HTML."""
     lines = [sentence(fields["THEOREM"], is_map)]
     lines += [f"Source: {escape(fields['SOURCE'])}"] * bool(fields["SOURCE"])
     for word, name in (("ASSUMES", "Assumed besides"), ("LEAVES OUT", "Left out")):
         lines += [f"{name}: {sentence(fields[word], is_map)}"] * bool(fields[word])
-    return [*lines, f"Verdict: {escape(fields['VERDICT'] or verdicts)}"]
+    lines += [f"Verdict: {escape(fields['VERDICT'] or verdicts)}"]
+    named = {word: [f'<a href="{escape(address)}">{escape(name)}</a>' for name, address in pages] for word, pages in uses.items()}
+    return [*lines, *(f"{word} {', '.join(pages)}" for word, pages in named.items() if pages)]
 
 
 def shapes_of(text: str) -> List[str]:
@@ -247,7 +294,7 @@ def make(job: Job, out: Path) -> Made:
         with tempfile.TemporaryDirectory(prefix="opprove-") as folder:
             found, missing = found_for(job, Path(folder))
         verdicts = [verdict for each in found.verdicts() for verdict in each]
-        page = page_with(found, title_of(job.statement.name), "", job.links, about(job.fields, told(verdicts), found.is_map))
+        page = page_with(found, title_of(job.statement.name), "", job.links, about(job.fields, told(verdicts), found.is_map, job.uses))
         fault = missing or another(found, job.fields["VERDICT"])
         status = NO_VERDICT if missing else REFUSED if fault else DONE
         made = Made(verdicts, shapes_of(job.statement.text), fault, status)
@@ -269,19 +316,6 @@ def put(path: Path, page: str) -> bool:
 
 
 # ---- The index
-
-
-class Library(NamedTuple):
-    """What the index has of a library besides its files: its title, those of its chapters, and its table."""
-
-    title: str
-    titles: Dict[str, str]
-    table: Dict[Tuple[str, str], Dict[str, str]]
-
-    def facts(self, entry: Entry) -> str:
-        """What the table says of a file."""
-        row = self.table.get((entry.chapter, entry.path.name), {})
-        return " · ".join(said.format(row[column]) for column, said in COLUMNS.items() if row.get(column))
 
 
 def item(entry: Entry, made: Dict[str, Made], facts: str) -> Iterator[str]:
@@ -320,11 +354,29 @@ def index_of(library: Library, entries: Sequence[Entry], made: Dict[str, Made]) 
     lines += [' <span id="count" role="status"></span></p>']
     names = {chapter: titles.get(chapter) or title_of(chapter) for chapter in chapters}
     lines += [*navigation([(names[chapter], f"#{quote(chapter)}") for chapter in chapters if chapter]), "</header><main>"]
+    lines += graph_of(library.lemmas(entries), chapters)
     for chapter in chapters:
         lines += [f'<section id="{escape(chapter)}"><h2>{escape(names[chapter] or title)}</h2><ul class="theorems">']
         lines += [line for entry in entries if entry.chapter == chapter for line in item(entry, made, library.facts(entry))]
         lines += ["</ul></section>"]
     return "\n".join([*lines, f"</main><script>{program}</script></body></html>"]) + "\n"
+
+
+def graph_of(pairs: Sequence[Tuple[Entry, Entry]], chapters: Sequence[str]) -> Iterator[str]:
+    """What is proved from what, as a picture; nothing where the table says nothing of it."""
+    if not pairs:
+        return
+    numbers: Dict[Path, int] = {}
+    names: List[Name] = []
+    for entry in sorted({entry.path: entry for pair in pairs for entry in pair}.values(), key=lambda entry: chapters.index(entry.chapter)):
+        numbers[entry.path] = len(names)
+        names.append(Name(*first_page(entry), chapters.index(entry.chapter)))
+    arrows: Dict[int, List[int]] = {}
+    for lemma, one in pairs:
+        arrows.setdefault(numbers[lemma.path], []).append(numbers[one.path])
+    yield '<details id="lemmas"><summary>What is proved from what</summary>'
+    yield f'<p class="about">{escape(LEMMAS)} An arrow leads from a theorem to those that are proved from it, but for those to which others lead.</p>'
+    yield f'<div class="graph">{Drawing(names, arrows).svg()}</div></details>'
 
 
 # ---- The site
@@ -339,7 +391,7 @@ def twice(entries: Sequence[Entry]) -> List[str]:
 
 def site(entries: Sequence[Entry], out: Path, library: Library, count: int, seconds: int) -> int:
     """Makes all pages, prints a line for each, and gives the status."""
-    jobs, made = jobs_of(entries, seconds, library.titles), {}
+    jobs, made = jobs_of(entries, seconds, library), {}
     faults = [(status_of(one.fault), f"{one.path}: {one.fault}") for one in entries if one.fault]
     with ProcessPoolExecutor(count) as pool:
         for job, found in zip(jobs, pool.map(make, jobs, [out] * len(jobs))):

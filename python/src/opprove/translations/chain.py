@@ -13,7 +13,8 @@ in its place; the others are chains of their own before the claim's, from their 
 
 Before that, fewer rows that add up to the same are looked for around the words of those that are known: of all places of the
 equations there the least sum is taken, and a lemma is left out where that is shorter. No chain becomes longer by that. --effort N
-says how much is tried: 2000000, about a second, where it isn't given; with 0 the rows are taken as they were read.
+says how much is tried for all proofs of a text: 2000000, about a second, where it isn't given; with 0 the rows are taken as they
+were read.
 
 A report of `explain`, or other text whose first block is a `chain 1`, is read as such: its lines are made anew from its `use`
 lines, and the first that is another one is told with its number. What is written then has its sums in their order, each line
@@ -55,7 +56,7 @@ from opprove.translations.translation import explained, of_two_files
 LETTERS_IN_A_WORD, LETTERS, MOST = 500, 1000000, 2**127 - 1
 WIDTH = 96  # of a sum in text
 EFFORT = 2000000  # in the search for shorter chains: about a second
-QUICK_EFFORT = 50_000  # where many are shown: some twentieth of a second each
+QUICK_EFFORT = 200_000  # where many are shown: some tenth of a second for a statement
 
 
 class Equation(NamedTuple):
@@ -123,7 +124,7 @@ class Reader:
     """Makes proofs of the certificates of a problem, which have to be accepted."""
 
     def __init__(self, problem: Problem, effort: int = EFFORT) -> None:
-        self.effort = effort  # for shorter chains, 0 for none
+        self.effort = effort  # that is left for shorter chains, 0 for none
         self.problem, self.exact, self.has_adjoints = problem, problem.generators(), problem.is_starred
         self.units = {letter for letter, name in enumerate(problem.names) if name[0] == "["}
         self.generators = [self.bare(poly) for poly in self.exact]
@@ -133,6 +134,7 @@ class Reader:
         for line in problem.lines:
             equations = self.claims if line.tokens[0].text == "claim" else self.assumptions
             equations += [self.equation(tokens, line.tokens) for tokens in problem.equations(line)]
+        self.coming = len(self.claims)  # proofs that share the effort, as far as is known
         # The assumptions of the first generators, and whether these are their adjoints.
         self.sources = [(number, False) for number, _ in enumerate(self.assumptions, 1)]
         for number, poly in enumerate(problem.assumptions if problem.is_starred else [], 1):
@@ -247,7 +249,10 @@ class Reader:
             equations.append(chain.poly(), chain.ends)
         items = [Item(chain.ends, chain.scale, None if chain.cancelled else steps_of(chain.rows(), count)) for chain in chains]
         kept = [chain.cancelled.item - 1 for chain in chains if chain.cancelled]
-        found = Shortener(equations, count, items, kept, Effort(self.effort)).shortened()
+        share = self.effort // max(self.coming, 1)
+        effort = Effort(share)
+        found = Shortener(equations, count, items, kept, effort).shortened()
+        self.effort, self.coming = self.effort - share + effort.left, self.coming - 1
         return [chain.part()._replace(rows=rows_of(item.steps or {}, count)) for chain, item in zip(chains, found)]
 
     def chains(self, parts: List[Part], claim: Equation) -> List[Chain]:
@@ -715,10 +720,12 @@ def proofs_of(reader: Reader, evidence: Source) -> List[Proof]:
         reader_of, items_of = (StarProofs, StarItems) if first.startswith("star ") else (Cancellations, cancel.Items)
         proofs, lines = reader_of(problem, evidence).proofs, Lines(problem)
         polys = [cancel.judge(lines, proof, f"# block {block} refused", items_of) for block, proof in enumerate(proofs, 1)]
+        reader.coming = len(proofs)
         return list(map(reader.cancelled, proofs, polys))
     with explained(evidence):
         texts = Texts(problem, evidence)
     judge_all(problem, texts)
+    reader.coming = len(texts.certificates) + len(texts.chains)
     # One of both lists is empty.
     return [*map(reader.proof, texts.certificates), *map(reader.told, texts.chains)]
 
