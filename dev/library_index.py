@@ -1,14 +1,15 @@
 #!/usr/bin/env -S PYTHONPATH=python/src:python/tests python3
-"""Makes library/README.md and library/index.tsv: library_index.py [page | lemmas | --check]
+"""Makes library/README.md and library/index.tsv: library_index.py [page | --check]
 
 Each file of the library opens with comments of one form, `# FIELD: text` with the fields below, which go on in lines `#   text`. The index
 is a table with a row for each: chapter, name, verdict, denominators, rows of all claims, steps of the longest chain, seconds, the sections
-of the documents where it stands, the theorems that it is proved from, by library_lemmas.py, theorem and source. With `page` the page alone
-is made, which no run is needed for, with `lemmas` the column of these theorems alone, and with --check both are compared, but for the
-seconds. The program is that which OPPROVE names, or the built one.
+of the documents where it stands, the files that it is proved from and is used in, which library/lemmas.tsv says, theorem and source. With
+`page` the page alone is made, which no run is needed for, and with --check both are compared, but for the seconds. The program is that
+which OPPROVE names, or the built one.
 """
 from __future__ import annotations
 
+import functools
 import re
 import subprocess
 import sys
@@ -18,15 +19,14 @@ from concurrent.futures import ProcessPoolExecutor
 from pathlib import Path
 from typing import Dict, List, NamedTuple, Sequence, Tuple
 
-from library_lemmas import of_library
 from opprove.notation.expansion import HEAD, Expansion
-from opprove.page.pages import LEMMAS, entries_of, ordered, table_of, titles_of
+from opprove.page.pages import LEMMAS, lemmas_of, ordered, table_of, titles_of
 from opprove.translations import chain
 from trying import LIBRARY, PROGRAM, TOP
 
 INDEX = LIBRARY / "index.tsv"
 FIELDS = ("THEOREM", "SOURCE", "ASSUMES", "LEAVES OUT", "VERDICT")
-COLUMNS = ("chapter", "name", "verdict", "denominators", "rows", "steps", "seconds", "documents", "proved from", "theorem", "source")
+COLUMNS = ("chapter", "name", "verdict", "denominators", "rows", "steps", "seconds", "documents", "proved from", "used in", "theorem", "source")
 BESIDE = re.compile("proved by (cancelling|search)|proved for complex|refuted")  # what evidence beside the file says alone
 DOCUMENTS = [TOP / "README.md", *(TOP / "docs" / f"{name}.md" for name in ("GUIDE", "TOOLS", "COMMANDS"))]  # where theorems stand
 DOCUMENTS += sorted((TOP / "docs" / "tutorials").glob("*.md"))
@@ -165,17 +165,26 @@ def documents(path: Path) -> str:
     return "; ".join(found)
 
 
+@functools.lru_cache(maxsize=None)
+def lemmas() -> List[Tuple[str, str]]:
+    """The files that are used as lemmas, with those where they are."""
+    files = {f"{path.parent.name}/{name}": f"{path.parent.name}/{path.name}" for path in paths() for name in names(path)}
+    return sorted({(files[one.lemma], files[one.theorem]) for one in lemmas_of(LIBRARY)})
+
+
 def row(path: Path, found: List[Proved]) -> Dict[str, str]:
-    """The row of a file in the index, of which `prove` said this; what it is proved from is left open."""
+    """The row of a file in the index, of which `prove` said this."""
     fields = header(path)
     texts = [(one.statement, one.report) for one in found] + [(statements(path)[0], text) for text in evidence(path)]
     proofs = [text for _, text in texts if has_proof(text)]
     denominators = sorted({int(number) for text in proofs for number in re.findall("^denominator ([0-9]+)$", text, re.MULTILINE)})
     rows = sum(len(re.findall("^row ", text, re.MULTILINE)) for text in proofs)
+    own = f"{path.parent.name}/{path.name}"
+    uses = ["; ".join(found) for found in ([lemma for lemma, one in lemmas() if one == own], [one for lemma, one in lemmas() if lemma == own])]
     cells = (
         path.parent.name, path.name, fields["VERDICT"], " ".join(map(str, denominators)), str(rows or ""),
         str(max((steps(*pair) for pair in texts), default=0) or ""), f"{sum(one.seconds for one in found):.2f}" if found else "",
-        documents(path), "", fields["THEOREM"], fields.get("SOURCE", ""),
+        documents(path), *uses, fields["THEOREM"], fields.get("SOURCE", ""),
     )  # fmt: skip
     return dict(zip(COLUMNS, cells))
 
@@ -212,8 +221,10 @@ What `prove` doesn't find by its defaults has its evidence beside it: `.cert` fo
 A `.report` has shorter proofs than `prove` prints, by `./opprove shortest`.
 
 [index.tsv](index.tsv) has a row for each file, with the denominators, the rows of all claims, the steps of the longest chain, the seconds
-of `prove`, the sections of the documents where it stands, and the theorems that it is proved from; `dev/library_index.py` writes it and
-this page. """
+of `prove`, the sections of the documents where it stands, and the files that it is proved from and is used in; `dev/library_index.py`
+writes it and this page. [lemmas.tsv](lemmas.tsv) says what is proved from what, and what is put for maps there; `dev/library_lemmas.py`
+looks for that in some minutes, and doesn't find all.
+"""
 INTRODUCTION += f"{LEMMAS}\n"
 
 
@@ -238,14 +249,12 @@ def named(path: Path) -> Dict[str, str]:
 
 def main(words: List[str]) -> int:
     """Writes the page and the table, or compares them."""
-    if words not in ([], ["page"], ["lemmas"], ["--check"]):
-        print("usage: library_index.py [page | lemmas | --check]")
+    if words not in ([], ["page"], ["--check"]):
+        print("usage: library_index.py [page | --check]")
         return 2
-    readme, text, known = LIBRARY / "README.md", page([named(path) for path in paths()]), stored()
+    readme, text = LIBRARY / "README.md", page([named(path) for path in paths()])
     with ProcessPoolExecutor() as pool:
-        rows = [] if words == ["page"] else list(known.values()) if words == ["lemmas"] else list(pool.map(fresh_row, paths()))
-        lemmas = of_library(list(entries_of(LIBRARY)), pool) if rows else {}
-    rows = [{**one, "proved from": "; ".join(lemmas[f"{one['chapter']}/{one['name']}"])} for one in rows]
+        rows = [] if words == ["page"] else list(pool.map(fresh_row, paths()))
     if words == ["--check"]:
         others = [*different(rows), *(["README.md"] if readme.read_text("utf-8") != text else [])]
         print(f"{len(rows)} files are as the index has them" if not others else f"not as stored: {', '.join(others)}")

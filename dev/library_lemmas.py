@@ -1,337 +1,329 @@
-"""Which theorems of the library are lemmas of which others
+#!/usr/bin/env -S PYTHONPATH=python/src:python/tests python3
+"""Finds which theorems of the library are lemmas of which, and writes library/lemmas.tsv: library_lemmas.py [--anew] [THEOREM ..]
 
-A theorem is proved from another one where that, with words of its maps in the place of the other's maps, assumes nothing but what it
-assumes itself or what follows from that in one step, where the other's chain is the shorter one, and where its own chain becomes shorter
-by citing the other. Here a step is an assumption or its adjoint times one map or none, words have one letter or two, and the longest
-chains of files are compared, so that no file is proved from what is proved from it; chains are those of `chain` with the effort of pages,
-and what is cited is proved with denominator 1.
+A theorem, as CHAPTER/NAME, is proved from another one where
+
+- with words of its maps in the place of the other's, what the other assumes is proved from its own assumptions, by `prove` with
+  denominator 1, and so is what is cited of the other;
+- its own chain has fewer steps where it may cite that, and does so. Chains are those of `chain` with the effort of pages: by the rows
+  that are known, with what is cited among the equations, or by what `prove` finds with it;
+- the longest chain of the other's file is shorter than that of its own, so that none is proved from what is proved from it.
+
+Places are looked for by library_places.py, which doesn't find all; of what is said at them the shortest equations are tried, all at
+once, and then those of one theorem after another. A row of the table has the theorem, the other one, the words of its maps, the claims
+that are cited, and the steps without and with all that the theorem cites. What was found is kept in out/lemmas by the texts of both, so
+that a run goes on where the last one ended; --anew looks for all again. What a table says is tried by `dev/try.py library`.
 """
 from __future__ import annotations
 
+import hashlib
+import json
+import re
 import subprocess
-from concurrent.futures import Executor
+import sys
+from collections import Counter
+from concurrent.futures import Executor, ProcessPoolExecutor
 from functools import lru_cache
-from itertools import product, repeat
-from typing import Dict, Iterator, List, NamedTuple, Optional, Sequence, Set, Tuple
+from itertools import repeat
+from pathlib import Path
+from typing import Dict, Iterable, Iterator, List, NamedTuple, Optional, Sequence, Set, Tuple
 
+from library_places import Binding, Places, Row, Sum, Text, Theorem, assumed, normal, said
 from measure_chains import reports, words_of
-from opprove.checkers.check import Evidence, Poly, Problem, Signature, Word, add
-from opprove.checkers.check import Row as EvidenceRow
-from opprove.page.pages import Entry, Statement
+from opprove.checkers.check import Certificate, Evidence, Problem
+from opprove.page.pages import Entry, Lemma, Statement, entries_of
 from opprove.program import Refused, run
 from opprove.translations.chain import QUICK_EFFORT, Proof, Reader, length, used
+from trying import LIBRARY, TOP
 
-LETTERS = 2  # of a word in the place of a map
-STEPS, FOUND = 3_000, 400  # of the search for places of a theorem in another one; places that are taken
-TAKEN = 60  # claims that are granted, the shortest ones
-SECONDS = 20
-Binding = Dict[int, Word]  # of letters and, by their numbers too, of objects as words of their identities
-Terms = Tuple[Tuple[Word, int], ...]
-
-
-class Row(NamedTuple):
-    """A polynomial that is 0, with its ends."""
-
-    ends: Signature
-    poly: Poly
+TABLE = LIBRARY / "lemmas.tsv"
+TAKEN, EACH, OTHERS = 40, 12, 6  # equations that are tried at once, of one theorem, and how many theorems are tried by themselves
+LEAST, ROUNDS, SECONDS = 3, 4, 20  # steps of what is cited; rounds in which what isn't used is left out; for a run of `prove`
+Steps = Dict[int, Tuple[int, int]]  # of the chains of claims, with their denominators
 
 
 class Known(NamedTuple):
-    """What is known of a statement: its claims that are proved, with the steps of their chains and their denominators."""
+    """What is known of a statement: its claims that are proved, by certificates."""
 
-    name: str  # of its file, behind its chapter
+    name: str  # behind its chapter
     text: str
     options: List[str]
-    proved: Dict[int, Tuple[int, int]]
+    proved: Steps
+    certificates: List[Certificate]
     weight: int = 0  # the steps of the longest chain of its file
-
-    def steps(self) -> int:
-        """Of the longest chain."""
-        return max((steps for steps, _ in self.proved.values()), default=0)
 
     def cited(self) -> Tuple[int, ...]:
         """The claims that others may cite."""
-        return tuple(claim for claim, (_, denominator) in self.proved.items() if denominator == 1)
+        return tuple(claim for claim, (steps, denominator) in self.proved.items() if denominator == 1 and steps >= LEAST)
+
+
+class Equation(NamedTuple):
+    """What a claim of a theorem says at a place, where a sum is 0."""
+
+    lemma: str
+    maps: str
+    claim: int
+    poly: Sum
+    text: str
+
+    def letters(self) -> Tuple[int, str]:
+        return sum(map(len, self.poly)), self.text
+
+
+class Found(NamedTuple):
+    """What a theorem cites, and the steps of its claims that become fewer, before and then."""
+
+    cited: List[Equation]
+    steps: Dict[int, Tuple[int, int]]
+
+    def change(self) -> int:
+        return sum(after - before for before, after in self.steps.values())
 
 
 # ---- What is known
 
 
-def lengths(reader: Reader, report: bytes, first: int = 0) -> Dict[int, Tuple[Proof, int]]:
-    """The proofs of a report by their claims, with the steps of all their chains: those that cite an assumption from this number on."""
-    found = Evidence(reader.problem, report).certificates if b"\ncertificate " in b"\n" + report else []
-    kept = [made for made in found if not first or any(source(reader, row) >= first for share in made.shares for row in share.rows)]
-    proofs = list(map(reader.proof, kept))
-    return {proof.certificate.claim: (proof, length(proof.chains)) for proof in proofs}
+def proofs_in(reader: Reader, certificates: Sequence[Certificate]) -> Iterator[Proof]:
+    reader.coming = len(certificates)
+    return map(reader.proof, certificates)
 
 
-def source(reader: Reader, row: EvidenceRow) -> int:
-    """The number of the assumption that a row is over, 0 where it is over none."""
-    return 0 if row.is_lemma or row.number > len(reader.sources) else reader.sources[row.number - 1][0]
+def certificates_of(problem: Problem, report: bytes) -> List[Certificate]:
+    return Evidence(problem, report).certificates if re.search(b"^certificate ", report, re.MULTILINE) else []
 
 
 def known(name: str, statement: Statement, verdict: str) -> Known:
     """What evidence beside a statement proves, or else `prove`."""
-    options, reader = words_of(verdict), Reader(Problem(statement.text.encode()), QUICK_EFFORT)
-    proved: Dict[int, Tuple[int, int]] = {}
+    options, problem = words_of(verdict), Problem(statement.text.encode())
+    found: Dict[int, Certificate] = {}
     for report in reports(statement, options) if "proved" in verdict else ():
-        for claim, (proof, steps) in lengths(reader, report).items():
-            proved.setdefault(claim, (steps, proof.certificate.denominator))
-    return Known(name, statement.text, options, proved)
+        for certificate in certificates_of(problem, report):
+            found.setdefault(certificate.claim, certificate)
+    proved = {one.certificate.claim: (length(one.chains), one.certificate.denominator) for one in proofs_in(Reader(problem, QUICK_EFFORT), [*found.values()])}
+    return Known(name, statement.text, options, proved, [*found.values()])
 
 
-# ---- Rows of the one that is to be proved
+def all_known(entries: Sequence[Entry], pool: Executor) -> Dict[str, Known]:
+    """All that is known of the library, by names."""
+    pairs = [(entry, statement) for entry in entries for statement in entry.statements]
+    names = [f"{entry.chapter}/{statement.name}" for entry, statement in pairs]
+    every = list(pool.map(known, names, [one for _, one in pairs], [entry.fields["VERDICT"] for entry, _ in pairs]))
+    weights: Counter[Path] = Counter()
+    for (entry, _), one in zip(pairs, every):
+        weights[entry.path] = max([weights[entry.path], *(steps for steps, _ in one.proved.values())])
+    return {one.name: one._replace(weight=weights[entry.path]) for (entry, _), one in zip(pairs, every)}
 
 
-def normal(poly: Poly) -> Terms:
-    """The same for a polynomial and minus it."""
-    terms = sorted(poly.items())
-    return tuple((word, -value) for word, value in terms) if terms and terms[0][1] < 0 else tuple(terms)
-
-
-class Text:
-    """A statement in which places are looked for: its assumptions and adjoints, and these times one map."""
-
-    def __init__(self, text: str) -> None:
-        self.reader = reader = Reader(Problem(text.encode()), 0)
-        self.problem = problem = reader.problem
-        self.maps = [letter for letter in range(len(problem.names)) if letter not in reader.units]
-        if not problem.is_starred:
-            self.maps = [letter for letter in self.maps if problem.stars[letter] >= letter]
-        count = len(reader.sources)
-        plain = [Row(ends, poly) for ends, poly in zip(reader.ends[:count], reader.generators) if ends and poly]
-        self.known = {normal(row.poly) for row in plain}
-        self.rows: Dict[Tuple[int, ...], Dict[Tuple[int, ...], List[Row]]] = {}  # by their shapes and the lengths of their words
-        self.follows: Set[Terms] = set()
-        for row in [*plain, *(more for row in plain for more in self.times(row))]:
-            terms = normal(row.poly)
-            if terms not in self.follows:
-                self.follows.add(terms)
-                self.rows.setdefault(shape(row.poly), {}).setdefault(lengths_of(row.poly), []).append(row)
-
-    def times(self, row: Row) -> Iterator[Row]:
-        """A row times a map, on either side."""
-        for letter in self.maps:
-            source, target = self.problem.ends[letter]
-            if source == row.ends[1]:
-                yield Row((row.ends[0], target), add({}, 1, row.poly, left=(letter,)))
-            if target == row.ends[0]:
-                yield Row((source, row.ends[1]), add({}, 1, row.poly, right=(letter,)))
-
-    def star(self, word: Word) -> Word:
-        return tuple(self.problem.stars[letter] for letter in reversed(word))
-
-    def spelled(self, row: Row) -> str:
-        """A row as an equation of the language."""
-        texts = [f"{'-' if value < 0 else '+'} {abs(value)} {self.word(word, row.ends)}" for word, value in row.poly.items()]
-        return f"assume {' '.join(texts).replace('+ ', '', 1) if texts[0][0] == '+' else ' '.join(texts)} = 0"
-
-    def word(self, word: Word, ends: Signature) -> str:
-        return self.problem.text(word) if word else self.problem.names[ends[0]]
-
-
-def shape(poly: Poly) -> Tuple[int, ...]:
-    """The coefficients without signs: rows of other shapes are other ones."""
-    return tuple(sorted(map(abs, poly.values())))
-
-
-def lengths_of(poly: Poly) -> Tuple[int, ...]:
-    return tuple(sorted(map(len, poly)))
-
-
-# ---- Places of a theorem
-
-
-class Theorem:
-    """A theorem whose places are looked for: its assumptions, the rigid ones first, and its claims."""
-
-    def __init__(self, text: str, numbers: Sequence[int]) -> None:
-        reader = Reader(Problem(text.encode()), 0)
-        problem = self.problem = reader.problem
-        left = [Row(ends, poly) for ends, poly in zip(reader.ends, reader.generators[: len(reader.assumptions)]) if ends and poly]
-        for letter, (source, target) in enumerate(problem.ends):
-            if letter not in reader.units and problem.stars[letter] == letter:
-                left.append(Row((source, target), {(letter,): 1}))  # which is its own adjoint, as binding it asks for
-        self.conditions: List[Row] = []
-        bound: Set[int] = set()
-        while left:
-            best = max(left, key=lambda row: (-len(self.letters(row) - bound), sum(map(len, row.poly))) if bound else (sum(map(len, row.poly)),))
-            left.remove(best)
-            bound |= self.letters(best)
-            self.conditions.append(best)
-        claims = [reader.claims[number - 1] for number in numbers]
-        self.claims = [Row(claim.ends, add(dict(claim.left), -1, claim.right)) for claim in claims]
-        self.claims = [row for row in self.claims if row.poly and self.letters(row) <= bound]
-
-    def letters(self, row: Row) -> Set[int]:
-        return {min(letter, self.problem.stars[letter]) for word in row.poly for letter in word}
+# ---- What may be cited
 
 
 @lru_cache(maxsize=None)
 def theorem(text: str, numbers: Tuple[int, ...]) -> Theorem:
-    """That of a statement, by its claims with these numbers."""
+    """That of a statement, with its claims of these numbers."""
     return Theorem(text, numbers)
 
 
-class Places:
-    """The places of a theorem in a text."""
-
-    def __init__(self, found: Theorem, text: Text) -> None:
-        self.theorem, self.text, self.steps = found, text, 0
-        self.rows = [list(self.rows_for(condition)) for condition in found.conditions]
-
-    def rows_for(self, condition: Row) -> Iterator[Row]:
-        """Those that a condition may be, by the lengths of its words."""
-        wanted = lengths_of(condition.poly)
-        for lengths, rows in self.text.rows.get(shape(condition.poly), {}).items():
-            if all(least <= length <= LETTERS * least for least, length in zip(wanted, lengths)):
-                yield from rows
-
-    def found(self) -> Iterator[Binding]:
-        """The bindings under which all conditions are met."""
-        if self.theorem.claims and all(rows or len(one.poly) == 1 for rows, one in zip(self.rows, self.theorem.conditions)):
-            for count, binding in enumerate(self.met(0, {})):
-                yield binding
-                if count + 1 == FOUND:
-                    return
-
-    def met(self, number: int, binding: Binding) -> Iterator[Binding]:
-        """The bindings that go on with this one, under which the conditions from this number on are met."""
-        self.steps += 1
-        if self.steps > STEPS:
-            return
-        if number == len(self.theorem.conditions):
-            yield binding
-            return
-        for made in self.ways(number, binding):
-            yield from self.met(number + 1, made)
-
-    def ways(self, number: int, binding: Binding) -> Iterator[Binding]:
-        """The bindings under which a condition is met."""
-        condition = self.theorem.conditions[number]
-        if all(min(letter, self.theorem.problem.stars[letter]) in binding for letter in self.theorem.letters(condition)):
-            poly = self.image(condition, binding).poly
-            if not poly or normal(poly) in self.text.follows:
-                yield binding
-            return
-        terms = sorted(condition.poly.items(), key=lambda term: -len(term[0]))
-        for row in self.rows[number]:
-            made = self.bound_ends(condition.ends, row.ends, binding)
-            for sign in (1, -1) if made is not None else ():
-                yield from self.matched(terms, {word: sign * value for word, value in row.poly.items()}, made or {})
-
-    def matched(self, terms: Sequence[Tuple[Word, int]], left: Poly, binding: Binding) -> Iterator[Binding]:
-        """The bindings under which terms are those that are left."""
-        if not terms:
-            yield binding
-            return
-        (word, value), *others = terms
-        for target in [target for target, number in left.items() if number == value and len(word) <= len(target) <= LETTERS * len(word)]:
-            rest = {other: number for other, number in left.items() if other != target}
-            for made in self.words(word, target, binding):
-                yield from self.matched(others, rest, made)
-
-    def words(self, word: Word, target: Word, binding: Binding) -> Iterator[Binding]:
-        """The bindings under which a word is another one."""
-        if not word or not target:
-            if not word and not target:
-                yield binding
-            return
-        stars = self.theorem.problem.stars
-        letter = min(word[0], stars[word[0]])
-        image = binding.get(letter)
-        if image is not None:
-            image = image if letter == word[0] else self.text.star(image)
-            if target[: len(image)] == image:
-                yield from self.words(word[1:], target[len(image) :], binding)
-            return
-        for count in range(1, min(LETTERS, len(target) - len(word) + 1) + 1):
-            made = self.bound(word[0], target[:count], binding)
-            if made is not None:
-                yield from self.words(word[1:], target[count:], made)
-
-    def bound(self, letter: int, image: Word, binding: Binding) -> Optional[Binding]:
-        """The binding with this letter's too, where the ends allow it."""
-        problem, text = self.theorem.problem, self.text
-        made = self.bound_ends(problem.ends[letter], (text.problem.ends[image[-1]][0], text.problem.ends[image[0]][1]), binding)
-        if made is None or (problem.stars[letter] == letter and not self.is_self(image)):
-            return None
-        made[min(letter, problem.stars[letter])] = image if letter <= problem.stars[letter] else text.star(image)
-        return made
-
-    def is_self(self, image: Word) -> bool:
-        """Whether a word is its own adjoint, or an assumption says so."""
-        star = self.text.star(image)
-        return star == image or normal({star: 1, image: -1}) in self.text.follows
-
-    def bound_ends(self, ends: Signature, others: Signature, binding: Binding) -> Optional[Binding]:
-        made = dict(binding)
-        for end, other in zip(ends, others):
-            if made.setdefault(end, (other,)) != (other,):
-                return None
-        return made
-
-    def image(self, row: Row, binding: Binding) -> Row:
-        """A row of the theorem as it is at this place."""
-        stars, total = self.theorem.problem.stars, {}
-        for word, value in row.poly.items():
-            images = [binding[letter] if letter <= stars[letter] else self.text.star(binding[stars[letter]]) for letter in word]
-            add(total, value, {tuple(letter for image in images for letter in image): 1})
-        return Row((binding[row.ends[0]][0], binding[row.ends[1]][0]), total)
-
-    def claims(self) -> List[Row]:
-        """What the theorem says there, but for what follows in a step: the shortest ones."""
-        found: Dict[Terms, Row] = {}
-        for binding, claim in product(self.found(), self.theorem.claims):
-            if all(end in binding for end in claim.ends):
-                row = self.image(claim, binding)
-                terms = normal(row.poly)
-                if terms and terms not in self.text.follows:
-                    found.setdefault(terms, row)
-        return sorted(found.values(), key=lambda row: (sum(map(len, row.poly)), normal(row.poly)))[:TAKEN]
-
-
-# ---- Uses
-
-
-def is_shorter(one: Known, rows: List[str]) -> bool:
-    """Whether a chain of a statement that cites one of these equations has fewer steps than the one without."""
-    text = "\n".join([one.text.rstrip(), *rows, ""])
-    try:
-        report = run(None, "prove", [text], ["--no-models", "--workers", "1", *one.options], SECONDS).encode()
-    except (Refused, subprocess.TimeoutExpired):
-        return False
-    reader = Reader(Problem(text.encode()), QUICK_EFFORT)
-    first = len(reader.assumptions) - len(rows) + 1
-    for claim, (proof, steps) in lengths(reader, report, first).items():
-        known_steps, denominator = one.proved.get(claim, (0, 0))
-        if steps < known_steps and proof.certificate.denominator <= denominator and max(used(reader, proof), default=0) >= first:
-            return True
-    return False
-
-
-def lemmas(one: Known, others: Sequence[Known]) -> List[str]:
-    """The files of those that a statement is proved from."""
-    found: List[str] = []
+def equations_for(one: Known, others: Iterable[Known]) -> List[Equation]:
+    """What theorems with shorter chains say at places in a statement, the shortest equations first, each once."""
     text = Text(one.text)
-    for other in others if one.proved else ():
-        if other.weight < one.weight and other.name not in found:
-            rows = [text.spelled(row) for row in Places(theorem(other.text, other.cited()), text).claims()]
-            if rows and is_shorter(one, rows):
-                found.append(other.name)
+    found: Dict[object, Equation] = {}
+    for other in others:
+        if other.weight < one.weight and other.cited():
+            lemma = theorem(other.text, other.cited())
+            for binding in Places(lemma, text).found():
+                maps = spelled(lemma, text, binding)
+                for claim, row in said(lemma, text, binding).items():
+                    made, terms = equation_of(other.name, maps, text, claim, row), normal(row.poly)
+                    if terms not in found or len(found[terms].maps) > len(maps):
+                        found[terms] = made
+    return sorted(found.values(), key=Equation.letters)
+
+
+def equation_of(lemma: str, maps: str, text: Text, claim: int, row: Row) -> Equation:
+    return Equation(lemma, maps, claim, row.poly, f"{text.spelled(row.poly, row.ends)} = 0")
+
+
+def spelled(lemma: Theorem, text: Text, binding: Binding) -> str:
+    """What is put for maps: `a = b' c, x = y`."""
+    names, units = lemma.problem.names, (0, 0)
+    return ", ".join(f"{names[ord(letter)]} = {text.word(word, units)}" for letter, word in sorted(binding.items()))
+
+
+# ---- Whether a chain becomes shorter
+
+
+def moved(certificate: Certificate, old: Problem, new: Problem) -> Certificate:
+    """A certificate in a statement with more assumptions behind the others."""
+    numbers = {frozenset(poly.items()): number for number, poly in reversed(list(enumerate(new.generators(), 1)))}
+    places = [numbers[frozenset(poly.items())] for poly in old.generators()]
+    shares = [
+        share._replace(rows=[row if row.is_lemma else row._replace(number=places[row.number - 1]) for row in share.rows])
+        for share in certificate.shares
+    ]
+    return certificate._replace(shares=shares)
+
+
+def citing(one: Known, cited: Sequence[Equation]) -> Dict[int, Tuple[int, Set[int]]]:
+    """The claims of a statement whose chains become shorter where these may be cited: their steps, and the places of those that are."""
+    text = "\n".join([one.text.rstrip(), *(f"assume {equation.text}" for equation in cited), ""])
+    problem = Problem(text.encode())
+    found: Dict[int, Tuple[int, Set[int]]] = {}
+    first = len(problem.assumptions) - len(cited) + 1
+    for certificates in ([moved(made, Problem(one.text.encode()), problem) for made in one.certificates], proved(one, text, problem)):
+        reader = Reader(problem, QUICK_EFFORT)
+        for proof in proofs_in(reader, certificates):
+            claim, steps = proof.certificate.claim, length(proof.chains)
+            known_steps, denominator = one.proved.get(claim, (0, 0))
+            least = found[claim][0] if claim in found else known_steps
+            numbers = {number - first for number in used(reader, proof) if number >= first}
+            if numbers and steps < least and proof.certificate.denominator <= denominator:
+                found[claim] = steps, numbers
     return found
 
 
-def of_library(entries: Sequence[Entry], pool: Executor) -> Dict[str, List[str]]:
-    """The files that each file is proved from."""
-    pairs = [(entry, statement) for entry in entries for statement in entry.statements]
-    names = [f"{entry.chapter}/{entry.path.name}" for entry, _ in pairs]
-    every = list(pool.map(known, names, [one for _, one in pairs], [entry.fields["VERDICT"] for entry, _ in pairs]))
-    weights: Dict[str, int] = {}
-    for one in every:
-        weights[one.name] = max(one.steps(), weights.get(one.name, 0))
-    every = [one._replace(weight=weights[one.name]) for one in every]
-    found: Dict[str, Set[str]] = {}
-    for one, used_there in zip(every, pool.map(lemmas, every, repeat([one for one in every if one.cited()]))):
-        found.setdefault(one.name, set()).update(used_there)
-    return {name: sorted(used_there) for name, used_there in found.items()}
+def proved(one: Known, text: str, problem: Problem) -> List[Certificate]:
+    """What `prove` finds for a statement with this text."""
+    try:
+        report = run(None, "prove", [text], ["--no-models", "--workers", "1", *one.options], SECONDS)
+    except (Refused, subprocess.TimeoutExpired):
+        return []
+    return certificates_of(problem, report.encode())
+
+
+def is_granted(one: Known, lemma: Theorem, maps: str) -> bool:
+    """Whether what a theorem assumes at a place is proved from what a statement assumes."""
+    text = Text(one.text)
+    claims = [f"claim {text.spelled(row.poly, row.ends)} = 0" for row in assumed(lemma, text, binding_of(lemma, text, maps))]
+    own = {line.tokens[0].line for line in text.problem.lines if line.tokens[0].text == "claim"}
+    lines = [line for number, line in enumerate(one.text.split("\n"), 1) if number not in own]
+    try:
+        report = run(None, "prove", ["\n".join([*lines, *claims, ""])], ["--no-models", "--workers", "1"], SECONDS) if claims else ""
+    except (Refused, subprocess.TimeoutExpired):
+        return False
+    return len(re.findall("^# claim [0-9]+ proved denominator 1 ", report, re.MULTILINE)) == len(claims)
+
+
+def binding_of(lemma: Theorem, text: Text, maps: str) -> Binding:
+    """The words of maps that are put so: `a = b' c, x = y`."""
+    pairs = [pair.split(" = ") for pair in maps.split(", ")]
+    words = {name: "".join(chr(text.problem.numbers[letter]) for letter in word.split(" ")) for name, word in pairs}
+    return {chr(lemma.problem.numbers[name]): word for name, word in words.items()}
+
+
+# ---- What is cited
+
+
+class Search:
+    """Looks for what a statement is proved from, among all that is known."""
+
+    def __init__(self, one: Known, every: Dict[str, Known]) -> None:
+        self.one, self.every = one, every
+
+    def found(self) -> Optional[Found]:
+        """All that is cited at once, or else the theorem by itself that saves the most steps."""
+        equations = equations_for(self.one, self.every.values()) if self.one.proved else []
+        of_each: Dict[str, List[Equation]] = {}
+        for equation in equations:
+            of_each.setdefault(equation.lemma, []).append(equation)
+        every = self.settled(equations[:TAKEN])
+        alone = [] if every else [self.settled(made[:EACH]) for made in [*of_each.values()][:OTHERS]]
+        least = min((found.change() for found in alone if found), default=0)
+        return every or next((found for found in alone if found and found.change() == least), None)
+
+    def settled(self, cited: Sequence[Equation]) -> Optional[Found]:
+        """Of some equations those that are cited where there are no others."""
+        for _ in range(ROUNDS if cited else 0):
+            gained = citing(self.one, cited)
+            numbers = {number for _, used_there in gained.values() for number in used_there}
+            kept = [one for number, one in enumerate(cited) if number in numbers and self.is_granted(one)]
+            if len(kept) == len(cited):
+                return Found(kept, {claim: (self.one.proved[claim][0], steps) for claim, (steps, _) in gained.items()})
+            if not kept:
+                return None
+            cited = kept
+        return None
+
+    def is_granted(self, equation: Equation) -> bool:
+        lemma = self.every[equation.lemma]
+        return is_granted(self.one, theorem(lemma.text, lemma.cited()), equation.maps)
+
+
+# ---- The table
+
+
+def rows_of(name: str, found: Found) -> List[Lemma]:
+    """The rows of a theorem, one for each place of another one."""
+    shorter = "; ".join(f"claim {claim}: {before} to {after}" for claim, (before, after) in sorted(found.steps.items()))
+    claims: Dict[Tuple[str, str], List[int]] = {}
+    for one in found.cited:
+        claims.setdefault((one.lemma, one.maps), []).append(one.claim)
+    return [Lemma(name, lemma, maps, " ".join(map(str, sorted(numbers))), shorter) for (lemma, maps), numbers in sorted(claims.items())]
+
+
+def searched(name: str, every: Dict[str, Known]) -> List[Lemma]:
+    """The rows of a theorem."""
+    found = Search(every[name], every).found()
+    return rows_of(name, found) if found else []
+
+
+def fault(name: str, rows: List[Lemma], every: Dict[str, Known]) -> str:
+    """What is wrong with the rows of a theorem, or nothing."""
+    cited, one = [], every[name]
+    for row in rows:
+        other, numbers = every[row.lemma], list(map(int, row.cited.split(" ")))
+        if other.weight >= one.weight or not {*numbers} <= {*other.cited()}:
+            return f"{name}: {row.lemma} isn't to be cited"
+        lemma, text = theorem(other.text, other.cited()), Text(one.text)
+        if not is_granted(one, lemma, row.maps):
+            return f"{name}: what {row.lemma} assumes isn't proved"
+        found = said(lemma, text, binding_of(lemma, text, row.maps))
+        cited += [equation_of(other.name, row.maps, text, number, found[number]) for number in numbers]
+    cited.sort(key=Equation.letters)
+    gained = citing(one, cited)
+    now = rows_of(name, Found(cited, {claim: (one.proved[claim][0], steps) for claim, (steps, _) in gained.items()}))
+    is_used = {number for _, numbers in gained.values() for number in numbers} == {*range(len(cited))}
+    return "" if is_used and now == rows else f"{name}: found are {now}"
+
+
+class Kept:
+    """What runs found over the same texts and chains, a line of JSON for each theorem."""
+
+    def __init__(self, every: Dict[str, Known], is_anew: bool) -> None:
+        what = [(one.name, one.text, one.weight, sorted(one.proved.items())) for one in every.values()]
+        self.path = TOP / "out" / "lemmas" / f"{hashlib.sha256(repr(what).encode()).hexdigest()[:16]}.json"
+        self.path.parent.mkdir(parents=True, exist_ok=True)
+        if is_anew:
+            self.path.unlink(missing_ok=True)
+        lines = self.path.read_text("utf-8").splitlines() if self.path.exists() else []
+        self.rows: Dict[str, List[Lemma]] = {name: [Lemma(*row) for row in rows] for name, rows in map(json.loads, lines)}
+
+    def keep(self, name: str, rows: List[Lemma]) -> None:
+        self.rows[name] = rows
+        with self.path.open("a", encoding="utf-8") as file:
+            file.write(json.dumps([name, rows]) + "\n")
+
+
+def main(words: List[str]) -> int:
+    """Looks for what isn't kept, and writes the table where all theorems were looked at."""
+    names = [word for word in words if word != "--anew"]
+    with ProcessPoolExecutor() as pool:
+        every = all_known(list(entries_of(LIBRARY)), pool)
+        unknown = [name for name in names if name not in every]
+        if unknown:
+            print(f"there is no theorem {unknown[0]}")
+            return 2
+        kept = Kept(every, "--anew" in words and not names)
+        left = names or [name for name in every if name not in kept.rows]
+        for name, rows in zip(left, pool.map(searched, left, repeat(every))):
+            kept.keep(name, rows)
+            for row in rows:
+                print("\t".join(row), flush=True)
+    if not names:
+        rows = [row for name in every for row in kept.rows[name]]
+        TABLE.write_text("".join("\t".join(row) + "\n" for row in [Lemma._fields, *rows]), encoding="utf-8")
+        print(f"{sum(map(bool, kept.rows.values()))} theorems are proved from others, at {len(rows)} places")
+    return 0
+
+
+if __name__ == "__main__":
+    sys.exit(main(sys.argv[1:]))

@@ -1,27 +1,27 @@
 """Tries the whole library: try.py library
 
-Each verdict, each row of the index, and what is proved from what; the site, whose links are followed and whose pages check themselves in a browser; ten searches of
-its box; a paper of each chapter, set by pdflatex; and the theorems of a chapter for Coq. It takes some minutes.
+Each verdict, each row of the index, and what is proved from what; the site, whose links are followed and whose pages check themselves in
+a browser; ten searches of its box; a paper of each chapter, set by pdflatex; and the theorems of a chapter for Coq. It takes some minutes.
 """
 from __future__ import annotations
 
 import re
 from concurrent.futures import ProcessPoolExecutor
+from itertools import repeat
 from pathlib import Path
-from typing import Callable, Dict, List
+from typing import Callable, Dict, List, Sequence, Tuple
 from unittest import SkipTest
 from urllib.parse import unquote
 
-import library_index as index
 from browser import Browser, Links
-from library_lemmas import of_library
-from opprove.page.pages import entries_of, titles_of
+from library_lemmas import all_known, fault
+from opprove.page.pages import entries_of, lemmas_of, titles_of
 from test_library import page, whole
 from trying import LIBRARY, Skipped, built, installed, need, run, tool
 
 OF_COQ = "linear_equations"  # the chapter whose theorems Coq checks
 POINTS = 4  # by which a line of a paper may be too wide
-FOUND = (  # what is typed into the box, and theorems that are to be found
+FOUND: Sequence[Tuple[str, List[str]]] = (  # what is typed into the box, and theorems that are to be found
     ("moore-penrose unique", ["moore penrose unique"]), ("Cline formula", ["cline extended", "cline two factors"]),
     ("Drazin 1958", ["drazin commutes"]), ("u v u = u, urquhart", ["urquhart"]), ("p p = p, idempotents", ["difference square"]),
     ("s t = 1", []), ("[V] = a b", ["one sided inverse", "many right inverses"]), ("woodbury", ["woodbury", "woodbury pseudoinverse"]),
@@ -91,14 +91,15 @@ def searches(browser: Browser, index: Path) -> None:
 
 
 def lemmas(folder: Path) -> str:
-    """What the index has of each file as what it is proved from is what is found."""
+    """What lemmas.tsv says of each theorem: what it cites is so, and its chains are shorter by that."""
     built()
+    rows = lemmas_of(LIBRARY)
+    of_names = {one.theorem: [other for other in rows if other.theorem == one.theorem] for one in rows}
     with ProcessPoolExecutor() as pool:
-        found = of_library(list(entries_of(LIBRARY)), pool)
-    known = {name: row["proved from"] for name, row in index.stored().items()}
-    wrong = [name for name, names in found.items() if "; ".join(names) != known[name]]
-    need(not wrong, f"not as stored: {wrong}")
-    return f"{sum(map(bool, found.values()))} files are proved from others, by {sum(map(len, found.values()))} arrows"
+        every = all_known(list(entries_of(LIBRARY)), pool)
+        wrong = list(filter(None, pool.map(fault, of_names, of_names.values(), repeat(every))))
+    need(not wrong, "\n".join(wrong))
+    return f"{len(of_names)} theorems are proved from others, at {len(rows)} places"
 
 
 # ---- Papers and Coq

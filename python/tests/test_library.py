@@ -146,7 +146,7 @@ def tried(path: Path, is_exact: bool) -> str:
     texts = [beside(path, suffix) for suffix in (".cert", ".model", ".star") if path.with_suffix(suffix).exists()]
     shown = {int(number) for text in texts for number in re.findall("^claim ([0-9]+)$", text, re.MULTILINE)}
     need(shown == claims, f"{path}: claims {shown} have evidence, and not {claims}")
-    others = index.different([index.row(path, found)], ["seconds", "proved from"] if is_exact else ["seconds", "proved from", "steps", "documents"])
+    others = index.different([index.row(path, found)], ["seconds"] if is_exact else ["seconds", "steps", "documents"])
     need(not others, f"{path}: another row in the index, which dev/library_index.py writes")
     return verdict
 

@@ -30,7 +30,8 @@ FILES = {
     "what_is_false/right_inverse.model": MODEL,
     "rules.op": f"# A closed set of rules.\n{RULES}",
     "rules.cert": BASIS,
-    "index.tsv": "chapter\tname\tproved from\nrings\tunit.op\t/rules.op\n" + "what_is_false\tright_inverse.op\trings/unit.op; /rules.op\n",
+    "lemmas.tsv": "theorem\tlemma\tmaps\nrings/unit\trules\ta = s t, b = b\nrings/unit\trules\ta = t, b = s\n"
+    "what_is_false/right_inverse\trings/unit\ta = a\nwhat_is_false/right_inverse\trules\ta = a\nno/page\trules\ta = a\n",
     "rings/cases.opn": "# THEOREM: when a is its square.\na : V -> V\nequivalent:\n  (i) a a = a\n  (ii) a - a a = 0\n",
 }
 LINES = [
@@ -92,7 +93,8 @@ class Site(unittest.TestCase):
 
     def test_what_is_proved_from_what(self) -> None:
         unit, index = (self.out.joinpath(name).read_text("utf-8") for name in ("rings/unit.html", "index.html"))
-        self.assertIn('<p class="about">Proved from <a href="../rules.html">rules</a></p>', unit)
+        put = '<span class="w">a = s t</span>; <span class="w">a = t</span>, <span class="w">b = s</span>'  # but for b = b
+        self.assertIn(f'<p class="about">Proved from <a href="../rules.html">rules</a> with {put}</p>', unit)
         self.assertIn('<p class="about">Used in <a href="../what_is_false/right_inverse.html">right inverse</a></p>', unit)
         groups = re.findall('<g class="kind[0-9]">(<path d="([^"]*)"/>)?<a href="([^"]*)">', index)
         arrows = {address: path.count("M") for _, path, address in groups}

@@ -151,7 +151,7 @@ class Drawing:
             top += ROW * (part.height() + 0.6)
         width = self.left[-1] + self.wide[-1] + 8 if self.parts else 0
         size = f'viewBox="0 0 {width:.0f} {top:.0f}" width="{width:.0f}" height="{top:.0f}"'
-        return "\n".join([f'<svg class="uses" role="img" xmlns="http://www.w3.org/2000/svg" {size}>', *lines, "</svg>"])
+        return "\n".join([f'<svg class="lemmas" role="img" xmlns="http://www.w3.org/2000/svg" {size}>', *lines, "</svg>"])
 
     def part(self, part: Part, top: float) -> Iterator[str]:
         """The names of a part, each with the arrows from it."""

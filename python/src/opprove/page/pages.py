@@ -7,7 +7,8 @@ has them by chapters, which are the folders, with a box that finds theorems by w
 Comments in front of a statement may say, each behind its word and a colon, THEOREM, SOURCE, ASSUMES, LEAVES OUT and VERDICT; of the last
 the options of `prove`, as --pairs 50000, are taken, and `by order weight c 3` as this line of the statement. Where it is there,
 LIBRARY/chapters.txt has a line for each folder with its title, in the order of the chapters, and LIBRARY/index.tsv a table with a row for
-each file, which the index shows; of files whose row names others as `proved from`, the index has a graph and their pages links.
+each file, which the index shows. LIBRARY/lemmas.tsv may say which theorems are proved from which, as CHAPTER/NAME, with what is put for
+maps: of that the index has a graph and their pages links.
 A line is printed for each statement, with its verdicts; then what is wrong.
 
 Statuses: 0 where each page was made and no verdict differs from what its comments say; else the greatest of 3 (a statement is refused),
@@ -49,13 +50,11 @@ COLUMNS = {  # of the table of a library, those that the index shows
     "denominators": "denominator {}", "rows": "{} rows", "steps": "chains of up to {} steps", "seconds": "{} s", "documents": "in {}",
 }  # fmt: skip
 NO_VERDICT = 12
-# What it means that the table of a library names a theorem as one from which another one is proved.
+# What it means that a library has a theorem as one from which another one is proved.
 LEMMAS = (
-    "A theorem is proved from another one where that, with words of its maps in the place of the other's maps, assumes nothing but what it "
-    "assumes itself or what follows from that in one step, where the other's chain is the shorter one, and where its own chain becomes "
-    "shorter by citing the other."
+    "A theorem is proved from another one where what that assumes, with words of its maps in the place of the other's, is proved from what "
+    "it assumes itself, where its own chain becomes shorter by citing the other, and where the other's chains are shorter than its own."
 )
-Uses = Dict[str, List[Tuple[str, str]]]  # words, as Proved from, and behind them names with their addresses
 
 
 class Statement(NamedTuple):
@@ -74,6 +73,28 @@ class Entry(NamedTuple):
     fields: Dict[str, str]
     statements: List[Statement]
     fault: str = ""
+
+
+class Lemma(NamedTuple):
+    """A theorem and one that it is proved from, as CHAPTER/NAME, with what is put there for maps: the claims that are cited, and the
+    steps of its own claims without and with all that it cites."""
+
+    theorem: str
+    lemma: str
+    maps: str
+    cited: str
+    shorter: str
+
+
+class Use(NamedTuple):
+    """A link to another theorem, and what is put for maps there, once for each of its places."""
+
+    name: str
+    address: str
+    maps: List[str] = []
+
+
+Uses = Dict[str, List[Use]]  # by the words in front of them
 
 
 class Job(NamedTuple):
@@ -116,12 +137,20 @@ def titles_of(library: Path) -> Dict[str, str]:
     return {words[0]: words[1].strip() for words in lines if len(words) == 2}
 
 
+def rows_of(file: Path) -> List[Dict[str, str]]:
+    """The rows of a table by the names of its columns, where it is there."""
+    lines = [line.split("\t") for line in file.read_text("utf-8").splitlines()] if file.is_file() else [[]]
+    return [dict(zip(lines[0], cells)) for cells in lines[1:]]
+
+
 def table_of(library: Path) -> Dict[Tuple[str, str], Dict[str, str]]:
     """The rows of the table of a library, by chapter and name."""
-    file = library / "index.tsv"
-    lines = [line.split("\t") for line in file.read_text("utf-8").splitlines()] if file.is_file() else [[]]
-    rows = [dict(zip(lines[0], cells)) for cells in lines[1:]]
-    return {(row.get("chapter", ""), row.get("name", "")): row for row in rows}
+    return {(row.get("chapter", ""), row.get("name", "")): row for row in rows_of(library / "index.tsv")}
+
+
+def lemmas_of(library: Path) -> List[Lemma]:
+    """What is proved from what in a library."""
+    return [Lemma(*(row.get(name, "") for name in Lemma._fields)) for row in rows_of(library / "lemmas.tsv")]
 
 
 def ordered(text: str, verdict: str) -> str:
@@ -174,42 +203,37 @@ def place_of(chapter: str, name: str) -> str:
 
 
 class Library(NamedTuple):
-    """What a site has of a library besides its files: its title, those of its chapters, and its table."""
+    """What a site has of a library besides its files: its title, those of its chapters, its table, and what is proved from what."""
 
     title: str
     titles: Dict[str, str] = {}
     table: Dict[Tuple[str, str], Dict[str, str]] = {}
+    lemmas: List[Lemma] = []
 
     def facts(self, entry: Entry) -> str:
         """What the table says of a file."""
         row = self.table.get((entry.chapter, entry.path.name), {})
         return " · ".join(said.format(row[column]) for column, said in COLUMNS.items() if row.get(column))
 
-    def lemmas(self, entries: Sequence[Entry]) -> List[Tuple[Entry, Entry]]:
-        """Theorems with those that are proved from them, by the table."""
-        files = {f"{entry.chapter}/{entry.path.name}": entry for entry in entries if entry.statements}
-        rows = {name: self.table.get((entry.chapter, entry.path.name), {}) for name, entry in files.items()}
-        pairs = [(other, name) for name, row in rows.items() for other in row.get("proved from", "").split("; ")]
-        return [(files[other], files[name]) for other, name in pairs if other in files]
-
-
-def first_page(entry: Entry) -> Tuple[str, str]:
-    """The name of a file, and the place of its first page."""
-    return title_of(entry.path.stem), quote(place_of(entry.chapter, entry.statements[0].name))
-
-
-def uses_of(entry: Entry, pairs: Sequence[Tuple[Entry, Entry]], up: str) -> Uses:
-    """What a theorem is proved from, and where it is used."""
-    found = {
-        "Proved from": [first_page(lemma) for lemma, one in pairs if one is entry],
-        "Used in": [first_page(one) for lemma, one in pairs if lemma is entry],
-    }
-    return {word: [(name, up + place) for name, place in pages] for word, pages in found.items()}
+    def uses(self, chapter: str, name: str, places: Sequence[str]) -> Uses:
+        """What a theorem is proved from, and where it is used, of the pages with these places."""
+        place = place_of(chapter, name)
+        up = "../" * place.count("/")
+        maps: Dict[Tuple[str, str], List[str]] = {}
+        for lemma in self.lemmas:
+            for word, own, other in (("Proved from", lemma.theorem, lemma.lemma), ("Used in", lemma.lemma, lemma.theorem)):
+                if f"{own}.html" == place and f"{other}.html" in places:
+                    maps.setdefault((word, other), []).append(lemma.maps)
+        found: Uses = {}
+        for (word, other), put in maps.items():
+            use = Use(title_of(other.rpartition("/")[2]), up + quote(f"{other}.html"), put if word == "Proved from" else [])
+            found.setdefault(word, []).append(use)
+        return found
 
 
 def jobs_of(entries: Sequence[Entry], seconds: int, library: Library = Library("")) -> List[Job]:
     """The pages, each with links to the index, its chapter, its neighbours, and the theorems that it is proved from or used in."""
-    titles, pairs = library.titles, library.lemmas(entries)
+    titles = library.titles
     flat = [(entry, one) for entry in entries for one in entry.statements]
     places = [place_of(entry.chapter, one.name) for entry, one in flat]
     jobs = []
@@ -219,7 +243,7 @@ def jobs_of(entries: Sequence[Entry], seconds: int, library: Library = Library("
         links += [(titles.get(entry.chapter) or title_of(entry.chapter), f"{up}index.html#{quote(entry.chapter)}")] * bool(entry.chapter)
         beside = (("←", number - 1), ("→", number + 1))
         links += [(f"{sign} {title_of(flat[at][1].name)}", up + quote(places[at])) for sign, at in beside if 0 <= at < len(flat)]
-        jobs.append(Job(places[number], one, entry.fields, links, seconds, uses_of(entry, pairs, up)))
+        jobs.append(Job(places[number], one, entry.fields, links, seconds, library.uses(entry.chapter, one.name, places)))
     return jobs
 
 
@@ -269,8 +293,14 @@ def about(fields: Dict[str, str], verdicts: str, is_map: Callable[[str], bool], 
     for word, name in (("ASSUMES", "Assumed besides"), ("LEAVES OUT", "Left out")):
         lines += [f"{name}: {sentence(fields[word], is_map)}"] * bool(fields[word])
     lines += [f"Verdict: {escape(fields['VERDICT'] or verdicts)}"]
-    named = {word: [f'<a href="{escape(address)}">{escape(name)}</a>' for name, address in pages] for word, pages in uses.items()}
-    return [*lines, *(f"{word} {', '.join(pages)}" for word, pages in named.items() if pages)]
+    return [*lines, *(f"{word} {' · '.join(map(used, named))}" for word, named in uses.items())]
+
+
+def used(use: Use) -> str:
+    """A link to a theorem, with what is put for maps of it where these have other names, in HTML."""
+    others = [", ".join(pair for pair in maps.split(", ") if len({*pair.split(" = ")}) > 1) for maps in use.maps]
+    put = "; ".join(sentence(maps, lambda name: True) for maps in others if maps)
+    return f'<a href="{escape(use.address)}">{escape(use.name)}</a>' + f" with {put}" * bool(put)
 
 
 def shapes_of(text: str) -> List[str]:
@@ -354,7 +384,7 @@ def index_of(library: Library, entries: Sequence[Entry], made: Dict[str, Made]) 
     lines += [' <span id="count" role="status"></span></p>']
     names = {chapter: titles.get(chapter) or title_of(chapter) for chapter in chapters}
     lines += [*navigation([(names[chapter], f"#{quote(chapter)}") for chapter in chapters if chapter]), "</header><main>"]
-    lines += graph_of(library.lemmas(entries), chapters)
+    lines += graph_of(library.lemmas, entries)
     for chapter in chapters:
         lines += [f'<section id="{escape(chapter)}"><h2>{escape(names[chapter] or title)}</h2><ul class="theorems">']
         lines += [line for entry in entries if entry.chapter == chapter for line in item(entry, made, library.facts(entry))]
@@ -362,18 +392,20 @@ def index_of(library: Library, entries: Sequence[Entry], made: Dict[str, Made]) 
     return "\n".join([*lines, f"</main><script>{program}</script></body></html>"]) + "\n"
 
 
-def graph_of(pairs: Sequence[Tuple[Entry, Entry]], chapters: Sequence[str]) -> Iterator[str]:
-    """What is proved from what, as a picture; nothing where the table says nothing of it."""
+def graph_of(lemmas: Sequence[Lemma], entries: Sequence[Entry]) -> Iterator[str]:
+    """Which files are proved from which, as a picture; nothing where that isn't known of any."""
+    chapters = list(dict.fromkeys(entry.chapter for entry in entries))
+    files = {place_of(entry.chapter, one.name): number for number, entry in enumerate(entries) for one in entry.statements}
+    places = [(f"{one.lemma}.html", f"{one.theorem}.html") for one in lemmas]
+    pairs = [(files[lemma], files[one]) for lemma, one in places if lemma in files and one in files]
     if not pairs:
         return
-    numbers: Dict[Path, int] = {}
-    names: List[Name] = []
-    for entry in sorted({entry.path: entry for pair in pairs for entry in pair}.values(), key=lambda entry: chapters.index(entry.chapter)):
-        numbers[entry.path] = len(names)
-        names.append(Name(*first_page(entry), chapters.index(entry.chapter)))
+    numbers = {file: number for number, file in enumerate(sorted({file for pair in pairs for file in pair}))}
+    shown = [entries[file] for file in numbers]
+    names = [Name(title_of(one.path.stem), quote(place_of(one.chapter, one.statements[0].name)), chapters.index(one.chapter)) for one in shown]
     arrows: Dict[int, List[int]] = {}
-    for lemma, one in pairs:
-        arrows.setdefault(numbers[lemma.path], []).append(numbers[one.path])
+    for lemma, one in dict.fromkeys(pairs):
+        arrows.setdefault(numbers[lemma], []).append(numbers[one])
     yield '<details id="lemmas"><summary>What is proved from what</summary>'
     yield f'<p class="about">{escape(LEMMAS)} An arrow leads from a theorem to those that are proved from it, but for those to which others lead.</p>'
     yield f'<div class="graph">{Drawing(names, arrows).svg()}</div></details>'
@@ -430,5 +462,5 @@ def main(words: List[str]) -> int:
     if double:
         say(f"# not written {double[0]}: two pages have this name")
         return NO_OUTPUT
-    library = Library(given.title, titles_of(given.library), table_of(given.library))
+    library = Library(given.title, titles_of(given.library), table_of(given.library), lemmas_of(given.library))
     return site(entries, given.out, library, given.jobs, given.seconds)
