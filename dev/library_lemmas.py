@@ -37,7 +37,7 @@ from opprove.translations.chain import QUICK_EFFORT, Proof, Reader, length, used
 from trying import LIBRARY, TOP
 
 TABLE = LIBRARY / "lemmas.tsv"
-TAKEN, EACH, OTHERS = 40, 12, 6  # equations that are tried at once, of one theorem, and how many theorems are tried by themselves
+TAKEN, EACH, OTHERS = 60, 12, 8  # equations that are tried at once, of one theorem, and how many theorems are tried by themselves
 LEAST, ROUNDS, SECONDS = 3, 4, 20  # steps of what is cited; rounds in which what isn't used is left out; for a run of `prove`
 Steps = Dict[int, Tuple[int, int]]  # of the chains of claims, with their denominators
 
@@ -84,7 +84,7 @@ class Found(NamedTuple):
 
 
 def proofs_in(reader: Reader, certificates: Sequence[Certificate]) -> Iterator[Proof]:
-    reader.coming = len(certificates)
+    reader.begin(len(certificates))
     return map(reader.proof, certificates)
 
 

@@ -2,7 +2,7 @@
 
 A map of a theorem gets a word of maps and adjoints of the statement. Maps that either of them defines by one word, as `m = a b`, are
 replaced by it first. A row is an assumption or its adjoint; where all maps of an assumption of the theorem have their words already, or it
-has one map alone, it may be such a row times one map too, or 0. What an assumption of the theorem may be is found once for all theorems
+has two maps at most, it may be such a row times one map too, or 0. What an assumption of the theorem may be is found once for all theorems
 that have it, and joined by the maps that assumptions share. All searches end after a number of steps, so not each place is found.
 """
 from __future__ import annotations
@@ -14,6 +14,7 @@ from opprove.translations.chain import Reader
 from opprove.translations.shorten_chain import coded
 
 LETTERS = 3  # of a word for a map
+FREE = 2  # maps of an assumption that may be a row times a map before they have words
 SOLVED, JOINED, FOUND = 20_000, 4_000, 60  # steps for an assumption and for a theorem; places that are taken
 Sum = Dict[str, int]  # by words with a character for each letter
 Terms = Tuple[Tuple[str, int], ...]
@@ -173,7 +174,7 @@ class Matching:
     def found(self) -> Iterator[Tuple[str, ...]]:
         pattern, seen = self.pattern, set()
         key = tuple(sorted(abs(value) for _, value in pattern.terms))
-        rows = self.text.exact.get(key, []) + (self.text.times.get(key, []) if len(pattern.is_self) == 1 else [])
+        rows = self.text.exact.get(key, []) + (self.text.times.get(key, []) if len(pattern.is_self) <= FREE else [])
         wanted = sorted(len(word) for word, _ in pattern.terms)
         for row in rows:
             lengths = sorted(map(len, row))

@@ -124,7 +124,8 @@ class Reader:
     """Makes proofs of the certificates of a problem, which have to be accepted."""
 
     def __init__(self, problem: Problem, effort: int = EFFORT) -> None:
-        self.effort = effort  # that is left for shorter chains, 0 for none
+        self.effort = effort  # for shorter chains, 0 for none
+        self.left, self.coming = 0, 0  # of the effort, and how many proofs are to share that
         self.problem, self.exact, self.has_adjoints = problem, problem.generators(), problem.is_starred
         self.units = {letter for letter, name in enumerate(problem.names) if name[0] == "["}
         self.generators = [self.bare(poly) for poly in self.exact]
@@ -134,7 +135,6 @@ class Reader:
         for line in problem.lines:
             equations = self.claims if line.tokens[0].text == "claim" else self.assumptions
             equations += [self.equation(tokens, line.tokens) for tokens in problem.equations(line)]
-        self.coming = len(self.claims)  # proofs that share the effort, as far as is known
         # The assumptions of the first generators, and whether these are their adjoints.
         self.sources = [(number, False) for number, _ in enumerate(self.assumptions, 1)]
         for number, poly in enumerate(problem.assumptions if problem.is_starred else [], 1):
@@ -249,11 +249,22 @@ class Reader:
             equations.append(chain.poly(), chain.ends)
         items = [Item(chain.ends, chain.scale, None if chain.cancelled else steps_of(chain.rows(), count)) for chain in chains]
         kept = [chain.cancelled.item - 1 for chain in chains if chain.cancelled]
-        share = self.effort // max(self.coming, 1)
-        effort = Effort(share)
+        effort = Effort(self.share())
         found = Shortener(equations, count, items, kept, effort).shortened()
-        self.effort, self.coming = self.effort - share + effort.left, self.coming - 1
+        self.left += effort.left
         return [chain.part()._replace(rows=rows_of(item.steps or {}, count)) for chain, item in zip(chains, found)]
+
+    def begin(self, count: int) -> None:
+        """Has the proofs that follow, so many, share the effort. A proof that isn't among those has all of it."""
+        self.left, self.coming = self.effort, count
+
+    def share(self) -> int:
+        """The effort for a proof: what those before it left goes to those behind it."""
+        if not self.coming:
+            self.begin(1)
+        found = max(self.left // self.coming, 0)
+        self.left, self.coming = self.left - found, self.coming - 1
+        return found
 
     def chains(self, parts: List[Part], claim: Equation) -> List[Chain]:
         chains: List[Chain] = []
@@ -720,12 +731,12 @@ def proofs_of(reader: Reader, evidence: Source) -> List[Proof]:
         reader_of, items_of = (StarProofs, StarItems) if first.startswith("star ") else (Cancellations, cancel.Items)
         proofs, lines = reader_of(problem, evidence).proofs, Lines(problem)
         polys = [cancel.judge(lines, proof, f"# block {block} refused", items_of) for block, proof in enumerate(proofs, 1)]
-        reader.coming = len(proofs)
+        reader.begin(len(proofs))
         return list(map(reader.cancelled, proofs, polys))
     with explained(evidence):
         texts = Texts(problem, evidence)
     judge_all(problem, texts)
-    reader.coming = len(texts.certificates) + len(texts.chains)
+    reader.begin(len(texts.certificates))
     # One of both lists is empty.
     return [*map(reader.proof, texts.certificates), *map(reader.told, texts.chains)]
 
