@@ -14,6 +14,7 @@ import re
 import subprocess
 import sys
 import tempfile
+import textwrap
 import time
 from concurrent.futures import ProcessPoolExecutor
 from pathlib import Path
@@ -219,13 +220,15 @@ which `dev/try.py library` compares with what the program and the second checker
 What `prove` doesn't find by its defaults has its evidence beside it: `.cert` for `check`, `cancel` or, with rational matrices,
 `check_model.py`; `.model` for `model`; `.star` for `star.py`. The verdict of the others is that of `./opprove prove FILE`.
 A `.report` has shorter proofs than `prove` prints, by `./opprove shortest`.
+Files end in `.opn` where the notation says in fewer lines what a mathematician would write: definitions by sums, words of generalized
+inverses, identities without objects. Files with evidence beside them, and those that the gate's tables and documents name, are plain.
 
 [index.tsv](index.tsv) has a row for each file, with the denominators, the rows of all claims, the steps of the longest chain, the seconds
 of `prove`, the sections of the documents where it stands, and the files that it is proved from and is used in; `dev/library_index.py`
 writes it and this page. [lemmas.tsv](lemmas.tsv) says what is proved from what, and what is put for maps there; `dev/library_lemmas.py`
 looks for that in some minutes, and doesn't find all.
 """
-INTRODUCTION += f"{LEMMAS}\n"
+INTRODUCTION += textwrap.fill(LEMMAS, 140) + "\n"
 
 
 def page(rows: List[Dict[str, str]]) -> str:

@@ -13,7 +13,7 @@ in its place; the others are chains of their own before the claim's, from their 
 
 Before that, fewer rows that add up to the same are looked for around the words of those that are known: of all places of the
 equations there the least sum is taken, and a lemma is left out where that is shorter. No chain becomes longer by that. --effort N
-says how much is tried for all proofs of a text: 2000000, about a second, where it isn't given; with 0 the rows are taken as they
+says how much is tried for all proofs of a text: 4000000, some two seconds, where it isn't given; with 0 the rows are taken as they
 were read.
 
 A report of `explain`, or other text whose first block is a `chain 1`, is read as such: its lines are made anew from its `use`
@@ -55,7 +55,7 @@ from opprove.translations.translation import explained, of_two_files
 # Limits of evidence text. A lemma whose rows would have longer words in its place is a chain of its own.
 LETTERS_IN_A_WORD, LETTERS, MOST = 500, 1000000, 2**127 - 1
 WIDTH = 96  # of a sum in text
-EFFORT = 2000000  # in the search for shorter chains: about a second
+EFFORT = 4_000_000  # in the search for shorter chains: some two seconds
 QUICK_EFFORT = 200_000  # where many are shown: some tenth of a second for a statement
 
 
