@@ -96,7 +96,7 @@ class Site(unittest.TestCase):
         put = '<span class="w">a = s t</span>; <span class="w">a = t</span>, <span class="w">b = s</span>'  # but for b = b
         self.assertIn(f'<p class="about">Proved from <a href="../rules.html">rules</a> with {put}</p>', unit)
         self.assertIn('<p class="about">Used in <a href="../what_is_false/right_inverse.html">right inverse</a></p>', unit)
-        groups = re.findall('<g class="kind[0-9]">(<path d="([^"]*)"/>)?<a href="([^"]*)">', index)
+        groups = re.findall('<g>(<path d="([^"]*)"/>)?<a href="([^"]*)">', index)
         arrows = {address: path.count("M") for _, path, address in groups}
         # That from rules to right inverse is left out, as unit lies between.
         self.assertEqual(arrows, {"rules.html": 1, "rings/unit.html": 1, "what_is_false/right_inverse.html": 0})

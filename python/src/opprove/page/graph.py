@@ -9,18 +9,18 @@ from __future__ import annotations
 from html import escape
 from typing import Dict, Iterator, List, Mapping, NamedTuple, Sequence, Set, Tuple
 
-ROW, GAP, CHARACTER, HEIGHT = 21, 90, 7.2, 13  # between rows and between columns, and the size of characters, in pixels
+ROW, GAP, CHARACTER, TIP = 21, 80, 6.5, 5  # between rows and between columns, of characters and of the tips of arrows, in pixels
 SWEEPS = 12  # over the columns, in which names go to where their neighbours are
 Cell = Tuple[int, int]  # a column, and a name by its number, or an arrow that passes by the number of its source less their count
 Arrows = Dict[int, List[int]]
 
 
 class Name(NamedTuple):
-    """A name, where it leads to when it is clicked, and what it is among: names of one kind have one class, kind0 to kind7."""
+    """A name, where it leads to when it is clicked, and what is told of it when it is pointed at."""
 
     text: str
     address: str
-    kind: int
+    told: str
 
 
 # ---- Arrows
@@ -162,16 +162,17 @@ class Drawing:
         for name, column in part.column.items():
             x, y = self.left[column], top + ROW * (part.rows[column, name] + 0.5)
             shown = self.names[name]
-            text = f'<a href="{escape(shown.address)}"><text x="{x:.0f}" y="{y + 4:.0f}">{escape(shown.text)}</text></a>'
+            text = f'<text x="{x:.0f}" y="{y + 4:.0f}">{escape(shown.text)}<title>{escape(shown.told)}</title></text>'
             drawn = f'<path d="{"".join(ways[name])}"/>' if name in ways else ""
-            yield f'<g class="kind{shown.kind % 8}">{drawn}{text}</g>'
+            yield f'<g>{drawn}<a href="{escape(shown.address)}">{text}</a></g>'
 
     def way(self, part: Part, start: Cell, end: Cell, top: float) -> str:
         """From the right end of a cell to the left end of another one."""
         (x, y), (u, v) = ((self.left[cell[0]], top + ROW * (part.rows[cell] + 0.5)) for cell in (start, end))
         if start[1] >= 0:
-            x += CHARACTER * len(self.names[start[1]].text) + 3
-        edge = self.left[start[0]] + self.wide[start[0]]
+            x += CHARACTER * len(self.names[start[1]].text) + 4
+        edge, u = self.left[start[0]] + self.wide[start[0]], u - 4
         passed = f"H{edge:.0f}" if edge > x else ""
-        middle = (max(x, edge) + u - 4) / 2
-        return f"M{x:.0f} {y:.1f}{passed}C{middle:.0f} {y:.1f} {middle:.0f} {v:.1f} {u - 4:.0f} {v:.1f}"
+        middle = (max(x, edge) + u) / 2
+        tip = f"m{-TIP} {-TIP / 2}l{TIP} {TIP / 2}l{-TIP} {TIP / 2}" if end[1] >= 0 else ""
+        return f"M{x:.0f} {y:.1f}{passed}C{middle:.0f} {y:.1f} {middle:.0f} {v:.1f} {u:.0f} {v:.1f}{tip}"

@@ -394,7 +394,6 @@ def index_of(library: Library, entries: Sequence[Entry], made: Dict[str, Made]) 
 
 def graph_of(lemmas: Sequence[Lemma], entries: Sequence[Entry]) -> Iterator[str]:
     """Which files are proved from which, as a picture; nothing where that isn't known of any."""
-    chapters = list(dict.fromkeys(entry.chapter for entry in entries))
     files = {place_of(entry.chapter, one.name): number for number, entry in enumerate(entries) for one in entry.statements}
     places = [(f"{one.lemma}.html", f"{one.theorem}.html") for one in lemmas]
     pairs = [(files[lemma], files[one]) for lemma, one in places if lemma in files and one in files]
@@ -402,7 +401,7 @@ def graph_of(lemmas: Sequence[Lemma], entries: Sequence[Entry]) -> Iterator[str]
         return
     numbers = {file: number for number, file in enumerate(sorted({file for pair in pairs for file in pair}))}
     shown = [entries[file] for file in numbers]
-    names = [Name(title_of(one.path.stem), quote(place_of(one.chapter, one.statements[0].name)), chapters.index(one.chapter)) for one in shown]
+    names = [Name(title_of(one.path.stem), quote(place_of(one.chapter, one.statements[0].name)), one.fields["THEOREM"]) for one in shown]
     arrows: Dict[int, List[int]] = {}
     for lemma, one in dict.fromkeys(pairs):
         arrows.setdefault(numbers[lemma], []).append(numbers[one])
