@@ -18,17 +18,19 @@ import textwrap
 import time
 from concurrent.futures import ProcessPoolExecutor
 from pathlib import Path
-from typing import Dict, List, NamedTuple, Sequence, Tuple
+from typing import Dict, List, NamedTuple, Sequence, Set, Tuple
 
+from opprove.checkers.check import Problem
 from opprove.notation.expansion import HEAD, Expansion
 from opprove.page.pages import LEMMAS, lemmas_of, ordered, table_of, titles_of
-from opprove.translations import chain
+from opprove.translations.chain import Reader, proofs_of
 from trying import LIBRARY, PROGRAM, TOP
 
 INDEX = LIBRARY / "index.tsv"
 FIELDS = ("THEOREM", "SOURCE", "ASSUMES", "LEAVES OUT", "VERDICT")
 COLUMNS = ("chapter", "name", "verdict", "denominators", "rows", "steps", "seconds", "documents", "proved from", "used in", "theorem", "source")
 BESIDE = re.compile("proved by (cancelling|search)|proved for complex|refuted")  # what evidence beside the file says alone
+PROOF = r"^((?:certificate|cancellation|star proof) .*\n(?:.*\n)*?claim ([0-9]+)\n(?:.*\n)*?end)$"
 DOCUMENTS = [TOP / "README.md", *(TOP / "docs" / f"{name}.md" for name in ("GUIDE", "TOOLS", "COMMANDS"))]  # where theorems stand
 DOCUMENTS += sorted((TOP / "docs" / "tutorials").glob("*.md"))
 
@@ -127,9 +129,15 @@ def proved(path: Path, words: List[str]) -> List[Proved]:
 
 
 def evidence(path: Path) -> List[str]:
-    """The proofs that lie beside a file."""
+    """The proofs that lie beside a file, but for shorter ones."""
     files = [path.with_suffix(suffix) for suffix in (".cert", ".star")]
     return [file.read_text("utf-8") for file in files if file.exists()]
+
+
+def shorter(path: Path) -> List[List[str]]:
+    """The shorter proofs beside a file, by its statements."""
+    files = [path.with_name(f"{name}.report") for name in names(path)]
+    return [[file.read_text("utf-8")] if file.exists() else [] for file in files]
 
 
 def asked(path: Path) -> List[Proved]:
@@ -138,19 +146,29 @@ def asked(path: Path) -> List[Proved]:
     return [] if all(BESIDE.match(part.kind) for part in verdicts(verdict)) else proved(path, words_of(verdict))
 
 
-def has_proof(text: str) -> bool:
-    """Whether a report or other evidence has one."""
-    return re.search("^(certificate|cancellation|star proof) ", text, re.MULTILINE) is not None
+class Shown(NamedTuple):
+    """Of the proofs of a statement: their denominators, their rows, and the steps of the longest chain."""
+
+    denominators: Set[int]
+    rows: int
+    steps: int
 
 
-def steps(statement: str, report: str) -> int:
-    """The steps of the longest chain of a report or other evidence, 0 where nothing is proved."""
-    lines = chain.written(statement.encode(), report.encode()) if has_proof(report) else []
-    longest = count = 0
-    for line in lines:
-        count = count + 1 if line.startswith("= ") else count if line.startswith("    ") else 0
-        longest = max(longest, count)
-    return longest
+def shown(statement: str, texts: Sequence[str]) -> Shown:
+    """Each claim's proof is the first one in these texts."""
+    seen: Set[str] = set()
+    kept: List[str] = []
+    longest = [0]
+    for text in texts:
+        blocks = re.findall(PROOF, text, re.MULTILINE)
+        new = [block for block, claim in blocks if claim not in seen]
+        seen |= {claim for _, claim in blocks}
+        kept += new
+        proofs = proofs_of(Reader(Problem(statement.encode())), "\n".join(new).encode()) if new else []
+        longest += [len(chain.steps) for proof in proofs for chain in proof.chains]
+    found = "\n".join(kept)
+    denominators = {int(number) for number in re.findall("^denominator ([0-9]+)$", found, re.MULTILINE)}
+    return Shown(denominators, len(re.findall("^row ", found, re.MULTILINE)), max(longest))
 
 
 def documents(path: Path) -> str:
@@ -176,15 +194,15 @@ def lemmas() -> List[Tuple[str, str]]:
 def row(path: Path, found: List[Proved]) -> Dict[str, str]:
     """The row of a file in the index, of which `prove` said this."""
     fields = header(path)
-    texts = [(one.statement, one.report) for one in found] + [(statements(path)[0], text) for text in evidence(path)]
-    proofs = [text for _, text in texts if has_proof(text)]
-    denominators = sorted({int(number) for text in proofs for number in re.findall("^denominator ([0-9]+)$", text, re.MULTILINE)})
-    rows = sum(len(re.findall("^row ", text, re.MULTILINE)) for text in proofs)
+    texts = zip(statements(path), shorter(path), [one.report for one in found] or [""])
+    proofs = [shown(statement, [*evidence(path), *better, report]) for statement, better, report in texts]
+    denominators = sorted(set().union(*(one.denominators for one in proofs)))
+    rows, steps = sum(one.rows for one in proofs), max(one.steps for one in proofs)
     own = f"{path.parent.name}/{path.name}"
     uses = ["; ".join(found) for found in ([lemma for lemma, one in lemmas() if one == own], [one for lemma, one in lemmas() if lemma == own])]
     cells = (
         path.parent.name, path.name, fields["VERDICT"], " ".join(map(str, denominators)), str(rows or ""),
-        str(max((steps(*pair) for pair in texts), default=0) or ""), f"{sum(one.seconds for one in found):.2f}" if found else "",
+        str(steps or ""), f"{sum(one.seconds for one in found):.2f}" if found else "",
         documents(path), *uses, fields["THEOREM"], fields.get("SOURCE", ""),
     )  # fmt: skip
     return dict(zip(COLUMNS, cells))

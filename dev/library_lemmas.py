@@ -193,6 +193,8 @@ def proved(one: Known, text: str, problem: Problem) -> List[Certificate]:
 def is_granted(one: Known, lemma: Theorem, maps: str) -> bool:
     """Whether what a theorem assumes at a place is proved from what a statement assumes."""
     text = Text(one.text)
+    if lemma.problem.is_starred and not text.is_starred:
+        return False
     claims = [f"claim {text.spelled(row.poly, row.ends)} = 0" for row in assumed(lemma, text, binding_of(lemma, text, maps))]
     own = {line.tokens[0].line for line in text.problem.lines if line.tokens[0].text == "claim"}
     lines = [line for number, line in enumerate(one.text.split("\n"), 1) if number not in own]

@@ -140,10 +140,10 @@ class Search:
     def within(self, words: Set[str]) -> List[Step]:
         """The steps all of whose words are among these."""
         equations, numbers, found = self.equations, self.numbers, []
-        for word in sorted(words):
+        for word in words:
             steps = equations.steps(word, self.signature, True, self.effort)
             found += [step for step in steps if step[0].number in numbers and words.issuperset(step[1])]
-        return found
+        return sorted(found, key=lambda step: step[0])
 
     def around(self, words: Set[str], most: int) -> Set[str]:
         """Words that a step leads to from these and another one on, first those that several lead to, then the shortest ones: no more
