@@ -282,9 +282,10 @@ def fault(name: str, rows: List[Lemma], every: Dict[str, Known]) -> str:
         cited += [equation_of(other.name, row.maps, text, number, found[number]) for number in numbers]
     cited.sort(key=Equation.letters)
     gained = citing(one, cited)
-    now = rows_of(name, Found(cited, {claim: (one.proved[claim][0], steps) for claim, (steps, _) in gained.items()}))
+    found = {(str(claim), str(one.proved[claim][0]), str(steps)) for claim, (steps, _) in gained.items()}
     is_used = {number for _, numbers in gained.values() for number in numbers} == {*range(len(cited))}
-    return "" if is_used and now == rows else f"{name}: found are {now}"
+    is_shorter = {*re.findall("claim ([0-9]+): ([0-9]+) to ([0-9]+)", rows[0].shorter)} == found
+    return "" if is_used and is_shorter else f"{name}: what is cited makes it {sorted(found)}"
 
 
 class Kept:

@@ -138,13 +138,13 @@ class StatementWriter:
         return f"${left} = {right}$".replace(r" \, ", r" \,\allowbreak ")
 
     def maps(self) -> str:
-        """The maps with their objects."""
+        """The maps with their objects, in lines that may break between them."""
         problem = self.reader.problem
         objects = [letter(name[1:-1], self.names) for name in problem.names if name[0] == "["]
         parts = []
         maps = check_model.declared_maps(problem)
         for ends in dict.fromkeys(problem.ends[one] for one in maps):
-            names = ", ".join(self.writer.letters[one] for one in maps if problem.ends[one] == ends)
+            names = r", \allowbreak ".join(self.writer.letters[one] for one in maps if problem.ends[one] == ends)
             parts.append(f"${names}\\colon {objects[ends[0]]} \\to {objects[ends[1]]}$")
         return "; ".join(parts)
 
