@@ -595,12 +595,13 @@ def listed(texts: Sequence[str]) -> str:
     return " and ".join([", ".join(texts[:-1])] * (len(texts) > 1) + [*texts[-1:]])
 
 
-def reason(cancelled: Taken, names: Sequence[str]) -> str:
+def reason(cancelled: Taken, names: Sequence[str], is_latex: bool = False) -> str:
     """Why a lemma holds that is another one without a letter, or without a star."""
     if isinstance(cancelled, Root):
-        square = "r' r" if cancelled.is_left else "r r'"
-        is_sum = len(cancelled.squares) > 1
-        return f"by [{cancelled.item}], since " + (f"a sum of {square} is 0 only where each is" if is_sum else f"{square} = 0 gives r = 0")
+        squares, sign = ((r"r^* \, r", r"r \, r^*"), "$") if is_latex else (("r' r", "r r'"), "")
+        square, is_sum = squares[0 if cancelled.is_left else 1], len(cancelled.squares) > 1
+        one, each = f"{sign}{square} = 0{sign} gives {sign}r = 0{sign}", f"a sum of {sign}{square}{sign} is 0 only where each is"
+        return f"by [{cancelled.item}], since {each if is_sum else one}"
     return f"by [{cancelled.item}], since {names[cancelled.letter]} is {'monic' if cancelled.is_left else 'epic'}"
 
 

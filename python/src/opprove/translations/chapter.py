@@ -220,7 +220,7 @@ class StatementWriter:
         *lemmas, claim = proof.chains
         for place, chain in enumerate(lemmas, 1):
             shown = self.inline(Equation(chain.ends, chain.left, chain.right, []))
-            why = reason(chain.cancelled, self.letters()) if chain.cancelled else ""
+            why = reason(chain.cancelled, self.letters(), is_latex=True) if chain.cancelled else ""
             why = re.sub("^by .([0-9]+).(.*)", r", by Lemma \1\2", why)
             yield rf"\par\smallskip\noindent\textbf{{Lemma {place}.}} {shown}{why}."
             yield from [] if chain.cancelled else self.chain(chain)
