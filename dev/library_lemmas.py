@@ -99,7 +99,8 @@ def known(name: str, statement: Statement, verdict: str) -> Known:
     for report in reports(statement, options) if "proved" in verdict else ():
         for certificate in certificates_of(problem, report):
             found.setdefault(certificate.claim, certificate)
-    proved = {one.certificate.claim: (length(one.chains), one.certificate.denominator) for one in proofs_in(Reader(problem, QUICK_EFFORT), [*found.values()])}
+    proofs = proofs_in(Reader(problem, QUICK_EFFORT), [*found.values()])
+    proved = {one.certificate.claim: (length(one.chains), one.certificate.denominator) for one in proofs}
     return Known(name, statement.text, options, proved, [*found.values()])
 
 
@@ -270,7 +271,8 @@ def searched(name: str, every: Dict[str, Known]) -> List[Lemma]:
 
 def fault(name: str, rows: List[Lemma], every: Dict[str, Known]) -> str:
     """What is wrong with the rows of a theorem, or nothing."""
-    cited, one = [], every[name]
+    one = every[name]
+    cited: List[Equation] = []
     for row in rows:
         other, numbers = every[row.lemma], list(map(int, row.cited.split(" ")))
         if other.weight >= one.weight or not {*numbers} <= {*other.cited()}:
@@ -278,8 +280,8 @@ def fault(name: str, rows: List[Lemma], every: Dict[str, Known]) -> str:
         lemma, text = theorem(other.text, other.cited()), Text(one.text)
         if not is_granted(one, lemma, row.maps):
             return f"{name}: what {row.lemma} assumes isn't proved"
-        found = said(lemma, text, binding_of(lemma, text, row.maps))
-        cited += [equation_of(other.name, row.maps, text, number, found[number]) for number in numbers]
+        claims = said(lemma, text, binding_of(lemma, text, row.maps))
+        cited += [equation_of(other.name, row.maps, text, number, claims[number]) for number in numbers]
     cited.sort(key=Equation.letters)
     gained = citing(one, cited)
     found = {(str(claim), str(one.proved[claim][0]), str(steps)) for claim, (steps, _) in gained.items()}
