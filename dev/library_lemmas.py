@@ -7,7 +7,8 @@ A theorem, as CHAPTER/NAME, is proved from another one where
   denominator 1, and so is what is cited of the other;
 - its own chain has fewer steps where it may cite that, and does so. Chains are those of `chain` with the effort of pages: by the rows
   that are known, with what is cited among the equations, or by what `prove` finds with it;
-- the longest chain of the other's file is shorter than that of its own, so that none is proved from what is proved from it.
+- the longest chain of the other's file is shorter than that of its own, so that none is proved from what is proved from it, and that of
+  what is cited has three steps at least.
 
 Places are looked for by library_places.py, which doesn't find all; of what is said at them the shortest equations are tried, all at
 once, and then those of one theorem after another. A row of the table has the theorem, the other one, the words of its maps, the claims
@@ -39,6 +40,7 @@ from trying import LIBRARY, TOP
 TABLE = LIBRARY / "lemmas.tsv"
 TAKEN, EACH, OTHERS = 60, 12, 8  # equations that are tried at once, of one theorem, and how many theorems are tried by themselves
 LEAST, ROUNDS, SECONDS = 3, 4, 20  # steps of what is cited; rounds in which what isn't used is left out; for a run of `prove`
+MADE = "harder/"  # a chapter of statements that are made, which none cites
 Steps = Dict[int, Tuple[int, int]]  # of the chains of claims, with their denominators
 
 
@@ -54,7 +56,8 @@ class Known(NamedTuple):
 
     def cited(self) -> Tuple[int, ...]:
         """The claims that others may cite."""
-        return tuple(claim for claim, (steps, denominator) in self.proved.items() if denominator == 1 and steps >= LEAST)
+        proved = {} if self.name.startswith(MADE) else self.proved
+        return tuple(claim for claim, (steps, denominator) in proved.items() if denominator == 1 and steps >= LEAST)
 
 
 class Equation(NamedTuple):

@@ -151,7 +151,7 @@ class Drawing:
             top += ROW * (part.height() + 0.6)
         width = self.left[-1] + self.wide[-1] + 8 if self.parts else 0
         size = f'viewBox="0 0 {width:.0f} {top:.0f}" width="{width:.0f}" height="{top:.0f}"'
-        return "\n".join([f'<svg class="lemmas" role="img" xmlns="http://www.w3.org/2000/svg" {size}>', *lines, "</svg>"])
+        return "\n".join([f'<svg class="lemmas" xmlns="http://www.w3.org/2000/svg" {size}>', *lines, "</svg>"])
 
     def part(self, part: Part, top: float) -> Iterator[str]:
         """The names of a part, each with the arrows from it."""
@@ -171,8 +171,9 @@ class Drawing:
         (x, y), (u, v) = ((self.left[cell[0]], top + ROW * (part.rows[cell] + 0.5)) for cell in (start, end))
         if start[1] >= 0:
             x += CHARACTER * len(self.names[start[1]].text) + 4
-        edge, u = self.left[start[0]] + self.wide[start[0]], u - 4
+        is_name = end[1] >= 0
+        edge, u = self.left[start[0]] + self.wide[start[0]], u - 4 * is_name
         passed = f"H{edge:.0f}" if edge > x else ""
         middle = (max(x, edge) + u) / 2
-        tip = f"m{-TIP} {-TIP / 2}l{TIP} {TIP / 2}l{-TIP} {TIP / 2}" if end[1] >= 0 else ""
+        tip = f"m{-TIP} {-TIP / 2}l{TIP} {TIP / 2}l{-TIP} {TIP / 2}" if is_name else ""
         return f"M{x:.0f} {y:.1f}{passed}C{middle:.0f} {y:.1f} {middle:.0f} {v:.1f} {u:.0f} {v:.1f}{tip}"
