@@ -199,11 +199,11 @@ def row(path: Path, found: List[Proved]) -> Dict[str, str]:
     denominators = sorted(set().union(*(one.denominators for one in proofs)))
     rows, steps = sum(one.rows for one in proofs), max(one.steps for one in proofs)
     own = f"{path.parent.name}/{path.name}"
-    uses = ["; ".join(found) for found in ([lemma for lemma, one in lemmas() if one == own], [one for lemma, one in lemmas() if lemma == own])]
+    uses = [lemma for lemma, one in lemmas() if one == own], [one for lemma, one in lemmas() if lemma == own]
     cells = (
         path.parent.name, path.name, fields["VERDICT"], " ".join(map(str, denominators)), str(rows or ""),
         str(steps or ""), f"{sum(one.seconds for one in found):.2f}" if found else "",
-        documents(path), *uses, fields["THEOREM"], fields.get("SOURCE", ""),
+        documents(path), *map("; ".join, uses), fields["THEOREM"], fields.get("SOURCE", ""),
     )  # fmt: skip
     return dict(zip(COLUMNS, cells))
 

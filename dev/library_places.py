@@ -350,8 +350,9 @@ def placed(row: Row, poly: Sum, objects: Dict[int, int]) -> Row:
 def assumed(theorem: Theorem, text: Text, binding: Binding) -> List[Row]:
     """What the theorem assumes there, and that what its own adjoint is has words that are: what isn't 0 of that."""
     objects, reader = objects_of(theorem, text, binding), theorem.reader
-    rows = zip(reader.ends, reader.generators[: len(reader.assumptions)])
-    found = [placed(row, image(theorem, binding, row.poly, text), objects) for row in (Row(ends, theorem.sum(poly)) for ends, poly in rows if ends)]
+    sums = zip(reader.ends, reader.generators[: len(reader.assumptions)])
+    rows = [Row(ends, theorem.sum(poly)) for ends, poly in sums if ends]
+    found = [placed(row, image(theorem, binding, row.poly, text), objects) for row in rows]
     words = [word for letter, word in binding.items() if letter in theorem.is_self]
     found += [Row(text.word_ends(word), difference(text.star(word), word)) for word in words]
     return [row for row in found if row.poly]
