@@ -11,8 +11,10 @@ import collections
 import functools
 import re
 import tempfile
+from concurrent.futures import ProcessPoolExecutor
+from itertools import repeat
 from pathlib import Path
-from typing import Callable, Counter, Dict, List, Set, Tuple
+from typing import Callable, Dict, Iterable, List, Set, Tuple
 
 import library_index as index
 from library_index import Part, Proved, paths
@@ -151,28 +153,33 @@ def tried(path: Path, is_exact: bool) -> str:
     return verdict
 
 
-def counted(chosen: List[Path], is_exact: bool) -> str:
+def outcome(path: Path, is_exact: bool) -> Tuple[str, str]:
+    """The verdict of a file, or what is wrong."""
+    try:
+        return kind_of(tried(path, is_exact)), ""
+    except (Failed, Refusal, index.Fault, OSError) as what:
+        return "", f"{path.parent.name}/{path.name}: {what}"
+
+
+def counted(chosen: List[Path], found: Iterable[Tuple[str, str]]) -> str:
     """How many of these files have each verdict; all that differ are named."""
-    built()
-    counts: Counter[str] = collections.Counter()
-    failed = []
-    for path in chosen:
-        try:
-            counts[kind_of(tried(path, is_exact))] += 1
-        except (Failed, Refusal, index.Fault, OSError) as what:
-            failed.append(f"{path.parent.name}/{path.name}: {what}")
-    need(not failed, "\n".join(failed))
-    return f"{len(chosen)} files of the library: " + ", ".join(f"{count} {kind}" for kind, count in counts.most_common())
+    verdicts, faults = zip(*found)
+    need(not any(faults), "\n".join(filter(None, faults)))
+    counts = collections.Counter(verdicts).most_common()
+    return f"{len(chosen)} files of the library: " + ", ".join(f"{count} {kind}" for kind, count in counts)
 
 
 def some(folder: Path) -> str:
     """The sample."""
-    return counted(sample(paths()), False)
+    built()
+    return counted(sample(paths()), (outcome(path, False) for path in sample(paths())))
 
 
 def whole(folder: Path) -> str:
     """All files, which dev/try.py asks for."""
-    return counted(paths(), True)
+    built()
+    with ProcessPoolExecutor() as pool:
+        return counted(paths(), pool.map(outcome, paths(), repeat(True)))
 
 
 def page(folder: Path) -> str:
