@@ -2,7 +2,8 @@
 """Makes library/README.md and library/index.tsv: library_index.py [page | --check]
 
 Each file of the library opens with comments of one form, `# FIELD: text` with the fields below, which go on in lines `#   text`. The index
-is a table with a row for each: chapter, name, verdict, denominators, rows of all claims, steps of the longest chain, seconds, the sections
+is a table with a row for each: chapter, name, verdict, denominators, rows of all claims, steps of the longest chain (of the proofs that a
+page shows: what lies beside the file, or else what `prove` finds), seconds, the sections
 of the documents where it stands, the files that it is proved from and is used in, which library/lemmas.tsv says, theorem and source. With
 `page` the page alone is made, which no run is needed for, and with --check both are compared, but for the seconds. The program is that
 which OPPROVE names, or the built one.
@@ -23,7 +24,7 @@ from typing import Dict, List, NamedTuple, Sequence, Set, Tuple
 from opprove.checkers.check import Problem
 from opprove.notation.expansion import HEAD, Expansion
 from opprove.page.pages import LEMMAS, lemmas_of, ordered, table_of, titles_of
-from opprove.translations.chain import Reader, proofs_of
+from opprove.translations.chain import EFFORT, Reader, proofs_of
 from trying import LIBRARY, PROGRAM, TOP
 
 INDEX = LIBRARY / "index.tsv"
@@ -154,8 +155,8 @@ class Shown(NamedTuple):
     steps: int
 
 
-def shown(statement: str, texts: Sequence[str]) -> Shown:
-    """Each claim's proof is the first one in these texts."""
+def shown(statement: str, texts: Sequence[str], effort: int) -> Shown:
+    """Each claim's proof is the first one in these texts, with the effort for a shorter chain."""
     seen: Set[str] = set()
     kept: List[str] = []
     longest = [0]
@@ -164,7 +165,7 @@ def shown(statement: str, texts: Sequence[str]) -> Shown:
         new = [block for block, claim in blocks if claim not in seen]
         seen |= {claim for _, claim in blocks}
         kept += new
-        proofs = proofs_of(Reader(Problem(statement.encode())), "\n".join(new).encode()) if new else []
+        proofs = proofs_of(Reader(Problem(statement.encode()), effort), "\n".join(new).encode()) if new else []
         longest += [len(chain.steps) for proof in proofs for chain in proof.chains]
     found = "\n".join(kept)
     denominators = {int(number) for number in re.findall("^denominator ([0-9]+)$", found, re.MULTILINE)}
@@ -191,11 +192,11 @@ def lemmas() -> List[Tuple[str, str]]:
     return sorted({(files[one.lemma], files[one.theorem]) for one in lemmas_of(LIBRARY)})
 
 
-def row(path: Path, found: List[Proved]) -> Dict[str, str]:
-    """The row of a file in the index, of which `prove` said this."""
+def row(path: Path, found: List[Proved], effort: int = EFFORT) -> Dict[str, str]:
+    """The row of a file in the index, of which `prove` said this; with less effort it may have more steps."""
     fields = header(path)
     texts = zip(statements(path), shorter(path), [one.report for one in found] or [""])
-    proofs = [shown(statement, [*evidence(path), *better, report]) for statement, better, report in texts]
+    proofs = [shown(statement, [*evidence(path), *better, report], effort) for statement, better, report in texts]
     denominators = sorted(set().union(*(one.denominators for one in proofs)))
     rows, steps = sum(one.rows for one in proofs), max(one.steps for one in proofs)
     own = f"{path.parent.name}/{path.name}"
@@ -241,9 +242,9 @@ A `.report` has shorter proofs than `prove` prints, by `./opprove shortest`.
 Files end in `.opn` where the notation says in fewer lines what a mathematician would write: definitions by sums, words of generalized
 inverses, identities without objects. Files with evidence beside them, and those that the gate's tables and documents name, are plain.
 
-[index.tsv](index.tsv) has a row for each file, with the denominators, the rows of all claims, the steps of the longest chain, the seconds
-of `prove`, the sections of the documents where it stands, and the files that it is proved from and is used in; `dev/library_index.py`
-writes it and this page. [lemmas.tsv](lemmas.tsv) says what is proved from what, and what is put for maps there; `dev/library_lemmas.py`
+[index.tsv](index.tsv) has a row for each file, with the denominators, rows and longest chain of the proofs that its page shows, the
+seconds of `prove`, the sections of the documents where it stands, and the files that it is proved from and is used in;
+`dev/library_index.py` writes it and this page. [lemmas.tsv](lemmas.tsv) says what is proved from what, and what is put for maps there; `dev/library_lemmas.py`
 looks for that in some minutes, and doesn't find all.
 """
 INTRODUCTION += textwrap.fill(LEMMAS, 140) + "\n"

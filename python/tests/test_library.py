@@ -148,7 +148,8 @@ def tried(path: Path, is_exact: bool) -> str:
     texts = [beside(path, suffix) for suffix in (".cert", ".model", ".star") if path.with_suffix(suffix).exists()]
     shown = {int(number) for text in texts for number in re.findall("^claim ([0-9]+)$", text, re.MULTILINE)}
     need(shown == claims, f"{path}: claims {shown} have evidence, and not {claims}")
-    others = index.different([index.row(path, found)], ["seconds"] if is_exact else ["seconds", "steps", "documents"])
+    row = index.row(path, found) if is_exact else index.row(path, found, 0)
+    others = index.different([row], ["seconds"] if is_exact else ["seconds", "steps", "documents"])
     need(not others, f"{path}: another row in the index, which dev/library_index.py writes")
     return verdict
 
