@@ -3,10 +3,9 @@
 
 Each file of the library opens with comments of one form, `# FIELD: text` with the fields below, which go on in lines `#   text`. The index
 is a table with a row for each: chapter, name, verdict, denominators, rows of all claims, steps of the longest chain (of the proofs that a
-page shows: what lies beside the file, or else what `prove` finds), seconds, the sections
-of the documents where it stands, the files that it is proved from and is used in, which library/lemmas.tsv says, theorem and source. With
-`page` the page alone is made, which no run is needed for, and with --check both are compared, but for the seconds. The program is that
-which OPPROVE names, or the built one.
+page shows: what lies beside the file, or else what `prove` finds), seconds, the sections of the documents where it stands, the files that
+it is proved from and is used in, which library/lemmas.tsv says, theorem and source. With `page` the page alone is made, which no run is
+needed for, and with --check both are compared, but for the seconds. The program is that which OPPROVE names, or the built one.
 """
 from __future__ import annotations
 
@@ -244,8 +243,8 @@ inverses, identities without objects. Files with evidence beside them, and those
 
 [index.tsv](index.tsv) has a row for each file, with the denominators, rows and longest chain of the proofs that its page shows, the
 seconds of `prove`, the sections of the documents where it stands, and the files that it is proved from and is used in;
-`dev/library_index.py` writes it and this page. [lemmas.tsv](lemmas.tsv) says what is proved from what, and what is put for maps there; `dev/library_lemmas.py`
-looks for that in some minutes, and doesn't find all.
+`dev/library_index.py` writes it and this page. [lemmas.tsv](lemmas.tsv) says what is proved from what, and what is put for maps there;
+`dev/library_lemmas.py` looks for that in some minutes, and doesn't find all.
 """
 INTRODUCTION += textwrap.fill(LEMMAS, 140) + "\n"
 
