@@ -24,7 +24,8 @@ POINTS = 4  # by which a line of a paper may be too wide
 FOUND: Sequence[Tuple[str, List[str]]] = (  # what is typed into the box, and theorems that are to be found
     ("moore-penrose unique", ["moore penrose unique"]), ("Cline formula", ["cline extended", "cline two factors"]),
     ("Drazin 1958", ["drazin commutes"]), ("u v u = u, urquhart", ["urquhart"]), ("p p = p, idempotents", ["difference square"]),
-    ("s t = 1", ["one sided inverse", "two factorizations"]), ("[V] = a b", ["one sided inverse", "many right inverses"]), ("woodbury", ["woodbury", "woodbury pseudoinverse"]),
+    ("s t = 1", ["one sided inverse", "two factorizations"]), ("[V] = a b", ["one sided inverse", "many right inverses"]),
+    ("woodbury", ["woodbury", "woodbury pseudoinverse"]),
     ("a b a = b a b", ["garside", "braid relation"]), ("(a b)+ = b+ a+", ["greville one condition"]),
     ("x : U -> V, y : V -> U, x y x = x", ["moore penrose unique"]), ("reverse order, 1966", ["greville-i-ii"]),
 )  # fmt: skip
