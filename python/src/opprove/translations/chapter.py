@@ -31,7 +31,7 @@ from opprove.translations.chain import Chain, Equation, Proof, Reader, Writer, g
 from opprove.translations.chain_latex import Names, aligned, letter, power
 from opprove.translations.latex import lines_of, width_of
 
-WIDTH = 355  # of sums, in points
+WIDTH = 345  # of sums, in points
 SHORT = 100  # of the first sum of a chain, where the second one stands beside it
 PROOFS = ("check", "cancel", "star")  # what reads them
 MOST_RULES = 20  # of a closed set that is shown
