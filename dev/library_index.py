@@ -2,31 +2,36 @@
 """Makes library/README.md and library/index.tsv: library_index.py [page | --check]
 
 Each file of the library opens with comments of one form, `# FIELD: text` with the fields below, which go on in lines `#   text`. The index
-is a table with a row for each: chapter, name, verdict, denominators, rows of all claims, steps of the longest chain, seconds, the sections
-of the documents where it is used, theorem and source. With `page` the page alone is made, which no run is needed for, and with --check both
-are compared, but for the seconds. The program is that which OPPROVE names, or the built one.
+is a table with a row for each: chapter, name, verdict, denominators, rows of all claims, steps of the longest chain (of the proofs that a
+page shows: what lies beside the file, or else what `prove` finds), seconds, the sections of the documents where it stands, the files that
+it is proved from and is used in, which library/lemmas.tsv says, theorem and source. With `page` the page alone is made, which no run is
+needed for, and with --check both are compared, but for the seconds. The program is that which OPPROVE names, or the built one.
 """
 from __future__ import annotations
 
+import functools
 import re
 import subprocess
 import sys
 import tempfile
+import textwrap
 import time
 from concurrent.futures import ProcessPoolExecutor
 from pathlib import Path
-from typing import Dict, List, NamedTuple, Sequence, Tuple
+from typing import Dict, List, NamedTuple, Sequence, Set, Tuple
 
+from opprove.checkers.check import Problem
 from opprove.notation.expansion import HEAD, Expansion
-from opprove.page.pages import ordered, table_of, titles_of
-from opprove.translations import chain
+from opprove.page.pages import LEMMAS, lemmas_of, ordered, table_of, titles_of
+from opprove.translations.chain import EFFORT, Reader, proofs_of
 from trying import LIBRARY, PROGRAM, TOP
 
 INDEX = LIBRARY / "index.tsv"
 FIELDS = ("THEOREM", "SOURCE", "ASSUMES", "LEAVES OUT", "VERDICT")
-COLUMNS = ("chapter", "name", "verdict", "denominators", "rows", "steps", "seconds", "used in", "theorem", "source")
+COLUMNS = ("chapter", "name", "verdict", "denominators", "rows", "steps", "seconds", "documents", "proved from", "used in", "theorem", "source")
 BESIDE = re.compile("proved by (cancelling|search)|proved for complex|refuted")  # what evidence beside the file says alone
-DOCUMENTS = [TOP / "README.md", *(TOP / "docs" / f"{name}.md" for name in ("GUIDE", "TOOLS", "COMMANDS"))]  # where theorems are used
+PROOF = r"^((?:certificate|cancellation|star proof) .*\n(?:.*\n)*?claim ([0-9]+)\n(?:.*\n)*?end)$"
+DOCUMENTS = [TOP / "README.md", *(TOP / "docs" / f"{name}.md" for name in ("GUIDE", "TOOLS", "COMMANDS"))]  # where theorems stand
 DOCUMENTS += sorted((TOP / "docs" / "tutorials").glob("*.md"))
 
 
@@ -87,6 +92,11 @@ def words_of(verdict: str) -> List[str]:
     return found[1].split(" ") if found else []
 
 
+def names(path: Path) -> List[str]:
+    """The names of the statements of a file."""
+    return [one.name for one in Expansion(str(path)).statements()] if path.suffix == ".opn" else [path.stem]
+
+
 def statements(path: Path) -> List[str]:
     """The statements of a file: itself, with the order that its verdict names, or those that a file of the notation stands for."""
     if path.suffix == ".opn":
@@ -119,9 +129,15 @@ def proved(path: Path, words: List[str]) -> List[Proved]:
 
 
 def evidence(path: Path) -> List[str]:
-    """The proofs that lie beside a file."""
+    """The proofs that lie beside a file, but for shorter ones."""
     files = [path.with_suffix(suffix) for suffix in (".cert", ".star")]
     return [file.read_text("utf-8") for file in files if file.exists()]
+
+
+def shorter(path: Path) -> List[List[str]]:
+    """The shorter proofs beside a file, by its statements."""
+    files = [path.with_name(f"{name}.report") for name in names(path)]
+    return [[file.read_text("utf-8")] if file.exists() else [] for file in files]
 
 
 def asked(path: Path) -> List[Proved]:
@@ -130,23 +146,33 @@ def asked(path: Path) -> List[Proved]:
     return [] if all(BESIDE.match(part.kind) for part in verdicts(verdict)) else proved(path, words_of(verdict))
 
 
-def has_proof(text: str) -> bool:
-    """Whether a report or other evidence has one."""
-    return re.search("^(certificate|cancellation|star proof) ", text, re.MULTILINE) is not None
+class Shown(NamedTuple):
+    """Of the proofs of a statement: their denominators, their rows, and the steps of the longest chain."""
+
+    denominators: Set[int]
+    rows: int
+    steps: int
 
 
-def steps(statement: str, report: str) -> int:
-    """The steps of the longest chain of a report or other evidence, 0 where nothing is proved."""
-    lines = chain.written(statement.encode(), report.encode()) if has_proof(report) else []
-    longest = count = 0
-    for line in lines:
-        count = count + 1 if line.startswith("= ") else count if line.startswith("    ") else 0
-        longest = max(longest, count)
-    return longest
+def shown(statement: str, texts: Sequence[str], effort: int) -> Shown:
+    """Each claim's proof is the first one in these texts, with the effort for a shorter chain."""
+    seen: Set[str] = set()
+    kept: List[str] = []
+    longest = [0]
+    for text in texts:
+        blocks = re.findall(PROOF, text, re.MULTILINE)
+        new = [block for block, claim in blocks if claim not in seen]
+        seen |= {claim for _, claim in blocks}
+        kept += new
+        proofs = proofs_of(Reader(Problem(statement.encode()), effort), "\n".join(new).encode()) if new else []
+        longest += [len(chain.steps) for proof in proofs for chain in proof.chains]
+    found = "\n".join(kept)
+    denominators = {int(number) for number in re.findall("^denominator ([0-9]+)$", found, re.MULTILINE)}
+    return Shown(denominators, len(re.findall("^row ", found, re.MULTILINE)), max(longest))
 
 
-def used_in(path: Path) -> str:
-    """The sections of the documents in which a file is used."""
+def documents(path: Path) -> str:
+    """The sections of the documents in which a file stands."""
     found: Dict[str, None] = {}
     for document in DOCUMENTS:
         title, section = document.stem, ""
@@ -158,17 +184,26 @@ def used_in(path: Path) -> str:
     return "; ".join(found)
 
 
-def row(path: Path, found: List[Proved]) -> Dict[str, str]:
-    """The row of a file in the index, of which `prove` said this."""
+@functools.lru_cache(maxsize=None)
+def lemmas() -> List[Tuple[str, str]]:
+    """The files that are used as lemmas, with those where they are."""
+    files = {f"{path.parent.name}/{name}": f"{path.parent.name}/{path.name}" for path in paths() for name in names(path)}
+    return sorted({(files[one.lemma], files[one.theorem]) for one in lemmas_of(LIBRARY)})
+
+
+def row(path: Path, found: List[Proved], effort: int = EFFORT) -> Dict[str, str]:
+    """The row of a file in the index, of which `prove` said this; with less effort it may have more steps."""
     fields = header(path)
-    texts = [(one.statement, one.report) for one in found] + [(statements(path)[0], text) for text in evidence(path)]
-    proofs = [text for _, text in texts if has_proof(text)]
-    denominators = sorted({int(number) for text in proofs for number in re.findall("^denominator ([0-9]+)$", text, re.MULTILINE)})
-    rows = sum(len(re.findall("^row ", text, re.MULTILINE)) for text in proofs)
+    texts = zip(statements(path), shorter(path), [one.report for one in found] or [""])
+    proofs = [shown(statement, [*evidence(path), *better, report], effort) for statement, better, report in texts]
+    denominators = sorted(set().union(*(one.denominators for one in proofs)))
+    rows, steps = sum(one.rows for one in proofs), max(one.steps for one in proofs)
+    own = f"{path.parent.name}/{path.name}"
+    uses = [lemma for lemma, one in lemmas() if one == own], [one for lemma, one in lemmas() if lemma == own]
     cells = (
         path.parent.name, path.name, fields["VERDICT"], " ".join(map(str, denominators)), str(rows or ""),
-        str(max((steps(*pair) for pair in texts), default=0) or ""), f"{sum(one.seconds for one in found):.2f}" if found else "",
-        used_in(path), fields["THEOREM"], fields.get("SOURCE", ""),
+        str(steps or ""), f"{sum(one.seconds for one in found):.2f}" if found else "",
+        documents(path), *map("; ".join, uses), fields["THEOREM"], fields.get("SOURCE", ""),
     )  # fmt: skip
     return dict(zip(COLUMNS, cells))
 
@@ -203,10 +238,15 @@ which `dev/try.py library` compares with what the program and the second checker
 What `prove` doesn't find by its defaults has its evidence beside it: `.cert` for `check`, `cancel` or, with rational matrices,
 `check_model.py`; `.model` for `model`; `.star` for `star.py`. The verdict of the others is that of `./opprove prove FILE`.
 A `.report` has shorter proofs than `prove` prints, by `./opprove shortest`.
+Files end in `.opn` where the notation says in fewer lines what a mathematician would write: definitions by sums, words of generalized
+inverses, identities without objects. Files with evidence beside them, and those that the gate's tables and documents name, are plain.
 
-[index.tsv](index.tsv) has a row for each file, with the denominators, the rows of all claims, the steps of the longest chain, the seconds
-of `prove`, and the sections of the documents where it is used; `dev/library_index.py` writes it and this page.
+[index.tsv](index.tsv) has a row for each file, with the denominators, rows and longest chain of the proofs that its page shows, the
+seconds of `prove`, the sections of the documents where it stands, and the files that it is proved from and is used in;
+`dev/library_index.py` writes it and this page. [lemmas.tsv](lemmas.tsv) says what is proved from what, and what is put for maps there;
+`dev/library_lemmas.py` looks for that in some minutes, and doesn't find all.
 """
+INTRODUCTION += textwrap.fill(LEMMAS, 140) + "\n"
 
 
 def page(rows: List[Dict[str, str]]) -> str:

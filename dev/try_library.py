@@ -1,27 +1,31 @@
 """Tries the whole library: try.py library
 
-Each verdict, and each row of the index; the site, whose links are followed and whose pages check themselves in a browser; ten searches of
-its box; a paper of each chapter, set by pdflatex; and the theorems of a chapter for Coq. It takes some minutes.
+Each verdict, each row of the index, and what is proved from what; the site, whose links are followed and whose pages check themselves in
+a browser; ten searches of its box; a paper of each chapter, set by pdflatex; and the theorems of a chapter for Coq. It takes some minutes.
 """
 from __future__ import annotations
 
 import re
+from concurrent.futures import ProcessPoolExecutor
+from itertools import repeat
 from pathlib import Path
-from typing import Callable, Dict, List
+from typing import Callable, Dict, List, Sequence, Tuple
 from unittest import SkipTest
 from urllib.parse import unquote
 
 from browser import Browser, Links
-from opprove.page.pages import entries_of, titles_of
+from library_lemmas import all_known, fault
+from opprove.page.pages import entries_of, lemmas_of, titles_of
 from test_library import page, whole
 from trying import LIBRARY, Skipped, built, installed, need, run, tool
 
 OF_COQ = "linear_equations"  # the chapter whose theorems Coq checks
 POINTS = 4  # by which a line of a paper may be too wide
-FOUND = (  # what is typed into the box, and theorems that are to be found
+FOUND: Sequence[Tuple[str, List[str]]] = (  # what is typed into the box, and theorems that are to be found
     ("moore-penrose unique", ["moore penrose unique"]), ("Cline formula", ["cline extended", "cline two factors"]),
     ("Drazin 1958", ["drazin commutes"]), ("u v u = u, urquhart", ["urquhart"]), ("p p = p, idempotents", ["difference square"]),
-    ("s t = 1", []), ("[V] = a b", ["one sided inverse", "many right inverses"]), ("woodbury", ["woodbury", "woodbury pseudoinverse"]),
+    ("s t = 1", ["one sided inverse", "two factorizations"]), ("[V] = a b", ["one sided inverse", "many right inverses"]),
+    ("woodbury", ["woodbury", "woodbury pseudoinverse"]),
     ("a b a = b a b", ["garside", "braid relation"]), ("(a b)+ = b+ a+", ["greville one condition"]),
     ("x : U -> V, y : V -> U, x y x = x", ["moore penrose unique"]), ("reverse order, 1966", ["greville-i-ii"]),
 )  # fmt: skip
@@ -84,6 +88,24 @@ def searches(browser: Browser, index: Path) -> None:
         need({*wanted} <= {*found} and len(found) < len(every) / 2 and bool(found) == bool(wanted), (asked, wanted, found))
 
 
+# ---- Lemmas
+
+
+def lemmas(folder: Path) -> str:
+    """What lemmas.tsv says of each theorem: what it cites is so, and its chains are shorter by that."""
+    built()
+    rows = lemmas_of(LIBRARY)
+    of_names = {one.theorem: [other for other in rows if other.theorem == one.theorem] for one in rows}
+    with ProcessPoolExecutor() as pool:
+        every = all_known(list(entries_of(LIBRARY)), pool)
+        wrong = list(filter(None, pool.map(fault, of_names, of_names.values(), repeat(every))))
+    need(not wrong, "\n".join(wrong))
+    one = next(row for row in rows if "a = a, x = x" in row.maps)
+    changed = one._replace(maps=one.maps.replace("a = a, x = x", "a = x, x = a'"))
+    need(fault(one.theorem, [changed], every), f"{changed} is accepted")
+    return f"{len(of_names)} theorems are proved from others, at {len(rows)} places"
+
+
 # ---- Papers and Coq
 
 
@@ -125,4 +147,4 @@ def coq(folder: Path) -> str:
     return f"{count} theorems of {OF_COQ} are accepted by coqc"
 
 
-CHECKS: List[Callable[[Path], str]] = [whole, page, site, papers, coq]
+CHECKS: List[Callable[[Path], str]] = [whole, page, lemmas, site, papers, coq]

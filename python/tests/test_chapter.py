@@ -68,7 +68,7 @@ class Papers(unittest.TestCase):
         self.assertEqual((answer.status, answer.error), (0, ""))
         for part in (
             r"\section*{Some laws}", "\\begin{theorem}[Somebody 1900]\\label{law}\nA left inverse is the inverse.\nLeft out: $a + b$.\n",
-            r"Let $a\colon U \to V$; $a^{-1}, y\colon V \to U$.",
+            r"Let $a\colon U \to V$; $a^{-1}, \allowbreak y\colon V \to U$.",
             r"\item[(1)--(2)] $a^{-1}$ is the inverse of $a$: $a \,\allowbreak a^{-1} = 1_{V}$",
             r"\item[(3)] $y \,\allowbreak a = 1_{U}$", r"\text{\upshape(ii)} \quad & a \, y = 1_{V}",
             r"\begin{proof}[Proof of {\upshape(i)}]", r"\text{by (3)}", r"\qedhere",

@@ -2,7 +2,8 @@
 
 Of a fixed sample of 40 files, or for `dev/try.py library` of all, the verdict that the header states is compared with what the program and
 the second checkers say: certificates go through `check` and check.py, bases through `confirm`, and what lies beside a file through the
-programs that read it; and the row of the file with that which the index has, of all with the steps of chains and the documents.
+programs that read it, where a .report has to be no worse than what `prove` prints; and the row of the file with that which the index has,
+of all with the steps of chains, the documents and the lemmas.
 """
 from __future__ import annotations
 
@@ -10,8 +11,10 @@ import collections
 import functools
 import re
 import tempfile
+from concurrent.futures import ProcessPoolExecutor
+from itertools import repeat
 from pathlib import Path
-from typing import Callable, Counter, List, Set
+from typing import Callable, Dict, Iterable, List, Set, Tuple
 
 import library_index as index
 from library_index import Part, Proved, paths
@@ -69,6 +72,26 @@ def beside(path: Path, suffix: str) -> str:
     return text
 
 
+def sizes(one: Proved) -> Dict[int, Tuple[int, int]]:
+    """The denominators and rows of the certificates of a report, by their claims."""
+    if "certificate " not in one.report:
+        return {}
+    found = Evidence(Problem(one.statement.encode()), one.report.encode()).certificates
+    return {made.claim: (made.denominator, sum(len(share.rows) for share in made.shares)) for made in found}
+
+
+def shorter(path: Path, found: List[Proved], folder: Path) -> None:
+    """The reports beside a file: both checkers accept them, and their denominators and rows are no more than those of `prove`."""
+    for name, one in zip(index.names(path), found):
+        report = path.with_name(f"{name}.report")
+        if report.exists():
+            better = one._replace(report=report.read_text("utf-8"))
+            checked(better, folder)
+            for claim, size in sizes(better).items():
+                known = sizes(one).get(claim, size)
+                need(size[0] <= known[0] and size[1] <= known[1], f"{report}: claim {claim} has {size}, and by `prove` {known}")
+
+
 def said_beside(part: Part, path: Path) -> Set[int]:
     """The claims of a part of a verdict that evidence beside the file has to say; it has to be of these denominators and moduli."""
     suffix, word = next((one for start, one in KINDS.items() if part.kind.startswith(start)), ("", ""))
@@ -120,43 +143,53 @@ def tried(path: Path, is_exact: bool) -> str:
     with tempfile.TemporaryDirectory() as folder:
         for one in found:
             checked(one, Path(folder))
+        shorter(path, found, Path(folder))
     claims = {claim for part in index.verdicts(verdict) for claim in needs(part, path, found)}
     texts = [beside(path, suffix) for suffix in (".cert", ".model", ".star") if path.with_suffix(suffix).exists()]
     shown = {int(number) for text in texts for number in re.findall("^claim ([0-9]+)$", text, re.MULTILINE)}
     need(shown == claims, f"{path}: claims {shown} have evidence, and not {claims}")
-    others = index.different([index.row(path, found)], ["seconds"] if is_exact else ["seconds", "steps", "used in"])
+    row = index.row(path, found) if is_exact else index.row(path, found, 0)
+    others = index.different([row], ["seconds"] if is_exact else ["seconds", "steps", "documents"])
     need(not others, f"{path}: another row in the index, which dev/library_index.py writes")
     return verdict
 
 
-def counted(chosen: List[Path], is_exact: bool) -> str:
+def outcome(path: Path, is_exact: bool) -> Tuple[str, str]:
+    """The verdict of a file, or what is wrong."""
+    try:
+        return kind_of(tried(path, is_exact)), ""
+    except (Failed, Refusal, index.Fault, OSError) as what:
+        return "", f"{path.parent.name}/{path.name}: {what}"
+
+
+def counted(chosen: List[Path], found: Iterable[Tuple[str, str]]) -> str:
     """How many of these files have each verdict; all that differ are named."""
-    built()
-    counts: Counter[str] = collections.Counter()
-    failed = []
-    for path in chosen:
-        try:
-            counts[kind_of(tried(path, is_exact))] += 1
-        except (Failed, Refusal, index.Fault, OSError) as what:
-            failed.append(f"{path.parent.name}/{path.name}: {what}")
-    need(not failed, "\n".join(failed))
-    return f"{len(chosen)} files of the library: " + ", ".join(f"{count} {kind}" for kind, count in counts.most_common())
+    verdicts, faults = zip(*found)
+    need(not any(faults), "\n".join(filter(None, faults)))
+    counts = collections.Counter(verdicts).most_common()
+    return f"{len(chosen)} files of the library: " + ", ".join(f"{count} {kind}" for kind, count in counts)
 
 
 def some(folder: Path) -> str:
     """The sample."""
-    return counted(sample(paths()), False)
+    built()
+    return counted(sample(paths()), (outcome(path, False) for path in sample(paths())))
 
 
 def whole(folder: Path) -> str:
     """All files, which dev/try.py asks for."""
-    return counted(paths(), True)
+    built()
+    with ProcessPoolExecutor() as pool:
+        return counted(paths(), pool.map(outcome, paths(), repeat(True)))
 
 
 def page(folder: Path) -> str:
     """The page has all files."""
     same = (LIBRARY / "README.md").read_text("utf-8") == index.page(list(map(index.named, paths())))
     need(same, "library/README.md is another page than dev/library_index.py writes")
+    names = {path.with_name(name) for path in paths() for name in index.names(path)}
+    others = [report.name for report in LIBRARY.glob("*/*.report") if report.with_suffix("") not in names]
+    need(not others, f"{others} are reports of no statement")
     return f"the page has {len(paths())} files"
 
 

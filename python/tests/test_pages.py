@@ -30,6 +30,8 @@ FILES = {
     "what_is_false/right_inverse.model": MODEL,
     "rules.op": f"# A closed set of rules.\n{RULES}",
     "rules.cert": BASIS,
+    "lemmas.tsv": "theorem\tlemma\tmaps\nrings/unit\trules\ta = s t, b = b\nrings/unit\trules\ta = t, b = s\n"
+    "what_is_false/right_inverse\trings/unit\ta = a\nwhat_is_false/right_inverse\trules\ta = a\nno/page\trules\ta = a\n",
     "rings/cases.opn": "# THEOREM: when a is its square.\na : V -> V\nequivalent:\n  (i) a a = a\n  (ii) a - a a = 0\n",
 }
 LINES = [
@@ -88,6 +90,16 @@ class Site(unittest.TestCase):
             self.assertNotIn("<b onclick", text)
             bare = re.sub('<span class="w">([^<]*)</span>', r"\1", text)
             self.assertIn("&lt;b onclick=&quot;x&quot;&gt;&#x27;&amp;amp; units is a unit.", bare)
+
+    def test_what_is_proved_from_what(self) -> None:
+        unit, index = (self.out.joinpath(name).read_text("utf-8") for name in ("rings/unit.html", "index.html"))
+        put = '<span class="w">a = s t</span>; <span class="w">a = t</span>, <span class="w">b = s</span>'  # but for b = b
+        self.assertIn(f'<p class="about">Proved from <a href="../rules.html">rules</a> with {put}</p>', unit)
+        self.assertIn('<p class="about">Used in <a href="../what_is_false/right_inverse.html">right inverse</a></p>', unit)
+        groups = re.findall('<g>(<path d="([^"]*)"/>)?<a href="([^"]*)">', index)
+        arrows = {address: path.count("M") for _, path, address in groups}
+        # That from rules to right inverse is left out, as unit lies between.
+        self.assertEqual(arrows, {"rules.html": 1, "rings/unit.html": 1, "what_is_false/right_inverse.html": 0})
 
     def test_comments_by_their_words(self) -> None:
         want = {"THEOREM": "It holds.", "SOURCE": "A 1900", "ASSUMES": "", "LEAVES OUT": "", "VERDICT": "proved"}

@@ -183,4 +183,4 @@ def matrix(rows: Matrix, lit: Sequence[Tuple[int, int]] = ()) -> str:
         "".join(f'<mtd{MARKED if (i, j) in lit else ""}><mn>{entry}</mn></mtd>' for j, entry in enumerate(row))
         for i, row in enumerate(rows)
     ]
-    return f"<mrow><mo>(</mo><mtable>{''.join(f'<mtr>{row}</mtr>' for row in cells)}</mtable><mo>)</mo></mrow>"
+    return f"<mtable>{''.join(f'<mtr>{row}</mtr>' for row in cells)}</mtable>"

@@ -6,11 +6,11 @@
   const NAME = /^[\p{L}_]/u, TOKENS = /[\p{L}_][\p{L}\p{N}_]*|->|\d+|\S/gu;
   const box = document.getElementById("find"), count = document.getElementById("count");
 
-  // Names numbered as they come, so that a x a = a and b y b = b are of one shape.
+  // Names numbered as they come, so that a x a = a and b y b = b are of one shape; identities are 1.
   function shape(text) {
     const names = new Map();
     const number = (name) => names.get(name) || names.set(name, `@${names.size + 1}`).get(name);
-    return (text.match(TOKENS) || []).map((token) => (NAME.test(token) ? number(token) : token)).join(" ");
+    return (text.replace(/\[[^\]]*\]/g, "1").match(TOKENS) || []).map((token) => (NAME.test(token) ? number(token) : token)).join(" ");
   }
 
   // An equation is the same read from the right.

@@ -7,7 +7,9 @@ has them by chapters, which are the folders, with a box that finds theorems by w
 Comments in front of a statement may say, each behind its word and a colon, THEOREM, SOURCE, ASSUMES, LEAVES OUT and VERDICT; of the last
 the options of `prove`, as --pairs 50000, are taken, and `by order weight c 3` as this line of the statement. Where it is there,
 LIBRARY/chapters.txt has a line for each folder with its title, in the order of the chapters, and LIBRARY/index.tsv a table with a row for
-each file, which the index shows. A line is printed for each statement, with its verdicts; then what is wrong.
+each file, which the index shows. LIBRARY/lemmas.tsv may say which theorems are proved from which, as CHAPTER/NAME, with what is put for
+maps: of that the index has a graph and their pages links.
+A line is printed for each statement, with its verdicts; then what is wrong.
 
 Statuses: 0 where each page was made and no verdict differs from what its comments say; else the greatest of 3 (a statement is refused),
 4 (not loaded), 5 (a page isn't written), 6 (no memory), 7 (evidence is refused, or
@@ -31,6 +33,7 @@ from opprove.checkers.check import DONE, NO_MEMORY, NO_OUTPUT, NOT_LOADED, REFUS
 from opprove.notation import expand
 from opprove.notation.expansion import HEAD
 from opprove.page.formulas import sentence
+from opprove.page.graph import Drawing, Name
 from opprove.page.page import Found, badge, comments_of, found_in, head, navigation, page_with, part
 from opprove.program import Refused, path as path_of_program, run
 from opprove.search.findings import positive
@@ -44,9 +47,14 @@ FIELDS = ("THEOREM", "SOURCE", "ASSUMES", "LEAVES OUT", "VERDICT")
 OPTIONS = re.compile(r"--(?:pairs|steps|seed) [0-9]+|--no-models")
 ORDER = re.compile(r"\bby (order [^;,]*)")  # of words, in which a basis is
 COLUMNS = {  # of the table of a library, those that the index shows
-    "denominators": "denominator {}", "rows": "{} rows", "steps": "chains of up to {} steps", "seconds": "{} s", "used in": "used in {}",
+    "denominators": "denominator {}", "rows": "{} rows", "steps": "chains of up to {} steps", "seconds": "{} s", "documents": "in {}",
 }  # fmt: skip
 NO_VERDICT = 12
+# What it means that a library has a theorem as one from which another one is proved.
+LEMMAS = (
+    "A theorem is proved from another one where what that assumes, with words of its maps in the place of the other's, is proved from what "
+    "it assumes itself, where its own chain becomes shorter by citing the other, and where the other's chains are shorter than its own."
+)
 
 
 class Statement(NamedTuple):
@@ -67,6 +75,28 @@ class Entry(NamedTuple):
     fault: str = ""
 
 
+class Lemma(NamedTuple):
+    """A theorem and one that it is proved from, as CHAPTER/NAME, with what is put there for maps: the claims that are cited, and the
+    steps of its own claims without and with all that it cites."""
+
+    theorem: str
+    lemma: str
+    maps: str
+    cited: str
+    shorter: str
+
+
+class Use(NamedTuple):
+    """A link to another theorem, and what is put for maps there, once for each of its places."""
+
+    name: str
+    address: str
+    maps: List[str] = []
+
+
+Uses = Dict[str, List[Use]]  # by the words in front of them
+
+
 class Job(NamedTuple):
     """A page to be made: its place in the site, and the links above it."""
 
@@ -75,6 +105,7 @@ class Job(NamedTuple):
     fields: Dict[str, str]
     links: List[Tuple[str, str]]
     seconds: int
+    uses: Uses = {}
 
 
 class Made(NamedTuple):
@@ -106,12 +137,20 @@ def titles_of(library: Path) -> Dict[str, str]:
     return {words[0]: words[1].strip() for words in lines if len(words) == 2}
 
 
+def rows_of(file: Path) -> List[Dict[str, str]]:
+    """The rows of a table by the names of its columns, where it is there."""
+    lines = [line.split("\t") for line in file.read_text("utf-8").splitlines()] if file.is_file() else [[]]
+    return [dict(zip(lines[0], cells)) for cells in lines[1:]]
+
+
 def table_of(library: Path) -> Dict[Tuple[str, str], Dict[str, str]]:
     """The rows of the table of a library, by chapter and name."""
-    file = library / "index.tsv"
-    lines = [line.split("\t") for line in file.read_text("utf-8").splitlines()] if file.is_file() else [[]]
-    rows = [dict(zip(lines[0], cells)) for cells in lines[1:]]
-    return {(row.get("chapter", ""), row.get("name", "")): row for row in rows}
+    return {(row.get("chapter", ""), row.get("name", "")): row for row in rows_of(library / "index.tsv")}
+
+
+def lemmas_of(library: Path) -> List[Lemma]:
+    """What is proved from what in a library."""
+    return [Lemma(*(row.get(name, "") for name in Lemma._fields)) for row in rows_of(library / "lemmas.tsv")]
 
 
 def ordered(text: str, verdict: str) -> str:
@@ -163,8 +202,38 @@ def place_of(chapter: str, name: str) -> str:
     return f"{chapter}/{name}.html" if chapter else f"{name}.html"
 
 
-def jobs_of(entries: Sequence[Entry], seconds: int, titles: Dict[str, str] = {}) -> List[Job]:
-    """The pages, each with links to the index, its chapter, by these titles, and its neighbours."""
+class Library(NamedTuple):
+    """What a site has of a library besides its files: its title, those of its chapters, its table, and what is proved from what."""
+
+    title: str
+    titles: Dict[str, str] = {}
+    table: Dict[Tuple[str, str], Dict[str, str]] = {}
+    lemmas: List[Lemma] = []
+
+    def facts(self, entry: Entry) -> str:
+        """What the table says of a file."""
+        row = self.table.get((entry.chapter, entry.path.name), {})
+        return " · ".join(said.format(row[column]) for column, said in COLUMNS.items() if row.get(column))
+
+    def uses(self, chapter: str, name: str, places: Sequence[str]) -> Uses:
+        """What a theorem is proved from, and where it is used, of the pages with these places."""
+        place = place_of(chapter, name)
+        up = "../" * place.count("/")
+        maps: Dict[Tuple[str, str], List[str]] = {}
+        for lemma in self.lemmas:
+            for word, own, other in (("Proved from", lemma.theorem, lemma.lemma), ("Used in", lemma.lemma, lemma.theorem)):
+                if f"{own}.html" == place and f"{other}.html" in places:
+                    maps.setdefault((word, other), []).append(lemma.maps)
+        found: Uses = {}
+        for (word, other), put in maps.items():
+            use = Use(title_of(other.rpartition("/")[2]), up + quote(f"{other}.html"), put if word == "Proved from" else [])
+            found.setdefault(word, []).append(use)
+        return found
+
+
+def jobs_of(entries: Sequence[Entry], seconds: int, library: Library = Library("")) -> List[Job]:
+    """The pages, each with links to the index, its chapter, its neighbours, and the theorems that it is proved from or used in."""
+    titles = library.titles
     flat = [(entry, one) for entry in entries for one in entry.statements]
     places = [place_of(entry.chapter, one.name) for entry, one in flat]
     jobs = []
@@ -174,7 +243,7 @@ def jobs_of(entries: Sequence[Entry], seconds: int, titles: Dict[str, str] = {})
         links += [(titles.get(entry.chapter) or title_of(entry.chapter), f"{up}index.html#{quote(entry.chapter)}")] * bool(entry.chapter)
         beside = (("←", number - 1), ("→", number + 1))
         links += [(f"{sign} {title_of(flat[at][1].name)}", up + quote(places[at])) for sign, at in beside if 0 <= at < len(flat)]
-        jobs.append(Job(places[number], one, entry.fields, links, seconds))
+        jobs.append(Job(places[number], one, entry.fields, links, seconds, library.uses(entry.chapter, one.name, places)))
     return jobs
 
 
@@ -217,13 +286,21 @@ def another(found: Found, said: str) -> str:
     return ""
 
 
-def about(fields: Dict[str, str], verdicts: str, is_map: Callable[[str], bool]) -> List[str]:
+def about(fields: Dict[str, str], verdicts: str, is_map: Callable[[str], bool], uses: Uses) -> List[str]:
     """The paragraphs in front of a statement, in HTML."""
     lines = [sentence(fields["THEOREM"], is_map)]
     lines += [f"Source: {escape(fields['SOURCE'])}"] * bool(fields["SOURCE"])
     for word, name in (("ASSUMES", "Assumed besides"), ("LEAVES OUT", "Left out")):
         lines += [f"{name}: {sentence(fields[word], is_map)}"] * bool(fields[word])
-    return [*lines, f"Verdict: {escape(fields['VERDICT'] or verdicts)}"]
+    lines += [f"Verdict: {escape(fields['VERDICT'] or verdicts)}"]
+    return [*lines, *(f"{word} {' · '.join(map(used, named))}" for word, named in uses.items())]
+
+
+def used(use: Use) -> str:
+    """A link to a theorem, with what is put for maps of it where these have other names, in HTML."""
+    others = [", ".join(pair for pair in maps.split(", ") if len({*pair.split(" = ")}) > 1) for maps in use.maps]
+    put = "; ".join(sentence(maps, lambda name: True) for maps in others if maps)
+    return f'<a href="{escape(use.address)}">{escape(use.name)}</a>' + f" with {put}" * bool(put)
 
 
 def shapes_of(text: str) -> List[str]:
@@ -247,7 +324,7 @@ def make(job: Job, out: Path) -> Made:
         with tempfile.TemporaryDirectory(prefix="opprove-") as folder:
             found, missing = found_for(job, Path(folder))
         verdicts = [verdict for each in found.verdicts() for verdict in each]
-        page = page_with(found, title_of(job.statement.name), "", job.links, about(job.fields, told(verdicts), found.is_map))
+        page = page_with(found, title_of(job.statement.name), "", job.links, about(job.fields, told(verdicts), found.is_map, job.uses))
         fault = missing or another(found, job.fields["VERDICT"])
         status = NO_VERDICT if missing else REFUSED if fault else DONE
         made = Made(verdicts, shapes_of(job.statement.text), fault, status)
@@ -269,19 +346,6 @@ def put(path: Path, page: str) -> bool:
 
 
 # ---- The index
-
-
-class Library(NamedTuple):
-    """What the index has of a library besides its files: its title, those of its chapters, and its table."""
-
-    title: str
-    titles: Dict[str, str]
-    table: Dict[Tuple[str, str], Dict[str, str]]
-
-    def facts(self, entry: Entry) -> str:
-        """What the table says of a file."""
-        row = self.table.get((entry.chapter, entry.path.name), {})
-        return " · ".join(said.format(row[column]) for column, said in COLUMNS.items() if row.get(column))
 
 
 def item(entry: Entry, made: Dict[str, Made], facts: str) -> Iterator[str]:
@@ -320,11 +384,30 @@ def index_of(library: Library, entries: Sequence[Entry], made: Dict[str, Made]) 
     lines += [' <span id="count" role="status"></span></p>']
     names = {chapter: titles.get(chapter) or title_of(chapter) for chapter in chapters}
     lines += [*navigation([(names[chapter], f"#{quote(chapter)}") for chapter in chapters if chapter]), "</header><main>"]
+    lines += graph_of(library.lemmas, entries)
     for chapter in chapters:
         lines += [f'<section id="{escape(chapter)}"><h2>{escape(names[chapter] or title)}</h2><ul class="theorems">']
         lines += [line for entry in entries if entry.chapter == chapter for line in item(entry, made, library.facts(entry))]
         lines += ["</ul></section>"]
     return "\n".join([*lines, f"</main><script>{program}</script></body></html>"]) + "\n"
+
+
+def graph_of(lemmas: Sequence[Lemma], entries: Sequence[Entry]) -> Iterator[str]:
+    """Which files are proved from which, as a picture; nothing where that isn't known of any."""
+    files = {place_of(entry.chapter, one.name): number for number, entry in enumerate(entries) for one in entry.statements}
+    places = [(f"{one.lemma}.html", f"{one.theorem}.html") for one in lemmas]
+    pairs = [(files[lemma], files[one]) for lemma, one in places if lemma in files and one in files]
+    if not pairs:
+        return
+    numbers = {file: number for number, file in enumerate(sorted({file for pair in pairs for file in pair}))}
+    shown = [entries[file] for file in numbers]
+    names = [Name(title_of(one.path.stem), quote(place_of(one.chapter, one.statements[0].name)), one.fields["THEOREM"]) for one in shown]
+    arrows: Dict[int, List[int]] = {}
+    for lemma, one in dict.fromkeys(pairs):
+        arrows.setdefault(numbers[lemma], []).append(numbers[one])
+    yield '<details id="lemmas"><summary>What is proved from what</summary>'
+    yield f'<p class="about">{escape(LEMMAS)} An arrow leads from a theorem to those that are proved from it, but for those to which others lead.</p>'
+    yield f'<div class="graph">{Drawing(names, arrows).svg()}</div></details>'
 
 
 # ---- The site
@@ -339,7 +422,7 @@ def twice(entries: Sequence[Entry]) -> List[str]:
 
 def site(entries: Sequence[Entry], out: Path, library: Library, count: int, seconds: int) -> int:
     """Makes all pages, prints a line for each, and gives the status."""
-    jobs, made = jobs_of(entries, seconds, library.titles), {}
+    jobs, made = jobs_of(entries, seconds, library), {}
     faults = [(status_of(one.fault), f"{one.path}: {one.fault}") for one in entries if one.fault]
     with ProcessPoolExecutor(count) as pool:
         for job, found in zip(jobs, pool.map(make, jobs, [out] * len(jobs))):
@@ -378,5 +461,5 @@ def main(words: List[str]) -> int:
     if double:
         say(f"# not written {double[0]}: two pages have this name")
         return NO_OUTPUT
-    library = Library(given.title, titles_of(given.library), table_of(given.library))
+    library = Library(given.title, titles_of(given.library), table_of(given.library), lemmas_of(given.library))
     return site(entries, given.out, library, given.jobs, given.seconds)

@@ -13,7 +13,8 @@ in its place; the others are chains of their own before the claim's, from their 
 
 Before that, fewer rows that add up to the same are looked for around the words of those that are known: of all places of the
 equations there the least sum is taken, and a lemma is left out where that is shorter. No chain becomes longer by that. --effort N
-says how much is tried: 2000000, about a second, where it isn't given; with 0 the rows are taken as they were read.
+says how much is tried for all proofs of a text: 4000000, some two seconds, where it isn't given; with 0 the rows are taken as they
+were read.
 
 A report of `explain`, or other text whose first block is a `chain 1`, is read as such: its lines are made anew from its `use`
 lines, and the first that is another one is told with its number. What is written then has its sums in their order, each line
@@ -54,8 +55,8 @@ from opprove.translations.translation import explained, of_two_files
 # Limits of evidence text. A lemma whose rows would have longer words in its place is a chain of its own.
 LETTERS_IN_A_WORD, LETTERS, MOST = 500, 1000000, 2**127 - 1
 WIDTH = 96  # of a sum in text
-EFFORT = 2000000  # in the search for shorter chains: about a second
-QUICK_EFFORT = 50_000  # where many are shown: some twentieth of a second each
+EFFORT = 4_000_000  # in the search for shorter chains: some two seconds
+QUICK_EFFORT = 200_000  # where many are shown: some tenth of a second for a statement
 
 
 class Equation(NamedTuple):
@@ -124,6 +125,7 @@ class Reader:
 
     def __init__(self, problem: Problem, effort: int = EFFORT) -> None:
         self.effort = effort  # for shorter chains, 0 for none
+        self.left, self.coming = 0, 0  # of the effort, and how many proofs are to share that
         self.problem, self.exact, self.has_adjoints = problem, problem.generators(), problem.is_starred
         self.units = {letter for letter, name in enumerate(problem.names) if name[0] == "["}
         self.generators = [self.bare(poly) for poly in self.exact]
@@ -247,8 +249,22 @@ class Reader:
             equations.append(chain.poly(), chain.ends)
         items = [Item(chain.ends, chain.scale, None if chain.cancelled else steps_of(chain.rows(), count)) for chain in chains]
         kept = [chain.cancelled.item - 1 for chain in chains if chain.cancelled]
-        found = Shortener(equations, count, items, kept, Effort(self.effort)).shortened()
+        effort = Effort(self.share())
+        found = Shortener(equations, count, items, kept, effort).shortened()
+        self.left += effort.left
         return [chain.part()._replace(rows=rows_of(item.steps or {}, count)) for chain, item in zip(chains, found)]
+
+    def begin(self, count: int) -> None:
+        """Has the proofs that follow, so many, share the effort. A proof that isn't among those has all of it."""
+        self.left, self.coming = self.effort, count
+
+    def share(self) -> int:
+        """The effort for a proof: what those before it left goes to those behind it."""
+        if not self.coming:
+            self.begin(1)
+        found = max(self.left // self.coming, 0)
+        self.left, self.coming = self.left - found, self.coming - 1
+        return found
 
     def chains(self, parts: List[Part], claim: Equation) -> List[Chain]:
         chains: List[Chain] = []
@@ -579,12 +595,13 @@ def listed(texts: Sequence[str]) -> str:
     return " and ".join([", ".join(texts[:-1])] * (len(texts) > 1) + [*texts[-1:]])
 
 
-def reason(cancelled: Taken, names: Sequence[str]) -> str:
+def reason(cancelled: Taken, names: Sequence[str], is_latex: bool = False) -> str:
     """Why a lemma holds that is another one without a letter, or without a star."""
     if isinstance(cancelled, Root):
-        square = "r' r" if cancelled.is_left else "r r'"
-        is_sum = len(cancelled.squares) > 1
-        return f"by [{cancelled.item}], since " + (f"a sum of {square} is 0 only where each is" if is_sum else f"{square} = 0 gives r = 0")
+        squares, sign = ((r"r^* \, r", r"r \, r^*"), "$") if is_latex else (("r' r", "r r'"), "")
+        square, is_sum = squares[0 if cancelled.is_left else 1], len(cancelled.squares) > 1
+        one, each = f"{sign}{square} = 0{sign} gives {sign}r = 0{sign}", f"a sum of {sign}{square}{sign} is 0 only where each is"
+        return f"by [{cancelled.item}], since {each if is_sum else one}"
     return f"by [{cancelled.item}], since {names[cancelled.letter]} is {'monic' if cancelled.is_left else 'epic'}"
 
 
@@ -715,10 +732,12 @@ def proofs_of(reader: Reader, evidence: Source) -> List[Proof]:
         reader_of, items_of = (StarProofs, StarItems) if first.startswith("star ") else (Cancellations, cancel.Items)
         proofs, lines = reader_of(problem, evidence).proofs, Lines(problem)
         polys = [cancel.judge(lines, proof, f"# block {block} refused", items_of) for block, proof in enumerate(proofs, 1)]
+        reader.begin(len(proofs))
         return list(map(reader.cancelled, proofs, polys))
     with explained(evidence):
         texts = Texts(problem, evidence)
     judge_all(problem, texts)
+    reader.begin(len(texts.certificates))
     # One of both lists is empty.
     return [*map(reader.proof, texts.certificates), *map(reader.told, texts.chains)]
 

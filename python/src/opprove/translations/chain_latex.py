@@ -62,7 +62,7 @@ def latex(reader: Reader, proof: Proof, names: Names) -> Iterator[str]:
         if chain is proof.chains[-1]:
             yield rf"\medskip\noindent\textit{{Proof of claim {number}.}}"
         else:
-            why = reason(chain.cancelled, [f"${name}$" for name in writer.letters]) if chain.cancelled else ""
+            why = reason(chain.cancelled, [f"${name}$" for name in writer.letters], is_latex=True) if chain.cancelled else ""
             why = re.sub(r"^by \[(\d+)\](.*)", r" (by Lemma \1\2)", why)
             yield rf"\medskip\noindent\textbf{{Lemma {place}.}}{why}"
             yield from aligned([equation(writer, Equation(chain.ends, chain.left, chain.right, []), "", "")])

@@ -31,7 +31,7 @@ from opprove.translations.chain import Chain, Equation, Proof, Reader, Writer, g
 from opprove.translations.chain_latex import Names, aligned, letter, power
 from opprove.translations.latex import lines_of, width_of
 
-WIDTH = 355  # of sums, in points
+WIDTH = 345  # of sums, in points
 SHORT = 100  # of the first sum of a chain, where the second one stands beside it
 PROOFS = ("check", "cancel", "star")  # what reads them
 MOST_RULES = 20  # of a closed set that is shown
@@ -138,13 +138,13 @@ class StatementWriter:
         return f"${left} = {right}$".replace(r" \, ", r" \,\allowbreak ")
 
     def maps(self) -> str:
-        """The maps with their objects."""
+        """The maps with their objects, in lines that may break between them."""
         problem = self.reader.problem
         objects = [letter(name[1:-1], self.names) for name in problem.names if name[0] == "["]
         parts = []
         maps = check_model.declared_maps(problem)
         for ends in dict.fromkeys(problem.ends[one] for one in maps):
-            names = ", ".join(self.writer.letters[one] for one in maps if problem.ends[one] == ends)
+            names = r", \allowbreak ".join(self.writer.letters[one] for one in maps if problem.ends[one] == ends)
             parts.append(f"${names}\\colon {objects[ends[0]]} \\to {objects[ends[1]]}$")
         return "; ".join(parts)
 
@@ -220,7 +220,7 @@ class StatementWriter:
         *lemmas, claim = proof.chains
         for place, chain in enumerate(lemmas, 1):
             shown = self.inline(Equation(chain.ends, chain.left, chain.right, []))
-            why = reason(chain.cancelled, self.letters()) if chain.cancelled else ""
+            why = reason(chain.cancelled, self.letters(), is_latex=True) if chain.cancelled else ""
             why = re.sub("^by .([0-9]+).(.*)", r", by Lemma \1\2", why)
             yield rf"\par\smallskip\noindent\textbf{{Lemma {place}.}} {shown}{why}."
             yield from [] if chain.cancelled else self.chain(chain)

@@ -25,6 +25,8 @@ class Place(NamedTuple):
 
 
 Steps = Dict[Place, int]  # how many times each equation is taken at a place
+Step = Tuple[Place, Sum]  # with what stands there
+Sides = Dict[int, Dict[str, List[int]]]  # words by their lengths, with the equations of which they are a side
 
 
 def coded(word: Word) -> str:
@@ -64,24 +66,22 @@ class Equations:
     def __init__(self, ends_of_letters: Sequence[Signature]) -> None:
         self.polys: List[Sum] = []
         self.ends: List[Optional[Signature]] = []
-        self.sides: List[Tuple[int, str]] = []
-        self.longest: List[Tuple[int, str]] = []  # one side of each
+        self.sides: Sides = {}
+        self.longest: Sides = {}  # one side of each
         self.of_letters = {chr(letter): ends for letter, ends in enumerate(ends_of_letters)}
-        self.values: Dict[Place, Sum] = {}
+        self.found: Dict[Tuple[str, Signature, bool], List[Step]] = {}
 
     def append(self, poly: Poly, ends: Optional[Signature]) -> None:
         number, made = len(self.polys), {coded(word): value for word, value in poly.items()}
         self.polys.append(made)
         self.ends.append(ends)
-        self.sides += [(number, word) for word in made]
-        self.longest += [(number, max(made, key=lambda word: (len(word), word)))] if made else []
+        by_length = sorted(made, key=lambda word: (len(word), word))
+        for table, words in ((self.sides, by_length), (self.longest, by_length[-1:])):
+            for word in words:
+                table.setdefault(len(word), {}).setdefault(word, []).append(number)
 
     def value(self, place: Place) -> Sum:
-        found = self.values.get(place)
-        if found is None:
-            found = {place.left + word + place.right: value for word, value in self.polys[place.number].items()}
-            self.values[place] = found
-        return found
+        return {place.left + word + place.right: value for word, value in self.polys[place.number].items()}
 
     def total(self, steps: Steps) -> Sum:
         """What steps add up to."""
@@ -91,17 +91,22 @@ class Equations:
                 total[word] = total.get(word, 0) + factor * value
         return {word: value for word, value in total.items() if value}
 
-    def places(self, word: str, sides: Sequence[Tuple[int, str]], signature: Signature) -> Iterator[Place]:
-        """Where one of these sides of equations stands in a word with these ends."""
-        for number, side in sides:
-            if not side:
-                cuts = (cut for cut in range(len(word) + 1) if self.ends_at(word, cut, signature) == self.ends[number])
-                yield from (Place(number, word[:cut], word[cut:]) for cut in cuts)
-                continue
-            start = word.find(side)
-            while start >= 0:
-                yield Place(number, word[:start], word[start + len(side) :])
-                start = word.find(side, start + 1)
+    def steps(self, word: str, signature: Signature, is_longest: bool, effort: Effort) -> List[Step]:
+        """Where equations have a side, or their longest one, in a word with these ends. They are looked for once."""
+        key = word, signature, is_longest
+        if key not in self.found:
+            places = self.places(word, self.longest if is_longest else self.sides, signature)
+            found = self.found[key] = [(place, self.value(place)) for place in places]
+            effort.spend(len(word) * len(self.sides) + LOOK * len(found))
+        effort.spend(1 + len(self.found[key]))
+        return self.found[key]
+
+    def places(self, word: str, table: Sides, signature: Signature) -> Iterator[Place]:
+        for length, sides in table.items():
+            for cut in range(len(word) - length + 1):
+                for number in sides.get(word[cut : cut + length], ()):
+                    if length or self.ends_at(word, cut, signature) == self.ends[number]:
+                        yield Place(number, word[:cut], word[cut + length :])
 
     def ends_at(self, word: str, cut: int, signature: Signature) -> Signature:
         """Of the identity at a place of a word."""
@@ -114,6 +119,7 @@ FIRST, LATER = [(0, 0), (100, 1)], [(300, 1), (200, 2)]
 WINDOW, OF_WINDOWS = 24, [(0, 0), (60, 1)]  # steps of a piece of a long chain
 LETTERS, TIMES = 500, 100  # of a word of evidence; that count for one that is known to be taken several times
 FAR, NEAR = 2, 2  # letters more than the longest known word has; by how many times more words are looked through
+LOOK = 4  # numbers that count as looked at for a place
 GAIN = 1e-6
 
 
@@ -121,9 +127,7 @@ class Search:
     """Looks for fewer steps with a sum, by equations with these numbers. Words have these ends."""
 
     def __init__(self, equations: Equations, numbers: Set[int], signature: Signature, effort: Effort) -> None:
-        self.equations, self.signature, self.effort = equations, signature, effort
-        self.sides = [side for side in equations.sides if side[0] in numbers]
-        self.longest = [side for side in equations.longest if side[0] in numbers]
+        self.equations, self.numbers, self.signature, self.effort = equations, numbers, signature, effort
 
     def cost(self, place: Place) -> float:
         """1, and a little more for long words."""
@@ -133,32 +137,35 @@ class Search:
     def length(self, steps: Steps) -> Tuple[int, float]:
         return len(steps), sum(map(self.cost, steps)) + GAIN
 
-    def within(self, words: Set[str]) -> List[Place]:
+    def within(self, words: Set[str]) -> List[Step]:
         """The steps all of whose words are among these."""
-        self.effort.spend(len(words) * len(self.longest) // 4)
-        places = (place for word in words for place in self.equations.places(word, self.longest, self.signature))
-        return sorted(place for place in places if words.issuperset(self.equations.value(place)))
+        equations, numbers, found = self.equations, self.numbers, []
+        for word in words:
+            steps = equations.steps(word, self.signature, True, self.effort)
+            found += [step for step in steps if step[0].number in numbers and words.issuperset(step[1])]
+        return sorted(found, key=lambda step: step[0])
 
     def around(self, words: Set[str], most: int) -> Set[str]:
         """Words that a step leads to from these and another one on, first those that several lead to, then the shortest ones: no more
         than so many."""
-        self.effort.spend(len(words) * len(self.sides))
         longest = min(max(map(len, words), default=0) + FAR, LETTERS)
-        counts: Dict[str, int] = {}
-        for place in {place for word in words for place in self.equations.places(word, self.sides, self.signature)}:
-            others = self.equations.value(place).keys() - words
+        counts: Counter[str] = Counter()
+        steps = {place: value for word in words for place, value in self.equations.steps(word, self.signature, False, self.effort)}
+        for place, value in steps.items():
+            others = value.keys() - words if place.number in self.numbers else ()
             if all(len(other) <= longest for other in others):
-                for other in others:
-                    counts[other] = counts.get(other, 0) + 1
+                counts.update(others)
+        self.effort.spend(LOOK * len(steps))
         near = sorted(counts, key=lambda word: (counts[word] == 1, len(word), word))[: NEAR * most]
         passed = self.passed(words, set(near))
         return set([word for word in near if word in passed][:most])
 
     def passed(self, words: Set[str], others: Set[str]) -> Set[str]:
         """Those of the others that lie between two steps within all these."""
-        values = [self.equations.value(place) for place in self.within(words | others)]
+        values = [value for _, value in self.within(words | others)]
         while True:
             counts = Counter(word for value in values for word in value)
+            self.effort.spend(LOOK * len(values))
             ends = {word for word in others if counts[word] < 2}
             if not ends:
                 return others
@@ -168,10 +175,10 @@ class Search:
     def least(self, words: Set[str], target: Sum, known: Steps) -> Optional[Steps]:
         """The steps within these words with the least sum of costs, where each is taken a whole number of times. One that is known
         to be taken several times costs no more than one taken once."""
-        places = self.within(words)
-        costs = [self.cost(place) / min(abs(known.get(place, 1)), TIMES) for place in places]
-        found = least([self.equations.value(place) for place in places], costs, target, self.effort)
-        made = {places[number]: round(value) for number, value in (found or {}).items()}
+        steps = self.within(words)
+        costs = [self.cost(place) / min(abs(known.get(place, 1)), TIMES) for place, _ in steps]
+        found = least([value for _, value in steps], costs, target, self.effort)
+        made = {steps[number][0]: round(value) for number, value in (found or {}).items()}
         return made if found is not None and self.equations.total(made) == target else None
 
     def shorter(self, known: Steps, rounds: Sequence[Tuple[int, int]]) -> Steps:
