@@ -118,8 +118,8 @@ SHORT_RULES = "rule a\n" * 95_000
 
 
 def many_short_rules() -> Text:
-    """Blocks of lines `rule a` in 64 MiB."""
-    block = START + SHORT_RULES + END
+    """Blocks of lines `rule a` in 64 MiB, of which the first names no claim of the statement: all are read, and none is judged."""
+    block = "basis 1\nclaim 2\n" + SHORT_RULES + END
     return itertools.repeat(block, LIMIT // len(block))
 
 
@@ -143,7 +143,7 @@ def reduction_rows(names: List[str], folder: Path) -> Text:
         used = asked(folder, LONG.format(order), iter([SWAP]), (REFUSED,))
         first = first or used.seconds
         yield line(name, told(used), f"{used.seconds / first:.2f}")
-    yield line("64 MiB of `rule a`", told(asked(folder, STATEMENT, many_short_rules(), (FINE, REFUSED))), "")
+    yield line("64 MiB of `rule a`", told(asked(folder, STATEMENT, many_short_rules(), (REFUSED,))), "")
     first = 0.0
     for count in (6000, 24_000, 96_000):
         used = asked(folder, STATEMENT, one_letter(count), (FINE,))
