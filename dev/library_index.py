@@ -24,7 +24,7 @@ from opprove.checkers.check import Problem
 from opprove.notation.expansion import HEAD, Expansion
 from opprove.page.pages import LEMMAS, lemmas_of, ordered, table_of, titles_of
 from opprove.translations.chain import EFFORT, Reader, proofs_of
-from trying import LIBRARY, PROGRAM, TOP
+from trying import LIBRARY, PROGRAM, TOP, is_built
 
 INDEX = LIBRARY / "index.tsv"
 FIELDS = ("THEOREM", "SOURCE", "ASSUMES", "LEAVES OUT", "VERDICT")
@@ -273,6 +273,9 @@ def main(words: List[str]) -> int:
     if words not in ([], ["page"], ["--check"]):
         print("usage: library_index.py [page | --check]")
         return 2
+    if words != ["page"] and not is_built():
+        print(f"library_index.py: {PROGRAM} is not built, and OPPROVE names no other", file=sys.stderr)
+        return 1
     readme, text = LIBRARY / "README.md", page([named(path) for path in paths()])
     with ProcessPoolExecutor() as pool:
         rows = [] if words == ["page"] else list(pool.map(fresh_row, paths()))

@@ -314,13 +314,25 @@ class Kept:
 def main(words: List[str]) -> int:
     """Looks for what isn't kept, and writes the table where all theorems were looked at."""
     names = [word for word in words if word != "--anew"]
+    if any(name.startswith("-") for name in names):
+        print("usage: library_lemmas.py [--anew] [THEOREM ..]")
+        return 2
+    try:
+        return looked_for(names, "--anew" in words and not names)
+    except FileNotFoundError as error:
+        print(f"library_lemmas.py: {error}", file=sys.stderr)
+        return 1
+
+
+def looked_for(names: List[str], anew: bool) -> int:
+    """The same of these theorems, or of all."""
     with ProcessPoolExecutor() as pool:
         every = all_known(list(entries_of(LIBRARY)), pool)
         unknown = [name for name in names if name not in every]
         if unknown:
             print(f"there is no theorem {unknown[0]}")
             return 2
-        kept = Kept(every, "--anew" in words and not names)
+        kept = Kept(every, anew)
         left = names or [name for name in every if name not in kept.rows]
         for name, rows in zip(left, pool.map(searched, left, repeat(every))):
             kept.keep(name, rows)
