@@ -4,3 +4,4 @@ pub mod Claims
 pub mod Parts
 pub mod Props
 pub mod Laws
+pub mod Bases

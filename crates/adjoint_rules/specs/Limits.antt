@@ -1,4 +1,4 @@
--- The limits of a statement.
+-- The limits of a statement and of bases.
 use Rattle.std.specs.Prelude.{ℕ, ◌+◌, ◌-◌, ◌*◌}
 use Rattle.quiver.specs.Limits.{object_limit, letter_limit}
 
@@ -18,3 +18,7 @@ generator_limit = 2 * assumption_limit + (object_limit + 2 * (letter_limit - obj
 -- of the side of an object of a shape
 abbrev pub shape_side_limit : ℕ
 shape_side_limit = 6
+
+-- of the rules of a basis in evidence text
+abbrev pub rule_limit : ℕ
+rule_limit = 100000

@@ -23,13 +23,14 @@ use Rattle.block_text.proofs.PolynomialBounds.{all_with}
 use Rattle.block_lines.specs.LineKinds.{numbers, polynomial_behind}
 use Rattle.block_lines.proofs.PolynomialReader.{line_keeps, kept_by}
 use Rattle.block_lines.proofs.SectionBlocks.{IsLineWritten, number_written, none_written, line_written, lines_written, block_written}
-use Rattle.basis_text.specs.declared.basis.Basis.{Basis}
+use Rattle.adjoint_rules.specs.declared.basis.Basis.{Basis}
 use Rattle.basis_text.specs.declared.place.BasisTerms.{BasisTerms}
 use Rattle.basis_text.specs.BasisLines.{on_polynomial, rules, bounds, flaw_of, part, basis_lines, basis_of}
 use Rattle.basis_text.specs.Bases.{other_words, basis_kind, by_terms}
-use Rattle.basis_text.specs.Limits.{rule_limit}
+use Rattle.adjoint_rules.specs.Limits.{rule_limit}
 use Rattle.basis_text.specs.Back.{HasLetters, IsWritableBasis, text_of, BasesAreReadBack, ArePartsReadBack}
-use Rattle.basis_text.specs.Written.{rule_line, IsPolyOver}
+use Rattle.basis_text.specs.Written.{rule_line}
+use Rattle.quiver.specs.Over.{IsPolyOver}
 use Rattle.block_text.proofs.PolynomialsBack.{polynomials_are_read_back}
 use Rattle.basis_text.proofs.Reader.{order, reader}
 

@@ -16,11 +16,12 @@ use Rattle.block_text.proofs.EachText.{values_are}
 use Rattle.block_text.proofs.PolynomialLaws.{is_canonical, is_over}
 use Rattle.block_text.proofs.Zips.{zip_length}
 use Rattle.block_lines.specs.LineKinds.{PolynomialBound, names, writing, numbers, terms, words, KeepsPolynomial}
-use Rattle.basis_text.specs.declared.basis.Basis.{Basis}
+use Rattle.adjoint_rules.specs.declared.basis.Basis.{Basis}
 use Rattle.basis_text.specs.declared.place.BasisTerms.{BasisTerms}
 use Rattle.basis_text.specs.BasisLines.{Bound, on_polynomial, rules}
-use Rattle.basis_text.specs.Bases.{basis_kind, by_terms, AreCanonical, IsBases, IsBasisOver}
-use Rattle.basis_text.specs.Limits.{rule_limit}
+use Rattle.basis_text.specs.Bases.{basis_kind, by_terms, AreCanonical, IsBases}
+use Rattle.adjoint_rules.specs.Bases.{IsBasisOver}
+use Rattle.adjoint_rules.specs.Limits.{rule_limit}
 use Rattle.basis_text.specs.Reading.{basis_steps}
 use Rattle.basis_text.proofs.Reader.{reader}
 

@@ -4,7 +4,7 @@ use Rattle.block_text.specs.Fault.{Fault}
 use Rattle.block_text.specs.Texts.{IsBlocks}
 use Rattle.block_text.specs.Laws.{EachIsRead, ValuesAreUnique, FaultIsUnique, ValuesHaveNoFault, AreTold}
 use Rattle.block_text.proofs.TextLaws.{are_told}
-use Rattle.basis_text.specs.declared.basis.Basis.{Basis}
+use Rattle.adjoint_rules.specs.declared.basis.Basis.{Basis}
 use Rattle.basis_text.specs.declared.place.BasisTerms.{BasisTerms}
 use Rattle.basis_text.specs.Bases.{basis_kind, by_terms, IsBases, IsFirstFault}
 use Rattle.basis_text.specs.Reading.{basis_steps}

@@ -14,7 +14,7 @@ use Rattle.block_lines.proofs.SectionBlocks.{number_read, block_read}
 use Rattle.block_lines.proofs.SectionReaders.{IsLineReader, none_read, line_read, lines_read}
 use Rattle.basis_text.specs.BasisLines.{Bound, on_polynomial, rules, bounds, flaw_of, part, basis_of}
 use Rattle.basis_text.specs.Bases.{other_words, basis_kind}
-use Rattle.basis_text.specs.Limits.{rule_limit}
+use Rattle.adjoint_rules.specs.Limits.{rule_limit}
 use Rattle.basis_text.specs.Reading.{basis_steps}
 
 -- each has a bound of its own

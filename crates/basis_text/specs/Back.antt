@@ -5,9 +5,10 @@ use Rattle.nc_polynomial.specs.declared.poly.Poly.{Poly}
 use Rattle.quiver.specs.Declarations.{Declaration, IsDeclared}
 use Rattle.block_text.specs.Back.{is_named}
 use Rattle.block_text.specs.Laws.{IsReadBetween, AreReadInParts}
-use Rattle.basis_text.specs.declared.basis.Basis.{Basis}
-use Rattle.basis_text.specs.Bases.{other_words, HasBases, IsBasisOver}
-use Rattle.basis_text.specs.Limits.{rule_limit}
+use Rattle.adjoint_rules.specs.declared.basis.Basis.{Basis}
+use Rattle.basis_text.specs.Bases.{other_words, HasBases}
+use Rattle.adjoint_rules.specs.Bases.{IsBasisOver}
+use Rattle.adjoint_rules.specs.Limits.{rule_limit}
 use Rattle.basis_text.specs.Written.{basis_text}
 
 -- no word of the polynomial is empty

@@ -8,10 +8,9 @@ use Rattle.block_text.specs.Kind.{Kind}
 use Rattle.block_text.specs.Texts as texts
 use Rattle.block_text.specs.Texts.{HasBlocks, IsBlocks}
 use Rattle.block_lines.specs.Sections.{block_kind}
-use Rattle.basis_text.specs.declared.basis.Basis.{Basis}
+use Rattle.adjoint_rules.specs.declared.basis.Basis.{Basis}
 use Rattle.basis_text.specs.declared.place.BasisTerms.{BasisTerms}
 use Rattle.basis_text.specs.BasisLines.{bounds, flaw_of, basis_lines, basis_of}
-use Rattle.basis_text.specs.Written.{IsPolyOver}
 
 -- blocks of these kinds aren't read
 abbrev pub other_words : List (List ℕ)
@@ -41,8 +40,3 @@ IsFirstFault ds = texts.IsFirstFault (basis_kind ds)
 pub record AreCanonical (b : BasisTerms) : Type 0 where
   pub rules : All IsCanonical b.rules
   pub rest : IsCanonical b.rest
-
--- The letters of its polynomials are letters of the quiver.
-pub record IsBasisOver (ds : List Declaration) (b : Basis) : Type 0 where
-  pub rules : All (IsPolyOver ds) b.rules
-  pub rest : IsPolyOver ds b.rest

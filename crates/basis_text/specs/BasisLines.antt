@@ -8,7 +8,7 @@ use Rattle.block_text.specs.Lines.{number_limit}
 use Rattle.block_lines.specs.LineKinds.{number_line, PolynomialBound, names, writing, numbers, terms, words, polynomial_flaw, polynomial_behind}
 use Rattle.block_lines.specs.Sections.{Section, no_lines, line_then, lines_then}
 use Rattle.basis_text.specs.declared.place.BasisTerms.{BasisTerms}
-use Rattle.basis_text.specs.Limits.{rule_limit}
+use Rattle.adjoint_rules.specs.Limits.{rule_limit}
 
 -- on the polynomials and the claim, and on the number of rules
 pub data Bound : Type 0 where

@@ -1,4 +1,3 @@
-pub mod Limits
 pub mod BasisLines
 pub mod Written
 pub mod Bases

@@ -12,7 +12,7 @@ use Rattle.block_lines.specs.SectionSteps.{no_steps, line_steps, lines_steps, bl
 use Rattle.basis_text.specs.declared.place.BasisTerms.{BasisTerms}
 use Rattle.basis_text.specs.BasisLines.{basis_of}
 use Rattle.basis_text.specs.Bases.{other_words}
-use Rattle.basis_text.specs.Limits.{rule_limit}
+use Rattle.adjoint_rules.specs.Limits.{rule_limit}
 
 abbrev pub basis_steps : List Declaration → Steps (LinePlace ℕ (LinesPlace Poly (LinePlace Poly ⊤))) BasisTerms
 basis_steps ds =

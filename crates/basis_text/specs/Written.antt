@@ -13,7 +13,3 @@ rule_line ds p = codes "rule " ++ poly_text ds p.terms ++ codes "\n"
 abbrev pub basis_text : List Declaration → List Poly → ℕ → Poly → List ℕ
 basis_text ds rules claim rest = codes "basis 1\nclaim " ++ decimal claim ++ codes "\n" ++ flat_map (rule_line ds) rules ++ codes "rest "
     ++ poly_text ds rest.terms ++ codes "\nend\n"
-
--- the letters of the polynomial are letters of the quiver
-abbrev pub IsPolyOver : List Declaration → Poly → Type 0
-IsPolyOver ds p = All (λ t. IsOver (letter_count ds) t.1) p.terms

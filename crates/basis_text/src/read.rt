@@ -4,9 +4,10 @@ ghost use Rattle.std.specs.Prelude.{◌≡◌, ◌<◌, IfOk, MatchResult, lengt
 ghost use Rattle.std.specs.List.{All};
 ghost use Rattle.nc_polynomial.specs.Shape.{IsCanonical};
 ghost use Rattle.block_text.specs.Fault.{ExplainsBy};
-ghost use Rattle.basis_text.specs.Bases.{by_terms, AreCanonical, IsBases, IsFirstFault, IsBasisOver};
+ghost use Rattle.basis_text.specs.Bases.{by_terms, AreCanonical, IsBases, IsFirstFault};
+ghost use Rattle.adjoint_rules.specs.Bases.{IsBasisOver};
 
-use crate::basis::Basis;
+use adjoint_rules::Basis;
 use crate::place::BasisTerms;
 use crate::step::Bases;
 use block_text::{ReadText, read_blocks};

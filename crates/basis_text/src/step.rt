@@ -2,10 +2,10 @@
 
 ghost use Rattle.std.specs.Prelude.{◌≡◌, codes};
 ghost use Rattle.block_text.specs.Lines.{number_limit};
-ghost use Rattle.basis_text.specs.Limits.{rule_limit};
+ghost use Rattle.adjoint_rules.specs.Limits.{rule_limit};
 ghost use Rattle.basis_text.specs.Reading.{basis_steps};
 
-use crate::basis::RULE_LIMIT;
+use adjoint_rules::RULE_LIMIT;
 use crate::place::BasisTerms;
 use block_lines::{
     LinePlace, LineThen, LinesPlace, LinesThen, NoLines, NumberLine, PolynomialLine, Section,

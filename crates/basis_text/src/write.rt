@@ -2,7 +2,8 @@
 
 ghost use Rattle.std.specs.Prelude.{◌≡◌, ◌++◌, OnOk};
 ghost use Rattle.std.specs.List.{All};
-ghost use Rattle.basis_text.specs.Written.{rule_line, basis_text, IsPolyOver};
+ghost use Rattle.basis_text.specs.Written.{rule_line, basis_text};
+ghost use Rattle.quiver.specs.Over.{IsPolyOver};
 
 use block_text::{put, put_number, put_poly};
 use nc_polynomial::Poly;

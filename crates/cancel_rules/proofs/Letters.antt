@@ -23,7 +23,7 @@ use Rattle.cancel_rules.specs.declared.cancellation.Cancellation.{Cancellation}
 use Rattle.cancel_rules.specs.declared.refusal.CancelRefusal.TheVariants as refusal
 use Rattle.cancel_rules.specs.Items.{word_without, stripped, item_polynomial, item_polynomials, rows_in, RefusesItems}
 use Rattle.cancel_rules.specs.Acceptance.{claim_named, all_items, IsRowOver, IsReadableLemma, IsReadableItem, IsReadableCancellation, RefusesParts, IsRefused}
-use Rattle.cancel_rules.specs.Inner.{IsPolyOver}
+use Rattle.quiver.specs.Over.{IsPolyOver}
 use Rattle.cancel_rules.proofs.Without as without
 
 module _ (problem : Problem) where

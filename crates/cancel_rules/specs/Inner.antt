@@ -1,10 +1,6 @@
--- What the parts of the check ask of one another: tables that mark letters, and polynomials over the letters of the quiver.
+-- What the parts of the check ask of one another: tables that mark letters.
 use Rattle.std.specs.Prelude.{◌↔◌, Bool, false, List, get_or, Contains, IsTrue}
-use Rattle.std.specs.List.{All}
 use Rattle.word_core.specs.declared.letter.Letter.{Letter}
-use Rattle.word_core.specs.Letters.{IsOver}
-use Rattle.nc_polynomial.specs.declared.poly.Poly.{Poly}
-use Rattle.quiver.specs.Declarations.{Declaration, letter_count}
 use Rattle.definitions.specs.Poly.{Term}
 use Rattle.definitions.specs.Quiver.{Quiver}
 use Rattle.cofactor_checker.specs.Lemmas.{IsMade}
@@ -22,10 +18,6 @@ pub record MarksLetters (letters : List Letter) (marks : List Bool) : Type 0 whe
 pub record MarksDeclared (proof : Cancellation) (marks : Marks) : Type 0 where
   pub monic : MarksLetters proof.monic marks.monic.items
   pub epic : MarksLetters proof.epic marks.epic.items
-
--- the letters of the polynomial are letters of the quiver
-abbrev pub IsPolyOver : List Declaration → Poly → Type 0
-IsPolyOver ds p = All (λ t. IsOver (letter_count ds) t.1) p.terms
 
 -- Each test of the item passes but the last, which counts the terms of all items.
 abbrev pub IsMadeItem : Quiver → Cancellation → List (List Term) → List (List Term) → Item → Type 0

@@ -13,7 +13,7 @@ use Rattle.nc_polynomial.proofs.Shapes.{IsDescending-from_recursion}
 use Rattle.quiver.specs.Declarations.{Declaration, letter_count}
 use Rattle.adjoint_rules.specs.declared.problem.Problem.{Problem}
 use Rattle.adjoint_rules.specs.Problem.{polynomials}
-use Rattle.basis_text.specs.Written.{IsPolyOver}
+use Rattle.quiver.specs.Over.{IsPolyOver}
 use Rattle.closed_checker.proofs.ProblemLetters.{generators_over, claims_over}
 
 -- canonical

@@ -33,8 +33,8 @@ use Rattle.confluence.proofs.ZeroRestLaws.{zero_rests_are_inside, zero_rests_are
 use Rattle.completion_laws.proofs.ShapeLaws.{s_polynomials_are_shaped}
 use Rattle.adjoint_rules.specs.declared.problem.Problem.{Problem}
 use Rattle.adjoint_rules.specs.Problem.{polynomials}
-use Rattle.basis_text.specs.declared.basis.Basis.{Basis}
-use Rattle.basis_text.specs.Written.{IsPolyOver}
+use Rattle.adjoint_rules.specs.declared.basis.Basis.{Basis}
+use Rattle.quiver.specs.Over.{IsPolyOver}
 use Rattle.closed_checker.specs.Limits.{step_limit}
 use Rattle.closed_checker.specs.Rests.{order_of, rules_of, rest_in, rest_by, claim_of, MayBeRule}
 use Rattle.closed_checker.specs.Closed.{IsReadableBasis, IsClosedBasis}

@@ -23,7 +23,7 @@ use Rattle.ambiguities.specs.Order.{IsBeforeByWord}
 use Rattle.closed_checker.specs.ListLaws.{CanBeListed}
 use Rattle.closed_checker.proofs.Lists.{ambiguities_can_be_listed}
 use Rattle.adjoint_rules.specs.declared.problem.Problem.{Problem}
-use Rattle.basis_text.specs.declared.basis.Basis.{Basis}
+use Rattle.adjoint_rules.specs.declared.basis.Basis.{Basis}
 use Rattle.closed_checker.specs.declared.part.Part.{Part}
 use Rattle.closed_checker.specs.declared.part.Part.TheVariants as part
 use Rattle.closed_checker.specs.declared.refusal.ClosedRefusal.{ClosedRefusal}

@@ -6,7 +6,6 @@ pub mod Tables
 pub mod Walking
 pub mod Steps
 pub mod LeadRules
-pub mod Readable
 pub mod ProblemLetters
 pub mod Passing
 pub mod MadeRules

@@ -12,7 +12,7 @@ use Rattle.rule_reduce.specs.declared.rule.Rule.{Rule}
 use Rattle.rule_reduce.specs.Leading.{leading_term}
 use Rattle.rule_reduce.specs.RuleLists.{rule_from}
 use Rattle.adjoint_rules.specs.declared.problem.Problem.{Problem}
-use Rattle.basis_text.specs.declared.basis.Basis.{Basis}
+use Rattle.adjoint_rules.specs.declared.basis.Basis.{Basis}
 use Rattle.closed_checker.specs.Rests.{order_of, rules_from, MayBeRule}
 use Rattle.closed_checker.specs.Closed.{NamesClaim, LacksRule}
 

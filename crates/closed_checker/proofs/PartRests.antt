@@ -12,7 +12,7 @@ use Rattle.rule_reduce.specs.declared.fault.ReduceFault.{ReduceFault}
 use Rattle.rule_reduce.specs.NormalForms.{halt_of, normal_form_of}
 use Rattle.rule_reduce.specs.NormalForms as reduce
 use Rattle.adjoint_rules.specs.declared.problem.Problem.{Problem}
-use Rattle.basis_text.specs.declared.basis.Basis.{Basis}
+use Rattle.adjoint_rules.specs.declared.basis.Basis.{Basis}
 use Rattle.closed_checker.specs.declared.part.Part.{Part}
 use Rattle.closed_checker.specs.declared.part.Part.TheVariants as part
 use Rattle.closed_checker.specs.Limits.{step_limit}

@@ -19,7 +19,7 @@ use Rattle.ambiguities.specs.Ambiguities.{IsAmbiguity}
 use Rattle.ambiguities.specs.Order.{IsBeforeByWord, AreAllInOrder, waiting_of}
 use Rattle.ambiguities.proofs.Comparing.{not_before_itself, not_before_each_other}
 use Rattle.adjoint_rules.specs.declared.problem.Problem.{Problem}
-use Rattle.basis_text.specs.declared.basis.Basis.{Basis}
+use Rattle.adjoint_rules.specs.declared.basis.Basis.{Basis}
 use Rattle.closed_checker.specs.declared.part.Part.{Part}
 use Rattle.closed_checker.specs.declared.part.Part.TheVariants as part
 use Rattle.closed_checker.specs.Rests.{order_of, rules_of, rest_of}

@@ -16,7 +16,7 @@ use Rattle.quiver.proofs.Counts.{letters-quiver_of}
 use Rattle.adjoint_rules.specs.declared.problem.Problem.{Problem}
 use Rattle.adjoint_rules.specs.Problem.{polynomials}
 use Rattle.adjoint_rules.proofs.Generators.{claims_have_signatures, generators_have_signatures}
-use Rattle.basis_text.specs.Written.{IsPolyOver}
+use Rattle.quiver.specs.Over.{IsPolyOver}
 
 -- paths
 leads_over : (q : Quiver) (u v : ℕ) (w : List ℕ) → leads q u v w ≡ true → AllByRecursion (λ a. a < letters q) w

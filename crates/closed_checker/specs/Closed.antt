@@ -12,9 +12,9 @@ use Rattle.ambiguities.specs.declared.ambiguity.Ambiguity.{Ambiguity}
 use Rattle.ambiguities.specs.Ambiguities.{IsAmbiguity}
 use Rattle.ambiguities.specs.Order.{IsBeforeByWord}
 use Rattle.adjoint_rules.specs.declared.problem.Problem.{Problem}
-use Rattle.basis_text.specs.declared.basis.Basis.{Basis}
-use Rattle.basis_text.specs.Bases.{IsBasisOver}
-use Rattle.basis_text.specs.Limits.{rule_limit}
+use Rattle.adjoint_rules.specs.declared.basis.Basis.{Basis}
+use Rattle.adjoint_rules.specs.Bases.{IsBasisOver}
+use Rattle.adjoint_rules.specs.Limits.{rule_limit}
 use Rattle.closed_checker.specs.declared.part.Part.{Part}
 use Rattle.closed_checker.specs.declared.part.Part.TheVariants as part
 use Rattle.closed_checker.specs.declared.refusal.ClosedRefusal.{ClosedRefusal}

@@ -1,22 +1,16 @@
 -- What closed bases mean, and that each basis has one outcome.
-use Rattle.std.specs.Prelude.{◌≡◌, ◌⊎◌, ℕ, List}
+use Rattle.std.specs.Prelude.{◌≡◌, ◌⊎◌}
 use Rattle.std.specs.List.{All}
 use Rattle.definitions.specs.Combination.{InRationalIdeal}
-use Rattle.quiver.specs.Declarations.{Declaration, letter_count}
+use Rattle.quiver.specs.Declarations.{letter_count}
 use Rattle.rule_reduce.specs.RuleLists.{IsRule, polynomials_of}
 use Rattle.ambiguities.specs.Resolved.{Resolved}
 use Rattle.adjoint_rules.specs.declared.problem.Problem.{Problem}
 use Rattle.adjoint_rules.specs.Problem.{polynomials}
-use Rattle.basis_text.specs.declared.basis.Basis.{Basis}
-use Rattle.basis_text.specs.Bases.{IsBases, IsBasisOver}
+use Rattle.adjoint_rules.specs.declared.basis.Basis.{Basis}
 use Rattle.closed_checker.specs.declared.refusal.ClosedRefusal.{ClosedRefusal}
 use Rattle.closed_checker.specs.Rests.{order_of, rules_of, claim_of}
 use Rattle.closed_checker.specs.Closed.{IsReadableBasis, IsClosedBasis, Refuses, IsMemory}
-
--- The bases of a text can be checked, where their letters are letters of the quiver. Both is ensured of what `read_bases` gives.
-abbrev pub ReadBasesAreReadable : Type 0
-ReadBasesAreReadable = (ds : List Declaration) (bytes : List ℕ) (bases : List Basis) → IsBases ds bytes bases → All (IsBasisOver ds) bases
-    → All (IsReadableBasis ds) bases
 
 -- Each basis is closed, or one of its tests is the first that fails.
 abbrev pub EachBasisIsJudged : Type 0

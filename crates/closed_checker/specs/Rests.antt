@@ -17,7 +17,7 @@ use Rattle.rule_reduce.specs.NormalForms.{normal_form_of, halt_of}
 use Rattle.ambiguities.specs.SPolynomials.{s_polynomial_of}
 use Rattle.adjoint_rules.specs.declared.problem.Problem.{Problem}
 use Rattle.adjoint_rules.specs.Problem.{polynomials}
-use Rattle.basis_text.specs.declared.basis.Basis.{Basis}
+use Rattle.adjoint_rules.specs.declared.basis.Basis.{Basis}
 use Rattle.closed_checker.specs.declared.part.Part.{Part}
 use Rattle.closed_checker.specs.declared.part.Part.TheVariants as part
 use Rattle.closed_checker.specs.Limits.{step_limit}

@@ -1,12 +1,7 @@
 //! That each basis has one outcome, what a closed basis means, and that the ambiguities of rules can be listed, as laws over the definitions.
-ghost use Rattle.closed_checker.specs.Laws.{ReadBasesAreReadable, EachBasisIsJudged, BasisRefusalIsUnique};
+ghost use Rattle.closed_checker.specs.Laws.{EachBasisIsJudged, BasisRefusalIsUnique};
 ghost use Rattle.closed_checker.specs.Laws.{ClosedBasisIsNotRefused, ClosedBasesMeanOutside};
 ghost use Rattle.closed_checker.specs.ListLaws.{AmbiguitiesCanBeListed, ListsAreUnique};
-
-/// The bases of a text can be checked.
-pub fn read_bases_are_readable()
-    ensures { ReadBasesAreReadable }
-{}
 
 /// Each basis is closed, or one of its tests is the first that fails.
 pub fn each_basis_is_judged()

@@ -15,7 +15,7 @@ mod table;
 pub use check::confirm_closed;
 pub use laws::{
     ambiguities_can_be_listed, basis_refusal_is_unique, closed_bases_mean_outside,
-    closed_basis_is_not_refused, each_basis_is_judged, lists_are_unique, read_bases_are_readable,
+    closed_basis_is_not_refused, each_basis_is_judged, lists_are_unique,
 };
 pub use limit::STEP_LIMIT;
 pub use list::all_ambiguities;

@@ -12,9 +12,8 @@ ghost use Rattle.closed_checker.specs.Working.{AreRulesOf, IsAnswer, refusal_of}
 
 use crate::limit::step_limit;
 use crate::{ClosedRefusal, Part};
-use adjoint_rules::Problem;
+use adjoint_rules::{Basis, Problem};
 use ambiguities::{Ambiguity, s_poly};
-use basis_text::Basis;
 use cofactor_trace::Cause;
 use nc_polynomial::{Poly, PolyFault};
 use rule_reduce::{ReduceFault, Rules};

@@ -9,8 +9,7 @@ ghost use Rattle.closed_checker.specs.Closed.{IsReadableBasis, NamesClaim, HasRu
 ghost use Rattle.closed_checker.specs.Working.{AreRulesOf};
 
 use crate::ClosedRefusal;
-use adjoint_rules::Problem;
-use basis_text::Basis;
+use adjoint_rules::{Basis, Problem};
 use nc_polynomial::Poly;
 use rule_reduce::Rules;
 use std::alloc::{AllocError, Global};

@@ -19,7 +19,7 @@ use Rattle.block_text.proofs.PartsBack.{text_without_blocks, text_of_block, text
 use Rattle.block_text.proofs.Zips.{zip_length}
 use Rattle.certificate_text.specs.Back.{part_text}
 use Rattle.certificate_text.specs.Blocks.{head_line as certificate_head}
-use Rattle.basis_text.specs.declared.basis.Basis.{Basis}
+use Rattle.adjoint_rules.specs.declared.basis.Basis.{Basis}
 use Rattle.basis_text.specs.Back.{IsWritableBasis, text_of}
 use Rattle.basis_text.specs.Bases.{other_words, basis_kind, by_terms, HasBases, IsFirstFault}
 use Rattle.basis_text.proofs.BasesBack.{basis_written}

@@ -28,9 +28,9 @@ use Rattle.outcome_laws.proofs.OutcomeLetters.{outcomes_have_letters, last_rules
 use Rattle.outcome_laws.proofs.ProblemPolynomials.{any_letter, claim_is}
 use Rattle.outcome_laws.proofs.ProblemStates.{state_kept}
 use Rattle.report_text.specs.declared.verdict.Verdict.{Verdict}
-use Rattle.basis_text.specs.declared.basis.Basis.{Basis}
+use Rattle.adjoint_rules.specs.declared.basis.Basis.{Basis}
 use Rattle.basis_text.specs.Back.{HasLetters, IsWritableBasis}
-use Rattle.basis_text.specs.Limits.{rule_limit}
+use Rattle.adjoint_rules.specs.Limits.{rule_limit}
 use Rattle.report_readback.specs.ReadBack.{IsVerdictOfHalt, AreVerdictsOf}
 use Rattle.closed_checker.specs.Closed.{IsNumberUpTo}
 use Rattle.closed_checker.specs.Rests.{order_of}

@@ -48,7 +48,7 @@ use Rattle.outcome_laws.specs.KeptRuns.{done_after}
 use Rattle.outcome_laws.proofs.OpenRuns.{open_run, opened_claim}
 use Rattle.outcome_laws.proofs.ProblemStates.{state_kept, generators_are_reached}
 use Rattle.outcome_laws.proofs.WholeRuns.{closed_is_nothing_pending}
-use Rattle.basis_text.specs.declared.basis.Basis.{Basis}
+use Rattle.adjoint_rules.specs.declared.basis.Basis.{Basis}
 use Rattle.closed_checker.specs.declared.part.Part.TheVariants as part
 use Rattle.closed_checker.specs.declared.refusal.ClosedRefusal.{ClosedRefusal}
 use Rattle.closed_checker.specs.declared.refusal.ClosedRefusal.TheVariants as refusal

@@ -24,7 +24,7 @@ use Rattle.traced_completion.specs.declared.budget.Budget.{Budget}
 use Rattle.traced_completion.specs.PlainRun.{RunState, setting_of}
 use Rattle.claim_decider.specs.Decided.{polynomials_in}
 use Rattle.outcome_laws.proofs.ProblemStates.{state_kept}
-use Rattle.basis_text.specs.declared.basis.Basis.{Basis}
+use Rattle.adjoint_rules.specs.declared.basis.Basis.{Basis}
 use Rattle.closed_checker.specs.Rests.{order_of, rules_of, claim_of}
 use Rattle.closed_checker.proofs.ClosedMeaning.{zero_is_empty}
 use Rattle.closed_checker.proofs.ByNumber.{canonical_at, claim_over}

@@ -17,11 +17,11 @@ use Rattle.claim_decider.specs.Decided.{AreOutcomesOf, AreLastRules}
 use Rattle.block_text.specs.Fault.{no_block}
 use Rattle.block_text.specs.Lines.{block_limit}
 use Rattle.block_text.specs.Back.{is_named}
-use Rattle.basis_text.specs.declared.basis.Basis.{Basis}
+use Rattle.adjoint_rules.specs.declared.basis.Basis.{Basis}
 use Rattle.basis_text.specs.Back.{IsWritableBasis}
 use Rattle.basis_text.specs.Bases.{HasBases, IsBases, IsFirstFault}
-use Rattle.basis_text.specs.Limits.{rule_limit}
-use Rattle.basis_text.specs.Written.{IsPolyOver}
+use Rattle.adjoint_rules.specs.Limits.{rule_limit}
+use Rattle.quiver.specs.Over.{IsPolyOver}
 use Rattle.report_text.specs.declared.verdict.Verdict.{Verdict}
 use Rattle.report_text.specs.declared.verdict.Verdict.TheVariants as verdict
 use Rattle.report_text.specs.Report.{report_of}

@@ -22,7 +22,7 @@ use Rattle.claim_decider.specs.declared.outcome.Outcome.{Outcome}
 use Rattle.claim_decider.specs.declared.outcome.Outcome.TheVariants as outcome
 use Rattle.claim_decider.specs.Decided.{AreOutcomesOf, AreLastRules}
 use Rattle.outcome_laws.specs.Meanings.{IsOutcomeAt}
-use Rattle.basis_text.specs.declared.basis.Basis.{Basis}
+use Rattle.adjoint_rules.specs.declared.basis.Basis.{Basis}
 use Rattle.closed_checker.specs.Rests.{rules_of}
 use Rattle.closed_runs.specs.Printed.{IsPrinted}
 use Rattle.closed_runs.specs.BasesReadBack.{basis_by}

@@ -21,7 +21,7 @@ use Rattle.traced_completion.specs.declared.budget.Budget.{Budget}
 use Rattle.adjoint_rules.specs.Problem.{polynomials}
 use Rattle.adjoint_rules.specs.Claims.{claim_at}
 use Rattle.matrix_models.specs.declared.model.Model.{Model}
-use Rattle.basis_text.specs.declared.basis.Basis.{Basis}
+use Rattle.adjoint_rules.specs.declared.basis.Basis.{Basis}
 use Rattle.cancel_rules.specs.declared.cancellation.Cancellation.{Cancellation}
 use Rattle.cancel_rules.specs.Meaning.{IsCancellationSound}
 use Rattle.statement_names.specs.Numbered.{declarations_of}

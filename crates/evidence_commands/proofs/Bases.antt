@@ -9,7 +9,7 @@ use Rattle.block_text.specs.Fault.{ExplainsBy}
 use Rattle.adjoint_rules.specs.declared.problem.Problem.{Problem}
 use Rattle.adjoint_rules.specs.Problem.{polynomials}
 use Rattle.quiver.specs.Declarations.{Declaration}
-use Rattle.basis_text.specs.declared.basis.Basis.{Basis}
+use Rattle.adjoint_rules.specs.declared.basis.Basis.{Basis}
 use Rattle.basis_text.specs.Bases.{IsBases, IsFirstFault}
 use Rattle.basis_text.proofs.BasisValues.{are_over}
 use Rattle.basis_text.proofs.EachText.{each_text_is_read, bases_are_unique, first_fault_is_unique, bases_have_no_fault}
@@ -19,7 +19,7 @@ use Rattle.closed_checker.specs.Rests.{rules_of, claim_of}
 use Rattle.closed_checker.specs.Closed.{IsReadableBasis, IsClosedBasis, IsMemory}
 use Rattle.closed_checker.specs.Laws.{ClosedMeans}
 use Rattle.closed_checker.proofs.ClosedMeaning.{closed_bases_mean_outside}
-use Rattle.closed_checker.proofs.Readable.{read_bases_are_readable}
+use Rattle.evidence_commands.proofs.ReadBases.{read_bases_are_readable}
 use Rattle.closed_checker.proofs.Judged.{each_basis_is_judged, basis_refusal_is_unique, closed_basis_is_not_refused}
 use Rattle.normal_forms.specs.SharpMeans.{SharpMeans}
 use Rattle.normal_forms.proofs.StarSharp.{star_sharp_means}

@@ -18,8 +18,8 @@ use Rattle.ambiguities.proofs.Words.{words_over, s_words}
 use Rattle.ambiguities.proofs.OverLetters.{reduced_over}
 use Rattle.adjoint_rules.specs.declared.problem.Problem.{Problem}
 use Rattle.adjoint_rules.specs.Problem.{polynomials}
-use Rattle.basis_text.specs.declared.basis.Basis.{Basis}
-use Rattle.basis_text.specs.Written.{IsPolyOver}
+use Rattle.adjoint_rules.specs.declared.basis.Basis.{Basis}
+use Rattle.quiver.specs.Over.{IsPolyOver}
 use Rattle.closed_checker.specs.declared.part.Part.TheVariants as part
 use Rattle.closed_checker.specs.declared.refusal.ClosedRefusal.{ClosedRefusal}
 use Rattle.closed_checker.specs.declared.refusal.ClosedRefusal.TheVariants as refusal

@@ -3,6 +3,7 @@ pub mod Causes
 pub mod Letters
 pub mod Certificates
 pub mod Models
+pub mod ReadBases
 pub mod Bases
 mod BasisLetters
 pub mod Chains

@@ -1,8 +1,13 @@
 -- The laws of each command of evidence, for users.
 use Rattle.std.specs.Prelude.{ℕ, ◌≡◌, List}
-use Rattle.std.specs.List.{AllByRecursion}
+use Rattle.std.specs.List.{All, AllByRecursion}
 use Rattle.definitions.specs.Category.{Structure}
+use Rattle.quiver.specs.Declarations.{Declaration}
 use Rattle.adjoint_rules.specs.declared.problem.Problem.{Problem}
+use Rattle.adjoint_rules.specs.declared.basis.Basis.{Basis}
+use Rattle.adjoint_rules.specs.Bases.{IsBasisOver}
+use Rattle.basis_text.specs.Bases.{IsBases}
+use Rattle.closed_checker.specs.Closed.{IsReadableBasis}
 use Rattle.command_shape.specs.Ending.{Ending, refused_statement}
 use Rattle.stated_problem.specs.Statement.{IsRefusedStatement}
 use Rattle.stated_problem.specs.Stated.{IsStated}
@@ -50,3 +55,8 @@ module _ {Block Refusal : Type 0} (kind : Kind Block Refusal) where
   abbrev pub ThreeIsFaulty : Type 0
   ThreeIsFaulty = (statement text : List ℕ) (ending : Ending) → AnswersBoth kind statement text ending → ending.status ≡ 3
       → (refusal : List ℕ) × IsRefusedStatement statement refusal × (ending ≡ refused_statement refusal)
+
+-- The bases of a text can be checked, where their letters are letters of the quiver. Both is ensured of what `read_bases` gives.
+abbrev pub ReadBasesAreReadable : Type 0
+ReadBasesAreReadable = (ds : List Declaration) (bytes : List ℕ) (bases : List Basis) → IsBases ds bytes bases → All (IsBasisOver ds) bases
+    → All (IsReadableBasis ds) bases

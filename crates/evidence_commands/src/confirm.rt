@@ -1,7 +1,7 @@
 //! What `confirm` reads, judges and prints: bases, each found closed or refused.
 ghost use Rattle.std.specs.Prelude.{◌≡◌, ◌++◌, OnOk, codes};
 ghost use Rattle.adjoint_rules.specs.Problem.{polynomials};
-ghost use Rattle.basis_text.specs.Written.{IsPolyOver};
+ghost use Rattle.quiver.specs.Over.{IsPolyOver};
 ghost use Rattle.closed_checker.specs.Rests.{rules_of};
 ghost use Rattle.closed_checker.specs.Closed.{IsReadableBasis, IsClosedBasis};
 ghost use Rattle.closed_checker.specs.Laws.{ClosedMeans};
@@ -11,9 +11,9 @@ ghost use Rattle.evidence_commands.specs.Confirm.{bases, sharp_ending, kind_text
 ghost use Rattle.evidence_commands.specs.Confirm.{got_text, HasRefusalLetters};
 
 use crate::kind::EvidenceKind;
-use adjoint_rules::Problem;
+use adjoint_rules::{Basis, Problem};
 use ambiguities::{Ambiguity, Kind};
-use basis_text::{Basis, read_bases};
+use basis_text::read_bases;
 use block_text::{CertFault, put, put_labelled, put_poly};
 use closed_checker::{ClosedRefusal, Part, confirm_closed};
 use cofactor_trace::Cause;

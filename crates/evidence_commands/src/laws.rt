@@ -1,7 +1,7 @@
 //! The laws of each command of evidence, for users.
 ghost use Rattle.command_words.specs.declared.evidence.EvidenceCommand.{EvidenceCommand};
 ghost use Rattle.evidence_commands.specs.Commands.{judged_by};
-ghost use Rattle.evidence_commands.specs.Laws.{PassingAreAnswered, ZeroIsPassing, ZeroMeans, FaultsAreAnswered, ThreeIsFaulty};
+ghost use Rattle.evidence_commands.specs.Laws.{PassingAreAnswered, ZeroIsPassing, ZeroMeans, FaultsAreAnswered, ThreeIsFaulty, ReadBasesAreReadable};
 
 use category_laws::Preadditive;
 
@@ -21,4 +21,9 @@ pub fn status_0_means_what_blocks_mean<C: Preadditive>(category: &C)
 pub fn a_faulty_statement_is_answered_by_3()
     ensures answered { (command : EvidenceCommand) → FaultsAreAnswered (judged_by command).kind }
     ensures no_others { (command : EvidenceCommand) → ThreeIsFaulty (judged_by command).kind }
+{}
+
+/// The bases of a text can be checked.
+pub fn read_bases_are_readable()
+    ensures { ReadBasesAreReadable }
 {}

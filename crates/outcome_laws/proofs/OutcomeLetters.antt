@@ -35,7 +35,7 @@ use Rattle.traced_completion.proofs.ReducibleGenerators.{generators_reducible}
 use Rattle.traced_completion.proofs.RunStates.{states_rules}
 use Rattle.claim_decider.specs.declared.outcome.Outcome.{Outcome}
 use Rattle.claim_decider.specs.Outcomes.{evidence_of_zero, record_of, certificate_of}
-use Rattle.basis_text.specs.Written.{IsPolyOver}
+use Rattle.quiver.specs.Over.{IsPolyOver}
 use Rattle.report_text.specs.Report.{IsLeastOver}
 use Rattle.outcome_laws.specs.OutcomeLetters.{IsOutcomeOver, OutcomesHaveLetters, LastRulesHaveLetters}
 use Rattle.outcome_laws.proofs.EvidenceWords.{expanded_words, gathered_words}

@@ -7,7 +7,7 @@ use Rattle.traced_rows.specs.declared.evidence.Format.{Format}
 use Rattle.adjoint_rules.specs.declared.problem.Problem.{Problem}
 use Rattle.adjoint_rules.specs.Claims.{claim_at}
 use Rattle.certificate_text.specs.Written.{IsEvidenceOver}
-use Rattle.basis_text.specs.Written.{IsPolyOver}
+use Rattle.quiver.specs.Over.{IsPolyOver}
 use Rattle.report_text.specs.Report.{IsLeastOver}
 use Rattle.traced_completion.specs.declared.budget.Budget.{Budget}
 use Rattle.traced_completion.specs.PlainRun.{setting_of}

@@ -6,7 +6,7 @@ ghost use Rattle.command_words.specs.Calls.{IsInRange};
 ghost use Rattle.command_words.specs.declared.call.Call.TheVariants.{Prove};
 ghost use Rattle.adjoint_rules.specs.Claims.{claim_numbers};
 ghost use Rattle.model_candidates.specs.Candidates.{IsLeastBreaking, NoneBreaks};
-ghost use Rattle.basis_text.specs.Written.{IsPolyOver};
+ghost use Rattle.quiver.specs.Over.{IsPolyOver};
 ghost use Rattle.report_text.specs.Report.{IsVerdictOver};
 ghost use Rattle.report_text.specs.declared.verdict.Verdict.TheVariants.{Refuted, Undecided};
 ghost use Rattle.traced_completion.specs.Completions.{IsBudget};

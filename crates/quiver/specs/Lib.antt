@@ -3,3 +3,4 @@ pub mod Declarations
 pub mod Refusals
 pub mod Signatures
 pub mod Tables
+pub mod Over

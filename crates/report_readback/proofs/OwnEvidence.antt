@@ -18,7 +18,7 @@ use Rattle.block_text.specs.Lines.{block_limit}
 use Rattle.block_text.specs.Back.{is_named}
 use Rattle.model_text.specs.Back.{IsWritableModel}
 use Rattle.report_text.specs.declared.verdict.Verdict.{Verdict}
-use Rattle.basis_text.specs.Written.{IsPolyOver}
+use Rattle.quiver.specs.Over.{IsPolyOver}
 use Rattle.report_text.specs.Report.{report_of}
 use Rattle.report_readback.specs.ReadBack.{IsReadAs, proved_in, IsWritableVerdict, AreVerdictsOf}
 use Rattle.report_readback.specs.ModelsReadBack.{refuted_in}

@@ -13,7 +13,7 @@ use Rattle.traced_rows.specs.declared.evidence.Format.TheVariants.{Lemmas}
 use Rattle.block_text.specs.Fault.{no_block}
 use Rattle.block_text.specs.Blocks.{own_in}
 use Rattle.block_text.specs.Texts.{none}
-use Rattle.basis_text.specs.Written.{IsPolyOver}
+use Rattle.quiver.specs.Over.{IsPolyOver}
 use Rattle.certificate_text.specs.Bounds.{IsCertificateOf}
 use Rattle.certificate_text.specs.Evidence.{HasCertificates, IsFirstFault}
 use Rattle.block_text.specs.Back.{is_named, block as certificate, comment, other}

@@ -20,7 +20,7 @@ use Rattle.claim_decider.specs.declared.outcome.Outcome.TheVariants as outcome
 use Rattle.claim_decider.specs.Decided.{AreOutcomesOf, AreLastRules}
 use Rattle.block_text.specs.Fault.{no_block}
 use Rattle.block_text.specs.Lines.{block_limit}
-use Rattle.basis_text.specs.Written.{IsPolyOver}
+use Rattle.quiver.specs.Over.{IsPolyOver}
 use Rattle.certificate_text.specs.Evidence.{HasCertificates, IsEvidence, IsFirstFault}
 use Rattle.block_text.specs.Back.{is_named}
 use Rattle.certificate_text.specs.Back.{IsWritableEvidence}

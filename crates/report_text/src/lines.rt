@@ -2,7 +2,7 @@
 
 ghost use Rattle.std.specs.Prelude.{◌≡◌, ◌++◌, IfOk, OnOk};
 ghost use Rattle.std.specs.List.{All};
-ghost use Rattle.basis_text.specs.Written.{IsPolyOver};
+ghost use Rattle.quiver.specs.Over.{IsPolyOver};
 ghost use Rattle.report_text.specs.Report.{block_text, report_of, heads_of, IsVerdictOver};
 
 use crate::Verdict;

@@ -9,7 +9,8 @@ use Rattle.cofactor_checker.proofs.RowSums.{Names, named, length-polynomials}
 use Rattle.word_core.specs.Letters.{IsOver}
 use Rattle.cancel_rules.specs.declared.cancellation.Cancellation.{Cancellation}
 use Rattle.cancel_rules.specs.Items.{stripped, HasAtEnd, IsTypedItem}
-use Rattle.cancel_rules.specs.Inner.{IsPolyOver, MarksDeclared}
+use Rattle.cancel_rules.specs.Inner.{MarksDeclared}
+use Rattle.quiver.specs.Over.{IsPolyOver}
 use Rattle.cancel_rules.proofs.Divides.{clash}
 use Rattle.cancel_rules.proofs.Found.{holds_there, some_object}
 use Rattle.cancel_rules.proofs.Without.{stripped_over}

@@ -11,7 +11,8 @@ use Rattle.cofactor_checker.proofs.LemmaSteps.{polynomials_more, total_more}
 use Rattle.cancel_rules.specs.declared.refusal.CancelRefusal.TheVariants as refusal
 use Rattle.cancel_rules.specs.Items.{item_polynomial, rows_in, ItemPasses, RefusesItems}
 use Rattle.cancel_rules.specs.Acceptance.{OfLemma, IsReadableItem}
-use Rattle.cancel_rules.specs.Inner.{IsPolyOver, IsMadeItem}
+use Rattle.cancel_rules.specs.Inner.{IsMadeItem}
+use Rattle.quiver.specs.Over.{IsPolyOver}
 use Rattle.cancel_rules.proofs.Steps.{ItemsUpTo, refuse_here, goes_on, memory_here, passes_with, keeps_too_much}
 use Rattle.cancel_rules.proofs.items.make_items.Goals as goal
 

@@ -2,7 +2,7 @@ use Rattle.std.proofs.Common.{◌≡◌, ◌≤◌, All, length}
 use Rattle.quiver.specs.Declarations.{quiver_of}
 use Rattle.adjoint_rules.specs.Problem.{polynomials}
 use Rattle.cofactor_checker.specs.Lemmas.{term_total}
-use Rattle.cancel_rules.specs.Inner.{IsPolyOver}
+use Rattle.quiver.specs.Over.{IsPolyOver}
 use Rattle.cancel_rules.proofs.Steps.{ItemsUpTo}
 use Rattle.cancel_rules.proofs.items.make_items.Given as goal
 

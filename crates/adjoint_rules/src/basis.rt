@@ -3,9 +3,6 @@
 use lists::Listing;
 use nc_polynomial::Poly;
 
-/// The greatest number of rules of a basis in evidence text.
-pub const RULE_LIMIT: u32 = 100_000;
-
 /// Rules, given as a basis by which a claim has a rest. Plain data: nothing is known of it.
 #[derive(Drop)]
 pub struct Basis {
