@@ -7,9 +7,9 @@ ghost use Rattle.block_text.specs.Fault.{ExplainsBy};
 ghost use Rattle.basis_text.specs.Bases.{by_terms, AreCanonical, IsBases, IsFirstFault};
 ghost use Rattle.adjoint_rules.specs.Bases.{IsBasisOver};
 
-use adjoint_rules::Basis;
 use crate::place::BasisTerms;
 use crate::step::Bases;
+use adjoint_rules::Basis;
 use block_text::{ReadText, read_blocks};
 use lists::Listing;
 use nc_polynomial::Poly;

@@ -5,8 +5,8 @@ ghost use Rattle.block_text.specs.Lines.{number_limit};
 ghost use Rattle.adjoint_rules.specs.Limits.{rule_limit};
 ghost use Rattle.basis_text.specs.Reading.{basis_steps};
 
-use adjoint_rules::RULE_LIMIT;
 use crate::place::BasisTerms;
+use adjoint_rules::RULE_LIMIT;
 use block_lines::{
     LinePlace, LineThen, LinesPlace, LinesThen, NoLines, NumberLine, PolynomialLine, Section,
 };

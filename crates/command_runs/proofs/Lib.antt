@@ -14,3 +14,12 @@ mod PromisedBlocks
 mod Promised
 mod PromisedEvidence
 mod PromisedCalls
+pub mod EndedReductions
+pub mod MadeRules
+pub mod ClosedRuns
+pub mod RunRules
+pub mod Printed
+pub mod BasisReports
+pub mod ClaimBases
+pub mod SharpRuns
+pub mod StatementBases

@@ -24,9 +24,9 @@ use Rattle.claim_decider.specs.Decided.{AreOutcomesOf, AreLastRules}
 use Rattle.outcome_laws.specs.Meanings.{IsOutcomeAt}
 use Rattle.adjoint_rules.specs.declared.basis.Basis.{Basis}
 use Rattle.closed_checker.specs.Rests.{rules_of}
-use Rattle.closed_runs.specs.Printed.{IsPrinted}
-use Rattle.closed_runs.specs.BasesReadBack.{basis_by}
-use Rattle.closed_runs.proofs.SharpRuns.{printed_bases_mean_sharp, printed_bases_mean_star_sharp}
+use Rattle.command_runs.specs.Printed.{IsPrinted}
+use Rattle.command_runs.specs.BasesReadBack.{basis_by}
+use Rattle.command_runs.proofs.SharpRuns.{printed_bases_mean_sharp, printed_bases_mean_star_sharp}
 use Rattle.prove_command.specs.declared.prove.Asked.{Asked}
 use Rattle.prove_command.specs.Answers.{Print, IsVerdictOn, proved, not_derivable, refuted, undecided, AreVerdictsOn, asked_by_bench}
 use Rattle.prove_command.specs.Says.{VerdictMeans, PrintsMeant}

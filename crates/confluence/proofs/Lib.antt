@@ -30,3 +30,18 @@ pub mod ZeroRestLaws
 pub mod PlaceLaws
 pub mod WrittenTerms
 mod Examples
+pub mod MoreRules
+pub mod MadeSpans
+pub mod MoreAmbiguities
+pub mod RowSums
+pub mod Appending
+pub mod Steps
+pub mod Treating
+pub mod Inside
+pub mod OutsideIdeals
+pub mod TypedLaws
+pub mod ShapeLaws
+pub mod MakingLaws
+pub mod Ends
+pub mod Contents
+mod CompletionExample

@@ -3,3 +3,9 @@ pub mod Reductions
 pub mod Reducible
 pub mod ZeroRests
 pub mod Places
+pub mod Rests
+pub mod Making
+pub mod Kept
+pub mod Typed
+pub mod Shapes
+pub mod Conclusions

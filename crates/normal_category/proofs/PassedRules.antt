@@ -18,7 +18,7 @@ use Rattle.rule_reduce.specs.KeptWords.{IsPolyInPlay}
 use Rattle.rule_reduce.proofs.WordsKept.{words_with_coefficients}
 use Rattle.adjoint_rules.specs.Problem.{numbers, is_in_play}
 use Rattle.adjoint_rules.specs.declared.parts.Parts.{Parts}
-use Rattle.completion_laws.specs.Typed.{AreTypedInPlay}
+use Rattle.confluence.specs.Typed.{AreTypedInPlay}
 use Rattle.normal_category.specs.Faults.{IsFirstWithout, IsTypedIn, PlaysIn}
 
 module _ (P : Rule → Type 0) (rules : List Rule) where

@@ -17,7 +17,7 @@ use Rattle.adjoint_rules.specs.declared.problem.Problem.{Problem}
 use Rattle.adjoint_rules.specs.Problem.{numbers, is_in_play, polynomials, generators_in, IsInPlay, HasLettersInPlay}
 use Rattle.adjoint_rules.proofs.Generators.{claims_have_signatures}
 use Rattle.adjoint_rules.specs.Claims.{claim_at}
-use Rattle.completion_laws.specs.Typed.{AreTypedInPlay}
+use Rattle.confluence.specs.Typed.{AreTypedInPlay}
 use Rattle.adjoint_rules.proofs.LettersInPlay.{generator_words}
 use Rattle.normal_forms.specs.NormalForms.{IsBasis}
 use Rattle.normal_forms.specs.SharpMeans.{SharpMeans}

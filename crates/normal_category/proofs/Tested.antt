@@ -11,7 +11,7 @@ use Rattle.quiver.specs.Declarations.{quiver_of}
 use Rattle.rule_reduce.specs.declared.rule.Rule.{Rule}
 use Rattle.rule_reduce.specs.RuleLists.{polynomials_of}
 use Rattle.adjoint_rules.specs.Problem.{numbers, is_in_play}
-use Rattle.completion_laws.specs.Typed.{IsTypedInPlay}
+use Rattle.confluence.specs.Typed.{IsTypedInPlay}
 use Rattle.normal_category.specs.Tests.{are_paths, is_typed, has_letters_in_play}
 use Rattle.normal_category.specs.Laws.{SharpRulesAreTold}
 use Rattle.normal_category.proofs.PassedRules.{words_tested, words_suffice}

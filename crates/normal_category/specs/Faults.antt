@@ -7,7 +7,7 @@ use Rattle.rule_reduce.specs.RuleLists.{rule_at}
 use Rattle.rule_reduce.specs.KeptWords.{IsTypedRule, IsPolyInPlay}
 use Rattle.adjoint_rules.specs.declared.parts.Parts.{Parts}
 use Rattle.adjoint_rules.specs.Problem.{numbers, is_in_play}
-use Rattle.completion_laws.specs.Typed.{AreTypedInPlay}
+use Rattle.confluence.specs.Typed.{AreTypedInPlay}
 use Rattle.normal_category.specs.declared.fault.SharpFault.{SharpFault}
 use Rattle.normal_category.specs.declared.fault.SharpFault.TheVariants as fault
 

@@ -26,7 +26,7 @@ use Rattle.rule_reduce.proofs.Numbers.{rule_at-all}
 use Rattle.adjoint_rules.specs.declared.parts.Parts.{Parts}
 use Rattle.adjoint_rules.specs.Problem.{numbers, is_in_play, polynomials, generators_in}
 use Rattle.adjoint_rules.proofs.Generators.{posed_quiver, marked_are_objects, assumptions_have_signatures}
-use Rattle.completion_laws.specs.Typed.{IsTypedInPlay}
+use Rattle.confluence.specs.Typed.{IsTypedInPlay}
 use Rattle.confluence.proofs.Led.{HasLed, led_at, polys_of, Comes}
 use Rattle.confluence.proofs.LedRules.{led_of, led_is, leds_of, polys_of-leds, led_at-is, rule_of_number, leds_are}
 use Rattle.confluence.proofs.Spans.{Span}

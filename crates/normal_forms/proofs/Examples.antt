@@ -35,7 +35,7 @@ use Rattle.ambiguities.specs.Resolved.{IsResolved, Resolved}
 use Rattle.ambiguities.proofs.Balance.{s_polynomials_balance}
 use Rattle.adjoint_rules.specs.declared.parts.Parts.{Parts}
 use Rattle.adjoint_rules.specs.Problem.{IsPosed, IsShape, IsSide, IsDeclaredMap, IsTypedOf, HasObjects, HasLettersInPlay, IsInPlay, is_in_play, generators_in}
-use Rattle.completion_laws.specs.Typed.{IsTypedInPlay}
+use Rattle.confluence.specs.Typed.{IsTypedInPlay}
 use Rattle.confluence.specs.Reductions.{IsZero, IsReduced}
 use Rattle.confluence.proofs.RestLaws.{normal_forms_are_reduced, rests_of_ideal_are_zero}
 use Rattle.confluence.proofs.WrittenTerms.{shaped_as_written, canonical_as_written}

@@ -12,7 +12,7 @@ use Rattle.rule_reduce.specs.RuleLists.{IsRule, polynomials_of}
 use Rattle.ambiguities.specs.Resolved.{is_below, Resolved}
 use Rattle.adjoint_rules.specs.declared.parts.Parts.{Parts}
 use Rattle.adjoint_rules.specs.Problem.{IsPosed, numbers, is_in_play, generators_in}
-use Rattle.completion_laws.specs.Typed.{AreTypedInPlay}
+use Rattle.confluence.specs.Typed.{AreTypedInPlay}
 use Rattle.normal_forms.specs.Fractions.{Fraction, IsLowest, is_zero, fractions}
 use Rattle.normal_forms.specs.Forms.{Form}
 use Rattle.normal_forms.specs.RationalForms.{rational_normal_form}

@@ -13,10 +13,10 @@ use Rattle.traced_rows.specs.declared.Row.{Row}
 use Rattle.traced_rows.specs.declared.Made.{Made}
 use Rattle.rule_reduce.specs.declared.rule.Rule.{Rule}
 use Rattle.confluence.specs.Reductions.{IsNonzero}
-use Rattle.completion_laws.specs.Rests.{IsMadeOf, IsAppended, nothing_left, rule_made}
-use Rattle.completion_laws.specs.Typed.{IsTypedInPlay}
-use Rattle.completion_laws.proofs.MakingLaws.{scale_positive, pushed_rules_are_made}
-use Rattle.completion_laws.proofs.TypedLaws.{typed_has_no_empty_word}
+use Rattle.confluence.specs.Rests.{IsMadeOf, IsAppended, nothing_left, rule_made}
+use Rattle.confluence.specs.Typed.{IsTypedInPlay}
+use Rattle.confluence.proofs.MakingLaws.{scale_positive, pushed_rules_are_made}
+use Rattle.confluence.proofs.TypedLaws.{typed_has_no_empty_word}
 use Rattle.rule_making.specs.Making.{Recorded, rest_with, leads_negative, IsMadeFrom, Adds}
 use Rattle.rule_making.proofs.Quotients.{quotient_words, leading_positive}
 

@@ -31,10 +31,10 @@ use Rattle.adjoint_rules.specs.declared.problem.Problem.{Problem}
 use Rattle.adjoint_rules.specs.Problem.{polynomials}
 use Rattle.adjoint_rules.specs.Claims.{claim_at}
 use Rattle.confluence.specs.Reductions.{IsReduced}
-use Rattle.completion_laws.specs.Rests.{IsEarlier}
-use Rattle.completion_laws.specs.Kept.{AreRecorded}
-use Rattle.completion_laws.proofs.Inside.{zero_is_inside}
-use Rattle.completion_laws.proofs.RowSums.{traced_sum-by_rules}
+use Rattle.confluence.specs.Rests.{IsEarlier}
+use Rattle.confluence.specs.Kept.{AreRecorded}
+use Rattle.confluence.proofs.Inside.{zero_is_inside}
+use Rattle.confluence.proofs.RowSums.{traced_sum-by_rules}
 use Rattle.traced_completion.specs.declared.budget.Budget.{Budget}
 use Rattle.traced_completion.specs.PlainRun.{RunState, IsRunState, setting_of}
 use Rattle.claim_decider.specs.Outcomes.{record_of}

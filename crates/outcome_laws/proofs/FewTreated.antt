@@ -20,10 +20,10 @@ use Rattle.ambiguities.specs.declared.ambiguity.Ambiguity.{Ambiguity}
 use Rattle.ambiguities.specs.Ambiguities.{IsAmbiguity, overlap_word_of}
 use Rattle.adjoint_rules.specs.declared.problem.Problem.{Problem}
 use Rattle.adjoint_rules.specs.Claims.{claim_at}
-use Rattle.completion_laws.specs.Kept.{AreApart}
-use Rattle.completion_laws.specs.Conclusions.{NothingPendingBelow}
-use Rattle.completion_laws.proofs.MoreAmbiguities.{ambiguity_more, overlap_word-more}
-use Rattle.completion_laws.proofs.TypedLaws.{overlap_in_play}
+use Rattle.confluence.specs.Kept.{AreApart}
+use Rattle.confluence.specs.Conclusions.{NothingPendingBelow}
+use Rattle.confluence.proofs.MoreAmbiguities.{ambiguity_more, overlap_word-more}
+use Rattle.confluence.proofs.TypedLaws.{overlap_in_play}
 use Rattle.traced_completion.specs.Limits.{round_limit}
 use Rattle.traced_completion.specs.declared.budget.Budget.{Budget}
 use Rattle.ambiguities.specs.declared.waiting.Waiting.{Waiting}

@@ -19,12 +19,12 @@ use Rattle.ambiguities.specs.SPolynomials.{s_rows_of, s_polynomial_of}
 use Rattle.ambiguities.proofs.Balance.{s_polynomials_balance}
 use Rattle.ambiguities.proofs.Bounds.{over_terms}
 use Rattle.confluence.specs.Reductions.{IsReduced}
-use Rattle.completion_laws.specs.Rests.{rows_less, IsAppended}
-use Rattle.completion_laws.specs.Kept.{Kept}
-use Rattle.completion_laws.specs.Typed.{AreTypedInPlay}
-use Rattle.completion_laws.proofs.ShapeLaws.{s_polynomials_are_shaped}
-use Rattle.completion_laws.proofs.Treating.{ambiguities_are_kept, resolved_at_once_is_kept}
-use Rattle.completion_laws.proofs.TypedLaws.{s_polynomials_stay_typed, rules_stay_typed}
+use Rattle.confluence.specs.Rests.{rows_less, IsAppended}
+use Rattle.confluence.specs.Kept.{Kept}
+use Rattle.confluence.specs.Typed.{AreTypedInPlay}
+use Rattle.confluence.proofs.ShapeLaws.{s_polynomials_are_shaped}
+use Rattle.confluence.proofs.Treating.{ambiguities_are_kept, resolved_at_once_is_kept}
+use Rattle.confluence.proofs.TypedLaws.{s_polynomials_stay_typed, rules_stay_typed}
 use Rattle.rule_making.specs.Making.{Recorded, Rest, rest_with, Adds}
 use Rattle.traced_completion.specs.Results.{and_then, halted, unless_overflow, each_in_turn}
 use Rattle.traced_completion.specs.Works.{First, first_of, rows_operations, second_rows, second_rest, second_reduction, second_work, Goes, InTurn}

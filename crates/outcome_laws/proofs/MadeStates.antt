@@ -22,7 +22,7 @@ use Rattle.ambiguities.specs.SPolynomials.{s_rows_of}
 use Rattle.ambiguities.proofs.Balance.{s_polynomials_balance}
 use Rattle.adjoint_rules.specs.declared.problem.Problem.{Problem}
 use Rattle.adjoint_rules.specs.Problem.{polynomials}
-use Rattle.completion_laws.proofs.ShapeLaws.{normal_forms_are_shaped, s_polynomials_are_shaped}
+use Rattle.confluence.proofs.ShapeLaws.{normal_forms_are_shaped, s_polynomials_are_shaped}
 use Rattle.rule_making.specs.Making.{Recorded, Rest, rest_with, Adds}
 use Rattle.traced_completion.specs.declared.budget.Budget.{Budget}
 use Rattle.ambiguities.specs.declared.waiting.Waiting.{Waiting}

@@ -16,7 +16,7 @@ use Rattle.rule_reduce.specs.declared.rule.Rule.{Rule}
 use Rattle.rule_reduce.specs.Leading.{greatest_from, leading_term}
 use Rattle.rule_making.specs.Making.{Rest, leads_negative, negated_rows, IsMadeFrom}
 use Rattle.rule_making.proofs.Quotients.{signed, signed_nonzero, negative_divides}
-use Rattle.completion_laws.proofs.Contents.{HasContent, has_content, positive_content, quotient, multiple_of_quotient}
+use Rattle.confluence.proofs.Contents.{HasContent, has_content, positive_content, quotient, multiple_of_quotient}
 
 pub record HasRule (compare : Compare) (rest : Rest) : Type 0 where
   pub rule : Rule

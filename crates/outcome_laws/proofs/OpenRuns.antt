@@ -23,9 +23,9 @@ use Rattle.adjoint_rules.specs.Problem.{polynomials}
 use Rattle.adjoint_rules.specs.Claims.{claim_at}
 use Rattle.confluence.specs.Reductions.{IsNonzero, IsReduced}
 use Rattle.confluence.proofs.RestLaws.{normal_forms_are_reduced}
-use Rattle.completion_laws.specs.Conclusions.{NothingPendingBelow}
-use Rattle.completion_laws.proofs.Outside.{nonzero_is_outside, nonzero_is_not_below}
-use Rattle.completion_laws.proofs.ShapeLaws.{normal_forms_are_shaped}
+use Rattle.confluence.specs.Conclusions.{NothingPendingBelow}
+use Rattle.confluence.proofs.OutsideIdeals.{nonzero_is_outside, nonzero_is_not_below}
+use Rattle.confluence.proofs.ShapeLaws.{normal_forms_are_shaped}
 use Rattle.traced_completion.specs.declared.budget.Budget.{Budget}
 use Rattle.ambiguities.specs.declared.waiting.Waiting.{Waiting}
 use Rattle.rule_making.specs.Making.{Recorded}

@@ -15,7 +15,7 @@ use Rattle.ambiguities.proofs.Ascending.{contains-map}
 use Rattle.ambiguities.proofs.Candidates.{ambiguity_decided, candidates, in_candidates}
 use Rattle.ambiguities.proofs.Comparing.{before_trans, before_compared}
 use Rattle.ambiguities.proofs.Sorted.{Decided, listing}
-use Rattle.completion_laws.proofs.Outside.{listed_or_not}
+use Rattle.confluence.proofs.OutsideIdeals.{listed_or_not}
 use Rattle.traced_completion.specs.Pending.{IsPending, AreAllPending}
 
 -- in the order of the store

@@ -21,7 +21,7 @@ use Rattle.adjoint_rules.specs.Problem.{polynomials}
 use Rattle.adjoint_rules.specs.Parts.{units_in}
 use Rattle.adjoint_rules.proofs.Generators.{claims_have_signatures, generators_have_signatures}
 use Rattle.confluence.specs.Reductions.{HasLettersBelow}
-use Rattle.completion_laws.specs.Conclusions.{AreAllDone}
+use Rattle.confluence.specs.Conclusions.{AreAllDone}
 use Rattle.traced_completion.specs.UnitsFirst.{units_first}
 use Rattle.adjoint_rules.proofs.Counted.{few_units_closed}
 use Rattle.adjoint_rules.specs.Claims.{claim_at}

@@ -11,9 +11,9 @@ use Rattle.ambiguities.specs.declared.ambiguity.Ambiguity.{Ambiguity}
 use Rattle.ambiguities.specs.Ambiguities.{IsAmbiguity, overlap_word_of}
 use Rattle.adjoint_rules.specs.declared.problem.Problem.{Problem}
 use Rattle.adjoint_rules.specs.Problem.{polynomials}
-use Rattle.completion_laws.specs.Kept.{IsReached}
-use Rattle.completion_laws.proofs.Inside.{rules_are_inside}
-use Rattle.completion_laws.proofs.Outside.{listed_or_not, resolved_where_closed, resolved_below_pending}
+use Rattle.confluence.specs.Kept.{IsReached}
+use Rattle.confluence.proofs.Inside.{rules_are_inside}
+use Rattle.confluence.proofs.OutsideIdeals.{listed_or_not, resolved_where_closed, resolved_below_pending}
 use Rattle.traced_completion.specs.declared.budget.Budget.{Budget}
 use Rattle.traced_completion.specs.Pending.{AreAllPending}
 use Rattle.traced_completion.specs.PlainRun.{RunState, setting_of, IsRunState}

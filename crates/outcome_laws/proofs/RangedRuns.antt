@@ -27,7 +27,7 @@ use Rattle.rule_reduce.specs.Steps.{multiplied_row, row_operations}
 use Rattle.rule_reduce.specs.NormalForms.{halt_of, normal_form_of}
 use Rattle.ambiguities.specs.declared.ambiguity.Ambiguity.{Ambiguity}
 use Rattle.ambiguities.specs.SPolynomials.{s_rows_of, s_polynomial_of}
-use Rattle.completion_laws.proofs.ShapeLaws.{normal_forms_are_shaped, s_polynomials_are_shaped}
+use Rattle.confluence.proofs.ShapeLaws.{normal_forms_are_shaped, s_polynomials_are_shaped}
 use Rattle.ambiguities.specs.declared.waiting.Waiting.{Waiting}
 use Rattle.rule_making.specs.Making.{Recorded, Rest, rest_with, negated_rows, leads_negative, IsMadeFrom, Adds}
 use Rattle.traced_completion.specs.Pending.{ambiguities_of}

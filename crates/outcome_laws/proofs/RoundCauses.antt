@@ -29,9 +29,9 @@ use Rattle.ambiguities.specs.Ambiguities.{IsAmbiguity}
 use Rattle.ambiguities.proofs.Balance.{s_polynomials_balance}
 use Rattle.adjoint_rules.specs.declared.problem.Problem.{Problem}
 use Rattle.adjoint_rules.specs.Problem.{polynomials}
-use Rattle.completion_laws.specs.Conclusions.{NothingPendingBelow}
-use Rattle.completion_laws.proofs.Inside.{rules_are_inside}
-use Rattle.completion_laws.proofs.ShapeLaws.{s_polynomials_are_shaped}
+use Rattle.confluence.specs.Conclusions.{NothingPendingBelow}
+use Rattle.confluence.proofs.Inside.{rules_are_inside}
+use Rattle.confluence.proofs.ShapeLaws.{s_polynomials_are_shaped}
 use Rattle.rule_making.specs.Making.{Recorded}
 use Rattle.traced_completion.specs.declared.budget.Budget.{Budget}
 use Rattle.ambiguities.specs.declared.waiting.Waiting.{Waiting}

@@ -17,7 +17,7 @@ use Rattle.rule_reduce.specs.NormalForms.{halt_of, normal_form_of}
 use Rattle.ambiguities.specs.declared.ambiguity.Ambiguity.{Ambiguity}
 use Rattle.ambiguities.specs.Ambiguities.{IsAmbiguity}
 use Rattle.ambiguities.specs.SPolynomials.{s_rows_of, s_polynomial_of}
-use Rattle.completion_laws.specs.Typed.{AreTypedInPlay}
+use Rattle.confluence.specs.Typed.{AreTypedInPlay}
 use Rattle.rule_making.specs.Making.{Recorded, Rest, rest_with}
 use Rattle.traced_completion.specs.Results.{and_then, halted, unless_overflow, each_in_turn}
 use Rattle.traced_completion.specs.Works.{generator_rows, generator_work, First, first_of, rows_operations, second_rows, second_rest, second_reduction, second_work, Goes, InTurn}

@@ -17,12 +17,12 @@ use Rattle.rule_reduce.proofs.WordsKept.{words_with_coefficients}
 use Rattle.ambiguities.specs.declared.ambiguity.Ambiguity.{Ambiguity}
 use Rattle.confluence.specs.Reductions.{HasLettersBelow, IsReduced}
 use Rattle.confluence.proofs.RestLaws.{normal_forms_are_reduced}
-use Rattle.completion_laws.specs.Rests.{generator_rows}
-use Rattle.completion_laws.specs.Kept.{HaveLettersBelow, Kept}
-use Rattle.completion_laws.specs.Typed.{IsTypedInPlay, AreTypedInPlay}
-use Rattle.completion_laws.proofs.ShapeLaws.{normal_forms_are_shaped, rests_have_letters_below}
-use Rattle.completion_laws.proofs.Steps.{generators_are_kept}
-use Rattle.completion_laws.proofs.TypedLaws.{normal_forms_stay_typed, rules_stay_typed}
+use Rattle.confluence.specs.Rests.{generator_rows}
+use Rattle.confluence.specs.Kept.{HaveLettersBelow, Kept}
+use Rattle.confluence.specs.Typed.{IsTypedInPlay, AreTypedInPlay}
+use Rattle.confluence.proofs.ShapeLaws.{normal_forms_are_shaped, rests_have_letters_below}
+use Rattle.confluence.proofs.Steps.{generators_are_kept}
+use Rattle.confluence.proofs.TypedLaws.{normal_forms_stay_typed, rules_stay_typed}
 use Rattle.rule_making.specs.Making.{Recorded, Rest, rest_with, Adds}
 use Rattle.traced_completion.specs.Results.{and_then}
 use Rattle.traced_completion.specs.Works.{generator_work, Goes, InTurn}

@@ -11,9 +11,9 @@ use Rattle.rule_reduce.specs.declared.rule.Rule.{Rule}
 use Rattle.rule_reduce.specs.declared.fault.ReduceFault.{ReduceFault}
 use Rattle.ambiguities.specs.declared.ambiguity.Ambiguity.{Ambiguity}
 use Rattle.ambiguities.specs.Ambiguities.{IsAmbiguity, overlap_word_of}
-use Rattle.completion_laws.specs.Conclusions.{NothingPending}
-use Rattle.completion_laws.specs.Typed.{IsTypedInPlay}
-use Rattle.completion_laws.proofs.Steps.{start_is_kept}
+use Rattle.confluence.specs.Conclusions.{NothingPending}
+use Rattle.confluence.specs.Typed.{IsTypedInPlay}
+use Rattle.confluence.proofs.Steps.{start_is_kept}
 use Rattle.ambiguities.specs.declared.waiting.Waiting.{Waiting}
 use Rattle.rule_making.specs.Making.{Recorded}
 use Rattle.traced_completion.specs.Results.{each_in_turn}

@@ -27,8 +27,8 @@ use Rattle.ambiguities.specs.Resolved.{IsResolved, s_sum}
 use Rattle.adjoint_rules.specs.declared.problem.Problem.{Problem}
 use Rattle.adjoint_rules.specs.Problem.{polynomials}
 use Rattle.adjoint_rules.specs.Claims.{claim_at}
-use Rattle.completion_laws.specs.Kept.{AreApart, AreRecorded}
-use Rattle.completion_laws.specs.Conclusions.{NothingPendingBelow}
+use Rattle.confluence.specs.Kept.{AreApart, AreRecorded}
+use Rattle.confluence.specs.Conclusions.{NothingPendingBelow}
 use Rattle.traced_completion.specs.declared.budget.Budget.{Budget}
 use Rattle.outcome_laws.specs.Certificates.{IsOfCertificate, HasLongRow, HasManyRows}
 use Rattle.outcome_laws.specs.ReductionSteps.{Reduced, unreduced, row_times, HasOneMore, IsOfReduction, IsTooLarge, GetsTooLarge, Leaves, row_words, IsOfSum}

@@ -8,9 +8,9 @@ use Rattle.word_orders.specs.Admissible.{Compare, IsAdmissible}
 use Rattle.nc_polynomial.specs.Shape.{IsShaped}
 use Rattle.rule_reduce.specs.declared.rule.Rule.{Rule}
 use Rattle.ambiguities.specs.declared.ambiguity.Ambiguity.{Ambiguity}
-use Rattle.completion_laws.specs.Kept.{Kept}
-use Rattle.completion_laws.specs.Typed.{IsTypedInPlay, AreTypedInPlay}
-use Rattle.completion_laws.specs.Conclusions.{NothingPending, NothingPendingBelow}
+use Rattle.confluence.specs.Kept.{Kept}
+use Rattle.confluence.specs.Typed.{IsTypedInPlay, AreTypedInPlay}
+use Rattle.confluence.specs.Conclusions.{NothingPending, NothingPendingBelow}
 use Rattle.ambiguities.specs.declared.waiting.Waiting.{Waiting}
 use Rattle.traced_completion.specs.Pending.{AreAllPending}
 use Rattle.traced_completion.specs.UnitsFirst.{units_first}

@@ -11,8 +11,8 @@ use Rattle.ambiguities.specs.Ambiguities.{IsAmbiguity, overlap_word_of}
 use Rattle.ambiguities.specs.Resolved.{IsResolved, ResolvedBelow, Resolved}
 use Rattle.adjoint_rules.specs.declared.problem.Problem.{Problem}
 use Rattle.adjoint_rules.specs.Problem.{numbers, is_in_play, polynomials}
-use Rattle.completion_laws.specs.Kept.{AreApart, AreRecorded, IsReached}
-use Rattle.completion_laws.specs.Typed.{AreTypedInPlay}
+use Rattle.confluence.specs.Kept.{AreApart, AreRecorded, IsReached}
+use Rattle.confluence.specs.Typed.{AreTypedInPlay}
 use Rattle.traced_completion.specs.declared.budget.Budget.{Budget}
 use Rattle.ambiguities.specs.declared.waiting.Waiting.{Waiting}
 use Rattle.traced_completion.specs.Pending.{IsPending, AreAllPending}

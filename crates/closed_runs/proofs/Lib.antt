@@ -1,9 +1,0 @@
-pub mod EndedReductions
-pub mod MadeRules
-pub mod ClosedRuns
-pub mod RunRules
-pub mod Printed
-pub mod BasisReports
-pub mod ClaimBases
-pub mod SharpRuns
-pub mod StatementBases

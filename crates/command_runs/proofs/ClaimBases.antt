@@ -1,0 +1,154 @@
+-- The bases of the closed claims of a problem can be written, and each is closed, or its check stops.
+use Rattle.std.proofs.Common.{◌≡◌, ◌≢◌, ◌<◌, ◌≤◌, inl, inr, ℕ, zero, suc, ◌+◌, pos, List, [], ◌∷◌, length, refl, sym, ap, ◌∙◌, subst, arith}
+use Rattle.std.specs.List.{All, AllByRecursion, range_with_len}
+use Rattle.std.proofs.lemmas.List.Elements.{All-from_recursion, recursion_from_All}
+use Rattle.definitions.specs.Poly.{Term}
+use Rattle.word_core.specs.Letters.{IsOver}
+use Rattle.word_orders.specs.Admissible.{Compare}
+use Rattle.nc_polynomial.specs.declared.poly.Poly.{Poly}
+use Rattle.nc_polynomial.proofs.Distinct.{distinct-descending, words_listed}
+use Rattle.nc_polynomial.proofs.Shapes.{recursion_from_IsDescending}
+use Rattle.quiver.specs.Declarations.{Declaration, letter_count, quiver_of}
+use Rattle.traced_rows.specs.declared.evidence.Format.{Format}
+use Rattle.cofactor_trace.specs.declared.halt.Halt.{Halt}
+use Rattle.rule_reduce.specs.declared.rule.Rule.{Rule}
+use Rattle.rule_reduce.specs.RuleLists.{IsRule}
+use Rattle.confluence.proofs.TypedLaws.{typed_has_no_empty_word}
+use Rattle.adjoint_rules.specs.declared.problem.Problem.{Problem}
+use Rattle.adjoint_rules.specs.Claims.{claim_at, claim_numbers}
+use Rattle.traced_completion.specs.declared.budget.Budget.{Budget}
+use Rattle.traced_completion.specs.PlainRun.{Setting, setting_of}
+use Rattle.ambiguities.proofs.Words.{AreWords, words_from, words_nonempty, normal_words}
+use Rattle.claim_decider.specs.declared.outcome.Outcome.{Outcome}
+use Rattle.claim_decider.specs.declared.outcome.Outcome.TheVariants as outcome
+use Rattle.claim_decider.specs.Decided.{AreOutcomesOf, AreLastRules, polynomials_in}
+use Rattle.outcome_laws.specs.Meanings.{IsOutcomeAt}
+use Rattle.outcome_laws.proofs.OpenRuns.{open_run}
+use Rattle.outcome_laws.proofs.OutcomeLetters.{outcomes_have_letters, last_rules_have_letters}
+use Rattle.outcome_laws.proofs.ProblemPolynomials.{any_letter, claim_is}
+use Rattle.outcome_laws.proofs.ProblemStates.{state_kept}
+use Rattle.report_text.specs.declared.verdict.Verdict.{Verdict}
+use Rattle.adjoint_rules.specs.declared.basis.Basis.{Basis}
+use Rattle.basis_text.specs.Back.{HasLetters, IsWritableBasis}
+use Rattle.adjoint_rules.specs.Limits.{rule_limit}
+use Rattle.report_readback.specs.ReadBack.{IsVerdictOfHalt, AreVerdictsOf}
+use Rattle.closed_checker.specs.Closed.{IsNumberUpTo}
+use Rattle.closed_checker.specs.Rests.{order_of}
+use Rattle.command_runs.specs.Printed.{IsConfirmedWithinLimits}
+use Rattle.command_runs.specs.BasesReadBack.{basis_by, bases_from, closed_from, ReportedBasesAreConfirmed}
+use Rattle.command_runs.proofs.ClosedRuns.{Closes, closes}
+use Rattle.command_runs.proofs.Printed.{printed_bases_are_confirmed}
+
+-- the bases of the verdicts are those of the outcomes
+module _ (ds : List Declaration) (rules : List Poly) where
+  none_of_halted : (h : Halt) (v : Verdict) (claim : ℕ) (verdicts : List Verdict) → IsVerdictOfHalt ds h v
+      → bases_from rules claim (v ∷ verdicts) ≡ bases_from rules (suc claim) verdicts
+  none_of_halted h v claim verdicts (inl undecided) = ap (λ u. bases_from rules claim (u ∷ verdicts)) undecided
+  none_of_halted h v claim verdicts (inr refuted) = ap (λ u. bases_from rules claim (u ∷ verdicts)) refuted.2
+
+  pub same_bases : (claim : ℕ) (outcomes : List Outcome) (verdicts : List Verdict) → AreVerdictsOf ds outcomes verdicts
+      → bases_from rules claim verdicts ≡ closed_from rules claim outcomes
+  same_bases claim [] [] are = refl
+  same_bases claim [] (v ∷ verdicts) are = absurd are
+  same_bases claim (o ∷ outcomes) [] are = absurd are
+  same_bases claim (outcome.Derived e ∷ outcomes) (v ∷ verdicts) are =
+      ap (λ u. bases_from rules claim (u ∷ verdicts)) are.0 ∙ same_bases (suc claim) outcomes verdicts are.1
+  same_bases claim (outcome.Closed rest ∷ outcomes) (v ∷ verdicts) are =
+      ap (λ u. bases_from rules claim (u ∷ verdicts)) are.0 ∙ ap (λ (bases : List Basis). basis_by rules claim rest ∷ bases)
+      (same_bases (suc claim) outcomes verdicts are.1)
+  same_bases claim (outcome.Halted h ∷ outcomes) (v ∷ verdicts) are = none_of_halted h v claim verdicts are.0 ∙ same_bases (suc claim) outcomes verdicts are.1
+
+module _ (problem : Problem) (budget : Budget) (form : Format) where
+  abbrev setting : Setting
+  setting = setting_of problem budget
+
+  abbrev compare : Compare
+  compare = order_of problem
+
+  abbrev letters : ℕ
+  letters = letter_count problem.parts.quiver
+
+  abbrev count : ℕ
+  count = length problem.parts.claims
+
+  -- what holds of the basis of each closed claim, by its outcome
+  module _ (rules : List Poly) (P : Basis → Type 0)
+      (each : (number : ℕ) (rest : Poly) → IsNumberUpTo count number → IsOutcomeAt problem budget form number (outcome.Closed rest)
+      → P (basis_by rules number rest)) where
+    each_from : (claim more : ℕ) → 1 ≤ claim → claim + more ≤ suc count → (outcomes : List Outcome)
+        → AreOutcomesOf setting form problem (range_with_len claim more) outcomes
+        → AllByRecursion P (closed_from rules claim outcomes)
+    each_from claim zero first last [] are = tt
+    each_from claim zero first last (o ∷ outcomes) are = absurd are
+    each_from claim (suc more) first last [] are = absurd are
+    each_from claim (suc more) first last (o ∷ outcomes) are =
+        let step : claim + 1 ≡ suc claim = omega arith in
+        go o are.0
+        (each_from (suc claim) more (omega (arith, first)) (omega (arith, last)) outcomes
+        (subst (λ n. AreOutcomesOf setting form problem (range_with_len n more) outcomes) step are.1))
+      where
+        go : (o : Outcome) → IsOutcomeAt problem budget form claim o → AllByRecursion P (closed_from rules (suc claim) outcomes)
+            → AllByRecursion P (closed_from rules claim (o ∷ outcomes))
+        go (outcome.Derived e) is rest = rest
+        go (outcome.Closed left) is rest = (each claim left (record { least = first; most = omega (arith, last) }) is, rest)
+        go (outcome.Halted h) is rest = rest
+
+    pub each_closed : (outcomes : List Outcome) → AreOutcomesOf setting form problem (claim_numbers problem) outcomes → All P (closed_from rules 1 outcomes)
+    each_closed outcomes are = All-from_recursion P (closed_from rules 1 outcomes) (each_from 1 count (omega arith) (omega arith) outcomes are)
+
+  -- words with letters
+  claim_words : (number : ℕ) → AreWords letters (claim_at problem number)
+  claim_words number =
+      let is = claim_is problem number in
+      let claim = claim_at problem number in
+      words_from letters claim
+      (words_listed (λ w. 0 < length w) claim (distinct-descending claim (recursion_from_IsDescending claim is.shaped.descending))
+      (recursion_from_All (λ (t : Term). t.0 ≢ pos 0) claim is.shaped.nonzero)
+      (typed_has_no_empty_word (quiver_of problem.parts.quiver) any_letter claim is.typed).at)
+      (recursion_from_All (λ (t : Term). IsOver letters t.1) claim is.over)
+
+  rest_has_letters : (number : ℕ) (rest : Poly) → IsOutcomeAt problem budget form number (outcome.Closed rest) → HasLetters rest
+  rest_has_letters number rest is =
+      let closing : Closes setting (claim_at problem number) rest.terms is.rounds is.state = closes setting form number
+      (claim_at problem number) is.rounds is.state rest is.gets in
+      let run = open_run setting (claim_at problem number) is.rounds is.state closing.opened in
+      let are = (state_kept problem budget is.rounds is.state run).kept.are_rules in
+      let words = normal_words letters compare is.state.rules are (claim_at problem number) budget.steps closing.left.reduced
+      (claim_words number) closing.left.reduction in
+      All-from_recursion (λ (t : Term). 0 < length t.1) rest.terms
+      (subst (AllByRecursion (λ (t : Term). 0 < length t.1)) closing.left.rest_is (words_nonempty letters closing.left.reduced.rest words))
+
+  polys_have_letters : (rules : List Rule) → AllByRecursion (IsRule letters compare) rules → AllByRecursion HasLetters (polynomials_in rules)
+  polys_have_letters [] are = tt
+  polys_have_letters (g ∷ rules) are = (are.0.nonempty, polys_have_letters rules are.1)
+
+  module _ (rules : List Poly) (last : AreLastRules setting form problem (claim_numbers problem) rules) where
+    rules_have_letters : All HasLetters rules
+    rules_have_letters =
+        subst (All HasLetters) (sym last.are)
+        (All-from_recursion HasLetters (polynomials_in last.state.rules)
+        (polys_have_letters last.state.rules
+        (recursion_from_All (IsRule letters compare) last.state.rules (state_kept problem budget last.rounds last.state last.run).kept.are_rules)))
+
+    pub closed_are_writable : length rules ≤ rule_limit → (outcomes : List Outcome) → AreOutcomesOf setting form problem (claim_numbers problem) outcomes
+        → All (IsWritableBasis problem.parts.quiver) (closed_from rules 1 outcomes)
+    closed_are_writable few =
+        each_closed rules (IsWritableBasis problem.parts.quiver) (λ number rest there is. record {
+          claim = omega (arith, there.most, problem.posed.few_claims);
+          few = few;
+          over = record {
+            rules = last_rules_have_letters problem budget form (claim_numbers problem) rules last;
+            rest = outcomes_have_letters problem budget form number (outcome.Closed rest) is;
+          };
+          rules = rules_have_letters;
+          rest = rest_has_letters number rest is;
+        })
+
+    pub closed_are_confirmed : (outcomes : List Outcome) → AreOutcomesOf setting form problem (claim_numbers problem) outcomes
+        → All (IsConfirmedWithinLimits problem) (closed_from rules 1 outcomes)
+    closed_are_confirmed =
+        each_closed rules (IsConfirmedWithinLimits problem)
+        (λ number rest there is. printed_bases_are_confirmed problem budget form (basis_by rules number rest) (record { outcome = is; rules = last }))
+
+pub reported_bases_are_confirmed : ReportedBasesAreConfirmed
+reported_bases_are_confirmed problem budget form outcomes rules are last = closed_are_confirmed problem budget form rules last outcomes are

@@ -1,0 +1,208 @@
+-- The generator x x - x, with the letter x = 0 in the canonical order: closed after one ambiguity, and x is outside.
+use Rattle.std.proofs.Common.{◌≡◌, ◌<◌, ◌≤◌, ◌+◌, ℕ, zero, suc, pos, negsuc, List, [], ◌∷◌, length, Some, Ok, Option, false, refl, sym, ap, ◌∙◌, subst, arith}
+use Rattle.std.proofs.lemmas.Int.{ints}
+use Rattle.std.specs.List.{All}
+use Rattle.std.proofs.lemmas.List.{length-append}
+use Rattle.std.proofs.lemmas.List.Elements.{All-from_recursion}
+use Rattle.definitions.specs.Poly.{Term, coefficient_of}
+use Rattle.definitions.specs.Combination.{generator_at, InRationalIdeal}
+use Rattle.word_core.specs.Canonical.{word_cmp}
+use Rattle.word_core.specs.Letters.{IsOver}
+use Rattle.word_orders.specs.Admissible.{IsAdmissible}
+use Rattle.word_orders.specs.Rank.{rank_of}
+use Rattle.word_core.proofs.CanonicalLaws.{word_cmp-admissible}
+use Rattle.nc_polynomial.specs.Shape.{IsShaped, IsCanonical}
+use Rattle.traced_rows.specs.declared.Made.{Made}
+use Rattle.traced_rows.specs.declared.Origin.TheVariants as origin
+use Rattle.rule_reduce.specs.declared.rule.Rule.{Rule}
+use Rattle.rule_reduce.specs.declared.state.State.{State}
+use Rattle.rule_reduce.specs.RuleLists.{IsRule, rule_at, polynomials_of}
+use Rattle.rule_reduce.specs.NormalForms.{start_of}
+use Rattle.rule_reduce.proofs.WordsKept.{words_with_coefficients}
+use Rattle.ambiguities.specs.declared.ambiguity.Kind.{Kind}
+use Rattle.ambiguities.specs.declared.ambiguity.Kind.TheVariants.{Overlap, Inclusion}
+use Rattle.ambiguities.specs.declared.ambiguity.Ambiguity.{Ambiguity}
+use Rattle.ambiguities.specs.Ambiguities.{MeetsAs, IsAmbiguity, overlap_word_of}
+use Rattle.ambiguities.specs.SPolynomials.{s_polynomial_of}
+use Rattle.ambiguities.specs.Resolved.{IsResolved, Resolved}
+use Rattle.ambiguities.proofs.Balance.{s_polynomials_balance}
+use Rattle.confluence.specs.Reductions.{IsZero, IsReduced}
+use Rattle.confluence.proofs.Ideals.{ideals_stay_inside}
+use Rattle.confluence.proofs.RestLaws.{normal_forms_are_reduced, rests_of_ideal_are_zero}
+use Rattle.confluence.proofs.WrittenTerms.{shaped_as_written, canonical_as_written}
+use Rattle.confluence.proofs.ZeroRestLaws.{zero_rests_are_inside, zero_rests_are_resolved}
+use Rattle.confluence.specs.Rests.{generator_rows, IsAppended, rule_made}
+use Rattle.confluence.specs.Kept.{HaveLettersBelow, Kept}
+use Rattle.confluence.specs.Conclusions.{AreAllDone, NothingPending}
+use Rattle.confluence.proofs.Steps.{start_is_kept, generators_are_kept}
+use Rattle.confluence.proofs.Treating.{resolved_at_once_is_kept}
+use Rattle.confluence.proofs.OutsideIdeals.{nonzero_is_outside}
+
+-- x x - x
+abbrev terms : List Term
+terms = (pos 1, 0 ∷ 0 ∷ []) ∷ (negsuc 0, 0 ∷ []) ∷ []
+
+canonical : IsCanonical terms
+canonical =
+    canonical_as_written terms
+    (shaped_as_written terms ((refl, tt), (tt, tt)) ((λ e. cc), ((λ e. cc), tt)) (omega arith, (omega arith, tt)))
+    (omega arith, (omega arith, tt)) (omega arith)
+
+laws : IsAdmissible 1 word_cmp (rank_of 1)
+laws = word_cmp-admissible 1
+
+one_letter : IsOver 1 (0 ∷ [])
+one_letter = All-from_recursion (λ a. a < 1) (0 ∷ []) (omega arith, tt)
+
+two_letters : IsOver 1 (0 ∷ 0 ∷ [])
+two_letters = All-from_recursion (λ a. a < 1) (0 ∷ 0 ∷ []) (omega arith, (omega arith, tt))
+
+over : All (λ t. IsOver 1 t.1) terms
+over = All-from_recursion (λ (t : Term). IsOver 1 t.1) terms (two_letters, (one_letter, tt))
+
+abbrev rule : Rule
+rule = record { leading = pos 1; lead = 0 ∷ 0 ∷ []; poly = record { terms = terms; canonical = canonical } }
+
+is_rule : IsRule 1 word_cmp rule
+is_rule = record {
+  leading = refl;
+  positive = omega (arith, ints);
+  in_range = omega arith;
+  nonempty = All-from_recursion (λ (t : Term). 0 < length t.1) terms (omega arith, (omega arith, tt));
+  over = over;
+}
+
+abbrev generators : List (List Term)
+generators = terms ∷ []
+
+-- round 0: no rule reduces the generator, and it is made the rule
+reduced : IsReduced 1 word_cmp [] terms (start_of terms)
+reduced = normal_forms_are_reduced 1 word_cmp (rank_of 1) [] terms 0 (start_of terms) laws (All-from_recursion (IsRule 1 word_cmp) [] tt) canonical.shaped over refl
+
+abbrev made : Made
+made = record { scale = pos 1; rows = generator_rows 1 (start_of terms) }
+
+appended : IsAppended 1 word_cmp terms (generator_rows 1 (start_of terms)) [] [] (rule ∷ []) (made ∷ [])
+appended = rule_made rule made (record { is_rule = is_rule; positive = omega (arith, ints); negated = false; divided = record { at = λ w. refl }; rows_are = refl }) refl refl
+
+letters_below : HaveLettersBelow 1 generators
+letters_below zero = record { at = λ w some. absurd (some refl) }
+letters_below (suc zero) = record { at = words_with_coefficients (IsOver 1) terms (two_letters, (one_letter, tt)) }
+letters_below (suc (suc n)) = record { at = λ w some. absurd (some (past n w)) }
+  where
+    past : (n : ℕ) (w : List ℕ) → coefficient_of (generator_at generators (suc (suc n))) w ≡ pos 0
+    past zero w = refl
+    past (suc n) w = refl
+
+after_round_zero : Kept 1 word_cmp generators (rule ∷ []) (made ∷ []) (1 ∷ []) []
+after_round_zero = generators_are_kept 1 word_cmp (rank_of 1) generators [] [] [] [] 1 (start_of terms) (rule ∷ []) (made ∷ []) laws letters_below (omega arith) (omega arith) (start_is_kept 1 word_cmp generators) reduced appended
+
+-- round 1: the one ambiguity, with the overlap word x x x
+abbrev itself : Ambiguity
+itself = record { i = 1; j = 1; kind = Overlap; place = 1 }
+
+is_one : IsAmbiguity (rule ∷ []) itself
+is_one = record {
+  first = rule;
+  second = rule;
+  first_numbered = refl;
+  second_numbered = refl;
+  meets = record { before = 0 ∷ []; shared = 0 ∷ []; after = 0 ∷ []; left_splits = refl; right_splits = refl; at_place = refl; before_letters = omega arith; shared_letters = omega arith; after_letters = omega arith };
+}
+
+word : overlap_word_of (rule ∷ []) itself ≡ 0 ∷ 0 ∷ 0 ∷ []
+word = refl
+
+difference : s_polynomial_of (rule ∷ []) itself ≡ Ok []
+difference = refl
+
+zero_shaped : IsShaped []
+zero_shaped = shaped_as_written [] tt tt tt
+
+rules_are : All (IsRule 1 word_cmp) (rule ∷ [])
+rules_are = All-from_recursion (IsRule 1 word_cmp) (rule ∷ []) (is_rule, tt)
+
+zero_reduced : IsReduced 1 word_cmp (rule ∷ []) [] (start_of [])
+zero_reduced = normal_forms_are_reduced 1 word_cmp (rank_of 1) (rule ∷ []) [] 0 (start_of []) laws rules_are zero_shaped (All-from_recursion (λ (t : Term). IsOver 1 t.1) [] tt) refl
+
+closed : Kept 1 word_cmp generators (rule ∷ []) (made ∷ []) (1 ∷ []) (itself ∷ [])
+closed = resolved_at_once_is_kept 1 word_cmp (rank_of 1) generators (rule ∷ []) [] (made ∷ []) (1 ∷ []) [] itself [] (start_of []) laws after_round_zero is_one
+    (s_polynomials_balance (rule ∷ []) itself [] difference) zero_reduced (record { at = λ w. refl })
+
+-- there is no other ambiguity
+only_rule : (n : ℕ) (g : Rule) → rule_at (rule ∷ []) n ≡ Some g → (n ≡ 1) × (g ≡ rule)
+only_rule zero g is = absurd (cc)
+only_rule (suc zero) g is = (refl, same rule g is)
+  where
+    same : (f g : Rule) → ◌≡◌ {A = Option Rule} (Some f) (Some g) → g ≡ f
+    same f g e = cc
+only_rule (suc (suc n)) g is = absurd (cc)
+
+only_itself : (a : Ambiguity) → IsAmbiguity (rule ∷ []) a → a ≡ itself
+only_itself a is = by_kind a.kind refl is.meets
+  where
+    i : a.i ≡ 1
+    i = (only_rule a.i is.first is.first_numbered).0
+
+    j : a.j ≡ 1
+    j = (only_rule a.j is.second is.second_numbered).0
+
+    first_lead : is.first.lead ≡ 0 ∷ 0 ∷ []
+    first_lead = ap (λ (g : Rule). g.lead) (only_rule a.i is.first is.first_numbered).1
+
+    by_kind : (k : Kind) → a.kind ≡ k → MeetsAs k a.i a.j is.first.lead is.second.lead a.place → a ≡ itself
+    by_kind Inclusion kind at = absurd (at.0 (i ∙ sym j))
+    by_kind Overlap kind at =
+        let whole : 2 ≡ length at.before + length at.shared = ap length (sym first_lead ∙ at.left_splits) ∙ length-append at.before at.shared in
+        let place : a.place ≡ 1 = omega (arith, whole, at.at_place, at.before_letters, at.shared_letters) in
+        λ t. record { i = i t; j = j t; kind = kind t; place = place t }
+
+nothing_pending : NothingPending (rule ∷ []) (itself ∷ [])
+nothing_pending a is untreated = untreated (zero, omega arith, sym (only_itself a is))
+
+all_done : AreAllDone generators (1 ∷ [])
+all_done n first last = (zero, omega arith, one n first last)
+  where
+    one : (n : ℕ) → 1 ≤ n → n ≤ 1 → 1 ≡ n
+    one n first last = omega (arith, first, last)
+
+-- x is its own normal form, and so it is outside
+abbrev x : List Term
+x = (pos 1, 0 ∷ []) ∷ []
+
+x_shaped : IsShaped x
+x_shaped = shaped_as_written x (tt, tt) ((λ e. cc), tt) (omega arith, tt)
+
+x_reduced : IsReduced 1 word_cmp (rule ∷ []) x (start_of x)
+x_reduced = normal_forms_are_reduced 1 word_cmp (rank_of 1) (rule ∷ []) x 0 (start_of x) laws rules_are x_shaped (All-from_recursion (λ (t : Term). IsOver 1 t.1) x (one_letter, tt)) refl
+
+x_is_outside : InRationalIdeal generators x → ⊥
+x_is_outside = nonzero_is_outside 1 word_cmp (rank_of 1) generators (rule ∷ []) (made ∷ []) (1 ∷ []) (itself ∷ []) x (start_of x) laws closed all_done nothing_pending
+    (record { at = words_with_coefficients (IsOver 1) x (one_letter, tt) }) x_reduced (record { word = 0 ∷ []; occurs = λ e. cc })
+
+-- so it is by the rule alone, whatever made it: the generator and the S-polynomial are reduced to zero
+abbrev generator_reduced : State
+generator_reduced = record { multiplier = pos 1; rest = []; rows = record { coef = pos 1; left = []; from = origin.Rule 1; right = [] } ∷ []; used = 1 }
+
+generators_inside : All (InRationalIdeal (polynomials_of (rule ∷ []))) generators
+generators_inside = All-from_recursion (InRationalIdeal (polynomials_of (rule ∷ []))) generators (
+  zero_rests_are_inside 1 word_cmp (rule ∷ []) terms generator_reduced (normal_forms_are_reduced 1 word_cmp (rank_of 1) (rule ∷ []) terms 1 generator_reduced laws rules_are canonical.shaped over refl) (record { at = λ w. refl }),
+  tt,
+)
+
+resolved_alone : Resolved 1 word_cmp (rule ∷ [])
+resolved_alone = record { each = λ a is. subst (IsResolved 1 word_cmp (rule ∷ [])) (sym (only_itself a is)) (zero_rests_are_resolved 1 word_cmp (rank_of 1) (rule ∷ []) itself [] (start_of []) laws rules_are is_one (s_polynomials_balance (rule ∷ []) itself [] difference) zero_reduced (record { at = λ w. refl })) }
+
+x_is_outside_alone : InRationalIdeal generators x → ⊥
+x_is_outside_alone inside = clash (rests_of_ideal_are_zero 1 word_cmp (rank_of 1) (rule ∷ []) x (start_of x) laws rules_are resolved_alone (ideals_stay_inside (polynomials_of (rule ∷ [])) generators x generators_inside inside)
+    (record { at = words_with_coefficients (IsOver 1) x (one_letter, tt) }) x_reduced)
+  where
+    clash : IsZero x → ⊥
+    clash none = differ (none.at (0 ∷ []))
+      where
+        differ : pos 1 ≡ pos 0 → ⊥
+        differ e = cc
+
+-- with the ambiguity left out nothing can be concluded: it is pending
+left_out : NothingPending (rule ∷ []) [] → ⊥
+left_out nothing = nothing itself is_one (λ c. omega (arith, c.1))

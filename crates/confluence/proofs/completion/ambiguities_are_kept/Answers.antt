@@ -1,0 +1,5 @@
+use Rattle.confluence.proofs.Treating.{ambiguities_are_kept}
+use Rattle.confluence.proofs.completion.ambiguities_are_kept.Goals as goal
+
+pub returns : goal.returns
+returns c = ambiguities_are_kept

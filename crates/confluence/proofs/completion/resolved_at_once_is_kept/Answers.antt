@@ -1,0 +1,5 @@
+use Rattle.confluence.proofs.Treating.{resolved_at_once_is_kept}
+use Rattle.confluence.proofs.completion.resolved_at_once_is_kept.Goals as goal
+
+pub returns : goal.returns
+returns c = resolved_at_once_is_kept
