@@ -10,7 +10,7 @@ use Rattle.clap.proofs.OnLiterals.{clap_on_literals}
 use Rattle.command_words.specs.declared.evidence.EvidenceCommand.{EvidenceCommand}
 use Rattle.command_words.specs.declared.evidence.EvidenceCommand.TheVariants.{Check, Model, Confirm, Explain, Cancel}
 use Rattle.command_words.specs.CommandSet.{command_set, name_of, prove_command, refute_command, bench_command, pair_command}
-use Rattle.command_words.specs.Present.{HasCommand}
+use Rattle.command_words.specs.Present.{HasCommand, IsEvidenceName}
 use Rattle.command_words.proofs.Taken.{prove_has, refute_has, bench_has, pair_has}
 use Rattle.command_words.proofs.Top.{leaf, IsNamed}
 
@@ -39,6 +39,15 @@ command_at-name_of Model = refl
 command_at-name_of Confirm = refl
 command_at-name_of Explain = refl
 command_at-name_of Cancel = refl
+
+-- the name of none of the others is that of the last one
+pub last_named : (name : Text) → IsEvidenceName name → (name ≡ codes "check" → ⊥) → (name ≡ codes "model" → ⊥) → (name ≡ codes "confirm" → ⊥) → (name ≡ codes "explain" → ⊥)
+    → name ≡ codes "cancel"
+last_named name (Check, is) check model confirm explain = absurd (check is)
+last_named name (Model, is) check model confirm explain = absurd (model is)
+last_named name (Confirm, is) check model confirm explain = absurd (confirm is)
+last_named name (Explain, is) check model confirm explain = absurd (explain is)
+last_named name (Cancel, is) check model confirm explain = is
 
 -- it names a command of the set
 pub named : IsNamed (codes "prove") prove_command × IsNamed (codes "refute") refute_command × IsNamed (codes "bench") bench_command

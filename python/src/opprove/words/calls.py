@@ -4,7 +4,7 @@ from __future__ import annotations
 import os
 import re
 import shlex
-from typing import Dict, List, NamedTuple, Tuple
+from typing import Dict, List, NamedTuple, Optional, Tuple
 
 from opprove.words.parts import Told, counted, did_you_mean, is_are, listed, near, quoted
 
@@ -26,9 +26,20 @@ LIMITS: Dict[str, str] = {  # of the script opprove
 }  # fmt: skip
 
 
+class Judged(NamedTuple):
+    """What a command of evidence says of a block that passes, by one word; the noun for one and for several; what the lines on several say
+    together, and more sentences. `claims`, `count`, `sharp` stand for the numbers of claims, of blocks and of sharp ones, `cancels` and
+    `besides` for that a denominator cancels, as a second and as a further premise."""
+
+    word: str
+    nouns: Tuple[str, str]
+    told: str
+    more: Tuple[str, ...] = ()
+
+
 class Command(NamedTuple):
     """A command of the program: its files, what it does, its statuses, its options with a number and without, the word of the blocks that it
-    reads, and the second program that reads them."""
+    reads, what it says of one that passes, and the second program that reads them."""
 
     operands: Tuple[str, ...]
     summary: str
@@ -37,6 +48,7 @@ class Command(NamedTuple):
     options: Tuple[str, ...] = ()
     flags: Tuple[str, ...] = ()
     reads: str = ""
+    judged: Optional[Judged] = None
     second: str = ""
 
 
@@ -53,6 +65,8 @@ COMMANDS: Dict[str, Command] = {
         ("STATEMENT", "CERTIFICATE"), "adds up certificates, and says whether they prove their claims",
         "Reads certificates, of either format, and says of each whether its rows add up to its denominator times its claim.",
         ((0, "each is accepted"), (7, "one is refused, or its text has a fault")), reads="certificate", second="check",
+        judged=Judged("accepted", ("certificate is", "certificates are"),
+                      "accepted, of {claims}: each adds up to its claim, so it is zero wherever the generators are{cancels}"),
     ),
     "refute": Command(
         ("FILE",), "looks for matrices that make the assumptions true and a claim false",
@@ -63,6 +77,8 @@ COMMANDS: Dict[str, Command] = {
         ("STATEMENT", "MODEL"), "says of matrices whether they refute their claims",
         "Reads models, and says of each whether it makes all assumptions zero and its claim not.",
         ((0, "each is confirmed"), (7, "one is refused, or its text has a fault")), reads="model", second="check_model",
+        judged=Judged("confirmed", ("model is", "models are"),
+                      "confirmed, of {claims}: the matrices make all assumptions zero, and the claim not"),
     ),
     "bench": Command(
         ("N",), "decides a statement of size N, 1 to 60, that the program makes",
@@ -73,18 +89,29 @@ COMMANDS: Dict[str, Command] = {
         ("STATEMENT", "BASIS"), "says of rule sets whether they are closed, so that no sum of rows gives the claim",
         "Reads rule sets, and says of each whether it reduces all assumptions and all its own ambiguities to zero, and the claim not.",
         ((0, "each is closed"), (7, "one is refused, or its text has a fault")), reads="basis", second="confirm",
+        judged=Judged("closed", ("basis is", "bases are"),
+                      "closed, of {claims}: no positive multiple of it is a sum of rows over the generators, whatever their words",
+                      ("{sharp:,} of {count:,} sharp: the rules make a preadditive category that tells the claim from zero, and one with an"
+                       " involution where the file is starred.",
+                       "This says nothing of matrices of finite size, nor of involutions for which r' r = 0 gives r = 0.")),
     ),
     "explain": Command(
         ("STATEMENT", "CERTIFICATE"), "prints certificates without lemmas as chains of equations",
         "Prints each certificate over generators alone, as `prove --format 1` writes it, as a chain of equations from the claim down to 0."
         " `opprove chain` reads both formats.",
         ((0, "each is explained"), (7, "one has lemmas or is refused, or its text has a fault")), reads="certificate", second="explain",
+        judged=Judged("explained", ("chain", "chains"),
+                      "of {claims}: each leads from its claim down to 0, so it is zero wherever the generators are{cancels}"),
     ),
     "cancel": Command(
         ("STATEMENT", "PROOF"), "checks proofs that take monic and epic maps off",
         "Reads proofs that may take a letter off each word of an equation, in front where they declare it monic and at the end where epic.",
         ((0, "each is accepted; the line names the letters"), (7, "one is refused, or its text has a fault")),
         reads="cancellation", second="cancel",
+        judged=Judged("accepted", ("proof is", "proofs are"),
+                      "accepted, of {claims}: each adds up to its claim, so it is zero wherever the generators are{besides} and the maps are"
+                      " monic and epic that its line names so",
+                      ("A map m is monic where m n = 0 holds for n = 0 only, and epic where n m = 0 does.",)),
     ),
 }  # fmt: skip
 ALL_STATUSES: Tuple[Tuple[int, str], ...] = (

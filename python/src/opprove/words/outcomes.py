@@ -12,7 +12,7 @@ from opprove.checkers.check import Line, Problem
 from opprove.program import files, path
 from opprove.text import sections
 from opprove.translations import chain
-from opprove.words.calls import Call, typed
+from opprove.words.calls import COMMANDS, Call, typed
 from opprove.words.evidence import Text, matrices
 from opprove.words.parts import Quote, Rule, Told, counted, few, is_are, listed
 from opprove.words.statement import Statement
@@ -308,37 +308,26 @@ def told_of(asked: Asked, report: str, briefly: bool = False) -> List[Told]:
     return told
 
 
-BLOCK = re.compile("^# block [0-9]+ (accepted|explained|confirmed|closed) claim ([0-9]+)(?: denominator ([0-9]+))?( sharp)?", re.MULTILINE)
-NO_MORE = "This says nothing of matrices of finite size, nor of involutions for which r' r = 0 gives r = 0."
+JUDGED = [(command.reads, command.judged) for command in COMMANDS.values() if command.judged]
+BLOCK = re.compile(
+    f"^# block [0-9]+ ({'|'.join(sorted({judged.word for _, judged in JUDGED}))})"
+    " claim ([0-9]+)(?: denominator ([0-9]+))?( sharp)?", re.MULTILINE,
+)  # fmt: skip
 
 
 def told_of_blocks(text: Text, report: str) -> List[Told]:
-    """What the lines on accepted, explained, confirmed and closed blocks say."""
+    """What the lines on blocks that pass say."""
     found = BLOCK.findall(report)
-    kind, count, numbers = found[0][0] if found else "", len(found), claims([claim for _, claim, _, _ in found])
+    judged = next((it for kind, it in JUDGED if found and (kind, it.word) == (text.kind, found[0][0])), None)
+    if not judged:
+        return []
     scales = sorted({int(scale) for _, _, scale, _ in found if scale not in ("", "1")})
-    where = f"it is zero wherever the generators are{' and its denominator cancels' if scales else ''}"
-    if kind == "accepted" and text.kind == "cancellation":
-        where = where.replace(" and its", ", its") + " and the maps are monic and epic that its line names so"
-        meaning = "A map m is monic where m n = 0 holds for n = 0 only, and epic where n m = 0 does."
-        told = f"{counted(count, 'proof')} {is_are(count)} accepted, of {numbers}: each adds up to its claim, so {where}"
-        return [Told(told, None, (meaning, *denominators(scales)))]
-    if kind == "accepted":
-        told = f"{counted(count, 'certificate')} {is_are(count)} accepted, of {numbers}: each adds up to its claim, so {where}"
-        return [Told(told, None, denominators(scales))]
-    if kind == "explained":
-        told = f"{counted(count, 'chain')} of {numbers}: each leads from its claim down to 0, so {where}"
-        return [Told(told, None, denominators(scales))]
-    if kind == "confirmed":
-        told = f"{counted(count, 'model')} {is_are(count)} confirmed, of {numbers}"
-        return [Told(f"{told}: the matrices make all assumptions zero, and the claim not")]
-    if kind == "closed":
-        bases = f"{count:,} {'basis is' if count == 1 else 'bases are'} closed, of {numbers}"
-        sharp = f"{sum(it != '' for _, _, _, it in found):,} of {count:,} sharp: the rules make a preadditive category that tells"
-        sharp += " the claim from zero, and one with an involution where the file is starred."
-        told = f"{bases}: no positive multiple of it is a sum of rows over the generators, whatever their words"
-        return [Told(told, None, (sharp, NO_MORE))]
-    return []
+    said = {
+        "claims": claims([claim for _, claim, _, _ in found]), "count": len(found), "sharp": sum(it != "" for _, _, _, it in found),
+        "cancels": " and its denominator cancels" if scales else "", "besides": ", its denominator cancels" if scales else "",
+    }  # fmt: skip
+    told = f"{len(found):,} {judged.nouns[len(found) != 1]} {judged.told}".format(**said)
+    return [Told(told, None, (*(it.format(**said) for it in judged.more), *denominators(scales)))]
 
 
 def denominators(scales: List[int]) -> Tuple[str, ...]:
