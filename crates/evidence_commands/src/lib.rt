@@ -26,8 +26,8 @@ use adjoint_rules::Problem;
 use command_shape::{Ending, Stop};
 use command_words::EvidenceCommand;
 pub use laws::{
-    a_faulty_statement_is_answered_by_3, passing_blocks_are_answered_by_0,
-    read_bases_are_readable, status_0_means_what_blocks_mean,
+    a_faulty_statement_is_answered_by_3, passing_blocks_are_answered_by_0, read_bases_are_readable,
+    status_0_means_what_blocks_mean,
 };
 use std::alloc::Global;
 
