@@ -60,16 +60,16 @@ quotient_in a d h nonzero divides =
     let turned = mul_comm (unsigned_abs d) (unsigned_abs (int_div a d)) in
     omega arith
 
-module _ (k : ℤ) (nonzero : k ≢ pos 0) where
-  -- an element of a multiple
-  at_multiple : (P : Term → Type 0) (v : List Term) → All P (poly_multiple k v) → All (λ t. P (k *ℤ t.0, t.1)) v
-  at_multiple P v h i t lt =
-      let size : length (poly_multiple k v) ≡ length v = length-map v (λ (u : Term). (k *ℤ u.0, u.1)) in
-      subst P (get_or-map (λ (u : Term). (k *ℤ u.0, u.1)) v i t (k *ℤ t.0, t.1) lt) (h i (k *ℤ t.0, t.1) (omega arith))
+-- what holds of each term of a multiple
+pub at_multiple : (k : ℤ) (P : Term → Type 0) (v : List Term) → All P (poly_multiple k v) → All (λ t. P (k *ℤ t.0, t.1)) v
+at_multiple k P v h i t lt =
+    let size : length (poly_multiple k v) ≡ length v = length-map v (λ (u : Term). (k *ℤ u.0, u.1)) in
+    subst P (get_or-map (λ (u : Term). (k *ℤ u.0, u.1)) v i t (k *ℤ t.0, t.1) lt) (h i (k *ℤ t.0, t.1) (omega arith))
 
+module _ (k : ℤ) (nonzero : k ≢ pos 0) where
   descending_back : (v : List Term) → Descends (poly_multiple k v) → Descends v
   descending_back [] d = tt
-  descending_back (t ∷ v) d = (at_multiple (IsBelow t.1) v d.0, descending_back v d.1)
+  descending_back (t ∷ v) d = (at_multiple k (IsBelow t.1) v d.0, descending_back v d.1)
 
   smaller : (z : ℤ) → IsCoefficient (k *ℤ z) → IsCoefficient z
   smaller z whole =
@@ -85,10 +85,10 @@ module _ (k : ℤ) (nonzero : k ≢ pos 0) where
       record {
         shaped = record {
           descending = IsDescending-from_recursion v (descending_back v (recursion_from_IsDescending (poly_multiple k v) q.shaped.descending));
-          nonzero = λ i t lt e. at_multiple IsNonzero v q.shaped.nonzero i t lt (ap (λ z. k *ℤ z) e ∙ *ℤ-zero k);
-          in_range = λ i t lt. smaller (get_or v i t).0 (at_multiple IsInRange v q.shaped.in_range i t lt);
+          nonzero = λ i t lt e. at_multiple k IsNonzero v q.shaped.nonzero i t lt (ap (λ z. k *ℤ z) e ∙ *ℤ-zero k);
+          in_range = λ i t lt. smaller (get_or v i t).0 (at_multiple k IsInRange v q.shaped.in_range i t lt);
         };
-        short = at_multiple (λ (t : Term). length t.1 ≤ 500) v q.short;
+        short = at_multiple k (λ (t : Term). length t.1 ≤ 500) v q.short;
         few = subst (λ n. n ≤ 20000) (length-map v (λ (t : Term). (k *ℤ t.0, t.1))) q.few;
       }
 
