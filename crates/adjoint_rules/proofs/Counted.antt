@@ -1,10 +1,10 @@
 -- How many generators there are.
 use Rattle.std.proofs.Common.{◌≡◌, ℕ, suc, ◌+◌, ◌-◌, ◌*◌, ◌<◌, ◌≤◌, negsuc, Bool, true, false, cond, ◌||◌, List, [], ◌∷◌, ◌++◌, length, refl, ap, subst, sym, arith, eqb, leb, eqb-true}
-use Rattle.std.specs.List.{AllPairs, AllByRecursion, flat_map, range_with_len, sum_by}
+use Rattle.std.specs.List.{All, AllPairs, flat_map, range_with_len, sum_by}
 use Rattle.std.proofs.lemmas.Bool.{false_from_ne_true}
 use Rattle.std.proofs.lemmas.List.{length-append, length-map}
 use Rattle.std.proofs.lemmas.List.Concat.{length-flat_map}
-use Rattle.std.proofs.lemmas.List.Elements.{recursion_from_All, length_all_zip}
+use Rattle.std.proofs.lemmas.List.Elements.{All-head, All-tail, All-map, All-weaker, length_all_zip}
 use Rattle.std.proofs.lemmas.List.FromFn.{length-range_with_len}
 use Rattle.std.proofs.lemmas.List.Sums.{sum_by-cons}
 use Rattle.definitions.specs.Poly.{Term, SamePolynomial, poly_eq, poly_multiple}
@@ -35,27 +35,21 @@ sum_of_ones (x ∷ xs) = omega (arith, sum_of_ones xs, sum_by-cons (λ y. 1) x x
 -- ascending numbers
 abbrev Ascends : List ℕ → Type 0
 Ascends [] = Unit {0}
-Ascends (v ∷ vs) = AllByRecursion (λ w. v < w) vs × Ascends vs
+Ascends (v ∷ vs) = All (λ w. v < w) vs × Ascends vs
 
 ascends_from_pairs : (vs : List Object) → AllPairs (λ v w. v.0 < w.0) vs → Ascends (numbers vs)
 ascends_from_pairs [] h = tt
 ascends_from_pairs (v ∷ vs) h = (
-  above vs (recursion_from_All (λ (w : Object). v.0 < w.0) vs (λ i x k. h 0 (suc i) x (omega arith) (omega arith))),
+  All-map (λ w. v.0 < w) (λ w. w.0) vs (λ i x k. h 0 (suc i) x (omega arith) (omega arith)),
   ascends_from_pairs vs (λ i j x k l. h (suc i) (suc j) x (omega arith) (omega arith)),
 )
-  where
-    above : (ws : List Object) → AllByRecursion (λ (w : Object). v.0 < w.0) ws → AllByRecursion (λ w. v.0 < w) (numbers ws)
-    above [] k = tt
-    above (w ∷ ws) k = (k.0, above ws k.1)
 
 -- at most n numbers are below n
-length_ascending : (k n : ℕ) (vs : List ℕ) → Ascends vs → AllByRecursion (λ v. k ≤ v) vs → AllByRecursion (λ v. v < n) vs → length vs ≤ n - k
+length_ascending : (k n : ℕ) (vs : List ℕ) → Ascends vs → All (λ v. k ≤ v) vs → All (λ v. v < n) vs → length vs ≤ n - k
 length_ascending k n [] up from below = omega arith
-length_ascending k n (v ∷ vs) up from below = omega (arith, from.0, below.0, length_ascending (v + 1) n vs up.1 (next vs up.0) below.1)
-  where
-    next : (ws : List ℕ) → AllByRecursion (λ w. v < w) ws → AllByRecursion (λ w. v + 1 ≤ w) ws
-    next [] h = tt
-    next (w ∷ ws) h = (omega (arith, h.0), next ws h.1)
+length_ascending k n (v ∷ vs) up from below =
+    let later = All-weaker (λ w. v < w) (λ w. v + 1 ≤ w) (λ w h. omega (arith, h)) vs up.0 in
+    omega (arith, All-head (λ w. k ≤ w) v vs from, All-head (λ w. w < n) v vs below, length_ascending (v + 1) n vs up.1 later (All-tail (λ w. w < n) v vs below))
 
 -- how often a number is listed
 abbrev bit : Bool → ℕ
@@ -64,11 +58,11 @@ bit b = cond b 1 0
 abbrev hits : ℕ → List ℕ → ℕ
 hits x vs = sum_by (λ v. bit (eqb x v)) vs
 
-no_hit : (x : ℕ) (vs : List ℕ) → AllByRecursion (λ w. x < w) vs → hits x vs ≡ 0
+no_hit : (x : ℕ) (vs : List ℕ) → All (λ w. x < w) vs → hits x vs ≡ 0
 no_hit x [] h = refl
 no_hit x (v ∷ vs) h =
-    let other : eqb x v ≡ false = false_from_ne_true (eqb x v) (λ e. absurd (omega (arith, h.0, eqb-true x v e))) in
-    omega (arith, sum_by-cons (λ w. bit (eqb x w)) v vs, ap bit other, no_hit x vs h.1)
+    let other : eqb x v ≡ false = false_from_ne_true (eqb x v) (λ e. absurd (omega (arith, All-head (λ w. x < w) v vs h, eqb-true x v e))) in
+    omega (arith, sum_by-cons (λ w. bit (eqb x w)) v vs, ap bit other, no_hit x vs (All-tail (λ w. x < w) v vs h))
 
 hits_once : (x : ℕ) (vs : List ℕ) → Ascends vs → hits x vs ≤ 1
 hits_once x [] up = omega arith
@@ -76,7 +70,7 @@ hits_once x (v ∷ vs) up = go (eqb x v) refl (hits_once x vs up.1)
   where
     go : (b : Bool) → eqb x v ≡ b → hits x vs ≤ 1 → hits x (v ∷ vs) ≤ 1
     go true e rest =
-        let none : hits x vs ≡ 0 = no_hit x vs (subst (λ y. AllByRecursion (λ w. y < w) vs) (sym (eqb-true x v e)) up.0) in
+        let none : hits x vs ≡ 0 = no_hit x vs (subst (λ y. All (λ w. y < w) vs) (sym (eqb-true x v e)) up.0) in
         omega (arith, sum_by-cons (λ w. bit (eqb x w)) v vs, ap bit e, none)
     go false e rest = omega (arith, sum_by-cons (λ w. bit (eqb x w)) v vs, ap bit e, rest)
 
@@ -139,14 +133,14 @@ few_generators p posed =
     let ps = polynomials p.assumptions in
     let vs = numbers p.marked in
     let up = ascends_from_pairs p.marked posed.marked_ascending in
-    let below = recursion_from_All (λ v. v.0 < object_count p.quiver) p.marked posed.marked_objects in
+    let below = All-map (λ v. v < object_count p.quiver) (λ v. v.0) p.marked posed.marked_objects in
     omega (
       arith,
       length-append ps (adjoints_in p ++ units_in p),
       length-append (adjoints_in p) (units_in p),
       adjoints p.starred,
       few_units q p.starred vs up,
-      length_ascending 0 (object_count p.quiver) vs up (least vs) (below_all p.marked below),
+      length_ascending 0 (object_count p.quiver) vs up (λ i v inside. omega arith) below,
       letters-quiver_of p.quiver,
       few_letters p.quiver,
       posed.declared.few_objects,
@@ -158,14 +152,6 @@ few_generators p posed =
     adjoints : (b : Bool) → length (cond b (flat_map (new_adjoint (quiver_of p.quiver)) (polynomials p.assumptions)) []) ≤ length (polynomials p.assumptions)
     adjoints true = few_adjoints (quiver_of p.quiver) true (polynomials p.assumptions)
     adjoints false = omega arith
-
-    least : (ws : List ℕ) → AllByRecursion (λ v. 0 ≤ v) ws
-    least [] = tt
-    least (w ∷ ws) = (omega arith, least ws)
-
-    below_all : (ws : List Object) → AllByRecursion (λ v. v.0 < object_count p.quiver) ws → AllByRecursion (λ v. v < object_count p.quiver) (numbers ws)
-    below_all [] h = tt
-    below_all (w ∷ ws) h = (h.0, below_all ws h.1)
 
 pub few_closed : (p : Parts) (generators : List Poly) → IsPosed p → IsClosed p generators → length generators ≤ generator_limit
 few_closed p generators posed closed =

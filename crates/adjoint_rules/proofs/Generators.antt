@@ -1,7 +1,7 @@
 -- What the generators of a problem mean: they are typed, star representations make them zero, and they say the same as those of the definition.
 use Rattle.std.proofs.Common.{◌≡◌, ℕ, ◌<◌, ℤ, List, [], ◌∷◌, sym, refl, ap₂, ◌∙◌}
-use Rattle.std.specs.List.{AllByRecursion, AllZip}
-use Rattle.std.proofs.lemmas.List.Elements.{recursion_from_All}
+use Rattle.std.specs.List.{All, AllByRecursion, AllZip}
+use Rattle.std.proofs.lemmas.List.Elements.{All-head, All-tail}
 use Rattle.definitions.specs.Category.{Structure, PreadditiveLaws}
 use Rattle.definitions.specs.Poly.{SamePolynomial}
 use Rattle.definitions.specs.Quiver.{Quiver, IsQuiver, IsTyped}
@@ -40,31 +40,32 @@ signature_same q r p same has = record {
   typed = typed_same q has.source has.target r p same has.typed;
 }
 
-signatures : (ds : List Declaration) (ps : List Poly) (sigs : List Sig) → AllZip (IsTypedOf ds) ps sigs → AllByRecursion (HasObjects ds) sigs → AllByRecursion (HasSignature (quiver_of ds)) (polynomials ps)
+signatures : (ds : List Declaration) (ps : List Poly) (sigs : List Sig) → AllZip (IsTypedOf ds) ps sigs → All (HasObjects ds) sigs → AllByRecursion (HasSignature (quiver_of ds)) (polynomials ps)
 signatures ds [] [] h k = tt
 signatures ds [] (s ∷ sigs) h k = absurd h
 signatures ds (p ∷ ps) [] h k = absurd h
-signatures ds (p ∷ ps) (s ∷ sigs) h k = (
-  record { source = s.source.0; target = s.target.0; source_is_object = k.0.source; target_is_object = k.0.target; typed = h.0 },
-  signatures ds ps sigs h.1 k.1,
-)
+signatures ds (p ∷ ps) (s ∷ sigs) h k =
+    let ends = All-head (HasObjects ds) s sigs k in (
+      record { source = s.source.0; target = s.target.0; source_is_object = ends.source; target_is_object = ends.target; typed = h.0 },
+      signatures ds ps sigs h.1 (All-tail (HasObjects ds) s sigs k),
+    )
 
-marked_below : (n : ℕ) (vs : List Object) → AllByRecursion (λ v. v.0 < n) vs → AllByRecursion (λ v. v < n) (numbers vs)
+marked_below : (n : ℕ) (vs : List Object) → All (λ v. v.0 < n) vs → AllByRecursion (λ v. v < n) (numbers vs)
 marked_below n [] h = tt
-marked_below n (v ∷ vs) h = (h.0, marked_below n vs h.1)
+marked_below n (v ∷ vs) h = (All-head (λ w. w.0 < n) v vs h, marked_below n vs (All-tail (λ w. w.0 < n) v vs h))
 
 module _ (p : Parts) (posed : IsPosed p) where
   pub posed_quiver : IsQuiver (quiver_of p.quiver)
   posed_quiver = is_quiver p.quiver posed.declared posed.objects_first
 
   pub assumptions_have_signatures : AllByRecursion (HasSignature (quiver_of p.quiver)) (polynomials p.assumptions)
-  assumptions_have_signatures = signatures p.quiver p.assumptions p.sigs posed.assumptions_typed (recursion_from_All (HasObjects p.quiver) p.sigs posed.assumption_ends)
+  assumptions_have_signatures = signatures p.quiver p.assumptions p.sigs posed.assumptions_typed posed.assumption_ends
 
   pub claims_have_signatures : AllByRecursion (HasSignature (quiver_of p.quiver)) (polynomials p.claims)
-  claims_have_signatures = signatures p.quiver p.claims p.claim_sigs posed.claims_typed (recursion_from_All (HasObjects p.quiver) p.claim_sigs posed.claim_ends)
+  claims_have_signatures = signatures p.quiver p.claims p.claim_sigs posed.claims_typed posed.claim_ends
 
   pub marked_are_objects : AllByRecursion (λ v. v < object_count p.quiver) (numbers p.marked)
-  marked_are_objects = marked_below (object_count p.quiver) p.marked (recursion_from_All (λ v. v.0 < object_count p.quiver) p.marked posed.marked_objects)
+  marked_are_objects = marked_below (object_count p.quiver) p.marked posed.marked_objects
 
   -- each generator is typed
   pub generators_have_signatures : (generators : List Poly) → IsClosed p generators → AllByRecursion (HasSignature (quiver_of p.quiver)) (polynomials generators)

@@ -1,10 +1,11 @@
 -- The generators of a statement have letters in play.
 use Rattle.std.proofs.Common.{◌≡◌, ℕ, zero, suc, ◌+◌, ◌-◌, ◌≤◌, ◌<◌, ◌⊎◌, inl, inr, negsuc, Bool, true, false, cond, ◌||◌, List, [], ◌∷◌, ◌++◌, refl, sym, ap, subst, ◌∙◌, arith, ltb, leb, eqb, lt-ltb, ltb-true, eq-eqb}
 use Rattle.std.specs.Prelude.{IsTrue}
-use Rattle.std.specs.List.{All, AllByRecursion, flat_map, list_all, list_any, range_with_len}
+use Rattle.std.specs.List.{All, AllByRecursion, AllPass, flat_map, list_all, list_any, range_with_len}
 use Rattle.std.proofs.lemmas.Bool.{and_from, and_parts, cases_lt}
-use Rattle.std.proofs.lemmas.List.Elements.{recursion_from_All}
+use Rattle.std.proofs.lemmas.List.Elements.{All-head, All-tail}
 use Rattle.std.proofs.lemmas.List.Folds.{list_all-append}
+use Rattle.std.proofs.lemmas.List.Sums.{list_all-from_AllPass}
 use Rattle.definitions.specs.Poly.{Term, poly_eq, poly_multiple}
 use Rattle.definitions.specs.Quiver.{Quiver, IsQuiver, letters, source, target, star}
 use Rattle.definitions.specs.Generators.{adjoint_word, adjoint_poly, new_adjoint, left_unit, right_unit, letter_units, units}
@@ -13,7 +14,7 @@ use Rattle.nc_polynomial.specs.declared.poly.Poly.{Poly}
 use Rattle.quiver.specs.Declarations.{letter_count, quiver_of}
 use Rattle.quiver.proofs.Counts.{letters-quiver_of}
 use Rattle.adjoint_rules.specs.declared.parts.Parts.{Parts}
-use Rattle.adjoint_rules.specs.Problem.{polynomials, numbers, is_in_play, IsInPlay, HasLettersInPlay, IsPosed, generators_in}
+use Rattle.adjoint_rules.specs.Problem.{polynomials, numbers, is_in_play, IsPosed, generators_in}
 use Rattle.adjoint_rules.proofs.Generators.{posed_quiver, marked_are_objects}
 
 -- a letter among a list is among a longer one
@@ -129,17 +130,16 @@ module _ (p : Parts) (posed : IsPosed p) where
       (marked_words vs (λ u m. marked u (or_right (eqb u v) (list_any (eqb u) vs) m)) objects.1)
 
   -- the generators
-  assumption_words : (fs : List Poly) → AllByRecursion (HasLettersInPlay p.quiver p.starred (numbers p.marked)) fs → AllByRecursion Words (polynomials fs)
-  assumption_words [] each = tt
-  assumption_words (f ∷ fs) each = (terms f.terms (recursion_from_All (λ (t : Term). All (IsInPlay p.quiver p.starred (numbers p.marked)) t.1) f.terms each.0), assumption_words fs each.1)
-    where
-      word : (w : List ℕ) → AllByRecursion (λ a. play a ≡ true) w → IsTrue (list_all play w)
-      word [] is = refl
-      word (a ∷ w) is = and_from (play a) (list_all play w) is.0 (word w is.1)
+  abbrev Plays : Term → Type 0
+  Plays t = AllPass play t.1
 
-      terms : (ts : List Term) → AllByRecursion (λ (t : Term). All (IsInPlay p.quiver p.starred (numbers p.marked)) t.1) ts → Words ts
+  assumption_words : (fs : List Poly) → All (λ f. All Plays f.terms) fs → AllByRecursion Words (polynomials fs)
+  assumption_words [] each = tt
+  assumption_words (f ∷ fs) each = (terms f.terms (All-head (λ g. All Plays g.terms) f fs each), assumption_words fs (All-tail (λ g. All Plays g.terms) f fs each))
+    where
+      terms : (ts : List Term) → All Plays ts → Words ts
       terms [] is = tt
-      terms (t ∷ ts) is = (word t.1 (recursion_from_All (IsInPlay p.quiver p.starred (numbers p.marked)) t.1 is.0), terms ts is.1)
+      terms (t ∷ ts) is = (list_all-from_AllPass play t.1 (All-head Plays t ts is), terms ts (All-tail Plays t ts is))
 
   pub generator_words : AllByRecursion Words (generators_in p)
   generator_words =
@@ -147,7 +147,7 @@ module _ (p : Parts) (posed : IsPosed p) where
       (all-append Words _ (flat_map (units q p.starred) (numbers p.marked)) (adjoints p.starred refl) (marked_words (numbers p.marked) (λ v m. m) (marked_are_objects p posed)))
     where
       assumed : AllByRecursion Words (polynomials p.assumptions)
-      assumed = assumption_words p.assumptions (recursion_from_All (HasLettersInPlay p.quiver p.starred (numbers p.marked)) p.assumptions posed.assumption_letters)
+      assumed = assumption_words p.assumptions posed.assumption_letters
 
       adjoints : (b : Bool) → p.starred ≡ b → AllByRecursion Words (cond b (flat_map (new_adjoint q) (polynomials p.assumptions)) [])
       adjoints true is = adjoints_words is (polynomials p.assumptions) assumed

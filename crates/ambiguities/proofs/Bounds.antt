@@ -1,8 +1,8 @@
 -- The leading words of the two multiples cancel, and all other words are below them.
-use Rattle.std.proofs.Common.{◌≡◌, ◌≢◌, ◌⊎◌, inl, inr, ◌<◌, ℕ, zero, suc, ℤ, pos, negsuc, ◌+ℤ◌, ◌*ℤ◌, ◌<ℤ◌, List, [], ◌∷◌, ◌++◌, take, Ok, refl, sym, ap, ap₂, ◌∙◌, subst}
-use Rattle.std.specs.List.{All, AllByRecursion}
+use Rattle.std.proofs.Common.{◌≡◌, ◌≢◌, ◌⊎◌, inl, inr, ◌<◌, ℕ, zero, suc, ℤ, pos, negsuc, ◌+ℤ◌, ◌*ℤ◌, ◌<ℤ◌, List, ◌++◌, take, Ok, refl, sym, ap, ap₂, ◌∙◌, subst, get_or}
+use Rattle.std.specs.List.{All}
 use Rattle.std.proofs.Math.IntN.{*ℤ-zero}
-use Rattle.std.proofs.lemmas.List.Elements.{All-from_recursion, recursion_from_All, All-take}
+use Rattle.std.proofs.lemmas.List.Elements.{All-take, All-map}
 use Rattle.std.specs.declared.cmp.Ordering.TheVariants.{Less}
 use Rattle.definitions.specs.Poly.{Term, coefficient_of, poly_multiple, poly_between}
 use Rattle.definitions.proofs.Coefficients.{coefficient_of-append, coefficient_of-multiple}
@@ -22,12 +22,13 @@ use Rattle.ambiguities.specs.declared.ambiguity.Kind.{Kind}
 use Rattle.ambiguities.specs.declared.ambiguity.Kind.TheVariants.{Overlap, Inclusion}
 use Rattle.ambiguities.specs.declared.ambiguity.Ambiguity.{Ambiguity}
 use Rattle.ambiguities.specs.Ambiguities.{IsAmbiguity, joined_word, overlap_word_of}
-use Rattle.ambiguities.specs.SPolynomials.{first_row, second_row, s_rows_of, s_polynomial_of}
+use Rattle.ambiguities.specs.SPolynomials.{first_row, second_row, s_polynomial_of}
 use Rattle.ambiguities.specs.Laws.{EachOfRow, LeadingWordsCancel}
 use Rattle.ambiguities.proofs.Joined.{overlap_word-is, first_splits, second_splits, leading_at-is}
 use Rattle.ambiguities.proofs.Cancelling.{factors_cancel}
 use Rattle.ambiguities.proofs.Multiples.{coefficient_of-around, leading_coefficient}
 use Rattle.ambiguities.proofs.Balance.{between_of, sum_of_multiples}
+use Rattle.traced_rows.proofs.Lists.{all_two}
 
 -- the letters of the overlap word
 over_joined : (letters : ℕ) (kind : Kind) (p q : List ℕ) (place : ℕ) → IsOver letters p → IsOver letters q → IsOver letters (joined_word kind p q place)
@@ -36,7 +37,7 @@ over_joined letters Inclusion p q place p_over q_over = p_over
 
 -- the letters of a leading word
 over_lead : (letters : ℕ) (compare : Compare) (g : Rule) → IsRule letters compare g → IsOver letters g.lead
-over_lead letters compare g is_rule = leading-all (λ t. IsOver letters t.1) compare g.poly.terms (g.leading, g.lead) is_rule.leading (recursion_from_All (λ (t : Term). IsOver letters t.1) g.poly.terms is_rule.over)
+over_lead letters compare g is_rule = leading-all (λ t. IsOver letters t.1) compare g.poly.terms (g.leading, g.lead) is_rule.leading is_rule.over
 
 pub over_overlap_word : (letters : ℕ) (compare : Compare) (rules : List Rule) (a : Ambiguity) → All (IsRule letters compare) rules → IsAmbiguity rules a → IsOver letters (overlap_word_of rules a)
 over_overlap_word letters compare rules a each is =
@@ -69,22 +70,14 @@ module _ (letters : ℕ) (compare : Compare) (rank : List ℕ → List ℕ) (law
           less = subst (λ w. compare (l ++ (u ++ r)) w ≡ Less) (sym splits) (laws.around l u g.lead r less);
         })
 
-    each_around : AllByRecursion (λ t. AtMostBound (l ++ (t.1 ++ r))) g.poly.terms
-    each_around = go g.poly.terms (leading-greatest letters compare rank laws g.poly.terms (g.leading, g.lead) is_rule.leading) (recursion_from_All (λ (t : Term). IsOver letters t.1) g.poly.terms is_rule.over)
-      where
-        go : (q : List Term) → AllByRecursion (λ t. IsAtMost compare t.1 g.lead) q → AllByRecursion (λ t. IsOver letters t.1) q → AllByRecursion (λ t. AtMostBound (l ++ (t.1 ++ r))) q
-        go [] most over = tt
-        go (t ∷ q) most over = (around t.1 over.0 most.0, go q most.1 over.1)
+    each_around : All (λ t. AtMostBound (l ++ (t.1 ++ r))) g.poly.terms
+    each_around i t k = around (get_or g.poly.terms i t).1 (is_rule.over i t k) (leading-greatest letters compare rank laws g.poly.terms (g.leading, g.lead) is_rule.leading i t k)
 
     pub row_at_most : (w : List ℕ) → coefficient_of g.poly.terms w ≢ pos 0 → AtMostBound (l ++ (w ++ r))
     row_at_most = words_with_coefficients (λ w. AtMostBound (l ++ (w ++ r))) g.poly.terms each_around
 
     pub multiple_at_most : (w : List ℕ) → coefficient_of (poly_between l g.poly.terms r) w ≢ pos 0 → AtMostBound w
-    multiple_at_most = words_with_coefficients AtMostBound (poly_between l g.poly.terms r) (go g.poly.terms each_around)
-      where
-        go : (q : List Term) → AllByRecursion (λ t. AtMostBound (l ++ (t.1 ++ r))) q → AllByRecursion (λ t. AtMostBound t.1) (poly_between l q r)
-        go [] each = tt
-        go (t ∷ q) each = (each.0, go q each.1)
+    multiple_at_most = words_with_coefficients AtMostBound (poly_between l g.poly.terms r) (All-map (λ (t : Term). AtMostBound t.1) (λ (t : Term). (t.0, l ++ (t.1 ++ r))) g.poly.terms each_around)
 
     -- its coefficient there is the leading one
     pub coefficient_at_bound : coefficient_of (poly_between l g.poly.terms r) bound ≡ g.leading
@@ -153,15 +146,11 @@ leading_words_cancel letters compare rank rules a p laws each is ends =
       polynomial = cancelled one.coef two.coef m n p sum (λ w. IsBelow letters compare w bound) bound at_bound
           (multiple_at_most letters compare rank laws bound over is.first first_rule one.left one.right (first_splits rules a is))
           (multiple_at_most letters compare rank laws bound over is.second second_rule two.left two.right (second_splits rules a is));
-      rows_at_most = All-from_recursion (EachOfRow (AtMostBound letters compare rank laws bound over) rules) (s_rows_of rules a) (
-        subst (λ (f : List Term). (w : List ℕ) → coefficient_of f w ≢ pos 0 → AtMostBound letters compare rank laws bound over (one.left ++ (w ++ one.right))) (sym first_poly)
-            (row_at_most letters compare rank laws bound over is.first first_rule one.left one.right (first_splits rules a is)),
-        (
-          subst (λ (f : List Term). (w : List ℕ) → coefficient_of f w ≢ pos 0 → AtMostBound letters compare rank laws bound over (two.left ++ (w ++ two.right))) (sym second_poly)
-              (row_at_most letters compare rank laws bound over is.second second_rule two.left two.right (second_splits rules a is)),
-          tt,
-        ),
-      );
+      rows_at_most = all_two (EachOfRow (AtMostBound letters compare rank laws bound over) rules) one two
+          (subst (λ (f : List Term). (w : List ℕ) → coefficient_of f w ≢ pos 0 → AtMostBound letters compare rank laws bound over (one.left ++ (w ++ one.right))) (sym first_poly)
+          (row_at_most letters compare rank laws bound over is.first first_rule one.left one.right (first_splits rules a is)))
+          (subst (λ (f : List Term). (w : List ℕ) → coefficient_of f w ≢ pos 0 → AtMostBound letters compare rank laws bound over (two.left ++ (w ++ two.right))) (sym second_poly)
+          (row_at_most letters compare rank laws bound over is.second second_rule two.left two.right (second_splits rules a is)));
     }
 
 -- all letters of the S-polynomial are below the number
@@ -169,5 +158,4 @@ pub over_terms : (letters : ℕ) (compare : Compare) (rank : List ℕ → List �
     → IsAdmissible letters compare rank → All (IsRule letters compare) rules → IsAmbiguity rules a → s_polynomial_of rules a ≡ Ok p → IsShaped p → All (λ t. IsOver letters t.1) p
 over_terms letters compare rank rules a p laws each is ends shaped =
     let bound = leading_words_cancel letters compare rank rules a p laws each is ends in
-    All-from_recursion (λ t. IsOver letters t.1) p
-    (words_listed (IsOver letters) p (distinct-descending p (recursion_from_IsDescending p shaped.descending)) (recursion_from_All (λ (t : Term). t.0 ≢ pos 0) p shaped.nonzero) (λ w some. (bound.polynomial w some).left))
+    words_listed (IsOver letters) p (distinct-descending p (recursion_from_IsDescending p shaped.descending)) shaped.nonzero (λ w some. (bound.polynomial w some).left)

@@ -1,8 +1,7 @@
 -- Leading words are short, and not empty.
 use Rattle.std.proofs.Common.{◌≤◌, ◌<◌, ℕ, List, length}
 use Rattle.std.specs.List.{All}
-use Rattle.std.proofs.lemmas.List.Elements.{recursion_from_All, All-weaker}
-use Rattle.definitions.specs.Poly.{Term}
+use Rattle.std.proofs.lemmas.List.Elements.{All-weaker}
 use Rattle.word_orders.specs.Admissible.{Compare}
 use Rattle.rule_reduce.specs.declared.rule.Rule.{Rule}
 use Rattle.rule_reduce.specs.RuleLists.{IsRule}
@@ -10,10 +9,10 @@ use Rattle.rule_reduce.proofs.AtMost.{leading-all}
 
 module _ (letters : ℕ) (compare : Compare) where
   short_lead : (g : Rule) → IsRule letters compare g → length g.lead ≤ 500
-  short_lead g is_rule = leading-all (λ t. length t.1 ≤ 500) compare g.poly.terms (g.leading, g.lead) is_rule.leading (recursion_from_All (λ (t : Term). length t.1 ≤ 500) g.poly.terms g.poly.canonical.short)
+  short_lead g is_rule = leading-all (λ t. length t.1 ≤ 500) compare g.poly.terms (g.leading, g.lead) is_rule.leading g.poly.canonical.short
 
   nonempty_lead : (g : Rule) → IsRule letters compare g → 0 < length g.lead
-  nonempty_lead g is_rule = leading-all (λ t. 0 < length t.1) compare g.poly.terms (g.leading, g.lead) is_rule.leading (recursion_from_All (λ (t : Term). 0 < length t.1) g.poly.terms is_rule.nonempty)
+  nonempty_lead g is_rule = leading-all (λ t. 0 < length t.1) compare g.poly.terms (g.leading, g.lead) is_rule.leading is_rule.nonempty
 
   pub short_leads : (rules : List Rule) → All (IsRule letters compare) rules → All (λ g. length g.lead ≤ 500) rules
   short_leads rules each = All-weaker (IsRule letters compare) (λ g. length g.lead ≤ 500) short_lead rules each

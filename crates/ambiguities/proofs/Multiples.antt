@@ -1,7 +1,8 @@
 -- The polynomial of a rule between two words, and the sum of two multiples.
-use Rattle.std.proofs.Common.{◌≡◌, ℕ, ℤ, pos, ◌+ℤ◌, false, cond, List, [], ◌∷◌, ◌++◌, Some, Result, Ok, Err, refl, sym, ap, ap₂, ◌∙◌, subst}
-use Rattle.std.specs.List.{AllByRecursion}
+use Rattle.std.proofs.Common.{◌≡◌, ℕ, ℤ, pos, ◌+ℤ◌, cond, List, [], ◌∷◌, ◌++◌, Some, Result, Ok, Err, refl, sym, ap, ap₂, ◌∙◌, subst, get_or}
+use Rattle.std.specs.List.{All}
 use Rattle.std.specs.Ordering.{is_eq}
+use Rattle.std.proofs.lemmas.List.Elements.{All-nil, All-cons}
 use Rattle.definitions.specs.Poly.{Term, word_eq, coefficient_of, SamePolynomial, poly_sum, poly_multiple, poly_between}
 use Rattle.definitions.proofs.Coefficients.{Same_trans, SamePolynomial-append}
 use Rattle.definitions.proofs.Linear.{coefficient_other}
@@ -48,13 +49,10 @@ coefficient_of-around l r w [] = refl
 coefficient_of-around l r w (t ∷ p) = ap₂ (λ b (z : ℤ). cond b t.0 (pos 0) +ℤ z) (word_eq-around l t.1 w r) (coefficient_of-around l r w p)
 
 -- in a list with no word twice, the integer beside a word is its coefficient
-own_coefficients : (p : List Term) → AreDistinct p → AllByRecursion (λ t. coefficient_of p t.1 ≡ t.0) p
-own_coefficients [] distinct = tt
-own_coefficients (t ∷ p) distinct = (first_coefficient t p distinct.0, later p distinct.0 (own_coefficients p distinct.1))
-  where
-    later : (q : List Term) → AllByRecursion (λ u. word_eq u.1 t.1 ≡ false) q → AllByRecursion (λ u. coefficient_of p u.1 ≡ u.0) q → AllByRecursion (λ u. coefficient_of (t ∷ p) u.1 ≡ u.0) q
-    later [] others own = tt
-    later (u ∷ q) others own = (coefficient_other u.1 t p (word_eq-turned t.1 u.1 ∙ others.0) ∙ own.0, later q others.1 own.1)
+own_coefficients : (p : List Term) → AreDistinct p → All (λ t. coefficient_of p t.1 ≡ t.0) p
+own_coefficients [] distinct = All-nil (λ (t : Term). coefficient_of [] t.1 ≡ t.0)
+own_coefficients (t ∷ p) distinct = All-cons (λ (u : Term). coefficient_of (t ∷ p) u.1 ≡ u.0) t p (first_coefficient t p distinct.0)
+    (λ i u k. coefficient_other (get_or p i u).1 t p (word_eq-turned t.1 (get_or p i u).1 ∙ distinct.0 i u k) ∙ own_coefficients p distinct.1 i u k)
 
 pub leading_coefficient : (compare : Compare) (p : List Term) (top : Term) → IsShaped p → leading_term compare p ≡ Some top → coefficient_of p top.1 ≡ top.0
 leading_coefficient compare p top shaped is =

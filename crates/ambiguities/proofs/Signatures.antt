@@ -1,9 +1,9 @@
 -- The overlap word of typed rules is a path, and the S-polynomial is typed of its signature.
 use Rattle.std.proofs.Common.{◌≡◌, ◌≢◌, ◌<◌, ◌<ℤ◌, ℕ, ℤ, pos, true, List, [], ◌∷◌, ◌++◌, length, take, sym, ap, ap₂, ◌∙◌, subst, arith}
-use Rattle.std.specs.List.{AllByRecursion}
+use Rattle.std.specs.List.{All}
 use Rattle.std.proofs.lemmas.Int.{ints}
 use Rattle.std.proofs.lemmas.List.{length-append, take_at}
-use Rattle.std.proofs.lemmas.List.Elements.{All-from_recursion, recursion_from_All}
+use Rattle.std.proofs.lemmas.List.Elements.{All-map}
 use Rattle.definitions.specs.Poly.{Term, coefficient_of, poly_between}
 use Rattle.definitions.specs.Quiver.{Quiver, IsPath, leads, is_path}
 use Rattle.definitions.proofs.Paths.{step, split, leads-append, fits_from_path, path_from_fits}
@@ -19,11 +19,12 @@ use Rattle.rule_reduce.proofs.WordsKept.{words_with_coefficients}
 use Rattle.ambiguities.specs.declared.ambiguity.Kind.{Kind}
 use Rattle.ambiguities.specs.declared.ambiguity.Kind.TheVariants.{Overlap, Inclusion}
 use Rattle.ambiguities.specs.Ambiguities.{MeetsAs, joined_word, overlap_word_of}
-use Rattle.ambiguities.specs.SPolynomials.{first_row, second_row, s_rows_of}
+use Rattle.ambiguities.specs.SPolynomials.{first_row, second_row}
 use Rattle.ambiguities.specs.Laws.{EachOfRow, SPolynomialsAreTyped}
 use Rattle.ambiguities.proofs.Joined.{overlap_word-is, first_splits, second_splits}
 use Rattle.ambiguities.proofs.Multiples.{leading_coefficient}
 use Rattle.ambiguities.proofs.Bounds.{of_either, coefficient_of-s_polynomial}
+use Rattle.traced_rows.proofs.Lists.{all_two}
 
 -- paths
 leads_from_path : (q : Quiver) (u v : ℕ) (w : List ℕ) → is_path q u v w ≡ true → leads q u v w ≡ true
@@ -85,15 +86,10 @@ module _ (q : Quiver) (letters : ℕ) (compare : Compare) (g : Rule) (is_rule : 
         (fits_from_path q u v typed.source typed.target l g.lead r lead_path (subst (IsPath q u v) splits path)) (typed.typed.at w some)
 
     multiple_paths : (w : List ℕ) → coefficient_of (poly_between l g.poly.terms r) w ≢ pos 0 → IsPath q u v w
-    multiple_paths = words_with_coefficients (IsPath q u v) (poly_between l g.poly.terms r) (go g.poly.terms each)
+    multiple_paths = words_with_coefficients (IsPath q u v) (poly_between l g.poly.terms r) (All-map (λ (t : Term). IsPath q u v t.1) (λ (t : Term). (t.0, l ++ (t.1 ++ r))) g.poly.terms each)
       where
-        each : AllByRecursion (λ t. IsPath q u v (l ++ (t.1 ++ r))) g.poly.terms
-        each = words_listed (λ w. IsPath q u v (l ++ (w ++ r))) g.poly.terms (distinct-descending g.poly.terms (recursion_from_IsDescending g.poly.terms g.poly.canonical.shaped.descending))
-            (recursion_from_All (λ (t : Term). t.0 ≢ pos 0) g.poly.terms g.poly.canonical.shaped.nonzero) row_paths
-
-        go : (p : List Term) → AllByRecursion (λ t. IsPath q u v (l ++ (t.1 ++ r))) p → AllByRecursion (λ t. IsPath q u v t.1) (poly_between l p r)
-        go [] paths = tt
-        go (t ∷ p) paths = (paths.0, go p paths.1)
+        each : All (λ t. IsPath q u v (l ++ (t.1 ++ r))) g.poly.terms
+        each = words_listed (λ w. IsPath q u v (l ++ (w ++ r))) g.poly.terms (distinct-descending g.poly.terms (recursion_from_IsDescending g.poly.terms g.poly.canonical.shaped.descending)) g.poly.canonical.shaped.nonzero row_paths
 
 -- the law
 pub s_polynomials_are_typed : SPolynomialsAreTyped
@@ -119,13 +115,9 @@ s_polynomials_are_typed q letters compare rules a p each typed is ends =
             (multiple_paths q letters compare is.first first_rule first_typed u v one.left one.right word (first_splits rules a is) whole.is)
             (multiple_paths q letters compare is.second second_rule second_typed u v two.left two.right word (second_splits rules a is) whole.is);
       };
-      rows_are_typed = All-from_recursion (EachOfRow (IsPath q u v) rules) (s_rows_of rules a) (
-        subst (λ (f : List Term). (w : List ℕ) → coefficient_of f w ≢ pos 0 → IsPath q u v (one.left ++ (w ++ one.right))) (sym (rule_at-polynomial rules a.i is.first is.first_numbered))
-            (row_paths q letters compare is.first first_rule first_typed u v one.left one.right word (first_splits rules a is) whole.is),
-        (
-          subst (λ (f : List Term). (w : List ℕ) → coefficient_of f w ≢ pos 0 → IsPath q u v (two.left ++ (w ++ two.right))) (sym (rule_at-polynomial rules a.j is.second is.second_numbered))
-              (row_paths q letters compare is.second second_rule second_typed u v two.left two.right word (second_splits rules a is) whole.is),
-          tt,
-        ),
-      );
+      rows_are_typed = all_two (EachOfRow (IsPath q u v) rules) one two
+          (subst (λ (f : List Term). (w : List ℕ) → coefficient_of f w ≢ pos 0 → IsPath q u v (one.left ++ (w ++ one.right))) (sym (rule_at-polynomial rules a.i is.first is.first_numbered))
+          (row_paths q letters compare is.first first_rule first_typed u v one.left one.right word (first_splits rules a is) whole.is))
+          (subst (λ (f : List Term). (w : List ℕ) → coefficient_of f w ≢ pos 0 → IsPath q u v (two.left ++ (w ++ two.right))) (sym (rule_at-polynomial rules a.j is.second is.second_numbered))
+          (row_paths q letters compare is.second second_rule second_typed u v two.left two.right word (second_splits rules a is) whole.is));
     }

@@ -1,8 +1,8 @@
 -- Words that have letters, all below a number: reductions and S-polynomials keep them.
-use Rattle.std.proofs.Common.{◌≡◌, ◌<◌, ◌+◌, ℕ, ℤ, List, [], ◌∷◌, ◌++◌, length, take, drop, Some, Ok, sym, ap, ◌∙◌, subst, arith}
-use Rattle.std.specs.List.{All, AllByRecursion}
+use Rattle.std.proofs.Common.{◌≡◌, ◌<◌, ◌+◌, ℕ, ℤ, List, ◌++◌, length, take, drop, Some, Ok, sym, ap, ◌∙◌, subst, arith, get_or}
+use Rattle.std.specs.List.{All}
 use Rattle.std.proofs.lemmas.List.{length-append}
-use Rattle.std.proofs.lemmas.List.Elements.{All-from_recursion, recursion_from_All, All-contains, All-append, All-take, All-drop}
+use Rattle.std.proofs.lemmas.List.Elements.{All-contains, All-append, All-take, All-drop, All-map}
 use Rattle.definitions.specs.Poly.{Term, poly_between}
 use Rattle.word_core.specs.Letters.{IsOver}
 use Rattle.word_orders.specs.Admissible.{Compare}
@@ -37,19 +37,16 @@ module _ (letters : ℕ) where
   IsWord w = (0 < length w) × IsOver letters w
 
   abbrev pub AreWords : List Term → Type 0
-  AreWords p = AllByRecursion (λ t. IsWord t.1) p
+  AreWords p = All (λ t. IsWord t.1) p
 
-  pub words_from : (p : List Term) → AllByRecursion (λ t. 0 < length t.1) p → AllByRecursion (λ t. IsOver letters t.1) p → AreWords p
-  words_from [] some over = tt
-  words_from (t ∷ p) some over = ((some.0, over.0), words_from p some.1 over.1)
+  pub words_from : (p : List Term) → All (λ t. 0 < length t.1) p → All (λ t. IsOver letters t.1) p → AreWords p
+  words_from p some over i t k = (some i t k, over i t k)
 
-  pub words_nonempty : (p : List Term) → AreWords p → AllByRecursion (λ t. 0 < length t.1) p
-  words_nonempty [] each = tt
-  words_nonempty (t ∷ p) each = (each.0.0, words_nonempty p each.1)
+  pub words_nonempty : (p : List Term) → AreWords p → All (λ t. 0 < length t.1) p
+  words_nonempty p each i t k = (each i t k).0
 
-  pub words_over : (p : List Term) → AreWords p → AllByRecursion (λ t. IsOver letters t.1) p
-  words_over [] each = tt
-  words_over (t ∷ p) each = (each.0.1, words_over p each.1)
+  pub words_over : (p : List Term) → AreWords p → All (λ t. IsOver letters t.1) p
+  words_over p each i t k = (each i t k).1
 
   word_around : (l w r : List ℕ) → IsOver letters l → IsOver letters r → IsWord w → IsWord (l ++ (w ++ r))
   word_around l w r left right is = (
@@ -57,24 +54,22 @@ module _ (letters : ℕ) where
     All-append (λ a. a < letters) l (w ++ r) left (All-append (λ a. a < letters) w r is.1 right),
   )
 
-  words_around : (l r : List ℕ) → IsOver letters l → IsOver letters r → (p : List Term) → AreWords p → AllByRecursion (λ t. IsWord (l ++ (t.1 ++ r))) p
-  words_around l r left right [] each = tt
-  words_around l r left right (t ∷ p) each = (word_around l t.1 r left right each.0, words_around l r left right p each.1)
+  words_around : (l r : List ℕ) → IsOver letters l → IsOver letters r → (p : List Term) → AreWords p → All (λ t. IsWord (l ++ (t.1 ++ r))) p
+  words_around l r left right p each i t k = word_around l (get_or p i t).1 r left right (each i t k)
 
   words_between : (l r : List ℕ) → IsOver letters l → IsOver letters r → (p : List Term) → AreWords p → AreWords (poly_between l p r)
-  words_between l r left right [] each = tt
-  words_between l r left right (t ∷ p) each = (word_around l t.1 r left right each.0, words_between l r left right p each.1)
+  words_between l r left right p each = All-map (λ (t : Term). IsWord t.1) (λ (t : Term). (t.0, l ++ (t.1 ++ r))) p (words_around l r left right p each)
 
   module _ (compare : Compare) (rules : List Rule) (are_rules : All (IsRule letters compare) rules) where
     rule_words : (n : ℕ) (g : Rule) → rule_at rules n ≡ Some g → AreWords g.poly.terms
     rule_words n g has =
         let is = rule_at-all (IsRule letters compare) rules n g has are_rules in
-        words_from g.poly.terms (recursion_from_All (λ (t : Term). 0 < length t.1) g.poly.terms is.nonempty) (recursion_from_All (λ (t : Term). IsOver letters t.1) g.poly.terms is.over)
+        words_from g.poly.terms is.nonempty is.over
 
     step_words : (c : Choice) (g : Rule) (s : State) → choice_of compare (entries_of rules) s.rest ≡ Some c → rule_at rules c.number ≡ Some g → AreWords s.rest → AreWords (moved (move_of c g) s).rest
     step_words c g s chosen has before =
         let one = found compare rules s.rest c chosen in
-        let word : IsWord c.word = All-contains (λ (t : Term). IsWord t.1) s.rest (c.coefficient, c.word) (All-from_recursion (λ (t : Term). IsWord t.1) s.rest before) one.term in
+        let word : IsWord c.word = All-contains (λ (t : Term). IsWord t.1) s.rest (c.coefficient, c.word) before one.term in
         each-moved IsWord (move_of c g) s before
         (words_around (take c.place c.word) (drop (c.place + length g.lead) c.word) (All-take (λ a. a < letters) c.place c.word word.1) (All-drop (λ a. a < letters) (c.place + length g.lead) c.word word.1) g.poly.terms (rule_words c.number g has))
 

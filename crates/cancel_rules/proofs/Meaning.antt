@@ -1,7 +1,7 @@
 -- Items vanish one after another, and with them the claim.
 use Rattle.std.proofs.Common.{◌≡◌, ◌≢◌, ℕ, ◌<◌, ℤ, true, List, [], ◌∷◌, ◌++◌, All, sym, refl, ap, ap₂, subst, ◌∙◌, append_assoc, append-nil}
 use Rattle.std.proofs.lemmas.Bool.{and_from}
-use Rattle.std.proofs.lemmas.List.Elements.{All-contains, recursion_from_All}
+use Rattle.std.proofs.lemmas.List.Elements.{All-head, All-tail, All-contains}
 use Rattle.std.specs.List.{AllByRecursion, list_all}
 use Rattle.definitions.specs.Category.{Structure, PreadditiveLaws, InvolutionLaws}
 use Rattle.definitions.specs.Poly.{SamePolynomial, poly_between}
@@ -29,9 +29,9 @@ some_word [] some = absurd (some refl)
 some_word (a ∷ w) some = refl
 
 -- no word is empty
-some_words : (p : List (ℤ × List ℕ)) → AllByRecursion (λ t. t.1 ≢ []) p → list_all (λ t. is_some t.1) p ≡ true
+some_words : (p : List (ℤ × List ℕ)) → All (λ t. t.1 ≢ []) p → list_all (λ t. is_some t.1) p ≡ true
 some_words [] all = refl
-some_words (t ∷ p) all = and_from (is_some t.1) (list_all (λ u. is_some u.1) p) (some_word t.1 all.0) (some_words p all.1)
+some_words (t ∷ p) all = and_from (is_some t.1) (list_all (λ u. is_some u.1) p) (some_word t.1 (All-head (λ (u : ℤ × List ℕ). u.1 ≢ []) t p all)) (some_words p (All-tail (λ (u : ℤ × List ℕ). u.1 ≢ []) t p all))
 
 put_back_front : (a : ℕ) (p : List (ℤ × List ℕ)) → put_back side.Left a p ≡ poly_between (a ∷ []) p []
 put_back_front a [] = refl
@@ -72,12 +72,12 @@ module _ {Object Arrow : Type 0} {s : Structure Object Arrow} (laws : Preadditiv
     item_vanishes before none_so_far (item.Cancel letter side.Left number) p is =
         let whole = generator_at before number in
         front_is_nothing laws q quiver f rep letter.0 (All-contains (λ a. a.0 < letters q) proof.monic letter (in_quiver side.Left) is.declared) whole p is.typed
-        (some_words p (recursion_from_All (λ t. t.1 ≢ []) p is.words)) (subst (SamePolynomial whole) (put_back_front letter.0 p) is.same)
+        (some_words p is.words) (subst (SamePolynomial whole) (put_back_front letter.0 p) is.same)
         (All-contains (λ a. IsMonic s (f.arrow a.0)) proof.monic letter monic is.declared) (nothing_at before none_so_far number)
     item_vanishes before none_so_far (item.Cancel letter side.Right number) p is =
         let whole = generator_at before number in
         behind_is_nothing laws q quiver f rep letter.0 (All-contains (λ a. a.0 < letters q) proof.epic letter (in_quiver side.Right) is.declared) whole p is.typed
-        (some_words p (recursion_from_All (λ t. t.1 ≢ []) p is.words)) (subst (SamePolynomial whole) (put_back_behind letter.0 p) is.same)
+        (some_words p is.words) (subst (SamePolynomial whole) (put_back_behind letter.0 p) is.same)
         (All-contains (λ a. IsEpic s (f.arrow a.0)) proof.epic letter epic is.declared) (nothing_at before none_so_far number)
 
     items_vanish : (before : List (List (ℤ × List ℕ))) → AllByRecursion (IsNothing laws q quiver f rep) before → (items : List Item) (ps : List (List (ℤ × List ℕ))) → AreOfItems q proof generators before items ps

@@ -1,8 +1,8 @@
 -- What an accepted proof shows.
 use Rattle.std.proofs.Common.{◌≢◌, ℕ, ℤ, List, [], ◌∷◌, ◌++◌, sym, ap, ◌∙◌, arith}
-use Rattle.std.specs.List.{AllByRecursion}
+use Rattle.std.specs.List.{All}
 use Rattle.std.proofs.lemmas.Int.{ints}
-use Rattle.std.proofs.lemmas.List.Elements.{recursion_from_All, All-from_recursion}
+use Rattle.std.proofs.lemmas.List.Elements.{All-head, All-tail}
 use Rattle.definitions.specs.Poly.{coefficient_of}
 use Rattle.definitions.specs.Quiver.{Quiver}
 use Rattle.definitions.specs.Combination.{generator_at}
@@ -12,7 +12,7 @@ use Rattle.cancel_rules.specs.declared.cancellation.Item.{Item}
 use Rattle.cancel_rules.specs.declared.cancellation.Item.TheVariants as item
 use Rattle.cancel_rules.specs.declared.cancellation.Cancellation.{Cancellation}
 use Rattle.cancel_rules.specs.Cancellations.{IsOfItem, AreOfItems}
-use Rattle.cancel_rules.specs.Items.{stripped, item_polynomial, item_polynomials, HasAtEnd, ItemPasses, ItemsPass}
+use Rattle.cancel_rules.specs.Items.{item_polynomial, item_polynomials, ItemPasses, ItemsPass}
 use Rattle.cancel_rules.specs.Acceptance.{OfLemma, all_items}
 use Rattle.cancel_rules.specs.Laws.{AcceptedCancellationLeads}
 use Rattle.cancel_rules.proofs.Without.{put_back_stripped, words_left}
@@ -23,19 +23,21 @@ module _ (q : Quiver) (proof : Cancellation) (generators : List (List (ℤ × Li
   item_is before (item.Lemma l) scale tight passes = ((omega (arith, ints, scale), tight), lemma_adds_up generators before l passes)
   item_is before (item.Cancel letter end number) scale tight passes =
       let whole = generator_at before number in
-      let at_end = recursion_from_All (λ t. HasAtEnd end letter.0 t.1) whole passes.comes_off.words in
       record {
         declared = passes.comes_off.item.of_letter.declared;
         typed = passes.comes_off.item.typed;
-        same = record { at = λ w. sym (ap (λ p. coefficient_of p w) (put_back_stripped end letter.0 whole at_end)) };
-        words = All-from_recursion (λ t. t.1 ≢ []) (stripped end whole) (words_left end letter.0 whole at_end);
+        same = record { at = λ w. sym (ap (λ p. coefficient_of p w) (put_back_stripped end letter.0 whole passes.comes_off.words)) };
+        words = words_left end letter.0 whole passes.comes_off.words;
       }
 
-  items_are : (before : List (List (ℤ × List ℕ))) (items : List Item) → AllByRecursion (OfLemma HasScale) items → AllByRecursion (OfLemma (IsTight proof.denominator)) items → ItemsPass q proof generators before items
+  items_are : (before : List (List (ℤ × List ℕ))) (items : List Item) → All (OfLemma HasScale) items → All (OfLemma (IsTight proof.denominator)) items → ItemsPass q proof generators before items
       → AreOfItems q proof generators before items (item_polynomials generators before items)
   items_are before [] scales tight pass = tt
   items_are before (i ∷ items) scales tight pass =
-      (item_is before i scales.0 tight.0 pass.0, items_are (before ++ item_polynomial generators before i ∷ []) items scales.1 tight.1 pass.1)
+      let tights = OfLemma (IsTight proof.denominator) in (
+        item_is before i (All-head (OfLemma HasScale) i items scales) (All-head tights i items tight) pass.0,
+        items_are (before ++ item_polynomial generators before i ∷ []) items (All-tail (OfLemma HasScale) i items scales) (All-tail tights i items tight) pass.1,
+      )
 
 pub accepted_cancellation_leads : AcceptedCancellationLeads
 accepted_cancellation_leads q claims generators proof in_quiver accepted =
@@ -46,8 +48,7 @@ accepted_cancellation_leads q claims generators proof in_quiver accepted =
     record {
       in_quiver = in_quiver;
       positive = omega (arith, ints, least);
-      items = items_are q proof generators [] proof.items (recursion_from_All (OfLemma HasScale) proof.items positive.items)
-          (recursion_from_All (OfLemma (IsTight proof.denominator)) proof.items begins.shares.tight.items) accepted.items.items;
+      items = items_are q proof generators [] proof.items positive.items begins.shares.tight.items accepted.items.items;
       share = (omega (arith, ints, goal_least), begins.shares.tight.goal);
       goal = record { at = λ w. ap (λ p. coefficient_of p w) (sums_agree generators (all_items generators proof) proof.goal.rows) ∙ accepted.goal.sum.at w };
     }

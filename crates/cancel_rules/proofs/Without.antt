@@ -1,9 +1,8 @@
 -- Words without the letter at an end, and polynomials without it, which stay in their order.
-use Rattle.std.proofs.Common.{◌≡◌, ◌≢◌, ◌⊎◌, inl, inr, ℕ, suc, ◌-◌, ◌<◌, ◌≤◌, ℤ, pos, Bool, true, false, List, [], ◌∷◌, ◌++◌, All, length, take, refl, sym, ap, ap₂, ◌∙◌, arith, length-append, length-drop, append-nil}
+use Rattle.std.proofs.Common.{◌≡◌, ◌≢◌, ◌⊎◌, inl, inr, ℕ, suc, ◌-◌, ◌<◌, ◌≤◌, ℤ, pos, Bool, true, false, List, [], ◌∷◌, ◌++◌, All, length, take, get_or, refl, sym, ap, ap₂, ◌∙◌, arith, length-append, length-drop, append-nil}
 use Rattle.std.proofs.lemmas.List.{length-take}
-use Rattle.std.proofs.lemmas.List.Elements.{recursion_from_All, All-from_recursion, All-take, All-drop}
+use Rattle.std.proofs.lemmas.List.Elements.{All-head, All-tail, All-map, All-take, All-drop}
 use Rattle.std.proofs.Math.Seq.{take-append_seam}
-use Rattle.std.specs.List.{AllByRecursion}
 use Rattle.definitions.specs.Poly.{Term, word_eq}
 use Rattle.definitions.proofs.Linear.{word_eq-true, word_eq-same}
 use Rattle.std.specs.declared.cmp.Ordering.TheVariants.{Greater}
@@ -53,16 +52,15 @@ module _ (end : Side) (a : ℕ) where
           clash b one other = absurd (cc)
 
   -- each word of a polynomial
-  abbrev pub AllAtEnd : List Term → Type 0
-  AllAtEnd p = AllByRecursion (λ t. HasAtEnd end a t.1) p
+  abbrev AtEnd : Term → Type 0
+  AtEnd t = HasAtEnd end a t.1
 
-  pub put_back_stripped : (p : List Term) → AllByRecursion (λ t. HasAtEnd end a t.1) p → put_back end a (stripped end p) ≡ p
+  pub put_back_stripped : (p : List Term) → All AtEnd p → put_back end a (stripped end p) ≡ p
   put_back_stripped [] all = refl
-  put_back_stripped (t ∷ p) all = ap₂ (λ w rest. (t.0, w) ∷ rest) (whole_again t.1 all.0) (put_back_stripped p all.1)
+  put_back_stripped (t ∷ p) all = ap₂ (λ w rest. (t.0, w) ∷ rest) (whole_again t.1 (All-head AtEnd t p all)) (put_back_stripped p (All-tail AtEnd t p all))
 
-  pub words_left : (p : List Term) → AllByRecursion (λ t. HasAtEnd end a t.1) p → AllByRecursion (λ t. t.1 ≢ []) (stripped end p)
-  words_left [] all = tt
-  words_left (t ∷ p) all = (rest_some t.1 all.0, words_left p all.1)
+  pub words_left : (p : List Term) → All AtEnd p → All (λ t. t.1 ≢ []) (stripped end p)
+  words_left p all = All-map (λ (t : Term). t.1 ≢ []) _ p (λ k t below. rest_some _ (all k t below))
 
   -- the order of words
   compared : (v w : List ℕ) → word_cmp (with_letter end a v) (with_letter end a w) ≡ word_cmp v w
@@ -76,21 +74,14 @@ module _ (end : Side) (a : ℕ) where
   above v w h k greater =
       sym (compared (word_without end v) (word_without end w)) ∙ ap₂ word_cmp (whole_again v h) (whole_again w k) ∙ greater
 
-  all_above : (v : List ℕ) (p : List Term) → HasAtEnd end a v → AllByRecursion (λ t. HasAtEnd end a t.1) p → AllByRecursion (λ t. word_cmp v t.1 ≡ Greater) p
-      → AllByRecursion (λ t. word_cmp (word_without end v) t.1 ≡ Greater) (stripped end p)
-  all_above v [] h all greater = tt
-  all_above v (t ∷ p) h all greater = (above v t.1 h all.0 greater.0, all_above v p h all.1 greater.1)
-
-  descends : (p : List Term) → AllByRecursion (λ t. HasAtEnd end a t.1) p → Descends p → Descends (stripped end p)
+  descends : (p : List Term) → All AtEnd p → Descends p → Descends (stripped end p)
   descends [] all d = tt
-  descends (t ∷ p) all d = (all_above t.1 p all.0 all.1 d.0, descends p all.1 d.1)
+  descends (t ∷ p) all d =
+      let rest = All-tail AtEnd t p all in
+      (All-map (λ (u : Term). word_cmp (word_without end t.1) u.1 ≡ Greater) _ p (λ k u below. above t.1 _ (All-head AtEnd t p all) (rest k u below) (d.0 k u below)), descends p rest d.1)
 
 -- what else a polynomial keeps
 module _ (end : Side) where
-  coefficients : (P : ℤ → Type 0) (p : List Term) → AllByRecursion (λ t. P t.0) p → AllByRecursion (λ t. P t.0) (stripped end p)
-  coefficients P [] all = tt
-  coefficients P (t ∷ p) all = (all.0, coefficients P p all.1)
-
   shorter : (w : List ℕ) → length (word_without end w) ≤ length w
   shorter w = by end
     where
@@ -98,9 +89,8 @@ module _ (end : Side) where
       by side.Left = let long = length-drop 1 w in omega arith
       by side.Right = let long = length-take (length w - 1) w in grind arith
 
-  short : (p : List Term) → AllByRecursion (λ t. length t.1 ≤ 500) p → AllByRecursion (λ t. length t.1 ≤ 500) (stripped end p)
-  short [] all = tt
-  short (t ∷ p) all = (let less = shorter t.1 in let within = all.0 in omega arith, short p all.1)
+  short : (p : List Term) → All (λ t. length t.1 ≤ 500) p → All (λ t. length t.1 ≤ 500) (stripped end p)
+  short p all = All-map (λ (t : Term). length t.1 ≤ 500) _ p (λ k t below. let less = shorter (get_or p k t).1 in let within = all k t below in omega (arith, less, within))
 
   as_many : (p : List Term) → length (stripped end p) ≡ length p
   as_many [] = refl
@@ -109,16 +99,15 @@ module _ (end : Side) where
 -- what is left of a polynomial is one
 pub canonical_stripped : (end : Side) (a : ℕ) (p : List Term) → IsCanonical p → All (λ t. HasAtEnd end a t.1) p → IsCanonical (stripped end p)
 canonical_stripped end a p canonical at_end =
-    let all = recursion_from_All (λ t. HasAtEnd end a t.1) p at_end in
     let few = canonical.few in
     let many = as_many end p in
     record {
       shaped = record {
-        descending = IsDescending-from_recursion (stripped end p) (descends end a p all (recursion_from_IsDescending p canonical.shaped.descending));
-        nonzero = All-from_recursion (λ t. t.0 ≢ pos 0) (stripped end p) (coefficients end (λ z. z ≢ pos 0) p (recursion_from_All (λ t. t.0 ≢ pos 0) p canonical.shaped.nonzero));
-        in_range = All-from_recursion (λ t. IsCoefficient t.0) (stripped end p) (coefficients end IsCoefficient p (recursion_from_All (λ t. IsCoefficient t.0) p canonical.shaped.in_range));
+        descending = IsDescending-from_recursion (stripped end p) (descends end a p at_end (recursion_from_IsDescending p canonical.shaped.descending));
+        nonzero = All-map (λ (t : Term). t.0 ≢ pos 0) _ p canonical.shaped.nonzero;
+        in_range = All-map (λ (t : Term). IsCoefficient t.0) _ p canonical.shaped.in_range;
       };
-      short = All-from_recursion (λ t. length t.1 ≤ 500) (stripped end p) (short end p (recursion_from_All (λ t. length t.1 ≤ 500) p canonical.short));
+      short = short end p canonical.short;
       few = omega arith;
     }
 
@@ -129,11 +118,7 @@ module _ (letters : ℕ) where
   word_over side.Right w over = All-take (λ a. a < letters) (length w - 1) w over
 
   pub stripped_over : (end : Side) (p : List Term) → All (λ t. IsOver letters t.1) p → All (λ t. IsOver letters t.1) (stripped end p)
-  stripped_over end p over = All-from_recursion (λ t. IsOver letters t.1) (stripped end p) (each p (recursion_from_All (λ t. IsOver letters t.1) p over))
-    where
-      each : (p : List Term) → AllByRecursion (λ t. IsOver letters t.1) p → AllByRecursion (λ t. IsOver letters t.1) (stripped end p)
-      each [] all = tt
-      each (t ∷ p) all = (word_over end t.1 all.0, each p all.1)
+  stripped_over end p over = All-map (λ (t : Term). IsOver letters t.1) _ p (λ k t below. word_over end _ (over k t below))
 
 -- one term more
 pub stripped_push : (end : Side) (p : List Term) (t : Term) → stripped end (p ++ t ∷ []) ≡ stripped end p ++ (t.0, word_without end t.1) ∷ []

@@ -2,10 +2,11 @@
 use Rattle.std.proofs.Common.{ltb-true, lt-ltb, ◌≡◌, ◌≢◌, inl, inr, ℕ, zero, suc, ◌<◌, ℤ, pos, ◌+ℤ◌, ◌*ℤ◌, Bool, true, false, List, [], ◌∷◌, ◌++◌, map, int_div, refl, sym, ap, ap₂, subst, ◌∙◌, get_or, ltb}
 use Rattle.std.proofs.lemmas.Bool.{and_parts, and_from}
 use Rattle.std.proofs.lemmas.Bool.Decides.{Decides-int_eq}
-use Rattle.std.proofs.lemmas.List.Elements.{recursion_from_All, All-from_recursion}
+use Rattle.std.proofs.lemmas.List.Elements.{All-head, All-tail, All-map}
 use Rattle.std.proofs.lemmas.List.Folds.{list_all-append}
+use Rattle.std.proofs.lemmas.List.Sums.{AllPass-from_list_all, list_all-from_AllPass}
 use Rattle.std.proofs.Math.IntN.{*ℤ-zero}
-use Rattle.std.specs.List.{AllByRecursion, list_all}
+use Rattle.std.specs.List.{All, AllByRecursion, list_all}
 use Rattle.std.specs.Ordering.{int_eq}
 use Rattle.definitions.specs.Poly.{Term, word_eq, coefficient_of, poly_multiple, poly_between}
 use Rattle.definitions.specs.Quiver.{Quiver, letters, source, leads, is_path}
@@ -42,7 +43,7 @@ module _ (q : Quiver) where
 
   -- no other word stands there
   abbrev pub Lists : List (ℤ × List ℕ) → Type 0
-  Lists p = AllByRecursion (λ t. is_over t.1 ≡ true) p
+  Lists p = All (λ t. is_over t.1 ≡ true) p
 
   pub clash : (b : Bool) → b ≡ true → b ≡ false → ⊥
   clash true one other = absurd cc
@@ -88,7 +89,9 @@ module _ (q : Quiver) where
   pub listed_stays : (p : List (ℤ × List ℕ)) → Lists p → Stays p
   listed_stays [] all x past = refl
   listed_stays (t ∷ p) all x past =
-      coefficient_other x t p (not_true (word_eq t.1 x) (λ same. clash (is_over x) (ap is_over (sym (word_eq-true t.1 x same)) ∙ all.0) past)) ∙ listed_stays p all.1 x past
+      let here = All-head (λ (u : Term). is_over u.1 ≡ true) t p all in
+      coefficient_other x t p (not_true (word_eq t.1 x) (λ same. clash (is_over x) (ap is_over (sym (word_eq-true t.1 x same)) ∙ here) past))
+      ∙ listed_stays p (All-tail (λ (u : Term). is_over u.1 ≡ true) t p all) x past
 
   pub multiple_stays : (k : ℤ) (p : List (ℤ × List ℕ)) → Stays p → Stays (poly_multiple k p)
   multiple_stays k p stays x past = coefficient_of-multiple k p x ∙ ap (λ n. k *ℤ n) (stays x past) ∙ *ℤ-zero k
@@ -112,15 +115,19 @@ module _ (q : Quiver) where
   at_stays ps (suc n) all = get_stays ps n all
 
   -- the words of each row are over the letters
+  abbrev IsRowOver : Row → Type 0
+  IsRowOver r = (is_over r.left ≡ true) × (is_over r.right ≡ true)
+
   abbrev pub AreOver : List Row → Type 0
-  AreOver rows = AllByRecursion (λ r. (is_over r.left ≡ true) × (is_over r.right ≡ true)) rows
+  AreOver = All IsRowOver
 
   pub sum_stays : (generators : List (List (ℤ × List ℕ))) (rows : List Row) → AllByRecursion Stays generators → AreOver rows → Stays (row_sum generators rows)
   sum_stays generators [] all over x past = refl
   sum_stays generators (r ∷ rows) all over x past =
       let g : List (ℤ × List ℕ) = generator_at generators r.generator in
-      let row : Stays (row_poly generators r) = multiple_stays r.coefficient (poly_between r.left g r.right) (between_stays r.left r.right g over.0.0 over.0.1 (at_stays generators r.generator all)) in
-      coefficient_of-append (row_poly generators r) (row_sum generators rows) x ∙ ap₂ ◌+ℤ◌ (row x past) (sum_stays generators rows all over.1 x past)
+      let words = All-head IsRowOver r rows over in
+      let row : Stays (row_poly generators r) = multiple_stays r.coefficient (poly_between r.left g r.right) (between_stays r.left r.right g words.0 words.1 (at_stays generators r.generator all)) in
+      coefficient_of-append (row_poly generators r) (row_sum generators rows) x ∙ ap₂ ◌+ℤ◌ (row x past) (sum_stays generators rows all (All-tail IsRowOver r rows over) x past)
 
   -- a word at which a multiple and a sum differ
   pub difference_is_over : (k : ℤ) (claim sum : List (ℤ × List ℕ)) (word : List ℕ) (want got : ℤ) → Stays claim → Stays sum
@@ -133,11 +140,7 @@ module _ (q : Quiver) where
 
   -- the words of each of its rows are over the letters
   abbrev pub IsLemmaOver : Lemma → Type 0
-  IsLemmaOver l = AllByRecursion (λ r. (is_over r.left ≡ true) × (is_over r.right ≡ true)) l.rows
-
-  pub plain_over : (generators lemmas : List (List (ℤ × List ℕ))) (rows : List LemmaRow) → AllByRecursion (λ r. (is_over r.left ≡ true) × (is_over r.right ≡ true)) rows → AreOver (plain_rows generators lemmas rows)
-  plain_over generators lemmas [] over = tt
-  plain_over generators lemmas (r ∷ rows) over = (over.0, plain_over generators lemmas rows over.1)
+  IsLemmaOver l = All (λ r. (is_over r.left ≡ true) × (is_over r.right ≡ true)) l.rows
 
   pub collected_lists : (p : List (ℤ × List ℕ)) → Stays p → Lists (collected p)
   collected_lists p stays =
@@ -146,21 +149,17 @@ module _ (q : Quiver) where
 
   pub least_over : (scale : ℤ) (p : List (ℤ × List ℕ)) (word : List ℕ) (got : ℤ) → Lists p → IsLeastIndivisible scale p word got → is_over word ≡ true
   least_over scale [] word got all none = absurd none
-  least_over scale (t ∷ p) word got all (inl later) = least_over scale p word got all.1 later
-  least_over scale (t ∷ p) word got all (inr here) = subst (λ (u : Term). is_over u.1 ≡ true) here.1.1 all.0
-
-  pub divided_lists : (scale : ℤ) (p : List (ℤ × List ℕ)) → Lists p → Lists (map (λ t. (int_div t.0 scale, t.1)) p)
-  divided_lists scale [] all = tt
-  divided_lists scale (t ∷ p) all = (all.0, divided_lists scale p all.1)
+  least_over scale (t ∷ p) word got all (inl later) = least_over scale p word got (All-tail (λ (u : Term). is_over u.1 ≡ true) t p all) later
+  least_over scale (t ∷ p) word got all (inr here) = subst (λ (u : Term). is_over u.1 ≡ true) here.1.1 (All-head (λ (u : Term). is_over u.1 ≡ true) t p all)
 
   module _ (generators : List (List (ℤ × List ℕ))) (stay : AllByRecursion Stays generators) where
     pub plain_stays : (before : List (List (ℤ × List ℕ))) (l : Lemma) → AllByRecursion Stays before → IsLemmaOver l → Stays (plain_sum generators before l.rows)
-    plain_stays before l earlier over = sum_stays (generators ++ before) (plain_rows generators before l.rows) (all-append Stays generators before stay earlier) (plain_over generators before l.rows over)
+    plain_stays before l earlier over = sum_stays (generators ++ before) (plain_rows generators before l.rows) (all-append Stays generators before stay earlier) (All-map IsRowOver _ l.rows over)
 
     pub lemma_lists : (before : List (List (ℤ × List ℕ))) (l : Lemma) → AllByRecursion Stays before → IsLemmaOver l → Lists (lemma_polynomial generators before l)
     lemma_lists before l earlier over =
         let sum : List (ℤ × List ℕ) = plain_sum generators before l.rows in
-        divided_lists l.scale (collected sum) (collected_lists sum (plain_stays before l earlier over))
+        All-map (λ (t : Term). is_over t.1 ≡ true) _ (collected sum) (collected_lists sum (plain_stays before l earlier over))
 
     pub lemma_stays : (before : List (List (ℤ × List ℕ))) (l : Lemma) → AllByRecursion Stays before → IsLemmaOver l → Stays (lemma_polynomial generators before l)
     lemma_stays before l earlier over = listed_stays (lemma_polynomial generators before l) (lemma_lists before l earlier over)
@@ -174,41 +173,34 @@ module _ (q : Quiver) where
     pub with_lemma : (before : List (List (ℤ × List ℕ))) (l : Lemma) → AllByRecursion Stays before → IsLemmaOver l → AllByRecursion Stays (before ++ lemma_polynomial generators before l ∷ [])
     with_lemma before l earlier over = all-append Stays before (lemma_polynomial generators before l ∷ []) earlier (lemma_stays before l earlier over, tt)
 
-    pub lemmas_stay : (before : List (List (ℤ × List ℕ))) (lemmas : List Lemma) → AllByRecursion Stays before → AllByRecursion IsLemmaOver lemmas → AllByRecursion Stays (lemma_polynomials generators before lemmas)
+    pub lemmas_stay : (before : List (List (ℤ × List ℕ))) (lemmas : List Lemma) → AllByRecursion Stays before → All IsLemmaOver lemmas → AllByRecursion Stays (lemma_polynomials generators before lemmas)
     lemmas_stay before [] earlier over = tt
     lemmas_stay before (l ∷ lemmas) earlier over =
-        (lemma_stays before l earlier over.0, lemmas_stay (before ++ lemma_polynomial generators before l ∷ []) lemmas (with_lemma before l earlier over.0) over.1)
+        let here = All-head IsLemmaOver l lemmas over in
+        (lemma_stays before l earlier here, lemmas_stay (before ++ lemma_polynomial generators before l ∷ []) lemmas (with_lemma before l earlier here) (All-tail IsLemmaOver l lemmas over))
 
     -- a word that the scale of one of them doesn't divide
-    pub indivisible_is_over : (before : List (List (ℤ × List ℕ))) (rows : ℕ) (lemmas : List Lemma) (lemma : ℕ) (word : List ℕ) (got : ℤ) → AllByRecursion Stays before → AllByRecursion IsLemmaOver lemmas
+    pub indivisible_is_over : (before : List (List (ℤ × List ℕ))) (rows : ℕ) (lemmas : List Lemma) (lemma : ℕ) (word : List ℕ) (got : ℤ) → AllByRecursion Stays before → All IsLemmaOver lemmas
         → RefusesLemmas generators before rows lemmas (refusal.NotDivisible lemma word got) → is_over word ≡ true
     indivisible_is_over before rows [] lemma word got earlier over none = absurd none
-    indivisible_is_over before rows (l ∷ lemmas) lemma word got earlier over (inl leaves) = rest_is_over before l lemma word got earlier over.0 leaves
+    indivisible_is_over before rows (l ∷ lemmas) lemma word got earlier over (inl leaves) = rest_is_over before l lemma word got earlier (All-head IsLemmaOver l lemmas over) leaves
     indivisible_is_over before rows (l ∷ lemmas) lemma word got earlier over (inr later) =
-        indivisible_is_over (before ++ lemma_polynomial generators before l ∷ []) _ lemmas lemma word got (with_lemma before l earlier over.0) over.1 later.1
+        indivisible_is_over (before ++ lemma_polynomial generators before l ∷ []) _ lemmas lemma word got (with_lemma before l earlier (All-head IsLemmaOver l lemmas over)) (All-tail IsLemmaOver l lemmas over) later.1
 
 -- over a problem
 module _ (problem : Problem) where
   abbrev pub drawn : Quiver
   drawn = quiver_of problem.parts.quiver
 
-  pub over_from : (w : List ℕ) → AllByRecursion (λ a. a < letter_count problem.parts.quiver) w → is_over drawn w ≡ true
-  over_from [] all = refl
-  over_from (a ∷ w) all =
-      let inside : a < letters drawn = subst (λ n. a < n) (sym (letters-quiver_of problem.parts.quiver)) all.0 in
-      and_from (ltb a (letters drawn)) _ (lt-ltb a (letters drawn) inside) (over_from w all.1)
-
-  pub over_to : (w : List ℕ) → is_over drawn w ≡ true → AllByRecursion (λ a. a < letter_count problem.parts.quiver) w
-  over_to [] is = tt
-  over_to (a ∷ w) is =
-      let parts = and_parts (ltb a (letters drawn)) _ is in
-      (subst (λ n. a < n) (letters-quiver_of problem.parts.quiver) (ltb-true a (letters drawn) parts.0), over_to w parts.1)
-
   pub word_over : (w : List ℕ) → IsOver (letter_count problem.parts.quiver) w → is_over drawn w ≡ true
-  word_over w over = over_from w (recursion_from_All (λ a. a < letter_count problem.parts.quiver) w over)
+  word_over w over =
+      let inside : IsOver (letters drawn) w = subst (λ n. IsOver n w) (sym (letters-quiver_of problem.parts.quiver)) over in
+      list_all-from_AllPass (λ a. ltb a (letters drawn)) w (λ k a below. lt-ltb (get_or w k a) (letters drawn) (inside k a below))
 
   pub over_word : (w : List ℕ) → is_over drawn w ≡ true → IsOver (letter_count problem.parts.quiver) w
-  over_word w is = All-from_recursion (λ a. a < letter_count problem.parts.quiver) w (over_to w is)
+  over_word w is =
+      let inside : IsOver (letters drawn) w = λ k a below. ltb-true (get_or w k a) (letters drawn) (AllPass-from_list_all (λ b. ltb b (letters drawn)) w is k a below) in
+      subst (λ n. IsOver n w) (letters-quiver_of problem.parts.quiver) inside
 
   pub generators_stay : AllByRecursion (Stays drawn) (polynomials problem.generators)
   generators_stay = typed_stay drawn (polynomials problem.generators) (generators_have_signatures problem.parts problem.posed problem.generators problem.closed)

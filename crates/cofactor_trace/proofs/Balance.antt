@@ -4,7 +4,8 @@ use Rattle.std.proofs.lemmas.Int.{ints}
 use Rattle.std.proofs.Math.IntN.{*ℤ_comm, *ℤ-zero}
 use Rattle.std.specs.Int.{◌∣◌}
 use Rattle.std.specs.Int.RustNames.{unsigned_abs}
-use Rattle.std.specs.List.{AllByRecursion}
+use Rattle.std.specs.List.{All, AllByRecursion}
+use Rattle.std.proofs.lemmas.List.Elements.{All-nil, All-cons, All-head, All-tail}
 use Rattle.definitions.specs.Poly.{Term, coefficient_of, poly_multiple, poly_between}
 use Rattle.definitions.specs.Combination.{generator_at, row_sum, IsCombination}
 use Rattle.definitions.proofs.Coefficients.{coefficient_of-append, coefficient_of-multiple}
@@ -55,13 +56,15 @@ module _ (generators rules : List (List (ℤ × List ℕ))) (known : Known) wher
   abbrev Shares : ℤ → List Row → Type 0
   Shares common rows = AllByRecursion (λ r. (known r.from).denominator *ℤ share known common r ≡ common) rows
 
-  shares : (x : ℤ) (rows : List Row) → AllByRecursion (λ d. unsigned_abs d ∣ unsigned_abs x) (denominators known rows) → Shares x rows
+  shares : (x : ℤ) (rows : List Row) → All (λ d. unsigned_abs d ∣ unsigned_abs x) (denominators known rows) → Shares x rows
   shares x [] h = tt
-  shares x (r ∷ rows) h = (quotient_times x (known r.from).denominator h.0, shares x rows h.1)
+  shares x (r ∷ rows) h =
+      let d = (known r.from).denominator in
+      (quotient_times x d (All-head (λ e. unsigned_abs e ∣ unsigned_abs x) d (denominators known rows) h), shares x rows (All-tail (λ e. unsigned_abs e ∣ unsigned_abs x) d (denominators known rows) h))
 
-  positive_denominators : (rows : List Row) → AllByRecursion (λ r. IsKnown r.from) rows → AllByRecursion (λ d. pos 0 <ℤ d) (denominators known rows)
-  positive_denominators [] h = tt
-  positive_denominators (r ∷ rows) h = (h.0.positive, positive_denominators rows h.1)
+  positive_denominators : (rows : List Row) → AllByRecursion (λ r. IsKnown r.from) rows → All (λ d. pos 0 <ℤ d) (denominators known rows)
+  positive_denominators [] h = All-nil (λ d. pos 0 <ℤ d)
+  positive_denominators (r ∷ rows) h = All-cons (λ d. pos 0 <ℤ d) (known r.from).denominator (denominators known rows) h.0.positive (positive_denominators rows h.1)
 
   module _ (w : List ℕ) where
     joined_one : (common : ℤ) (r : Row) → IsKnown r.from → (known r.from).denominator *ℤ share known common r ≡ common

@@ -1,7 +1,7 @@
 -- Each rule that the target or a needed rule names is needed, and comes before what names it.
 use Rattle.std.proofs.Common.{◌≡◌, ◌⊎◌, inl, inr, ℕ, suc, ◌+◌, ◌<◌, ◌≤◌, Bool, true, false, ◌||◌, cond, List, [], ◌∷◌, length, nat_eq, eqb-true, eq-eqb, Some, sym, refl, ap, subst, ◌∙◌, arith}
-use Rattle.std.proofs.lemmas.List.Elements.{recursion_from_All}
-use Rattle.std.specs.List.{AllByRecursion, list_any, slice_get}
+use Rattle.std.proofs.lemmas.List.Elements.{All-head, All-tail}
+use Rattle.std.specs.List.{All, list_any, slice_get}
 use Rattle.traced_rows.specs.declared.Origin.{Origin}
 use Rattle.traced_rows.specs.declared.Origin.TheVariants as origin
 use Rattle.traced_rows.specs.declared.Row.{Row}
@@ -28,16 +28,16 @@ in_first : (count n : ℕ) (o : Origin) → IsAmongFirst count o → is_rule n o
 in_first count n (origin.Generator k) h e = absurd (cc)
 in_first count n (origin.Rule k) h e = subst (λ j. (1 ≤ j) × (j ≤ count)) (sym (eqb-true n k e)) h
 
-named_first : (count n : ℕ) (rows : List Row) → AllByRecursion (λ r. IsAmongFirst count r.from) rows → names n rows ≡ true → (1 ≤ n) × (n ≤ count)
+named_first : (count n : ℕ) (rows : List Row) → All (λ r. IsAmongFirst count r.from) rows → names n rows ≡ true → (1 ≤ n) × (n ≤ count)
 named_first count n [] h e = absurd (cc)
-named_first count n (r ∷ rows) h e = go (or_cases (is_rule n r.from) (names n rows) e) (named_first count n rows h.1)
+named_first count n (r ∷ rows) h e = go (or_cases (is_rule n r.from) (names n rows) e) (named_first count n rows (All-tail (λ (s : Row). IsAmongFirst count s.from) r rows h))
   where
     go : (is_rule n r.from ≡ true) ⊎ (names n rows ≡ true) → (names n rows ≡ true → (1 ≤ n) × (n ≤ count)) → (1 ≤ n) × (n ≤ count)
-    go (inl e) later = in_first count n r.from h.0 e
+    go (inl e) later = in_first count n r.from (All-head (λ (s : Row). IsAmongFirst count s.from) r rows h) e
     go (inr e) later = later e
 
 pub record_names : (count n : ℕ) (m : Made) → IsRecord count m → names n m.rows ≡ true → (1 ≤ n) × (n ≤ count)
-record_names count n m h e = named_first count n m.rows (recursion_from_All (λ (r : Row). IsAmongFirst count r.from) m.rows h.earlier) e
+record_names count n m h e = named_first count n m.rows h.earlier e
 
 -- records one after another
 abbrev pub RecordsFrom : ℕ → List Made → Type 0

@@ -2,12 +2,12 @@
 -- multiples are divided by, each number.
 use Rattle.std.proofs.Common.{◌≡◌, ◌<◌, ℕ, zero, suc, List, [], ◌∷◌, ◌/◌, ℤ, pos, negsuc, ◌<ℤ◌, ◌*ℤ◌, ◌*◌, refl, sym, ap, subst, subst₂, ◌∙◌, arith}
 use Rattle.std.proofs.Math.IntN.{*ℤ-zero}
-use Rattle.std.specs.List.{AllByRecursion, fold}
+use Rattle.std.specs.List.{All, AllByRecursion, fold}
 use Rattle.std.specs.Int.{◌∣◌}
 use Rattle.std.specs.Int.RustNames.{unsigned_abs, int_div}
 use Rattle.std.proofs.lemmas.Int.{ints, unsigned_abs-mul}
 use Rattle.std.proofs.lemmas.Nat.Gcd.{dvd_refl, dvd_trans, dvd-zero}
-use Rattle.std.proofs.lemmas.List.Elements.{All-from_recursion, recursion_from_All}
+use Rattle.std.proofs.lemmas.List.Elements.{All-nil, All-cons, All-head, All-tail}
 use Rattle.std.proofs.Math.Nat.{dvd-mul_right, dvd_of_mul-dvd-mul_right, eq-zero_of_zero-dvd, mul-dvd-mul_right, mul_assoc, mul_comm}
 use Rattle.nc_polynomial.proofs.Divisors.{quotient_times}
 use Rattle.coef_int.specs.Divisor.{gcd_of}
@@ -100,22 +100,23 @@ common_multiple-first : (x : ℤ) (ys : List ℤ) → unsigned_abs x ∣ unsigne
 common_multiple-first x [] = dvd_refl (unsigned_abs x)
 common_multiple-first x (y ∷ ys) = dvd_trans (unsigned_abs x) (lcm_of-left x y) (common_multiple-first (lcm_of x y) ys)
 
-pub common_multiple-each : (x : ℤ) (ys : List ℤ) → AllByRecursion (λ y. unsigned_abs y ∣ unsigned_abs (common_multiple x ys)) ys
-common_multiple-each x [] = tt
-common_multiple-each x (y ∷ ys) = (dvd_trans (unsigned_abs y) (lcm_of-right x y) (common_multiple-first (lcm_of x y) ys), common_multiple-each (lcm_of x y) ys)
+pub common_multiple-each : (x : ℤ) (ys : List ℤ) → All (λ y. unsigned_abs y ∣ unsigned_abs (common_multiple x ys)) ys
+common_multiple-each x [] = All-nil (λ z. unsigned_abs z ∣ unsigned_abs x)
+common_multiple-each x (y ∷ ys) =
+    All-cons (λ z. unsigned_abs z ∣ unsigned_abs (common_multiple x (y ∷ ys))) y ys (dvd_trans (unsigned_abs y) (lcm_of-right x y) (common_multiple-first (lcm_of x y) ys)) (common_multiple-each (lcm_of x y) ys)
 
-pub common_multiple-positive : (x : ℤ) (ys : List ℤ) → pos 0 <ℤ x → AllByRecursion (λ y. pos 0 <ℤ y) ys → pos 0 <ℤ common_multiple x ys
+pub common_multiple-positive : (x : ℤ) (ys : List ℤ) → pos 0 <ℤ x → All (λ y. pos 0 <ℤ y) ys → pos 0 <ℤ common_multiple x ys
 common_multiple-positive x [] h each = h
-common_multiple-positive x (y ∷ ys) h each = common_multiple-positive (lcm_of x y) ys (lcm_of-positive x y h each.0) each.1
+common_multiple-positive x (y ∷ ys) h each = common_multiple-positive (lcm_of x y) ys (lcm_of-positive x y h (All-head (λ z. pos 0 <ℤ z) y ys each)) (All-tail (λ z. pos 0 <ℤ z) y ys each)
 
-common_multiple-least : (x : ℤ) (ys : List ℤ) (m : ℕ) → unsigned_abs x ∣ m → AllByRecursion (λ y. unsigned_abs y ∣ m) ys
+common_multiple-least : (x : ℤ) (ys : List ℤ) (m : ℕ) → unsigned_abs x ∣ m → All (λ y. unsigned_abs y ∣ m) ys
     → unsigned_abs (common_multiple x ys) ∣ m
 common_multiple-least x [] m of_x each = of_x
-common_multiple-least x (y ∷ ys) m of_x each = common_multiple-least (lcm_of x y) ys m (lcm_of-least x y m of_x each.0) each.1
+common_multiple-least x (y ∷ ys) m of_x each = common_multiple-least (lcm_of x y) ys m (lcm_of-least x y m of_x (All-head (λ z. unsigned_abs z ∣ m) y ys each)) (All-tail (λ z. unsigned_abs z ∣ m) y ys each)
 
 pub multiples_are_least : MultiplesAreLeast
 multiples_are_least x ys = record {
-  each = All-from_recursion (λ z. unsigned_abs z ∣ unsigned_abs (common_multiple x ys)) (x ∷ ys) (common_multiple-first x ys, common_multiple-each x ys);
-  least = λ m divides. let each = recursion_from_All (λ z. unsigned_abs z ∣ m) (x ∷ ys) divides in common_multiple-least x ys m each.0 each.1;
-  positive = λ above. let each = recursion_from_All (λ z. pos 0 <ℤ z) (x ∷ ys) above in common_multiple-positive x ys each.0 each.1;
+  each = All-cons (λ z. unsigned_abs z ∣ unsigned_abs (common_multiple x ys)) x ys (common_multiple-first x ys) (common_multiple-each x ys);
+  least = λ m divides. common_multiple-least x ys m (All-head (λ z. unsigned_abs z ∣ m) x ys divides) (All-tail (λ z. unsigned_abs z ∣ m) x ys divides);
+  positive = λ above. common_multiple-positive x ys (All-head (λ z. pos 0 <ℤ z) x ys above) (All-tail (λ z. pos 0 <ℤ z) x ys above);
 }

@@ -1,11 +1,11 @@
 -- The parts of a gathered certificate: its limits, numbers and words.
-use Rattle.std.proofs.Common.{◌≡◌, ℕ, suc, ℤ, pos, ◌≤◌, int_div, Bool, true, false, cond, IsTrue, List, [], ◌∷◌, ◌++◌, map, filter, length, nat_lt, Option, Some, None, Result, Ok, sym, refl, ap, subst, ◌∙◌, arith}
+use Rattle.std.proofs.Common.{◌≡◌, ℕ, suc, ℤ, pos, ◌≤◌, int_div, Bool, true, false, cond, IsTrue, List, [], ◌∷◌, ◌++◌, map, filter, length, get_or, nat_lt, Option, Some, None, Result, Ok, sym, refl, ap, subst, ◌∙◌, arith}
 use Rattle.std.proofs.lemmas.Bool.Decides.{nat_tests}
 use Rattle.std.proofs.lemmas.Int.{ints}
 use Rattle.std.proofs.lemmas.List.{length-map}
 use Rattle.std.proofs.lemmas.List.Sums.{sum_by-cons, sum_by-append}
-use Rattle.std.proofs.lemmas.List.Elements.{All-from_recursion, recursion_from_All}
-use Rattle.std.specs.List.{All, AllByRecursion}
+use Rattle.std.proofs.lemmas.List.Elements.{All-nil, All-cons, All-head, All-tail, All-push, All-map, All-filter, All-weaker}
+use Rattle.std.specs.List.{All}
 use Rattle.std.specs.Option.{option_map}
 use Rattle.coef_int.specs.declared.Overflow.{Overflow}
 use Rattle.coef_int.specs.Range.{IsCoefficient, is_coefficient}
@@ -19,7 +19,7 @@ use Rattle.traced_rows.specs.declared.evidence.LemmaCertificate.{LemmaCertificat
 use Rattle.cofactor_trace.specs.declared.fault.GatherFault.TheVariants as fault
 use Rattle.cofactor_trace.specs.Expansion.{lcm_of, common_multiple, multiple_products, unless}
 use Rattle.cofactor_trace.specs.Needed.{IsRecord, is_named, Numbered, needed_from, needed_rules}
-use Rattle.cofactor_trace.specs.Lemmas.{Naming, is_lemma, naming_of, lemma_records, lemma_row, lemma_of, signed, row_count, letter_count, limit_fault, scale_fault, gathered_of}
+use Rattle.cofactor_trace.specs.Lemmas.{is_lemma, naming_of, lemma_rules, lemma_records, lemma_row, lemma_of, signed, row_count, letter_count, limit_fault, scale_fault, gathered_of}
 use Rattle.cofactor_trace.specs.GatheringLaws.{parts_of, IsRangedLemma, GatheringsFit, LemmasHaveRows, GatheringsAreRanged, WordsAreKept}
 use Rattle.cofactor_trace.proofs.NeededLaws.{records_of}
 use Rattle.cofactor_trace.proofs.NamingLaws.{are_records}
@@ -54,39 +54,26 @@ module _ (claim : ℕ) (made : List Made) (target : Made) where
       record { short = first.0; fits = second.0; is = same }
 
   -- what holds of each lemma's record and of the target, holds of the certificate in its way
-  each_of : (P : Made → Type 0) (Q : Lemma → Type 0) → ((m : Made) → P m → Q (lemma_of (naming_of made target) m)) → (ms : List Made) → AllByRecursion P ms
-      → AllByRecursion Q (map (lemma_of (naming_of made target)) ms)
-  each_of P Q f [] h = tt
-  each_of P Q f (m ∷ ms) h = (f m h.0, each_of P Q f ms h.1)
+  each_of : (P : Made → Type 0) (Q : Lemma → Type 0) → ((m : Made) → P m → Q (lemma_of (naming_of made target) m)) → (ms : List Made) → All P ms
+      → All Q (map (lemma_of (naming_of made target)) ms)
+  each_of P Q f ms h = All-map Q (lemma_of (naming_of made target)) ms (All-weaker P (λ m. Q (lemma_of (naming_of made target) m)) f ms h)
 
-  pub each_part : (P : Made → Type 0) (Q : Lemma → Type 0) → ((m : Made) → P m → Q (lemma_of (naming_of made target) m)) → AllByRecursion P (lemma_records made target) → P target
+  pub each_part : (P : Made → Type 0) (Q : Lemma → Type 0) → ((m : Made) → P m → Q (lemma_of (naming_of made target) m)) → All P (lemma_records made target) → P target
       → All Q (lemmas ++ goal_of ∷ [])
-  each_part P Q f h at_target = All-from_recursion Q (lemmas ++ goal_of ∷ []) (with_goal lemmas (each_of P Q f (lemma_records made target) h))
-    where
-      with_goal : (ls : List Lemma) → AllByRecursion Q ls → AllByRecursion Q (ls ++ goal_of ∷ [])
-      with_goal [] h = (f target at_target, tt)
-      with_goal (l ∷ ls) h = (h.0, with_goal ls h.1)
+  each_part P Q f h at_target = All-push Q lemmas goal_of (each_of P Q f (lemma_records made target) h) (f target at_target)
 
   -- and what holds of all records, of the lemmas' records
-  needed_each : (P : Made → Type 0) (number : ℕ) (ms : List Made) → AllByRecursion P ms → AllByRecursion (λ e. P e.1) (needed_from target number ms)
-  needed_each P number [] h = tt
-  needed_each P number (m ∷ ms) h = go (is_named number (target ∷ records_of (needed_from target (suc number) ms))) (needed_each P (suc number) ms h.1)
+  pub needed_each : (P : Made → Type 0) (number : ℕ) (ms : List Made) → All P ms → All (λ e. P e.1) (needed_from target number ms)
+  needed_each P number [] h = All-nil (λ (e : Numbered). P e.1)
+  needed_each P number (m ∷ ms) h = go (is_named number (target ∷ records_of (needed_from target (suc number) ms))) (needed_each P (suc number) ms (All-tail P m ms h))
     where
-      go : (b : Bool) → AllByRecursion (λ e. P e.1) (needed_from target (suc number) ms) → AllByRecursion (λ e. P e.1) (cond b ((number, m) ∷ needed_from target (suc number) ms) (needed_from target (suc number) ms))
-      go true later = (h.0, later)
+      go : (b : Bool) → All (λ e. P e.1) (needed_from target (suc number) ms) → All (λ e. P e.1) (cond b ((number, m) ∷ needed_from target (suc number) ms) (needed_from target (suc number) ms))
+      go true later = All-cons (λ (e : Numbered). P e.1) (number, m) (needed_from target (suc number) ms) (All-head P m ms h) later
       go false later = later
 
-  lemmas_each : (P : Made → Type 0) (es : List Numbered) → AllByRecursion (λ e. P e.1) es → AllByRecursion P (map (λ e. e.1) (filter (λ e. is_lemma e.1) es))
-  lemmas_each P [] h = tt
-  lemmas_each P (e ∷ es) h = go (is_lemma e.1) (lemmas_each P es h.1)
-    where
-      go : (b : Bool) → AllByRecursion P (map (λ (n : Numbered). n.1) (filter (λ (n : Numbered). is_lemma n.1) es))
-          → AllByRecursion P (map (λ (n : Numbered). n.1) (cond b (e ∷ filter (λ (n : Numbered). is_lemma n.1) es) (filter (λ (n : Numbered). is_lemma n.1) es)))
-      go true rest = (h.0, rest)
-      go false rest = rest
-
-  pub lemma_record_each : (P : Made → Type 0) → All P made → AllByRecursion P (lemma_records made target)
-  lemma_record_each P h = lemmas_each P (needed_rules made target) (needed_each P 1 made (recursion_from_All P made h))
+  pub lemma_record_each : (P : Made → Type 0) → All P made → All P (lemma_records made target)
+  lemma_record_each P h =
+      All-map P (λ (e : Numbered). e.1) (lemma_rules made target) (All-filter (λ e. is_lemma e.1) (λ (e : Numbered). P e.1) (needed_rules made target) (needed_each P 1 made h))
 
 -- sizes
 below : (limit n : ℕ) → nat_lt limit n ≡ false → n ≤ limit
@@ -107,12 +94,12 @@ gatherings_fit claim made target c ends =
     (within (row_count (parts_of (whole claim made target))) (letter_count (parts_of (whole claim made target))) p.short)
 
 -- lemmas with rows are no more than their rows
-no_more : (ls : List Lemma) → AllByRecursion (λ l. 1 ≤ length l.rows) ls → length ls ≤ row_count ls
+no_more : (ls : List Lemma) → All (λ l. 1 ≤ length l.rows) ls → length ls ≤ row_count ls
 no_more [] h = omega arith
 no_more (l ∷ ls) h =
-    let rest = no_more ls h.1 in
+    let rest = no_more ls (All-tail (λ (m : Lemma). 1 ≤ length m.rows) l ls h) in
     let more = sum_by-cons (λ (x : Lemma). length x.rows) l ls in
-    omega (arith, rest, more, h.0)
+    omega (arith, rest, more, All-head (λ (m : Lemma). 1 ≤ length m.rows) l ls h)
 
 pub lemmas_have_rows : LemmasHaveRows
 lemmas_have_rows claim made target c rows ends =
@@ -123,7 +110,7 @@ lemmas_have_rows claim made target c rows ends =
     let few = (gatherings_fit claim made target (whole claim made target) (ends ∙ ap Ok (sym p.is))).0 in
     let all = sum_by-append (λ (x : Lemma). length x.rows) (lemmas claim made target) (goal_of claim made target ∷ []) in
     subst (λ (x : LemmaCertificate). All (λ (l : Lemma). 1 ≤ length l.rows) x.lemmas × (length x.lemmas ≤ 200000)) p.is
-    (All-from_recursion (λ (l : Lemma). 1 ≤ length l.rows) (lemmas claim made target) each, omega (arith, no_more (lemmas claim made target) each, few, all))
+    (each, omega (arith, no_more (lemmas claim made target) each, few, all))
 
 -- numbers
 fits_or : (o : Overflow) (os : List Overflow) → first_overflow (o ∷ os) ≡ None → IsCoefficient (exact_value o) × (first_overflow os ≡ None)
@@ -151,17 +138,12 @@ pub gatherings_are_ranged : GatheringsAreRanged
 gatherings_are_ranged claim made target c records is_record ends =
     let p = parts claim made target c ends in
     let naming = naming_of made target in
-    let of_rows = rows_in naming in
     subst (λ (x : LemmaCertificate). IsCoefficient x.denominator × All IsRangedLemma (parts_of x)) p.is (
       multiple_in_range (pos 1) (scales claim made target) (omega (arith, ints)) (no_overflow (first_overflow (multiple_products (pos 1) (scales claim made target))) p.fits),
       each_part claim made target (IsRecord (length made)) IsRangedLemma
-          (λ m h. (h.scale_in, All-from_recursion (λ (r : LemmaRow). IsCoefficient r.coef) (map (lemma_row naming) m.rows) (of_rows m.rows (recursion_from_All (λ (r : Row). IsCoefficient r.coef) m.rows h.coefficients_in))))
-          (recursion_from_All (IsRecord (length made)) (lemma_records made target) (are_records made target records)) is_record,
+          (λ m h. (h.scale_in, All-map (λ (r : LemmaRow). IsCoefficient r.coef) (lemma_row naming) m.rows (λ k r below. signed_in_range (naming (get_or m.rows k r).from).negative (get_or m.rows k r).coef (h.coefficients_in k r below))))
+          (are_records made target records) is_record,
     )
-  where
-    rows_in : (naming : Naming) (rows : List Row) → AllByRecursion (λ r. IsCoefficient r.coef) rows → AllByRecursion (λ r. IsCoefficient r.coef) (map (lemma_row naming) rows)
-    rows_in naming [] h = tt
-    rows_in naming (r ∷ rows) h = (signed_in_range (naming r.from).negative r.coef h.0, rows_in naming rows h.1)
 
 -- words
 pub words_are_kept : WordsAreKept
@@ -170,10 +152,5 @@ words_are_kept test claim made target c rules at_target ends =
     let naming = naming_of made target in
     subst (λ (x : LemmaCertificate). All (λ (l : Lemma). All (λ r. IsTrue (test r.left) × IsTrue (test r.right)) l.rows) (parts_of x)) p.is
     (each_part claim made target (λ m. All (λ r. IsTrue (test r.left) × IsTrue (test r.right)) m.rows) (λ l. All (λ r. IsTrue (test r.left) × IsTrue (test r.right)) l.rows)
-    (λ m h. All-from_recursion (λ (r : LemmaRow). IsTrue (test r.left) × IsTrue (test r.right)) (map (lemma_row naming) m.rows)
-    (kept naming m.rows (recursion_from_All (λ (r : Row). IsTrue (test r.left) × IsTrue (test r.right)) m.rows h)))
+    (λ m h. All-map (λ (r : LemmaRow). IsTrue (test r.left) × IsTrue (test r.right)) (lemma_row naming) m.rows h)
     (lemma_record_each claim made target (λ m. All (λ r. IsTrue (test r.left) × IsTrue (test r.right)) m.rows) rules) at_target)
-  where
-    kept : (naming : Naming) (rows : List Row) → AllByRecursion (λ r. IsTrue (test r.left) × IsTrue (test r.right)) rows → AllByRecursion (λ r. IsTrue (test r.left) × IsTrue (test r.right)) (map (lemma_row naming) rows)
-    kept naming [] h = tt
-    kept naming (r ∷ rows) h = (h.0, kept naming rows h.1)

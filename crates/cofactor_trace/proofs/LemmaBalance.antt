@@ -1,12 +1,12 @@
 -- The rows of lemmas and goal add up to their scales times their polynomials.
 use Rattle.std.proofs.Common.{◌≡◌, ℕ, zero, suc, ◌-◌, ◌≤◌, ℤ, pos, ◌+ℤ◌, ◌*ℤ◌, ◌<ℤ◌, Bool, true, false, ◌||◌, Some, List, [], ◌∷◌, ◌++◌, map, nat_eq, eqb-true, length, cond, sym, refl, ap, ap₂, subst, ◌∙◌, append_assoc, arith}
 use Rattle.std.proofs.lemmas.Int.{ints}
-use Rattle.std.proofs.lemmas.List.{map-append, append-nil}
-use Rattle.std.proofs.lemmas.List.Elements.{All-from_recursion, recursion_from_All}
+use Rattle.std.proofs.lemmas.List.{map-append, append-nil, get_or-map, length-map}
+use Rattle.std.proofs.lemmas.List.Elements.{All-map}
 use Rattle.std.proofs.Math.IntN.{+ℤ_idr}
 use Rattle.std.specs.Int.{◌∣◌}
 use Rattle.std.specs.Int.RustNames.{unsigned_abs}
-use Rattle.std.specs.List.{AllByRecursion, slice_get}
+use Rattle.std.specs.List.{All, AllByRecursion, slice_get}
 use Rattle.definitions.specs.Poly.{Term, coefficient_of, SamePolynomial, poly_multiple, poly_between}
 use Rattle.definitions.specs.Combination.{generator_at}
 use Rattle.definitions.proofs.Coefficients.{coefficient_of-append, coefficient_of-multiple}
@@ -136,27 +136,21 @@ module _ (generators rules : List (List (ℤ × List ℕ))) where
         )
 
 -- the scales
-shares : (d : ℤ) (ls : List Lemma) → AllByRecursion (λ l. pos 0 <ℤ l.scale) ls → AllByRecursion (λ s. unsigned_abs s ∣ unsigned_abs d) (map (λ l. l.scale) ls) → AllByRecursion (IsShareOf d) ls
-shares d [] positive divide = tt
-shares d (l ∷ ls) positive divide = ((positive.0, divide.0), shares d ls positive.1 divide.1)
-
-positive_scales : (ls : List Lemma) → AllByRecursion (λ l. pos 0 <ℤ l.scale) ls → AllByRecursion (λ s. pos 0 <ℤ s) (map (λ l. l.scale) ls)
-positive_scales [] h = tt
-positive_scales (l ∷ ls) h = (h.0, positive_scales ls h.1)
+shares : (d : ℤ) (ls : List Lemma) → All (λ l. pos 0 <ℤ l.scale) ls → All (λ s. unsigned_abs s ∣ unsigned_abs d) (map (λ l. l.scale) ls) → All (IsShareOf d) ls
+shares d ls positive divide = λ k l below.
+    let divides = divide k l.scale (omega (arith, below, length-map ls (λ (m : Lemma). m.scale))) in
+    (positive k l below, subst (λ s. unsigned_abs s ∣ unsigned_abs d) (get_or-map (λ (m : Lemma). m.scale) ls k l l.scale below) divides)
 
 -- the law
 pub gatherings_add_up : GatheringsAddUp
 gatherings_add_up generators rules claim made target p c records is_record traces traced ends =
     let g = parts claim made target c ends in
     let w = whole claim made target in
-    let positive = recursion_from_All (λ (l : Lemma). pos 0 <ℤ l.scale) (w.lemmas ++ w.goal ∷ [])
-    (each_part claim made target (IsRecord (length made)) (λ l. pos 0 <ℤ l.scale) (λ m h. h.positive)
-    (recursion_from_All (IsRecord (length made)) (lemma_records made target) (are_records made target records)) is_record) in
+    let positive = each_part claim made target (IsRecord (length made)) (λ l. pos 0 <ℤ l.scale) (λ m h. h.positive) (are_records made target records) is_record in
     subst (λ (x : LemmaCertificate). IsEvidenceOf generators (lemma_polys rules made target) x p) g.is
     (record {
-      positive = common_multiple-positive (pos 1) (scales claim made target) (omega (arith, ints)) (positive_scales (w.lemmas ++ w.goal ∷ []) positive);
-      shares = All-from_recursion (IsShareOf w.denominator) (w.lemmas ++ w.goal ∷ [])
-          (shares w.denominator (w.lemmas ++ w.goal ∷ []) positive (common_multiple-each (pos 1) (scales claim made target)));
+      positive = common_multiple-positive (pos 1) (scales claim made target) (omega (arith, ints)) (All-map (λ s. pos 0 <ℤ s) (λ (l : Lemma). l.scale) (w.lemmas ++ w.goal ∷ []) positive);
+      shares = shares w.denominator (w.lemmas ++ w.goal ∷ []) positive (common_multiple-each (pos 1) (scales claim made target));
       lemmas_add_up = lemmas_add_up generators rules made target records is_record traces [] (lemma_rules made target) refl (lemma_entries made target records is_record);
       goal_adds_up = adds_up generators rules made target records is_record traces (lemma_rules made target) [] (append-nil (lemma_rules made target)) target p
           (target_knows made target records is_record (target_names made target records is_record)) traced;

@@ -1,7 +1,7 @@
 -- Lemmas name earlier lemmas, and the generators that the records name.
 use Rattle.std.proofs.Common.{◌≡◌, ℕ, suc, ◌+◌, ◌-◌, ◌≤◌, List, [], ◌∷◌, ◌++◌, map, length, Some, sym, refl, subst, ◌∙◌, append_assoc, arith}
 use Rattle.std.proofs.lemmas.List.{append-nil, length-append, length-map}
-use Rattle.std.proofs.lemmas.List.Elements.{All-from_recursion, recursion_from_All}
+use Rattle.std.proofs.lemmas.List.Elements.{All-nil, All-cons, All-head, All-tail}
 use Rattle.std.proofs.lemmas.Option.{slice_get_within, get_or_from_slice_get}
 use Rattle.std.specs.List.{All, AllByRecursion, slice_get}
 use Rattle.traced_rows.specs.declared.Row.{Row}
@@ -25,27 +25,20 @@ module _ (count : ℕ) (made : List Made) (target : Made) (records : AreRecords 
   direct_within : (before : ℕ) (m : Made) (x : Replacement) → direct_of m ≡ Some x → NamesUpTo count m → IsWithin count before x.from
   direct_within before m x e named =
       let d = direct_is m x e in
-      let each : AllByRecursion (λ (r : Row). IsUpTo count r.from) m.rows = recursion_from_All (λ (r : Row). IsUpTo count r.from) m.rows named in
-      let first : (1 ≤ d.generator) × (d.generator ≤ count) = (subst (AllByRecursion (λ (r : Row). IsUpTo count r.from)) d.rows_are each).0 in
+      let first : (1 ≤ d.generator) × (d.generator ≤ count) = All-head (λ (r : Row). IsUpTo count r.from) _ [] (subst (All (λ (r : Row). IsUpTo count r.from)) d.rows_are named) in
       subst (IsWithin count before) (sym d.from_is) first
 
   rows_within : (done rest : List Numbered) → done ++ rest ≡ lemma_rules made target → (rows : List Row) → AllByRecursion (λ r. IsKnown made target records is_record done r.from) rows
-      → AllByRecursion (λ r. IsUpTo count r.from) rows → AllByRecursion (λ r. IsWithin count (length done) r.from) (map (lemma_row (naming_of made target)) rows)
-  rows_within done rest all [] known up_to = tt
-  rows_within done rest all (r ∷ rows) known up_to = (
-    by_source made target records is_record (λ o x. IsUpTo count o → IsWithin count (length done) x.from) done rest all
-        (λ n h. h)
-        (λ n m x positive item e h. direct_within (length done) m x e (all_at (NamesUpTo count) made (n - 1) m item rules))
-        (λ n listed h. (number_positive n (done ++ rest), number_within n done rest listed))
-        r.from known.0 up_to.0,
-    rows_within done rest all rows known.1 up_to.1,
-  )
-
-  names_within : (done rest : List Numbered) → done ++ rest ≡ lemma_rules made target → (m : Made) → AllByRecursion (λ r. IsKnown made target records is_record done r.from) m.rows → NamesUpTo count m
-      → NamesWithin count (length done) (lemma_of (naming_of made target) m)
-  names_within done rest all m known named =
-      All-from_recursion (λ (r : LemmaRow). IsWithin count (length done) r.from) (map (lemma_row (naming_of made target)) m.rows)
-      (rows_within done rest all m.rows known (recursion_from_All (λ (r : Row). IsUpTo count r.from) m.rows named))
+      → All (λ r. IsUpTo count r.from) rows → All (λ r. IsWithin count (length done) r.from) (map (lemma_row (naming_of made target)) rows)
+  rows_within done rest all [] known up_to = All-nil (λ (r : LemmaRow). IsWithin count (length done) r.from)
+  rows_within done rest all (r ∷ rows) known up_to =
+      All-cons (λ (l : LemmaRow). IsWithin count (length done) l.from) (lemma_row (naming_of made target) r) (map (lemma_row (naming_of made target)) rows)
+      (by_source made target records is_record (λ o x. IsUpTo count o → IsWithin count (length done) x.from) done rest all
+          (λ n h. h)
+          (λ n m x positive item e h. direct_within (length done) m x e (all_at (NamesUpTo count) made (n - 1) m item rules))
+          (λ n listed h. (number_positive n (done ++ rest), number_within n done rest listed))
+          r.from known.0 (All-head (λ (s : Row). IsUpTo count s.from) r rows up_to))
+      (rows_within done rest all rows known.1 (All-tail (λ (s : Row). IsUpTo count s.from) r rows up_to))
 
   name_earlier : (done rest : List Numbered) → done ++ rest ≡ lemma_rules made target → AllByRecursion (IsEntry made target records is_record) rest
       → NameEarlier count (length done) (map (lemma_of (naming_of made target)) (map (λ e. e.1) rest))
@@ -54,7 +47,7 @@ module _ (count : ℕ) (made : List Made) (target : Made) (records : AreRecords 
       let known = lemma_knows made target records is_record done e rest all (records.at (e.0 - 1) e.1 entries.0.1) entries.0.0 entries.0.2 in
       let more : length (done ++ e ∷ []) ≡ suc (length done) = length-append done (e ∷ []) ∙ next (length done) in
       let later = name_earlier (done ++ e ∷ []) rest (append_assoc done (e ∷ []) rest ∙ all) entries.1 in (
-        names_within done (e ∷ rest) all e.1 known (all_at (NamesUpTo count) made (e.0 - 1) e.1 entries.0.1 rules),
+        rows_within done (e ∷ rest) all e.1.rows known (all_at (NamesUpTo count) made (e.0 - 1) e.1 entries.0.1 rules),
         subst (λ n. NameEarlier count n (map (lemma_of (naming_of made target)) (map (λ (k : Numbered). k.1) rest))) more later,
       )
     where
@@ -70,7 +63,7 @@ lemmas_are_named count claim made target c records is_record rules at_target end
     sym (length-map (lemma_records made target) f ∙ length-map (lemma_rules made target) (λ (e : Numbered). e.1)) in
     let goal_within : NamesWithin count (length (map f (lemma_records made target))) (f target) =
     subst (λ n. NamesWithin count n (f target)) sized
-    (names_within count made target records is_record rules (lemma_rules made target) [] (append-nil (lemma_rules made target)) target
+    (rows_within count made target records is_record rules (lemma_rules made target) [] (append-nil (lemma_rules made target)) target.rows
     (target_knows made target records is_record (target_names made target records is_record)) at_target) in
     subst (λ (x : LemmaCertificate). NameEarlier count 0 x.lemmas × NamesWithin count (length x.lemmas) x.goal) g.is
     (name_earlier count made target records is_record rules [] (lemma_rules made target) refl (lemma_entries made target records is_record), goal_within)

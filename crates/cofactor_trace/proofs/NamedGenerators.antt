@@ -1,7 +1,7 @@
 -- An expansion is over the generators that the records name.
 use Rattle.std.proofs.Common.{◌≡◌, ℕ, ◌≤◌, ℤ, ◌*ℤ◌, Bool, true, false, cond, List, [], ◌∷◌, map, suc, Some, Result, Ok, Err, unwrap_or, subst}
-use Rattle.std.proofs.lemmas.List.Elements.{All-from_recursion, recursion_from_All}
-use Rattle.std.specs.List.{AllByRecursion}
+use Rattle.std.proofs.lemmas.List.Elements.{All-head, All-tail, All-from_recursion}
+use Rattle.std.specs.List.{All, AllByRecursion}
 use Rattle.std.specs.Map.{lookup}
 use Rattle.std.specs.BTreeMap.{insert_entry, is_at}
 use Rattle.std.specs.Ordering.{nat_cmp, is_eq}
@@ -16,6 +16,7 @@ use Rattle.cofactor_trace.specs.declared.fault.ExpandFault.{ExpandFault}
 use Rattle.cofactor_trace.specs.Expansion.{Known, common_denominator, joined, joined_rows, joined_row, share, record_expansion}
 use Rattle.cofactor_trace.specs.Laws.{IsUpTo, NamesUpTo, GeneratorsAreNamed}
 use Rattle.cofactor_trace.specs.Needed.{Numbered, Expansions, none, known_from, and_then, expansion_from, needed_from, needed_rules, is_named}
+use Rattle.cofactor_trace.proofs.GatheredParts.{needed_each}
 use Rattle.cofactor_trace.proofs.Kept.{Each, each_append, each_primitive}
 use Rattle.cofactor_trace.proofs.NeededLaws.{records_of}
 use Rattle.cofactor_trace.proofs.Passes.{each_with}
@@ -51,9 +52,9 @@ module _ (count : ℕ) where
       go true rest = h.0
       go false rest = rest
 
-  known_over : (expansions : Expansions) → EachOver expansions → (rows : List Row) → AllByRecursion (λ r. IsUpTo count r.from) rows → AllByRecursion (λ r. AreOver (known_from expansions r.from).rows) rows
+  known_over : (expansions : Expansions) → EachOver expansions → (rows : List Row) → All (λ r. IsUpTo count r.from) rows → AllByRecursion (λ r. AreOver (known_from expansions r.from).rows) rows
   known_over expansions each [] h = tt
-  known_over expansions each (r ∷ rows) h = (go r.from h.0, known_over expansions each rows h.1)
+  known_over expansions each (r ∷ rows) h = (go r.from (All-head (λ (s : Row). IsUpTo count s.from) r rows h), known_over expansions each rows (All-tail (λ (s : Row). IsUpTo count s.from) r rows h))
     where
       go : (o : Origin) → IsUpTo count o → AreOver (known_from expansions o).rows
       go (origin.Generator n) up_to = (up_to, tt)
@@ -65,32 +66,23 @@ module _ (count : ℕ) where
       let common = common_denominator known m.rows in
       let rows = joined known common m.rows in
       subst (λ (x : Cofactors). AreOver x.rows) (primitive_is known m c ends).1
-      (each_primitive IsOver (m.scale *ℤ common) rows (all_over known common m.rows (known_over expansions each m.rows (recursion_from_All (λ (r : Row). IsUpTo count r.from) m.rows names))))
+      (each_primitive IsOver (m.scale *ℤ common) rows (all_over known common m.rows (known_over expansions each m.rows names)))
 
-  over_from : (expansions : Expansions) (rest : List Numbered) (target : Made) (c : Cofactors) → EachOver expansions → AllByRecursion (λ e. NamesUpTo count e.1) rest → NamesUpTo count target
+  over_from : (expansions : Expansions) (rest : List Numbered) (target : Made) (c : Cofactors) → EachOver expansions → All (λ e. NamesUpTo count e.1) rest → NamesUpTo count target
       → expansion_from expansions rest target ≡ Ok c → AreOver c.rows
   over_from expansions [] target c each rules names ends = record_over expansions target c each names ends
   over_from expansions (e ∷ rest) target c each rules names ends =
       go (record_expansion (known_from expansions) e.1) (record_over expansions e.1) ends
-      (λ x over. over_from (insert_entry nat_cmp expansions e.0 x) rest target c (each_with (λ d. AreOver d.1.rows) expansions e.0 x each over) rules.1 names)
+      (λ x over. over_from (insert_entry nat_cmp expansions e.0 x) rest target c (each_with (λ d. AreOver d.1.rows) expansions e.0 x each over) (All-tail (λ (d : Numbered). NamesUpTo count d.1) e rest rules) names)
     where
       go : (r : Result Cofactors ExpandFault) → ((x : Cofactors) → EachOver expansions → NamesUpTo count e.1 → r ≡ Ok x → AreOver x.rows)
           → and_then r (λ x. expansion_from (insert_entry nat_cmp expansions e.0 x) rest target) ≡ Ok c
           → ((x : Cofactors) → AreOver x.rows → expansion_from (insert_entry nat_cmp expansions e.0 x) rest target ≡ Ok c → AreOver c.rows) → AreOver c.rows
-      go (Ok x) over ends next = next x (over x each rules.0 (λ i. Ok x)) ends
+      go (Ok x) over ends next = next x (over x each (All-head (λ (d : Numbered). NamesUpTo count d.1) e rest rules) (λ i. Ok x)) ends
       go (Err f) over ends next = absurd (cc)
-
-  needed_name : (target : Made) (number : ℕ) (made : List Made) → AllByRecursion (NamesUpTo count) made → AllByRecursion (λ e. NamesUpTo count e.1) (needed_from target number made)
-  needed_name target number [] h = tt
-  needed_name target number (m ∷ made) h = go (is_named number (target ∷ records_of (needed_from target (suc number) made))) (needed_name target (suc number) made h.1)
-    where
-      go : (b : Bool) → AllByRecursion (λ e. NamesUpTo count e.1) (needed_from target (suc number) made)
-          → AllByRecursion (λ e. NamesUpTo count e.1) (cond b ((number, m) ∷ needed_from target (suc number) made) (needed_from target (suc number) made))
-      go true later = (h.0, later)
-      go false later = later
 
 -- the law
 pub generators_are_named : GeneratorsAreNamed
 generators_are_named count made target c rules names ends =
     All-from_recursion (λ (r : CertRow). (1 ≤ r.generator) × (r.generator ≤ count)) c.rows
-    (over_from count [] (needed_rules made target) target c tt (needed_name count target 1 made (recursion_from_All (NamesUpTo count) made rules)) names ends)
+    (over_from count [] (needed_rules made target) target c tt (needed_each 0 made target (NamesUpTo count) 1 made rules) names ends)

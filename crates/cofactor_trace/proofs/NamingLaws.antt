@@ -1,7 +1,7 @@
 -- The rules are named one after another, and each lemma by its place among the lemmas.
 use Rattle.std.proofs.Common.{◌≡◌, ℕ, suc, ◌+◌, ◌-◌, ◌<◌, ◌≤◌, get_or, set, Bool, true, false, cond, List, [], ◌∷◌, ◌++◌, map, filter, reverse, length, nat_eq, eqb-true, Option, Some, None, unwrap_or, is_none, sym, refl, ap, subst, ◌∙◌, append_assoc, arith}
 use Rattle.std.proofs.lemmas.List.{get_or-set_same, get_or-set_other, length-set, reverse-append, append-nil, length-map, map-append}
-use Rattle.std.proofs.lemmas.List.Elements.{filter-append, All-from_recursion, All-weaker}
+use Rattle.std.proofs.lemmas.List.Elements.{filter-append, All-nil, All-cons, All-weaker}
 use Rattle.std.proofs.lemmas.Option.{slice_get_within, get_or_from_slice_get}
 use Rattle.std.specs.Option.{option_and_then}
 use Rattle.std.specs.List.{All, AllByRecursion, slice_get}
@@ -237,8 +237,8 @@ module _ (made : List Made) (target : Made) where
     earlier = All-weaker (λ (r : Row). IsAmongFirst few r.from) (λ (r : Row). IsAmongFirst many r.from) (λ r among. among_more few many r.from more among) m.rows h.earlier;
   }
 
-  records_kept : (es : List Numbered) → AreRecords made → AreNumbered made es → AllByRecursion (IsRecord (length made)) (map (λ e. e.1) (filter (λ e. is_lemma e.1) es))
-  records_kept [] records numbered = tt
+  records_kept : (es : List Numbered) → AreRecords made → AreNumbered made es → All (IsRecord (length made)) (map (λ e. e.1) (filter (λ e. is_lemma e.1) es))
+  records_kept [] records numbered = All-nil (IsRecord (length made))
   records_kept (e ∷ es) records numbered = go (is_lemma e.1) (records_kept es records numbered.1)
     where
       here : IsRecord (length made) e.1
@@ -246,10 +246,10 @@ module _ (made : List Made) (target : Made) where
           let inside = slice_get_within made (e.0 - 1) e.1 numbered.0.1 in
           wider (e.0 - 1) (length made) e.1 (omega (arith, inside)) (records.at (e.0 - 1) e.1 numbered.0.1)
 
-      go : (b : Bool) → AllByRecursion (IsRecord (length made)) (map (λ (n : Numbered). n.1) (filter (λ (n : Numbered). is_lemma n.1) es))
-          → AllByRecursion (IsRecord (length made)) (map (λ (n : Numbered). n.1) (cond b (e ∷ filter (λ (n : Numbered). is_lemma n.1) es) (filter (λ (n : Numbered). is_lemma n.1) es)))
-      go true rest = (here, rest)
+      go : (b : Bool) → All (IsRecord (length made)) (map (λ (n : Numbered). n.1) (filter (λ (n : Numbered). is_lemma n.1) es))
+          → All (IsRecord (length made)) (map (λ (n : Numbered). n.1) (cond b (e ∷ filter (λ (n : Numbered). is_lemma n.1) es) (filter (λ (n : Numbered). is_lemma n.1) es)))
+      go true rest = All-cons (IsRecord (length made)) e.1 (map (λ (n : Numbered). n.1) (filter (λ (n : Numbered). is_lemma n.1) es)) here rest
       go false rest = rest
 
   pub are_records : AreRecords made → All (IsRecord (length made)) (map (λ e. e.1) (lemma_rules made target))
-  are_records records = All-from_recursion (IsRecord (length made)) (map (λ e. e.1) (lemma_rules made target)) (records_kept (needed_rules made target) records all_numbered)
+  are_records records = records_kept (needed_rules made target) records all_numbered

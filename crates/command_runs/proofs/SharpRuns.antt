@@ -2,7 +2,6 @@
 use Rattle.std.proofs.Common.{◌≡◌, ℕ, true, List, [], ◌∷◌, length, ◌∙◌, refl, sym, ap, subst, arith}
 use Rattle.std.specs.List.{All}
 use Rattle.std.proofs.lemmas.List.{length-map}
-use Rattle.std.proofs.lemmas.List.Elements.{recursion_from_All}
 use Rattle.definitions.specs.Poly.{Term}
 use Rattle.definitions.specs.Combination.{InRationalIdeal}
 use Rattle.word_core.specs.Letters.{IsOver}
@@ -87,7 +86,7 @@ module _ (problem : Problem) (budget : Budget) (form : Format) (b : Basis) (prin
       let reduced = normal_forms_are_reduced letters (order_of problem) rank state.rules claim budget.steps closing.left.reduced laws are
       (canonical_at problem.parts.claims b.claim).shaped over closing.left.reduction in
       let below : HasLettersBelow letters claim =
-      record { at = words_with_coefficients (IsOver letters) claim (recursion_from_All (λ (t : Term). IsOver letters t.1) claim over) } in
+      record { at = words_with_coefficients (IsOver letters) claim over } in
       let vanishes = rests_of_ideal_are_zero letters (order_of problem) rank state.rules claim closing.left.reduced laws are are_resolved inside below reduced in
       let none = zero_is_empty b.rest.terms b.rest.canonical.shaped (subst IsZero closing.left.rest_is vanishes) in
       omega (arith, closing.left.nonzero, ap (λ (p : List Term). length p) none)

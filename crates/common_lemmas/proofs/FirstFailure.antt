@@ -1,8 +1,7 @@
 -- Tests in order, and the first that fails: exactly one outcome.
 use Rattle.std.proofs.Common.{◌≡◌, ◌⊎◌, inl, inr, ℕ, zero, suc, ◌+◌, ◌<◌, ◌≤◌, List, [], ◌∷◌, length, take, All, Option, Some, None, slice_get, get_or, refl, sym, subst, ap, ◌∙◌, arith}
-use Rattle.std.specs.List.{AllByRecursion}
 use Rattle.std.proofs.lemmas.Bool.{cases_lt, cases_order}
-use Rattle.std.proofs.lemmas.List.Elements.{All-nil, All-cons, recursion_from_All}
+use Rattle.std.proofs.lemmas.List.Elements.{All-nil, All-cons, All-head, All-tail}
 use Rattle.std.proofs.lemmas.Option.{slice_get_within, slice_get_cases, get_or_from_slice_get}
 use Rattle.common_lemmas.proofs.Decided.{IsDecided}
 
@@ -41,11 +40,11 @@ first_not {X = X} P (x ∷ items) test = by (test 0 x refl) (first_not P items (
     by (inl holds) (inr first) = inr (record { before = suc first.before; item = first.item; there = first.there; earlier = All-cons P x (take first.before items) holds first.earlier; fails = first.fails })
 
 -- of an item before a place what all these have holds
-among_first : {X : Type 0} (P : X → Type 0) (items : List X) (n i : ℕ) (x : X) → AllByRecursion P (take n items) → i < n → slice_get items i ≡ Some x → P x
+among_first : {X : Type 0} (P : X → Type 0) (items : List X) (n i : ℕ) (x : X) → All P (take n items) → i < n → slice_get items i ≡ Some x → P x
 among_first P [] n i x each below there = let within = slice_get_within [] i x there in absurd (omega (arith, within))
 among_first P (y ∷ items) zero i x each below there = absurd (omega (arith, below))
-among_first P (y ∷ items) (suc n) zero x each below there = let both : Some y ≡ Some x = there in let one : y ≡ x = cc in subst P one each.0
-among_first P (y ∷ items) (suc n) (suc i) x each below there = among_first P items n i x each.1 (omega (arith, below)) there
+among_first P (y ∷ items) (suc n) zero x each below there = let both : Some y ≡ Some x = there in let one : y ≡ x = cc in subst P one (All-head P y (take n items) each)
+among_first P (y ∷ items) (suc n) (suc i) x each below there = among_first P items n i x (All-tail P y (take n items) each) (omega (arith, below)) there
 
 -- one of which it doesn't hold is one of all
 pub not_each : {X : Type 0} (P : X → Type 0) (items : List X) → FirstNot P items → All P items → ⊥
@@ -226,7 +225,7 @@ module _ {E : Type 0} {M : E → Type 0} where
       by (inr first) = inr (tell (first.before + 1), (first, refl), exact (first.before + 1))
 
       less : (one other : FirstNot P items) → one.before < other.before → ⊥
-      less one other below = one.fails (among_first P items other.before one.before one.item (recursion_from_All P (take other.before items) other.earlier) below one.there)
+      less one other below = one.fails (among_first P items other.before one.before one.item other.earlier below one.there)
 
       once : (e f : E) → (h : (first : FirstNot P items) × (e ≡ tell (first.before + 1))) → (k : (first : FirstNot P items) × (f ≡ tell (first.before + 1)))
           → (h.0.before ≡ k.0.before) ⊎ ((h.0.before < k.0.before) ⊎ (k.0.before < h.0.before)) → e ≡ f

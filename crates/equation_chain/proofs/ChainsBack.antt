@@ -2,9 +2,9 @@
 use Rattle.std.proofs.Common.{◌≡◌, ◌<◌, ◌+◌, ◌^◌, ℕ, List, [], ◌∷◌, ◌++◌, Some, Ok, arith, refl, sym, ap, ◌∙◌, subst, length, map, codes, IsTrue}
 use Rattle.std.specs.Prelude.{decimal}
 use Rattle.std.specs.Fmt.{signed_decimal}
-use Rattle.std.specs.List.{AllByRecursion, AllZip, list_all, flat_map}
+use Rattle.std.specs.List.{All, AllZip, list_all, flat_map}
 use Rattle.std.proofs.lemmas.List.{append_assoc}
-use Rattle.std.proofs.lemmas.List.Elements.{All-nil, All-from_recursion, recursion_from_All}
+use Rattle.std.proofs.lemmas.List.Elements.{All-nil, All-cons, All-head, All-tail}
 use Rattle.definitions.specs.Poly.{Poly}
 use Rattle.quiver.specs.Declarations.{Declaration, IsDeclared}
 use Rattle.traced_rows.specs.declared.certificate.CertRow.{CertRow}
@@ -134,30 +134,31 @@ module _ (ds : List Declaration) (declared : IsDeclared ds) (known : IsTrue (lis
     line_says = is_written_line ds declared known line (record { canonical = readable.canonical; over = readable.letters; some = readable.nonempty })
 
   -- steps, each with the line after it
-  steps_are_text : (steps : List CertRow) (lines : List Poly) → AllByRecursion (IsReadableStep ds) steps → AllByRecursion (IsReadableLine ds) lines
+  steps_are_text : (steps : List CertRow) (lines : List Poly) → All (IsReadableStep ds) steps → All (IsReadableLine ds) lines
       → IsTextOf (steps_text ds steps lines) (flat_map step_lines (trees ds steps lines))
   steps_are_text [] lines each all = no_text
   steps_are_text (step ∷ steps) [] each all = no_text
   steps_are_text (step ∷ steps) (line ∷ lines) each all =
       text-append (use_text ds step ++ line_text ds line) (steps_text ds steps lines) (use_line (step_tree ds step) ∷ said_line (tokens_of (poly_text ds line)) ∷ []) (flat_map step_lines (trees ds steps lines))
-      (text-append (use_text ds step) (line_text ds line) (use_line (step_tree ds step) ∷ []) (said_line (tokens_of (poly_text ds line)) ∷ []) (step_is_text step each.0) (line_is_text line all.0))
-      (steps_are_text steps lines each.1 all.1)
+      (text-append (use_text ds step) (line_text ds line) (use_line (step_tree ds step) ∷ []) (said_line (tokens_of (poly_text ds line)) ∷ []) (step_is_text step (All-head (IsReadableStep ds) step steps each)) (line_is_text line (All-head (IsReadableLine ds) line lines all)))
+      (steps_are_text steps lines (All-tail (IsReadableStep ds) step steps each) (All-tail (IsReadableLine ds) line lines all))
 
-  trees_are_plain : (steps : List CertRow) (lines : List Poly) → AllByRecursion (IsReadableStep ds) steps → AllByRecursion (λ s. IsPlainRow s.step) (trees ds steps lines)
-  trees_are_plain [] lines each = tt
-  trees_are_plain (step ∷ steps) [] each = tt
-  trees_are_plain (step ∷ steps) (line ∷ lines) each = (step_is_row step each.0, trees_are_plain steps lines each.1)
+  trees_are_plain : (steps : List CertRow) (lines : List Poly) → All (IsReadableStep ds) steps → All (λ s. IsPlainRow s.step) (trees ds steps lines)
+  trees_are_plain [] lines each = All-nil _
+  trees_are_plain (step ∷ steps) [] each = All-nil _
+  trees_are_plain (step ∷ steps) (line ∷ lines) each =
+      All-cons (λ s. IsPlainRow s.step) _ (trees ds steps lines) (step_is_row step (All-head (IsReadableStep ds) step steps each)) (trees_are_plain steps lines (All-tail (IsReadableStep ds) step steps each))
 
-  steps_say : (steps : List CertRow) (lines : List Poly) → length lines ≡ length steps → AllByRecursion (IsReadableStep ds) steps → AllZip (λ s step. row_values ds s.step ≡ Ok step) (trees ds steps lines) steps
+  steps_say : (steps : List CertRow) (lines : List Poly) → length lines ≡ length steps → All (IsReadableStep ds) steps → AllZip (λ s step. row_values ds s.step ≡ Ok step) (trees ds steps lines) steps
   steps_say [] lines same each = tt
   steps_say (step ∷ steps) [] same each = absurd (omega (arith, same))
-  steps_say (step ∷ steps) (line ∷ lines) same each = (step_says step each.0, steps_say steps lines (omega (arith, same)) each.1)
+  steps_say (step ∷ steps) (line ∷ lines) same each = (step_says step (All-head (IsReadableStep ds) step steps each), steps_say steps lines (omega (arith, same)) (All-tail (IsReadableStep ds) step steps each))
 
-  lines_say : (steps : List CertRow) (lines : List Poly) → length lines ≡ length steps → AllByRecursion (IsReadableLine ds) lines → AllZip (IsPolynomialLine ds) (map (λ s. s.line) (trees ds steps lines)) lines
+  lines_say : (steps : List CertRow) (lines : List Poly) → length lines ≡ length steps → All (IsReadableLine ds) lines → AllZip (IsPolynomialLine ds) (map (λ s. s.line) (trees ds steps lines)) lines
   lines_say [] [] same all = tt
   lines_say [] (line ∷ lines) same all = absurd (omega (arith, same))
   lines_say (step ∷ steps) [] same all = tt
-  lines_say (step ∷ steps) (line ∷ lines) same all = (line_says line all.0, lines_say steps lines (omega (arith, same)) all.1)
+  lines_say (step ∷ steps) (line ∷ lines) same all = (line_says line (All-head (IsReadableLine ds) line lines all), lines_say steps lines (omega (arith, same)) (All-tail (IsReadableLine ds) line lines all))
 
   -- a chain of a first line and others
   module _ (c : ChainTerms) (readable : IsReadable ds c) where
@@ -181,10 +182,7 @@ module _ (ds : List Declaration) (declared : IsDeclared ds) (known : IsTrue (lis
       steps = trees ds c.steps later;
     }
 
-    each_step : AllByRecursion (IsReadableStep ds) c.steps
-    each_step = recursion_from_All (IsReadableStep ds) c.steps readable.steps
-
-    written_by : (lines : List Poly) → c.lines ≡ lines → AllByRecursion (IsReadableLine ds) lines → length lines ≡ length c.steps + 1 → IsWritten (chain_kind ds) (text_of ds c) c
+    written_by : (lines : List Poly) → c.lines ≡ lines → All (IsReadableLine ds) lines → length lines ≡ length c.steps + 1 → IsWritten (chain_kind ds) (text_of ds c) c
     written_by [] are all long = absurd (omega (arith, long))
     written_by (first ∷ later) are all long = record {
       tree = chain_tree first later;
@@ -192,14 +190,14 @@ module _ (ds : List Declaration) (declared : IsDeclared ds) (known : IsTrue (lis
       is_tree = record {
         claim = decimal_number c.claim claim_small;
         denominator = size.number;
-        steps = All-from_recursion (λ s. IsPlainRow s.step) (trees ds c.steps later) (trees_are_plain c.steps later each_step);
+        steps = trees_are_plain c.steps later readable.steps;
       };
       keeps = λ bound. absurd bound;
       says = record {
         claim = claim_value;
         denominator = size.value;
-        steps = steps_say c.steps later as_many each_step;
-        lines = subst (AllZip (IsPolynomialLine ds) (lines_in (chain_tree first later))) (sym are) (line_says first all.0, lines_say c.steps later as_many all.1);
+        steps = steps_say c.steps later as_many readable.steps;
+        lines = subst (AllZip (IsPolynomialLine ds) (lines_in (chain_tree first later))) (sym are) (line_says first (All-head (IsReadableLine ds) first later all), lines_say c.steps later as_many (All-tail (IsReadableLine ds) first later all));
       };
     }
       where
@@ -215,10 +213,10 @@ module _ (ds : List Declaration) (declared : IsDeclared ds) (known : IsTrue (lis
         block_is_text : IsTextOf (opening ++ (lines_text ds c.steps (first ∷ later) ++ codes "end\n")) (chain_lines (chain_tree first later) ++ end_line ∷ [])
         block_is_text =
             let opened = headed_is_text (codes "chain 1") (codes "chain" ∷ codes "1" ∷ []) c.claim c.denominator head_is_text readable.claim size in
-            text-append _ _ _ _ opened (text-append _ _ _ _ (text-append _ _ _ _ (line_is_text first all.0) (steps_are_text c.steps later each_step all.1)) end_is_text)
+            text-append _ _ _ _ opened (text-append _ _ _ _ (text-append _ _ _ _ (line_is_text first (All-head (IsReadableLine ds) first later all)) (steps_are_text c.steps later readable.steps (All-tail (IsReadableLine ds) first later all))) end_is_text)
 
     pub chain_written : IsWritten (chain_kind ds) (text_of ds c) c
-    chain_written = written_by c.lines refl (recursion_from_All (IsReadableLine ds) c.lines readable.lines) readable.long
+    chain_written = written_by c.lines refl readable.lines readable.long
 
 pub chains_are_read_back : ChainsAreReadBack
 chains_are_read_back ds declared known = are_read_back (chain_kind ds) (text_of ds) (IsReadable ds) (All-nil _) (chain_written ds declared known)

@@ -1,7 +1,7 @@
 -- What is known of each generator, by its number.
 use Rattle.std.proofs.Common.{◌≡◌, ◌≢◌, ◌⊎◌, inl, inr, ℕ, zero, suc, pos, List, [], ◌∷◌, get_or, refl}
 use Rattle.std.specs.List.{AllByRecursion}
-use Rattle.std.proofs.lemmas.List.Elements.{All-from_recursion}
+use Rattle.std.proofs.lemmas.List.Elements.{All-nil}
 use Rattle.coef_int.specs.Range.{IsCoefficient}
 use Rattle.definitions.specs.Poly.{Term}
 use Rattle.definitions.specs.Quiver.{Quiver}
@@ -26,8 +26,8 @@ signed_or_zero q gs (suc n) all = signed_at q gs n all
 zero_shaped : IsShaped []
 zero_shaped = record {
   descending = IsDescending-from_recursion [] tt;
-  nonzero = All-from_recursion (λ (t : Term). t.0 ≢ pos 0) [] tt;
-  in_range = All-from_recursion (λ (t : Term). IsCoefficient t.0) [] tt;
+  nonzero = All-nil (λ (t : Term). t.0 ≢ pos 0);
+  in_range = All-nil (λ (t : Term). IsCoefficient t.0);
 }
 
 shaped_at : (ps : List Poly) (n : ℕ) → IsShaped (get_or (polynomials ps) n [])

@@ -1,8 +1,9 @@
 -- From the line before a row to the line after it.
 use Rattle.std.proofs.Common.{◌≡◌, ℕ, zero, suc, ◌+◌, ◌<◌, ◌≤◌, ℤ, pos, neg_ℤ, Bool, true, false, cond, List, [], ◌∷◌, ◌++◌, take, length, get_or, slice_get, Some, Result, Ok, MatchResult, sym, refl, ap, ap₂, subst, ◌∙◌, arith}
-use Rattle.std.specs.List.{AllByRecursion}
+use Rattle.std.specs.List.{All}
 use Rattle.std.proofs.lemmas.List.{append-nil, take_more, take_all, length-append}
 use Rattle.std.proofs.lemmas.List.Elements.{filter-append}
+use Rattle.std.proofs.lemmas.Option.{get_or_from_slice_get, slice_get_within}
 use Rattle.std.proofs.lemmas.List.Sums.{sum_by-cons, sum_by-append}
 use Rattle.definitions.specs.Poly.{Term}
 use Rattle.nc_polynomial.specs.declared.poly.Poly.{Poly}
@@ -85,10 +86,8 @@ told_stops line g step number (poly.Memory e) f is tells = subst (StopsLine line
 pub for_row : (P : CertRow → Type 0) (rows : List CertRow) (i : ℕ) (x : CertRow) → slice_get rows i ≡ Some x → P x → (row : CertRow) → slice_get rows i ≡ Some row → P row
 for_row P rows i x there holds row got = let both : Some x ≡ Some row = sym there ∙ got in let same : x ≡ row = cc in subst P same holds
 
-pub all_there : (P : CertRow → Type 0) (rows : List CertRow) (i : ℕ) (x : CertRow) → AllByRecursion P rows → slice_get rows i ≡ Some x → P x
-all_there P [] i x all there = absurd cc
-all_there P (r ∷ rows) zero x all there = let same : r ≡ x = cc in subst P same all.0
-all_there P (r ∷ rows) (suc i) x all there = all_there P rows i x all.1 there
+pub all_there : (P : CertRow → Type 0) (rows : List CertRow) (i : ℕ) (x : CertRow) → All P rows → slice_get rows i ≡ Some x → P x
+all_there P rows i x all there = subst P (get_or_from_slice_get rows i x x there) (all i x (slice_get_within rows i x there))
 
 module _ (problem : Problem) (c : Certificate) (i : ℕ) (row : CertRow) (there : slice_get c.rows i ≡ Some row) where
   taken : (rows : List CertRow) (n : ℕ) → slice_get rows n ≡ Some row → take (n + 1) rows ≡ take n rows ++ row ∷ []

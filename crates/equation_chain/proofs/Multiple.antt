@@ -1,18 +1,17 @@
 -- The first line is within the limits, since the claim is.
-use Rattle.std.proofs.Common.{◌≡◌, ℕ, zero, suc, ◌≤◌, ℤ, pos, negsuc, ◌*ℤ◌, true, false, ◌||◌, List, [], ◌∷◌, length, None, Ok, Err, refl, sym, ap, subst, ◌∙◌, arith, ltb, ltb-true}
+use Rattle.std.proofs.Common.{◌≡◌, ℕ, zero, suc, ◌≤◌, ℤ, pos, negsuc, ◌*ℤ◌, true, false, List, [], ◌∷◌, length, None, Ok, Err, sym, ap, subst, ◌∙◌, arith, ltb, ltb-true}
 use Rattle.std.specs.Prelude.{if◌then◌else◌, nat_lt}
-use Rattle.std.specs.List.{AllByRecursion}
 use Rattle.std.proofs.lemmas.Bool.{false_from_ne_true}
-use Rattle.std.proofs.lemmas.List.Elements.{recursion_from_All}
 use Rattle.coef_int.specs.Operations.{first_overflow}
 use Rattle.definitions.specs.Poly.{Term}
 use Rattle.nc_polynomial.specs.declared.fault.PolyFault.{PolyFault}
 use Rattle.nc_polynomial.specs.declared.fault.PolyFault.TheVariants as poly
 use Rattle.nc_polynomial.specs.Shape.{IsCanonical}
 use Rattle.nc_polynomial.specs.Terms.{keep, scaled, products}
-use Rattle.nc_polynomial.specs.Faults.{size_fault, has_long_word, sized, unless_overflow, Explains}
+use Rattle.nc_polynomial.specs.Faults.{size_fault, sized, unless_overflow, Explains}
 use Rattle.nc_polynomial.specs.Arithmetic.{multiple_result}
 use Rattle.nc_polynomial.proofs.Chains.{no_error, finished-value}
+use Rattle.nc_polynomial.proofs.RunningSums.{not_long}
 use Rattle.nc_polynomial.proofs.Shapes.{all-scaled}
 use Rattle.equation_chain.specs.declared.fault.ChainFault.{ChainFault}
 use Rattle.equation_chain.specs.Faults.{IsMemory}
@@ -30,21 +29,13 @@ length-scaled k (t ∷ p) =
     let more = length-keep (k *ℤ t.0) t.1 (scaled k p) in
     omega (arith, rest, more)
 
-no_long : (p : List Term) → AllByRecursion (λ t. length t.1 ≤ 500) p → has_long_word p ≡ false
-no_long [] all = refl
-no_long (t ∷ p) all =
-    let short = all.0 in
-    let none : ltb 500 (length t.1) ≡ false = false_from_ne_true (ltb 500 (length t.1)) (λ is. let long = ltb-true 500 (length t.1) is in omega (arith, short, long)) in
-    ap (λ b. b || has_long_word p) none ∙ no_long p all.1
-
 fits : (k : ℤ) (p : List Term) → IsCanonical p → sized (scaled k p) ≡ Ok (scaled k p)
 fits k p canonical =
     let q : List Term = scaled k p in
-    let short : AllByRecursion (λ t. length t.1 ≤ 500) q = all-scaled (λ w. length w ≤ 500) k p (recursion_from_All (λ (t : Term). length t.1 ≤ 500) p canonical.short) in
     let few = canonical.few in
     let fewer = length-scaled k p in
     let none : ltb 20000 (length q) ≡ false = false_from_ne_true (ltb 20000 (length q)) (λ is. let many = ltb-true 20000 (length q) is in omega (arith, few, fewer, many)) in
-    ap (λ b. if b then Err (size_fault true) else (if nat_lt 20000 (length q) then Err (size_fault false) else Ok q)) (no_long q short)
+    ap (λ b. if b then Err (size_fault true) else (if nat_lt 20000 (length q) then Err (size_fault false) else Ok q)) (not_long q (all-scaled (λ w. length w ≤ 500) k p canonical.short))
     ∙ ap (λ b. if b then Err (size_fault false) else Ok q) none
 
 multiple_is : (k : ℤ) (p : List Term) → IsCanonical p → first_overflow (products k p) ≡ None → multiple_result k p ≡ Ok (scaled k p)

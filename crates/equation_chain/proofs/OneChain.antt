@@ -1,8 +1,8 @@
 -- A text has at most one list of chains, and so chains that are written differ if their values do.
 use Rattle.std.proofs.Common.{◌≡◌, true, false, List, [], ◌∷◌, ◌++◌, Some, Ok, refl, sym, ap, ap₂, ◌∙◌, subst, map}
-use Rattle.std.specs.List.{AllByRecursion, AllZip, flat_map}
+use Rattle.std.specs.List.{All, AllByRecursion, AllZip, flat_map}
 use Rattle.std.proofs.lemmas.List.{append_assoc}
-use Rattle.std.proofs.lemmas.List.Elements.{recursion_from_All}
+use Rattle.std.proofs.lemmas.List.Elements.{All-head, All-tail}
 use Rattle.definitions.specs.Poly.{Poly}
 use Rattle.quiver.specs.Declarations.{Declaration}
 use Rattle.traced_rows.specs.declared.certificate.CertRow.{CertRow}
@@ -59,7 +59,10 @@ module _ (ds : List Declaration) where
       let results : Ok one ≡ Ok other = sym left ∙ both ∙ right in
       cc
 
-  steps_unique : (xs ys : List StepTokens) (one other : List CertRow) → AllByRecursion (λ s. IsPlainRow s.step) xs → AllByRecursion (λ s. IsPlainRow s.step) ys → flat_map step_lines xs ≡ flat_map step_lines ys
+  abbrev IsPlain : StepTokens → Type 0
+  IsPlain s = IsPlainRow s.step
+
+  steps_unique : (xs ys : List StepTokens) (one other : List CertRow) → All IsPlain xs → All IsPlain ys → flat_map step_lines xs ≡ flat_map step_lines ys
       → AllZip (λ s step. row_values ds s.step ≡ Ok step) xs one → AllZip (λ s step. row_values ds s.step ≡ Ok step) ys other → one ≡ other
   steps_unique [] [] [] [] first second same left right = refl
   steps_unique [] [] (a ∷ one) other first second same left right = absurd left
@@ -71,7 +74,8 @@ module _ (ds : List Declaration) where
   steps_unique (x ∷ xs) (y ∷ ys) (a ∷ one) (b ∷ other) first second same left right =
       let used : use_line x.step ≡ use_line y.step = cc in
       let rest : flat_map step_lines xs ≡ flat_map step_lines ys = cc in
-      ap₂ (λ v vs. v ∷ vs) (row_unique x.step y.step a b first.0 second.0 used left.0 right.0) (steps_unique xs ys one other first.1 second.1 rest left.1 right.1)
+      ap₂ (λ v vs. v ∷ vs) (row_unique x.step y.step a b (All-head IsPlain x xs first) (All-head IsPlain y ys second) used left.0 right.0)
+      (steps_unique xs ys one other (All-tail IsPlain x xs first) (All-tail IsPlain y ys second) rest left.1 right.1)
 
   -- lines
   polynomial_unique : (line : Line) (p q : Poly) → IsPolynomialLine ds line p → IsPolynomialLine ds line q → p ≡ q
@@ -97,7 +101,7 @@ module _ (ds : List Declaration) where
       let rest : flat_map step_lines t.steps ≡ flat_map step_lines u.steps = cc in
       let claim : one.claim ≡ other.claim = (let both : Some one.claim ≡ Some other.claim = sym left.claim ∙ ap (number_within number_limit) claims ∙ right.claim in cc) in
       let denominator : one.denominator ≡ other.denominator = (let both : Ok one.denominator ≡ Ok other.denominator = sym left.denominator ∙ ap integer_of denominators ∙ right.denominator in cc) in
-      let steps = steps_unique t.steps u.steps one.steps other.steps (recursion_from_All (λ s. IsPlainRow s.step) t.steps first.steps) (recursion_from_All (λ s. IsPlainRow s.step) u.steps second.steps) rest left.steps right.steps in
+      let steps = steps_unique t.steps u.steps one.steps other.steps first.steps second.steps rest left.steps right.steps in
       let lines_same : lines_in t ≡ lines_in u = ap₂ (λ v vs. v ∷ vs) firsts (later_same t.steps u.steps rest) in
       let lines = AllZip-unique (IsPolynomialLine ds) polynomial_unique (lines_in u) one.lines other.lines (subst (λ ls. AllZip (IsPolynomialLine ds) ls one.lines) lines_same left.lines) right.lines in
       λ j. record { claim = claim j; denominator = denominator j; steps = steps j; lines = lines j }
@@ -107,7 +111,7 @@ module _ (ds : List Declaration) where
   Lines text = flat_map (block_lines chain_lines) text
 
   abbrev AreChains : List (Block ChainTokens) → Type 0
-  AreChains text = AllByRecursion (IsBlock IsChainBlock []) text
+  AreChains text = All (IsBlock IsChainBlock []) text
 
   first_block : (t : ChainTokens) (text : List (Block ChainTokens)) → Lines (own t ∷ text) ≡ chain_lines t ++ end_line ∷ Lines text
   first_block t text = append_assoc (chain_lines t) (end_line ∷ []) (Lines text)
@@ -117,19 +121,20 @@ module _ (ds : List Declaration) where
   chains_unique [] [] [] [] first second same left right = refl
   chains_unique [] [] (c ∷ one) other first second same left right = absurd left
   chains_unique [] [] [] (d ∷ other) first second same left right = absurd right
-  chains_unique (other_block b ∷ xs) ys one other first second same left right = let none : false ≡ true = first.0.head in absurd (cc)
-  chains_unique xs (other_block b ∷ ys) one other first second same left right = let none : false ≡ true = second.0.head in absurd (cc)
+  chains_unique (other_block b ∷ xs) ys one other first second same left right = let none : false ≡ true = (All-head (IsBlock IsChainBlock []) (other_block b) xs first).head in absurd (cc)
+  chains_unique xs (other_block b ∷ ys) one other first second same left right = let none : false ≡ true = (All-head (IsBlock IsChainBlock []) (other_block b) ys second).head in absurd (cc)
   chains_unique [] (own u ∷ ys) one other first second same left right = absurd (cc)
   chains_unique (own t ∷ xs) [] one other first second same left right = absurd (cc)
   chains_unique (own t ∷ xs) (own u ∷ ys) [] other first second same left right = absurd left
   chains_unique (own t ∷ xs) (own u ∷ ys) (c ∷ one) [] first second same left right = absurd right
   chains_unique (own t ∷ xs) (own u ∷ ys) (c ∷ one) (d ∷ other) first second same left right =
       let parts = body_unique (chain_lines t) (chain_lines u) (Lines xs) (Lines ys) (chain_goes_on t) (chain_goes_on u) (sym (first_block t xs) ∙ same ∙ first_block u ys) in
-      ap₂ (λ v vs. v ∷ vs) (chain_unique t u c d first.0 second.0 parts.0 left.0 right.0) (chains_unique xs ys one other first.1 second.1 parts.1 left.1 right.1)
+      ap₂ (λ v vs. v ∷ vs) (chain_unique t u c d (All-head (IsBlock IsChainBlock []) (own t) xs first) (All-head (IsBlock IsChainBlock []) (own u) ys second) parts.0 left.0 right.0)
+      (chains_unique xs ys one other (All-tail (IsBlock IsChainBlock []) (own t) xs first) (All-tail (IsBlock IsChainBlock []) (own u) ys second) parts.1 left.1 right.1)
 
 pub chains_are_unique : ChainsAreUnique
 chains_are_unique ds bytes one other left right =
-    chains_unique ds left.blocks right.blocks one other (recursion_from_All (IsBlock IsChainBlock []) left.blocks left.are_blocks.each) (recursion_from_All (IsBlock IsChainBlock []) right.blocks right.are_blocks.each)
+    chains_unique ds left.blocks right.blocks one other left.are_blocks.each right.are_blocks.each
     (sym left.are_blocks.are ∙ right.are_blocks.are) left.says right.says
 
 pub texts_tell_chains : TextsTellChains

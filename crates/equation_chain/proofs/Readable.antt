@@ -1,8 +1,8 @@
 -- The chain of an explained certificate is one whose text is read back.
 use Rattle.std.proofs.Common.{◌≡◌, ◌≢◌, ◌<◌, ◌≤◌, ◌+◌, ℕ, zero, suc, ℤ, pos, negsuc, ◌≤ℤ◌, neg_ℤ, true, List, [], ◌∷◌, ◌++◌, Option, Some, None, Ok, arith, refl, sym, subst, ◌∙◌, length, take, get_or}
-use Rattle.std.specs.List.{All, AllByRecursion}
+use Rattle.std.specs.List.{All, range_with_len}
 use Rattle.std.proofs.lemmas.Int.{ints}
-use Rattle.std.proofs.lemmas.List.Elements.{All-from_recursion, recursion_from_All, All-filter}
+use Rattle.std.proofs.lemmas.List.Elements.{All-nil, All-cons, All-map, All-from_recursion, recursion_from_All, All-filter}
 use Rattle.coef_int.specs.declared.Overflow.{Overflow}
 use Rattle.coef_int.specs.Operations.{first_overflow}
 use Rattle.coef_int.specs.Range.{IsCoefficient}
@@ -36,8 +36,8 @@ use Rattle.equation_chain.proofs.Chains.{lines_are_a_chain}
 use Rattle.equation_chain.proofs.Generators.{generator_shaped}
 use Rattle.equation_chain.proofs.Letters.{lines_over}
 use Rattle.equation_chain.proofs.Lines.{after_moved, line_descends, line_nonzero, lines_long}
-use Rattle.equation_chain.proofs.Typed.{steps_typed}
-use Rattle.equation_chain.proofs.Vanishing.{all_in_range, typed_line}
+use Rattle.equation_chain.proofs.Typed.{each_typed}
+use Rattle.equation_chain.proofs.Vanishing.{typed_line}
 
 -- of operations of which none overflows none of the last ones does
 last_fit : (os more : List Overflow) → first_overflow (os ++ more) ≡ None → first_overflow more ≡ None
@@ -94,7 +94,7 @@ canonical_at : (ps : List Poly) (n : ℕ) → IsCanonical (get_or (polynomials p
 canonical_at [] n = zero_canonical
   where
     zero_canonical : IsCanonical []
-    zero_canonical = record { shaped = generator_shaped [] 0; short = All-from_recursion (λ (t : Term). length t.1 ≤ 500) [] tt; few = omega arith }
+    zero_canonical = record { shaped = generator_shaped [] 0; short = All-nil (λ (t : Term). length t.1 ≤ 500); few = omega arith }
 canonical_at (p ∷ ps) zero = p.canonical
 canonical_at (p ∷ ps) (suc n) = canonical_at ps n
 
@@ -122,9 +122,8 @@ path_has_letters q u v [] path = absurd (cc)
 path_has_letters q u v (a ∷ w) path = omega arith
 
 -- three facts of each item of a list are one
-all_of : {X : Type 0} (P Q R S : X → Type 0) → ((x : X) → P x → Q x → R x → S x) → (xs : List X) → AllByRecursion P xs → AllByRecursion Q xs → AllByRecursion R xs → AllByRecursion S xs
-all_of P Q R S joins [] one two three = tt
-all_of P Q R S joins (x ∷ xs) one two three = (joins x one.0 two.0 three.0, all_of P Q R S joins xs one.1 two.1 three.1)
+all_of : {X : Type 0} (P Q R S : X → Type 0) → ((x : X) → P x → Q x → R x → S x) → (xs : List X) → All P xs → All Q xs → All R xs → All S xs
+all_of P Q R S joins xs one two three = λ k d below. joins (get_or xs k d) (one k d below) (two k d below) (three k d below)
 
 module _ (problem : Problem) (c : Certificate) (checkable : IsCheckable problem.parts.quiver c) (explained : IsExplained problem c) where
   abbrev ds : List Declaration
@@ -139,27 +138,27 @@ module _ (problem : Problem) (c : Certificate) (checkable : IsCheckable problem.
     letters = over;
   }
 
-  steps_readable : AllByRecursion (IsReadableStep ds) (steps_of problem c)
+  steps_readable : All (IsReadableStep ds) (steps_of problem c)
   steps_readable =
       all_of (λ (r : CertRow). IsCoefficient r.coef) (IsRowOver ds) (IsTypedStep problem c.claim) (IsReadableStep ds) step_readable (steps_of problem c)
-      (recursion_from_All (λ (r : CertRow). IsCoefficient r.coef) (steps_of problem c) (All-filter (is_step problem c.claim) (λ (r : CertRow). IsCoefficient r.coef) c.rows checkable.coefficients))
-      (recursion_from_All (IsRowOver ds) (steps_of problem c) (All-filter (is_step problem c.claim) (IsRowOver ds) c.rows checkable.letters))
-      (steps_typed problem c)
+      (All-filter (is_step problem c.claim) (λ (r : CertRow). IsCoefficient r.coef) c.rows checkable.coefficients)
+      (All-filter (is_step problem c.claim) (IsRowOver ds) c.rows checkable.letters)
+      (each_typed problem c)
 
   -- lines
-  later_canonical : (line : List Term) (steps : List CertRow) (lines : List (List Term)) → IsCanonical line → LeadsToZero (polynomials problem.generators) line steps lines → AllByRecursion IsCanonical lines
-  later_canonical line [] [] canonical leads = tt
+  later_canonical : (line : List Term) (steps : List CertRow) (lines : List (List Term)) → IsCanonical line → LeadsToZero (polynomials problem.generators) line steps lines → All IsCanonical lines
+  later_canonical line [] [] canonical leads = All-nil IsCanonical
   later_canonical line [] (next ∷ lines) canonical leads = absurd leads
-  later_canonical line (step ∷ steps) [] canonical leads = tt
+  later_canonical line (step ∷ steps) [] canonical leads = All-nil IsCanonical
   later_canonical line (step ∷ steps) (next ∷ lines) canonical leads =
       let here = next_canonical line (generator_of problem step) step next canonical.shaped (generator_shaped problem.generators step.generator) leads.0.exact in
-      (here, later_canonical next steps lines here leads.1)
+      All-cons IsCanonical next lines here (later_canonical next steps lines here leads.1)
 
-  lines_canonical : (lines : List (List Term)) → IsChain problem c lines → AllByRecursion IsCanonical lines
+  lines_canonical : (lines : List (List Term)) → IsChain problem c lines → All IsCanonical lines
   lines_canonical [] chain = absurd chain
   lines_canonical (line ∷ lines) chain =
       let first = subst IsCanonical (sym chain.0) (multiple_canonical c.denominator (claim_in problem c) (named_canonical problem.parts.claims c.claim) explained.accepted.adds_up.begins.products) in
-      (first, later_canonical line (steps_of problem c) lines first chain.1)
+      All-cons IsCanonical line lines first (later_canonical line (steps_of problem c) lines first chain.1)
 
   line_nonempty : (k : ℕ) → All (λ (t : Term). 0 < length t.1) (line_less problem c (take k (steps_of problem c)))
   line_nonempty k =
@@ -169,13 +168,13 @@ module _ (problem : Problem) (c : Certificate) (checkable : IsCheckable problem.
       (words_listed (λ w. 0 < length w) line (distinct-descending line (line_descends problem c (take k (steps_of problem c)))) (line_nonzero problem c (take k (steps_of problem c)))
       (λ w there. path_has_letters (quiver_of ds) (claim_ends problem c.claim).0 (claim_ends problem c.claim).1 w (typed.at w there)))
 
-  lines_readable : AllByRecursion (IsReadableLine ds) (lines_of problem c)
+  lines_readable : All (IsReadableLine ds) (lines_of problem c)
   lines_readable =
       all_of IsCanonical (λ (p : List Term). All (λ (t : Term). IsOver (letter_count ds) t.1) p) (λ (p : List Term). All (λ (t : Term). 0 < length t.1) p) (IsReadableLine ds)
       (λ p canonical over nonempty. record { canonical = canonical; letters = over; nonempty = nonempty }) (lines_of problem c)
       (lines_canonical (lines_of problem c) (lines_are_a_chain problem c explained))
       (lines_over problem c)
-      (all_in_range (λ (p : List Term). All (λ (t : Term). 0 < length t.1) p) (λ k. line_less problem c (take k (steps_of problem c))) line_nonempty 0 (length (steps_of problem c) + 1))
+      (All-map (λ (p : List Term). All (λ (t : Term). 0 < length t.1) p) (λ k. line_less problem c (take k (steps_of problem c))) (range_with_len 0 (length (steps_of problem c) + 1)) (λ i d below. line_nonempty _))
 
 pub explained_is_readable : ExplainedIsReadable
 explained_is_readable problem c checkable explained =
@@ -186,7 +185,7 @@ explained_is_readable problem c checkable explained =
     record {
       claim = omega (arith, most, count, few);
       denominator = above_zero c.denominator posed.denominator checkable.denominator;
-      steps = All-from_recursion (IsReadableStep problem.parts.quiver) (steps_of problem c) (steps_readable problem c checkable explained);
-      lines = All-from_recursion (IsReadableLine problem.parts.quiver) (lines_of problem c) (lines_readable problem c checkable explained);
+      steps = steps_readable problem c checkable explained;
+      lines = lines_readable problem c checkable explained;
       long = lines_long problem c (steps_of problem c);
     }

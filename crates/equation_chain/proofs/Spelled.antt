@@ -2,13 +2,13 @@
 use Rattle.std.proofs.Common.{◌≡◌, ◌<◌, ◌+◌, ◌==◌, ℕ, false, List, [], ◌∷◌, ◌++◌, arith, refl, sym, ap, ap₂, subst, ◌∙◌, length, take, map, get_or, codes}
 use Rattle.std.proofs.lemmas.Bool.{ne_eqb}
 use Rattle.std.proofs.lemmas.List.{append_assoc, append-nil, take_more, map-append, length-map, length-take-le}
-use Rattle.std.proofs.lemmas.List.Elements.{recursion_from_All}
+use Rattle.std.proofs.lemmas.List.Elements.{All-head, All-tail}
 use Rattle.std.proofs.lemmas.List.FromFn.{get_or-map-range_with_len, length-map-range_with_len, map-range_with_len_more}
 use Rattle.std.specs.Int.{is_negative}
 use Rattle.std.specs.Int.RustNames.{unsigned_abs}
 use Rattle.std.specs.Fmt.{signed_decimal}
 use Rattle.std.specs.Prelude.{if◌then◌else◌, decimal}
-use Rattle.std.specs.List.{All, AllByRecursion, flat_map, zip, join_with_byte, range_with_len}
+use Rattle.std.specs.List.{All, flat_map, zip, join_with_byte, range_with_len}
 use Rattle.std.proofs.lemmas.Grind.{flat_map-append}
 use Rattle.definitions.specs.Poly.{Term, Poly}
 use Rattle.word_core.specs.Letters.{IsOver}
@@ -57,27 +57,30 @@ module _ (ds : List Declaration) (texts : List (List ℕ)) (are : AreTexts ds te
   letter_is : (a : ℕ) → a < letter_count ds → get_or texts a [] ≡ letter_text ds a
   letter_is a inside = ap (λ (ts : List (List ℕ)). get_or ts a []) are ∙ get_or-map-range_with_len (letter_text ds) 0 (letter_count ds) a a [] inside (omega arith)
 
-  letters_are : (w : List ℕ) → AllByRecursion (λ a. a < letter_count ds) w → map (λ a. get_or texts a []) w ≡ map (letter_text ds) w
+  letters_are : (w : List ℕ) → IsOver (letter_count ds) w → map (λ a. get_or texts a []) w ≡ map (letter_text ds) w
   letters_are [] all = refl
-  letters_are (a ∷ w) all = ap₂ (λ (t : List ℕ) (ts : List (List ℕ)). t ∷ ts) (letter_is a all.0) (letters_are w all.1)
+  letters_are (a ∷ w) all = ap₂ (λ (t : List ℕ) (ts : List (List ℕ)). t ∷ ts) (letter_is a (All-head (λ b. b < letter_count ds) a w all)) (letters_are w (All-tail (λ b. b < letter_count ds) a w all))
 
   word_is : (w : List ℕ) → IsOver (letter_count ds) w → word_by texts w ≡ word_text ds w
-  word_is w over = ap (join_with_byte 32) (letters_are w (recursion_from_All (λ a. a < letter_count ds) w over))
+  word_is w over = ap (join_with_byte 32) (letters_are w over)
 
   later_is : (t : Term) → IsOver (letter_count ds) t.1 → later_by texts t ≡ later_text ds t
   later_is t over = ap (λ (w : List ℕ). (if is_negative t.0 then codes " - " else codes " + ") ++ (factor_text (unsigned_abs t.0) ++ w)) (word_is t.1 over)
 
-  terms_are : (terms : List Term) → AllByRecursion (λ t. IsOver (letter_count ds) t.1) terms → flat_map (later_by texts) terms ≡ flat_map (later_text ds) terms
-  terms_are [] all = refl
-  terms_are (t ∷ terms) all = ap₂ ◌++◌ (later_is t all.0) (terms_are terms all.1)
+  abbrev IsTermOver : Term → Type 0
+  IsTermOver t = IsOver (letter_count ds) t.1
 
-  poly_is : (terms : List Term) → AllByRecursion (λ t. IsOver (letter_count ds) t.1) terms → poly_by texts terms ≡ poly_text ds terms
+  terms_are : (terms : List Term) → All IsTermOver terms → flat_map (later_by texts) terms ≡ flat_map (later_text ds) terms
+  terms_are [] all = refl
+  terms_are (t ∷ terms) all = ap₂ ◌++◌ (later_is t (All-head IsTermOver t terms all)) (terms_are terms (All-tail IsTermOver t terms all))
+
+  poly_is : (terms : List Term) → All IsTermOver terms → poly_by texts terms ≡ poly_text ds terms
   poly_is [] all = refl
   poly_is (t ∷ terms) all =
-      ap₂ ◌++◌ (ap (λ (w : List ℕ). (if is_negative t.0 then codes "- " else []) ++ (factor_text (unsigned_abs t.0) ++ w)) (word_is t.1 all.0)) (terms_are terms all.1)
+      ap₂ ◌++◌ (ap (λ (w : List ℕ). (if is_negative t.0 then codes "- " else []) ++ (factor_text (unsigned_abs t.0) ++ w)) (word_is t.1 (All-head IsTermOver t terms all))) (terms_are terms (All-tail IsTermOver t terms all))
 
-  pub line_is_text : (line : List Term) → All (λ (t : Term). IsOver (letter_count ds) t.1) line → line_by texts line ≡ line_text ds line
-  line_is_text line all = ap (λ (p : List ℕ). codes "line " ++ (p ++ codes "\n")) (poly_is line (recursion_from_All (λ (t : Term). IsOver (letter_count ds) t.1) line all))
+  pub line_is_text : (line : List Term) → All IsTermOver line → line_by texts line ≡ line_text ds line
+  line_is_text line all = ap (λ (p : List ℕ). codes "line " ++ (p ++ codes "\n")) (poly_is line all)
 
   pub use_is_text : (step : CertRow) → IsRowOver ds step → use_by texts step ≡ use_text ds step
   use_is_text step over =
@@ -91,20 +94,22 @@ module _ (ds : List Declaration) (texts : List (List ℕ)) (are : AreTexts ds te
   pub step_spelled : (step : CertRow) → IsRowOver ds step → IsStepSpelled texts step
   step_spelled step over = record { left = spelled step.left over.left; right = spelled step.right over.right }
 
-  pub line_spelled : (line : List Term) → All (λ (t : Term). IsOver (letter_count ds) t.1) line → IsLineSpelled texts line
+  pub line_spelled : (line : List Term) → All IsTermOver line → IsLineSpelled texts line
   line_spelled line over = λ k d below. spelled (get_or line k d).1 (over k d below)
 
   abbrev AreOver : List (List Term) → Type 0
-  AreOver lines = AllByRecursion (λ l. All (λ (t : Term). IsOver (letter_count ds) t.1) l) lines
+  AreOver lines = All (All IsTermOver) lines
 
-  steps_are : (steps : List CertRow) (lines : List (List Term)) → AllByRecursion (IsRowOver ds) steps → AreOver lines → steps_by texts steps lines ≡ steps_text ds steps lines
+  steps_are : (steps : List CertRow) (lines : List (List Term)) → All (IsRowOver ds) steps → AreOver lines → steps_by texts steps lines ≡ steps_text ds steps lines
   steps_are [] lines over all = refl
   steps_are (s ∷ steps) [] over all = refl
-  steps_are (s ∷ steps) (l ∷ lines) over all = ap₂ ◌++◌ (ap₂ ◌++◌ (use_is_text s over.0) (line_is_text l all.0)) (steps_are steps lines over.1 all.1)
+  steps_are (s ∷ steps) (l ∷ lines) over all =
+      ap₂ ◌++◌ (ap₂ ◌++◌ (use_is_text s (All-head (IsRowOver ds) s steps over)) (line_is_text l (All-head (All IsTermOver) l lines all)))
+      (steps_are steps lines (All-tail (IsRowOver ds) s steps over) (All-tail (All IsTermOver) l lines all))
 
-  pub lines_are : (steps : List CertRow) (lines : List (List Term)) → AllByRecursion (IsRowOver ds) steps → AreOver lines → lines_spelled texts steps lines ≡ lines_text ds steps lines
+  pub lines_are : (steps : List CertRow) (lines : List (List Term)) → All (IsRowOver ds) steps → AreOver lines → lines_spelled texts steps lines ≡ lines_text ds steps lines
   lines_are steps [] over all = refl
-  lines_are steps (l ∷ lines) over all = ap₂ ◌++◌ (line_is_text l all.0) (steps_are steps lines over all.1)
+  lines_are steps (l ∷ lines) over all = ap₂ ◌++◌ (line_is_text l (All-head (All IsTermOver) l lines all)) (steps_are steps lines over (All-tail (All IsTermOver) l lines all))
 
 -- step by step
 zip_more : (steps : List CertRow) (lines : List Poly) (step : CertRow) (line : Poly) → length steps ≡ length lines → zip (steps ++ step ∷ []) (lines ++ line ∷ []) ≡ zip steps lines ++ (step, line) ∷ []

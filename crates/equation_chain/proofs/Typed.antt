@@ -1,11 +1,11 @@
 -- One word decides whether a row is typed: either all its words are paths of a signature, or none is.
-use Rattle.std.proofs.Common.{◌≡◌, ◌≢◌, ◌⊎◌, inl, inr, ℕ, pos, Bool, true, false, ◌&&◌, ◌||◌, List, [], ◌∷◌, ◌++◌, filter, cond, length, slice_get, Some, refl, sym, ap, subst, ◌∙◌, arith}
+use Rattle.std.proofs.Common.{◌≡◌, ◌≢◌, ◌⊎◌, inl, inr, ℕ, pos, Bool, true, false, ◌&&◌, ◌||◌, List, [], ◌∷◌, ◌++◌, filter, length, slice_get, Some, refl, sym, ap, subst, ◌∙◌, arith}
 use Rattle.std.specs.Prelude.{not}
-use Rattle.std.specs.List.{AllByRecursion, list_all}
+use Rattle.std.specs.List.{All, AllByRecursion, list_all}
 use Rattle.std.specs.Ordering.{int_eq}
 use Rattle.std.proofs.lemmas.Bool.{and_parts, and_from, or_cases, or_left, or_right}
 use Rattle.std.proofs.lemmas.Bool.Decides.{Decides-int_eq}
-use Rattle.std.proofs.lemmas.List.Elements.{recursion_from_All}
+use Rattle.std.proofs.lemmas.List.Elements.{All-weaker, filter_passes, recursion_from_All}
 use Rattle.std.proofs.Math.IntN.{ℤ_discrete}
 use Rattle.definitions.specs.Poly.{Term, coefficient_of}
 use Rattle.definitions.specs.Quiver.{Quiver, leads, is_path, IsPath}
@@ -18,11 +18,12 @@ use Rattle.nc_polynomial.proofs.Shapes.{recursion_from_IsDescending}
 use Rattle.nc_polynomial.proofs.Distinct.{AreDistinct, distinct-descending, first_coefficient, words_listed}
 use Rattle.quiver.specs.Declarations.{quiver_of}
 use Rattle.traced_rows.specs.declared.certificate.CertRow.{CertRow}
+use Rattle.traced_rows.specs.declared.certificate.Certificate.{Certificate}
 use Rattle.traced_rows.specs.Rows.{row_of}
 use Rattle.adjoint_rules.specs.declared.problem.Problem.{Problem}
 use Rattle.adjoint_rules.specs.Problem.{polynomials}
 use Rattle.adjoint_rules.proofs.Generators.{generators_have_signatures}
-use Rattle.equation_chain.specs.Steps.{claim_ends, generator_of, is_empty, counts, is_typed, is_step, IsTypedStep}
+use Rattle.equation_chain.specs.Steps.{claim_ends, generator_of, is_empty, counts, is_typed, is_step, steps_of, IsTypedStep}
 use Rattle.equation_chain.specs.Laws.{StepsAreTyped}
 use Rattle.equation_chain.proofs.Generators.{signed_or_zero, generator_shaped}
 
@@ -131,16 +132,14 @@ module _ (problem : Problem) (claim : ℕ) (row : CertRow) where
       not_both false one other = absurd cc
 
 -- what passes the test has what that shows
-pub all_kept : {X : Type 0} (P : X → Type 0) (test : X → Bool) → ((x : X) → test x ≡ true → P x) → (xs : List X) → AllByRecursion P (filter test xs)
-all_kept P test shows [] = tt
-all_kept P test shows (x ∷ xs) = go (test x) refl (all_kept P test shows xs)
-  where
-    go : (b : Bool) → test x ≡ b → AllByRecursion P (filter test xs) → AllByRecursion P (cond b (x ∷ filter test xs) (filter test xs))
-    go true is rest = (shows x is, rest)
-    go false is rest = rest
+pub all_kept : {X : Type 0} (P : X → Type 0) (test : X → Bool) → ((x : X) → test x ≡ true → P x) → (xs : List X) → All P (filter test xs)
+all_kept P test shows xs = All-weaker (λ x. test x ≡ true) P shows (filter test xs) (filter_passes test xs)
+
+pub each_typed : (problem : Problem) (c : Certificate) → All (IsTypedStep problem c.claim) (steps_of problem c)
+each_typed problem c = all_kept (IsTypedStep problem c.claim) (is_step problem c.claim) (step_is_typed problem c.claim) c.rows
 
 pub steps_typed : StepsAreTyped
-steps_typed problem c = all_kept (IsTypedStep problem c.claim) (is_step problem c.claim) (step_is_typed problem c.claim) c.rows
+steps_typed problem c = recursion_from_All (IsTypedStep problem c.claim) (steps_of problem c) (each_typed problem c)
 
 -- the test of a row
 counts_when : (gs : List (List Term)) (row : Row) (t : Term) (rest : List Term) → generator_at gs row.generator ≡ t ∷ rest → row.coefficient ≢ pos 0 → counts gs row ≡ true

@@ -1,9 +1,10 @@
 -- Each line has the claim's signature, and is zero wherever the generators are.
 use Rattle.std.proofs.Common.{◌≡◌, ◌≢◌, ℕ, zero, suc, ◌+◌, ℤ, pos, negsuc, ◌+ℤ◌, ◌*ℤ◌, Bool, true, false, List, [], ◌∷◌, ◌++◌, map, take, drop, length, sym, refl, ap, ap₂, ◌∙◌, arith, true≢false}
-use Rattle.std.specs.List.{AllByRecursion, range_with_len}
+use Rattle.std.specs.List.{All, AllByRecursion, range_with_len}
 use Rattle.std.proofs.lemmas.Bool.{false_from_ne_true}
 use Rattle.std.proofs.lemmas.Int.{ints}
 use Rattle.std.proofs.lemmas.List.{take-append-drop}
+use Rattle.std.proofs.lemmas.List.Elements.{All-head, All-tail, All-take}
 use Rattle.std.proofs.Math.IntN.{*ℤ-zero, ℤ_discrete}
 use Rattle.definitions.specs.Category.{Structure, PreadditiveLaws}
 use Rattle.definitions.specs.Poly.{Term, word_eq, coefficient_of, poly_between}
@@ -21,7 +22,7 @@ use Rattle.traced_rows.specs.Rows.{row_of, rows_of}
 use Rattle.adjoint_rules.specs.declared.problem.Problem.{Problem}
 use Rattle.adjoint_rules.specs.Problem.{polynomials}
 use Rattle.adjoint_rules.proofs.Generators.{posed_quiver, generators_have_signatures}
-use Rattle.equation_chain.specs.Steps.{claim_ends, generator_of, is_typed, is_step, counts, steps_of}
+use Rattle.equation_chain.specs.Steps.{claim_ends, generator_of, is_typed, is_step, counts, steps_in, steps_of}
 use Rattle.equation_chain.specs.Lines.{claim_in, line_less}
 use Rattle.equation_chain.specs.Faults.{IsAccepted}
 use Rattle.equation_chain.specs.Laws.{LinesAreTyped, LinesVanish}
@@ -34,11 +35,6 @@ use Rattle.std.proofs.lemmas.Bool.{and_parts}
 pub all_in_range : {X : Type 0} (P : X → Type 0) (f : ℕ → X) → ((k : ℕ) → P (f k)) → (a n : ℕ) → AllByRecursion P (map f (range_with_len a n))
 all_in_range P f each a zero = tt
 all_in_range P f each a (suc n) = (each a, all_in_range P f each (a + 1) n)
-
-pub all_taken : {X : Type 0} (P : X → Type 0) (k : ℕ) (xs : List X) → AllByRecursion P xs → AllByRecursion P (take k xs)
-all_taken P zero xs all = tt
-all_taken P (suc k) [] all = tt
-all_taken P (suc k) (x ∷ xs) all = (all.0, all_taken P k xs all.1)
 
 module _ (problem : Problem) (c : Certificate) where
   abbrev q : Quiver
@@ -79,23 +75,25 @@ module _ (problem : Problem) (c : Certificate) where
       true≢false (sym (words_are_paths q u v gs (row_of row) typed w there) ∙ ap (is_path q u v) (word_eq-true (row.left ++ (w ++ row.right)) x same) ∙ no_path))))
       ∙ *ℤ-zero row.coef
 
-  sum_stays : (rows : List CertRow) → AllByRecursion (λ r. is_typed problem c.claim r ≡ true) rows → Stays (row_sum gs (rows_of rows))
+  abbrev Typed : CertRow → Type 0
+  Typed r = is_typed problem c.claim r ≡ true
+
+  sum_stays : (rows : List CertRow) → All Typed rows → Stays (row_sum gs (rows_of rows))
   sum_stays [] all x no_path = refl
   sum_stays (r ∷ rows) all x no_path =
-      coefficient_of-append (row_poly gs (row_of r)) (row_sum gs (rows_of rows)) x ∙ ap₂ ◌+ℤ◌ (row_stays r all.0 x no_path) (sum_stays rows all.1 x no_path)
+      coefficient_of-append (row_poly gs (row_of r)) (row_sum gs (rows_of rows)) x ∙ ap₂ ◌+ℤ◌ (row_stays r (All-head Typed r rows all) x no_path) (sum_stays rows (All-tail Typed r rows all) x no_path)
 
-  typed_steps : AllByRecursion (λ r. is_typed problem c.claim r ≡ true) (steps_of problem c)
-  typed_steps =
-      all_kept (λ r. is_typed problem c.claim r ≡ true) (is_step problem c.claim) (λ r is. (and_parts (counts gs (row_of r)) (is_typed problem c.claim r) is).1) c.rows
+  pub typed_in : (rows : List CertRow) → All Typed (steps_in problem c.claim rows)
+  typed_in rows = all_kept Typed (is_step problem c.claim) (λ r is. (and_parts (counts gs (row_of r)) (is_typed problem c.claim r) is).1) rows
 
-  pub line_typed : (steps : List CertRow) → AllByRecursion (λ r. is_typed problem c.claim r ≡ true) steps → IsTyped q u v (line_less problem c steps)
+  pub line_typed : (steps : List CertRow) → All Typed steps → IsTyped q u v (line_less problem c steps)
   line_typed steps all = stays_typed (line_less problem c steps) (λ x no_path.
       less_at problem c steps x
       ∙ ap₂ (λ a b. c.denominator *ℤ a +ℤ negsuc 0 *ℤ b) (typed_stays (claim_in problem c) (claim_typed problem c.claim) x no_path) (sum_stays steps all x no_path)
       ∙ ap (λ k. k +ℤ pos 0) (*ℤ-zero c.denominator))
 
   pub typed_line : (k : ℕ) → IsTyped q u v (line_less problem c (take k (steps_of problem c)))
-  typed_line k = line_typed (take k (steps_of problem c)) (all_taken (λ r. is_typed problem c.claim r ≡ true) k (steps_of problem c) typed_steps)
+  typed_line k = line_typed (take k (steps_of problem c)) (All-take Typed k (steps_of problem c) (typed_in c.rows))
 
   -- a line is the sum of the steps that are left
   rest_at : (front back : List CertRow) (w : List ℕ)

@@ -52,8 +52,7 @@ module _ (problem : Problem) (b : Basis) (readable : IsReadableBasis problem.par
     where
       go : (r : Result State ReduceFault) → normal_form_of (order_of problem) (rules_of problem b) p step_limit ≡ r → rest_in r ≡ Ok rest → AreBelow rest
       go (Ok s) ends k =
-          subst AreBelow (same_rest s.rest rest k) (All-from_recursion (λ (t : Term). IsOver letters t.1) s.rest
-          (reduced_over letters (order_of problem) (rules_of problem b) are_rules p step_limit s (recursion_from_All (λ (t : Term). IsOver letters t.1) p below) ends).0)
+          subst AreBelow (same_rest s.rest rest k) (reduced_over letters (order_of problem) (rules_of problem b) are_rules p step_limit s below ends).0
       go (Err e) ends k = absurd (no_rest e rest k)
 
   -- what is left of an S-polynomial
@@ -62,8 +61,7 @@ module _ (problem : Problem) (b : Basis) (readable : IsReadableBasis problem.par
     where
       go : (r : Result (List Term) PolyFault) → s_polynomial_of (rules_of problem b) a ≡ r → rest_by (order_of problem) (rules_of problem b) r ≡ Ok rest → AreBelow rest
       go (Ok p) ends k =
-          rest_below p rest (All-from_recursion (λ (t : Term). IsOver letters t.1) p
-          (words_over letters p (s_words letters (order_of problem) (rules_of problem b) are_rules a is p ends))) k
+          rest_below p rest (words_over letters p (s_words letters (order_of problem) (rules_of problem b) are_rules a is p ends)) k
       go (Err e) ends k = absurd (no_rest (halt_of e) rest k)
 
   generator_below : (number : ℕ) (rest : List Term) → rest_of problem b (part.Generator number) ≡ Ok rest → AreBelow rest

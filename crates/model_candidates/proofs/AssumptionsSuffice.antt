@@ -4,7 +4,7 @@ use Rattle.std.proofs.Common.{◌≡◌, ◌≢◌, ℕ, ◌+◌, ◌<◌, ◌�
 use Rattle.std.specs.List.{AllByRecursion, AllZip, flat_map, list_all, list_any}
 use Rattle.std.proofs.lemmas.Bool.{and_from, le-leb}
 use Rattle.std.proofs.lemmas.List.{length-append}
-use Rattle.std.proofs.lemmas.List.Elements.{filter-append, recursion_from_All}
+use Rattle.std.proofs.lemmas.List.Elements.{filter-append}
 use Rattle.definitions.specs.Poly.{SamePolynomial, coefficient_of, poly_eq, poly_multiple, word_eq}
 use Rattle.definitions.specs.Quiver.{Quiver, IsQuiver, letters, star}
 use Rattle.definitions.specs.Generators.{adjoint_word, adjoint_poly, new_adjoint, units}
@@ -78,7 +78,7 @@ module _ (q : Quiver) (quiver : IsQuiver q) (solved : List Letter) where
   poly_linear p linear = all_few p.terms
       (words_listed (λ w. solved_count q solved w ≤ 1) p.terms
       (distinct-descending p.terms (recursion_from_IsDescending p.terms p.canonical.shaped.descending))
-      (recursion_from_All (λ t. t.0 ≢ pos 0) p.terms p.canonical.shaped.nonzero) linear)
+      p.canonical.shaped.nonzero linear)
 
   -- adjoints
   star_moved : (a b : ℕ) → nat_eq (star q a) b ≡ nat_eq a (star q b)

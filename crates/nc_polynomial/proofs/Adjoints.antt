@@ -3,9 +3,9 @@ use Rattle.std.proofs.Common.{◌≡◌, ◌≢◌, ℕ, ◌<◌, ◌≤◌, ℤ
 use Rattle.std.proofs.lemmas.Bool.Decides.{nat_tests}
 use Rattle.std.proofs.lemmas.Bool.{cases_lt, and_from}
 use Rattle.std.proofs.lemmas.List.{append-nil, get_or_past, length-append}
-use Rattle.std.proofs.lemmas.List.Elements.{All-from_recursion, recursion_from_All}
+use Rattle.std.proofs.lemmas.List.Elements.{All-tail}
 use Rattle.std.proofs.Math.IntN.{+ℤ_comm}
-use Rattle.std.specs.List.{All, AllByRecursion, list_all}
+use Rattle.std.specs.List.{All, list_all}
 use Rattle.std.specs.Cmp.{both_ways}
 use Rattle.std.specs.BTreeMap.{BTreeMap, IsOrdered, btree_map_len}
 use Rattle.word_core.specs.Canonical.{word_cmp}
@@ -76,15 +76,15 @@ module _ (stars : List ℕ) (involution : IsInvolution stars) where
       ap₂ (λ b x. cond b t.0 (pos 0) +ℤ x) (word_eq-star t.1 w) (coefficient_of-adjoint_terms p w)
 
   -- the adjoint of a new word is a new word
-  pub new_word : (p : List Term) (t : Term) → AllByRecursion (λ u. word_eq u.1 t.1 ≡ false) p → coefficient_of (adjoint_terms stars p) (reversed_star stars t.1) ≡ pos 0
+  pub new_word : (p : List Term) (t : Term) → All (λ u. word_eq u.1 t.1 ≡ false) p → coefficient_of (adjoint_terms stars p) (reversed_star stars t.1) ≡ pos 0
   new_word p t apart = coefficient_of-adjoint_terms p (reversed_star stars t.1) ∙ ap (coefficient_of p) (twice t.1) ∙ none_listed t.1 p apart
 
   -- the table of the adjoints
-  pub in_range-adjoint : (p : List Term) → Descends p → AllByRecursion (λ t. IsCoefficient t.0) p → (w : List ℕ) → IsCoefficient (coefficient_of (adjoint_terms stars p) w)
+  pub in_range-adjoint : (p : List Term) → Descends p → All (λ t. IsCoefficient t.0) p → (w : List ℕ) → IsCoefficient (coefficient_of (adjoint_terms stars p) w)
   in_range-adjoint p d h w = subst IsCoefficient (sym (coefficient_of-adjoint_terms p w)) (coefficient-ranged p (distinct-descending p d) h (reversed_star stars w))
 
-  pub short-adjoint : (p out : List Term) → All (λ t. length t.1 ≤ 500) p → Descends out → AllByRecursion (λ t. t.0 ≢ pos 0) out → ((w : List ℕ) → coefficient_of out w ≡ coefficient_of (adjoint_terms stars p) w) → AllByRecursion (λ t. length t.1 ≤ 500) out
-  short-adjoint p out short d h same = words_listed (λ w. length w ≤ 500) out (distinct-descending out d) h (λ w there. go w there (at_word is_short p (reversed_star stars w) (each_short p (recursion_from_All (λ (t : Term). length t.1 ≤ 500) p short))))
+  pub short-adjoint : (p out : List Term) → All (λ t. length t.1 ≤ 500) p → Descends out → All (λ t. t.0 ≢ pos 0) out → ((w : List ℕ) → coefficient_of out w ≡ coefficient_of (adjoint_terms stars p) w) → All (λ t. length t.1 ≤ 500) out
+  short-adjoint p out short d h same = words_listed (λ w. length w ≤ 500) out (distinct-descending out d) h (λ w there. go w there (at_word is_short p (reversed_star stars w) (each_short p short)))
     where
       is_short : List ℕ → Bool
       is_short w = nat_le (length w) 500
@@ -95,9 +95,9 @@ module _ (stars : List ℕ) (involution : IsInvolution stars) where
       told : (n : ℕ) → nat_le n 500 ≡ true → n ≤ 500
       told n k = grind (arith, nat_tests)
 
-      each_short : (q : List Term) → AllByRecursion (λ t. length t.1 ≤ 500) q → list_all (λ (t : Term). nat_le (length t.1) 500) q ≡ true
+      each_short : (q : List Term) → All (λ t. length t.1 ≤ 500) q → list_all (λ (t : Term). nat_le (length t.1) 500) q ≡ true
       each_short [] k = refl
-      each_short (t ∷ q) k = and_from (nat_le (length t.1) 500) (list_all (λ (u : Term). nat_le (length u.1) 500) q) (within (length t.1) k.0) (each_short q k.1)
+      each_short (t ∷ q) k = and_from (nat_le (length t.1) 500) (list_all (λ (u : Term). nat_le (length u.1) 500) q) (within (length t.1) (k 0 t (omega arith))) (each_short q (All-tail (λ (u : Term). length u.1 ≤ 500) t q k))
 
       go : (w : List ℕ) → coefficient_of out w ≢ pos 0 → (nat_le (length (reversed_star stars w)) 500 ≡ true) ⊎ (coefficient_of p (reversed_star stars w) ≡ pos 0) → length w ≤ 500
       go w there (inl k) = subst (λ n. n ≤ 500) (length-reversed_star stars w) (told (length (reversed_star stars w)) k)
@@ -120,11 +120,10 @@ pub canonical_table : (stars : List ℕ) → IsInvolution stars → (p : List Te
 canonical_table stars involution p h table ordered few same =
     let out = reversed table.entries [] in
     let falls = recursion_from_IsDescending p h.shaped.descending in
-    let ranged = recursion_from_All (λ (t : Term). IsCoefficient t.0) p h.shaped.in_range in
     let at_most = length-reversed table.entries [] in
     let enough : length p ≤ 20000 = h.few in
     record {
-      shaped = shaped-table table ordered (λ w. subst IsCoefficient (sym (same w)) (in_range-adjoint stars involution p falls ranged w));
-      short = All-from_recursion (λ (t : Term). length t.1 ≤ 500) out (short-adjoint stars involution p out h.short (descending-table table ordered) (nonzero-table table ordered) (λ w. coefficient_of-table table ordered w ∙ same w));
+      shaped = shaped-table table ordered (λ w. subst IsCoefficient (sym (same w)) (in_range-adjoint stars involution p falls h.shaped.in_range w));
+      short = short-adjoint stars involution p out h.short (descending-table table ordered) (nonzero-table table ordered) (λ w. coefficient_of-table table ordered w ∙ same w);
       few = omega arith;
     }

@@ -2,7 +2,7 @@
 use Rattle.std.proofs.Common.{◌≡◌, ℤ, pos, ◌+ℤ◌, ◌*ℤ◌, List, [], ◌∷◌, ◌++◌, map, Err, sym, refl, ap, ap₂, subst, ◌∙◌, arith}
 use Rattle.std.proofs.lemmas.Bool.Decides.{nat_tests}
 use Rattle.std.proofs.Math.IntN.{*ℤ-zero}
-use Rattle.std.proofs.lemmas.List.Elements.{recursion_from_All}
+use Rattle.std.proofs.lemmas.List.Elements.{All-tail}
 use Rattle.std.specs.List.{All, AllByRecursion}
 use Rattle.std.specs.declared.cmp.Ordering.{Ordering}
 use Rattle.std.specs.declared.cmp.Ordering.TheVariants.{Less, Equal, Greater}
@@ -14,6 +14,7 @@ use Rattle.word_core.specs.Canonical.{word_cmp}
 use Rattle.nc_polynomial.specs.declared.fault.PolyFault.TheVariants as fault
 use Rattle.nc_polynomial.specs.Terms.{Pair, only_right, aligned, aligned_at, by_order, keep, totals, total_operations}
 use Rattle.nc_polynomial.specs.Faults.{checked}
+use Rattle.nc_polynomial.proofs.Shapes.{IsInRange}
 use Rattle.nc_polynomial.proofs.Checked.{join, total_from, one-fits}
 
 module _ (a b : ℤ) where
@@ -44,25 +45,22 @@ module _ (a b : ℤ) where
 abbrev pub AreInRange : List Pair → Type 0
 AreInRange pairs = AllByRecursion (λ n. IsCoefficient n.0 × IsCoefficient n.1) pairs
 
-in_range-right : (q : List Term) → AllByRecursion (λ t. IsCoefficient t.0) q → AreInRange (map only_right q)
+in_range-right : (q : List Term) → All IsInRange q → AreInRange (map only_right q)
 in_range-right [] h = tt
-in_range-right (y ∷ q) h = ((omega arith, h.0), in_range-right q h.1)
+in_range-right (y ∷ q) h = ((omega arith, h 0 y (omega arith)), in_range-right q (All-tail IsInRange y q h))
 
-in_range-at : (x : Term) (rest : List Term → List Pair) → IsCoefficient x.0 → ((q : List Term) → AllByRecursion (λ t. IsCoefficient t.0) q → AreInRange (rest q)) → (q : List Term) → AllByRecursion (λ t. IsCoefficient t.0) q → AreInRange (aligned_at x q rest)
-in_range-at x rest h r [] k = ((h, omega arith), r [] tt)
-in_range-at x rest h r (y ∷ q) k = go (word_cmp x.1 y.1) (in_range-at x rest h r q k.1)
+in_range-at : (x : Term) (rest : List Term → List Pair) → IsCoefficient x.0 → ((q : List Term) → All IsInRange q → AreInRange (rest q)) → (q : List Term) → All IsInRange q → AreInRange (aligned_at x q rest)
+in_range-at x rest h r [] k = ((h, omega arith), r [] k)
+in_range-at x rest h r (y ∷ q) k = go (word_cmp x.1 y.1) (in_range-at x rest h r q (All-tail IsInRange y q k))
   where
     go : (o : Ordering) → AreInRange (aligned_at x q rest) → AreInRange (by_order o ((pos 0, y.0, y.1) ∷ aligned_at x q rest) ((x.0, y.0, x.1) ∷ rest q) ((x.0, pos 0, x.1) ∷ rest (y ∷ q)))
-    go Less m = ((omega arith, k.0), m)
-    go Equal m = ((h, k.0), r q k.1)
+    go Less m = ((omega arith, k 0 y (omega arith)), m)
+    go Equal m = ((h, k 0 y (omega arith)), r q (All-tail IsInRange y q k))
     go Greater m = ((h, omega arith), r (y ∷ q) k)
 
-in_range-both : (p q : List Term) → AllByRecursion (λ t. IsCoefficient t.0) p → AllByRecursion (λ t. IsCoefficient t.0) q → AreInRange (aligned p q)
-in_range-both [] q h k = in_range-right q k
-in_range-both (x ∷ p) q h k = in_range-at x (aligned p) h.0 (λ s m. in_range-both p s h.1 m) q k
-
 pub in_range-aligned : (p q : List Term) → All (λ t. IsCoefficient t.0) p → All (λ t. IsCoefficient t.0) q → AreInRange (aligned p q)
-in_range-aligned p q h k = in_range-both p q (recursion_from_All (λ t. IsCoefficient t.0) p h) (recursion_from_All (λ t. IsCoefficient t.0) q k)
+in_range-aligned [] q h k = in_range-right q k
+in_range-aligned (x ∷ p) q h k = in_range-at x (aligned p) (h 0 x (omega arith)) (λ s m. in_range-aligned p s (All-tail IsInRange x p h) m) q k
 
 first-overflows : (o : Overflow) (os : List Overflow) (out xs : List Term) → (IsCoefficient (exact_value o) → ⊥) → join out (checked (o ∷ os) xs) ≡ Err (fault.Overflow o)
 first-overflows o os out xs h = grind (arith, nat_tests)

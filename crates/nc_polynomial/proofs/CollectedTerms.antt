@@ -2,7 +2,8 @@
 use Rattle.std.proofs.Common.{◌≡◌, ◌≢◌, ℕ, ◌+◌, ℤ, pos, ◌+ℤ◌, Bool, true, false, cond, List, [], ◌∷◌, ◌++◌, take, drop, None, sym, refl, ap, ap₂, subst, ◌∙◌, arith}
 use Rattle.std.proofs.lemmas.Int.{ints}
 use Rattle.std.proofs.Math.IntN.{+ℤ_idr}
-use Rattle.std.specs.List.{AllByRecursion}
+use Rattle.std.specs.List.{All}
+use Rattle.std.proofs.lemmas.List.Elements.{All-nil}
 use Rattle.coef_int.specs.Range.{IsCoefficient}
 use Rattle.coef_int.specs.Operations.{sum_of, first_overflow}
 use Rattle.definitions.specs.Poly.{Term, word_eq, coefficient_of}
@@ -12,7 +13,7 @@ use Rattle.nc_polynomial.specs.Faults.{unless_overflow, sized}
 use Rattle.nc_polynomial.proofs.Unique.{descending_unique}
 use Rattle.definitions.proofs.Coefficients.{coefficient_of-append}
 use Rattle.nc_polynomial.proofs.CoefficientLaws.{coefficient_of-added}
-use Rattle.nc_polynomial.proofs.Shapes.{Descends, descending-added, nonzero-added}
+use Rattle.nc_polynomial.proofs.Shapes.{Descends, IsNonzero, descends_one, descending-added, nonzero-added}
 
 pub coefficient_of-collected : (terms : List Term) (w : List ℕ) → coefficient_of (collected terms) w ≡ coefficient_of terms w
 coefficient_of-collected [] w = refl
@@ -22,10 +23,10 @@ coefficient_of-collected (t ∷ terms) w =
 
 pub descending-collected : (terms : List Term) → Descends (collected terms)
 descending-collected [] = tt
-descending-collected (t ∷ terms) = descending-added (t ∷ []) (collected terms) (tt, tt) (descending-collected terms)
+descending-collected (t ∷ terms) = descending-added (t ∷ []) (collected terms) (descends_one t) (descending-collected terms)
 
-pub nonzero-collected : (terms : List Term) → AllByRecursion (λ t. t.0 ≢ pos 0) (collected terms)
-nonzero-collected [] = tt
+pub nonzero-collected : (terms : List Term) → All (λ t. t.0 ≢ pos 0) (collected terms)
+nonzero-collected [] = All-nil IsNonzero
 nonzero-collected (t ∷ terms) = nonzero-added (t ∷ []) (collected terms)
 
 module _ (terms : List Term) (i : ℕ) (t : Term) (front : take (i + 1) terms ≡ take i terms ++ t ∷ []) (back : drop i terms ≡ t ∷ drop (i + 1) terms) where
@@ -56,7 +57,7 @@ in_range-written old new t before fits written w = subst IsCoefficient (sym (wri
         subst IsCoefficient none (before w)
 
 -- where all sums fit, only the size is left to test
-pub collected-end : (terms out : List Term) → first_overflow (additions [] terms) ≡ None → Descends out → AllByRecursion (λ t. t.0 ≢ pos 0) out → ((w : List ℕ) → coefficient_of out w ≡ coefficient_of terms w) → collection_result terms ≡ sized out
+pub collected-end : (terms out : List Term) → first_overflow (additions [] terms) ≡ None → Descends out → All (λ t. t.0 ≢ pos 0) out → ((w : List ℕ) → coefficient_of out w ≡ coefficient_of terms w) → collection_result terms ≡ sized out
 collected-end terms out fit descends nonzero same =
     ap (λ o. unless_overflow o (sized (collected terms))) fit
     ∙ ap sized (descending_unique (collected terms) out (descending-collected terms) descends (nonzero-collected terms) nonzero (record { at = λ w. coefficient_of-collected terms w ∙ sym (same w) }))

@@ -1,19 +1,17 @@
 -- Common divisors of coefficients, and quotients that leave nothing.
-use Rattle.std.proofs.Common.{◌≡◌, ◌≢◌, ℕ, zero, suc, ◌<◌, ◌≤◌, ℤ, pos, negsuc, neg_ℤ, ◌+ℤ◌, ◌*◌, ◌*ℤ◌, List, [], ◌∷◌, ◌++◌, length, take, get_or, ◌↔◌, sym, refl, ap, subst, ◌∙◌, arith}
+use Rattle.std.proofs.Common.{◌≡◌, ◌≢◌, ℕ, zero, suc, ◌<◌, ◌≤◌, ℤ, pos, negsuc, neg_ℤ, ◌+ℤ◌, ◌*◌, ◌*ℤ◌, List, [], ◌∷◌, ◌++◌, length, Some, take, get_or, ◌↔◌, sym, refl, ap, subst, ◌∙◌, arith}
 use Rattle.std.proofs.lemmas.Int.{quot-rem, unsigned_abs-mul}
 use Rattle.std.proofs.lemmas.Nat.Gcd.{mod-eq-zero_of_dvd, dvd_trans}
-use Rattle.std.proofs.lemmas.List.{length-map}
-use Rattle.std.proofs.lemmas.List.Elements.{All-take, All-weaker, All-push, All-from_recursion, recursion_from_All}
+use Rattle.std.proofs.lemmas.List.{length-map, get_or-map}
+use Rattle.std.proofs.lemmas.List.Elements.{All-take, All-weaker, All-pop, All-push}
 use Rattle.std.proofs.Math.IntN.{*ℤ_comm, *ℤ-zero, +ℤ_idr}
 use Rattle.std.proofs.Math.Nat.{one-dvd, eq-zero_of_zero-dvd, le-mul_of_pos_right, mul_comm}
-use Rattle.std.specs.List.{AllByRecursion}
-use Rattle.std.specs.declared.cmp.Ordering.TheVariants.{Greater}
+use Rattle.std.specs.List.{All}
 use Rattle.coef_int.specs.Range.{IsCoefficient}
 use Rattle.definitions.specs.Poly.{Term, poly_multiple}
-use Rattle.word_core.specs.Canonical.{word_cmp}
 use Rattle.nc_polynomial.specs.Shape.{IsCanonical}
 use Rattle.nc_polynomial.specs.Content.{IsContent, DividesEach}
-use Rattle.nc_polynomial.proofs.Shapes.{Descends, IsDescending-from_recursion, recursion_from_IsDescending}
+use Rattle.nc_polynomial.proofs.Shapes.{Descends, IsBelow, IsInRange, IsNonzero, IsDescending-from_recursion, recursion_from_IsDescending}
 use Rattle.std.specs.Int.{◌∣◌, IsGcd, IsNonNegative}
 use Rattle.std.specs.Int.RustNames.{unsigned_abs, int_div, int_rem}
 
@@ -29,12 +27,8 @@ quotient_times a d h =
     ∙ quot-rem a d
 
 -- the content
-each_part : (d : ℕ) (p : List Term) (t : Term) → AllByRecursion (λ u. d ∣ unsigned_abs u.0) (p ++ t ∷ []) → AllByRecursion (λ u. d ∣ unsigned_abs u.0) p × (d ∣ unsigned_abs t.0)
-each_part d [] t h = (tt, h.0)
-each_part d (u ∷ p) t h = let parts = each_part d p t h.1 in ((h.0, parts.0), parts.1)
-
 parts_of : (d : ℕ) (p : List Term) (t : Term) → DividesEach d (p ++ t ∷ []) → DividesEach d p × (d ∣ unsigned_abs t.0)
-parts_of d p t h = let parts = each_part d p t (recursion_from_All (λ u. d ∣ unsigned_abs u.0) (p ++ t ∷ []) h) in (All-from_recursion (λ u. d ∣ unsigned_abs u.0) p parts.0, parts.1)
+parts_of d p t h = All-pop (λ (u : Term). d ∣ unsigned_abs u.0) (p ++ t ∷ []) p (Some t) refl h
 
 -- with a coefficient more
 pub content-more : (p : List Term) (g : ℤ) (t : Term) (h : ℤ) → IsContent p g → IsGcd (unsigned_abs g) (unsigned_abs t.0) (unsigned_abs h) → IsNonNegative h → IsContent (p ++ t ∷ []) h
@@ -49,9 +43,9 @@ abs_zero (pos n) e = ap pos e
 abs_zero (negsuc n) e = absurd (omega arith)
 
 -- it is 0 for the polynomial zero alone
-pub content-zero : (p : List Term) (g : ℤ) → AllByRecursion (λ t. t.0 ≢ pos 0) p → IsContent p g → (g ≡ pos 0) ↔ (p ≡ [])
+pub content-zero : (p : List Term) (g : ℤ) → All (λ t. t.0 ≢ pos 0) p → IsContent p g → (g ≡ pos 0) ↔ (p ≡ [])
 content-zero [] g nonzero content = (λ e. refl, λ e. abs_zero g (eq-zero_of_zero-dvd (content.greatest 0 (λ i x h. absurd (omega arith)))))
-content-zero (t ∷ p) g nonzero content = (λ e. absurd (nonzero.0 (abs_zero t.0 (eq-zero_of_zero-dvd (subst (λ n. n ∣ unsigned_abs t.0) (ap unsigned_abs e) (content.divides 0 t (omega arith)))))), λ e. cc)
+content-zero (t ∷ p) g nonzero content = (λ e. absurd (nonzero 0 t (omega arith) (abs_zero t.0 (eq-zero_of_zero-dvd (subst (λ n. n ∣ unsigned_abs t.0) (ap unsigned_abs e) (content.divides 0 t (omega arith)))))), λ e. cc)
 
 -- the quotient
 pub abs_positive : (k : ℤ) → k ≢ pos 0 → 0 < unsigned_abs k
@@ -66,30 +60,23 @@ quotient_in a d h nonzero divides =
     let turned = mul_comm (unsigned_abs d) (unsigned_abs (int_div a d)) in
     omega arith
 
-module _ (k : ℤ) (nonzero : k ≢ pos 0) where
-  words_back : (P : List ℕ → Type 0) (v : List Term) → AllByRecursion (λ t. P t.1) (poly_multiple k v) → AllByRecursion (λ t. P t.1) v
-  words_back P [] h = tt
-  words_back P (t ∷ v) h = (h.0, words_back P v h.1)
+-- what holds of each term of a multiple
+pub at_multiple : (k : ℤ) (P : Term → Type 0) (v : List Term) → All P (poly_multiple k v) → All (λ t. P (k *ℤ t.0, t.1)) v
+at_multiple k P v h i t lt =
+    let size : length (poly_multiple k v) ≡ length v = length-map v (λ (u : Term). (k *ℤ u.0, u.1)) in
+    subst P (get_or-map (λ (u : Term). (k *ℤ u.0, u.1)) v i t (k *ℤ t.0, t.1) lt) (h i (k *ℤ t.0, t.1) (omega arith))
 
+module _ (k : ℤ) (nonzero : k ≢ pos 0) where
   descending_back : (v : List Term) → Descends (poly_multiple k v) → Descends v
   descending_back [] d = tt
-  descending_back (t ∷ v) d = (words_back (λ w. word_cmp t.1 w ≡ Greater) v d.0, descending_back v d.1)
+  descending_back (t ∷ v) d = (at_multiple k (IsBelow t.1) v d.0, descending_back v d.1)
 
-  nonzero_back : (v : List Term) → AllByRecursion (λ t. t.0 ≢ pos 0) (poly_multiple k v) → AllByRecursion (λ t. t.0 ≢ pos 0) v
-  nonzero_back [] h = tt
-  nonzero_back (t ∷ v) h = (λ e. h.0 (ap (λ z. k *ℤ z) e ∙ *ℤ-zero k), nonzero_back v h.1)
-
-  in_range_back : (v : List Term) → AllByRecursion (λ t. IsCoefficient t.0) (poly_multiple k v) → AllByRecursion (λ t. IsCoefficient t.0) v
-  in_range_back [] h = tt
-  in_range_back (t ∷ v) h = (smaller, in_range_back v h.1)
-    where
-      smaller : IsCoefficient t.0
-      smaller =
-          let product = unsigned_abs-mul k t.0 in
-          let at_most = le-mul_of_pos_right (unsigned_abs t.0) (abs_positive k nonzero) in
-          let turned = mul_comm (unsigned_abs t.0) (unsigned_abs k) in
-          let whole = h.0 in
-          omega arith
+  smaller : (z : ℤ) → IsCoefficient (k *ℤ z) → IsCoefficient z
+  smaller z whole =
+      let product = unsigned_abs-mul k z in
+      let at_most = le-mul_of_pos_right (unsigned_abs z) (abs_positive k nonzero) in
+      let turned = mul_comm (unsigned_abs z) (unsigned_abs k) in
+      omega arith
 
   -- a polynomial that has a canonical multiple is canonical
   pub canonical_back : (v p : List Term) → poly_multiple k v ≡ p → IsCanonical p → IsCanonical v
@@ -98,10 +85,10 @@ module _ (k : ℤ) (nonzero : k ≢ pos 0) where
       record {
         shaped = record {
           descending = IsDescending-from_recursion v (descending_back v (recursion_from_IsDescending (poly_multiple k v) q.shaped.descending));
-          nonzero = All-from_recursion (λ t. t.0 ≢ pos 0) v (nonzero_back v (recursion_from_All (λ t. t.0 ≢ pos 0) (poly_multiple k v) q.shaped.nonzero));
-          in_range = All-from_recursion (λ t. IsCoefficient t.0) v (in_range_back v (recursion_from_All (λ t. IsCoefficient t.0) (poly_multiple k v) q.shaped.in_range));
+          nonzero = λ i t lt e. at_multiple k IsNonzero v q.shaped.nonzero i t lt (ap (λ z. k *ℤ z) e ∙ *ℤ-zero k);
+          in_range = λ i t lt. smaller (get_or v i t).0 (at_multiple k IsInRange v q.shaped.in_range i t lt);
         };
-        short = All-from_recursion (λ t. length t.1 ≤ 500) v (words_back (λ w. length w ≤ 500) v (recursion_from_All (λ t. length t.1 ≤ 500) (poly_multiple k v) q.short));
+        short = at_multiple k (λ (t : Term). length t.1 ≤ 500) v q.short;
         few = subst (λ n. n ≤ 20000) (length-map v (λ (t : Term). (k *ℤ t.0, t.1))) q.few;
       }
 

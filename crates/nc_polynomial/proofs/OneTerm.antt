@@ -1,10 +1,10 @@
 -- Products with one term: the words stay in their order, so that each step puts its term after the sum so far.
-use Rattle.std.proofs.Common.{◌≡◌, ◌≢◌, ℕ, ◌+◌, ◌<◌, ◌≤◌, pos, ◌+ℤ◌, ◌*ℤ◌, true, false, cond, ◌||◌, nat_lt, List, [], ◌∷◌, ◌++◌, length, map, None, Result, Ok, Err, sym, refl, ap, subst, ◌∙◌, arith, append-nil}
+use Rattle.std.proofs.Common.{◌≡◌, ◌≢◌, ℕ, ◌+◌, ◌<◌, ◌≤◌, pos, ◌+ℤ◌, ◌*ℤ◌, true, false, cond, ◌||◌, nat_lt, List, [], ◌∷◌, ◌++◌, length, get_or, map, None, Result, Ok, Err, sym, refl, ap, subst, ◌∙◌, arith, append-nil}
 use Rattle.std.proofs.lemmas.Bool.Decides.{nat_tests}
 use Rattle.std.proofs.lemmas.List.{length-append, length-map, map-append}
-use Rattle.std.proofs.lemmas.List.Elements.{All-from_recursion, recursion_from_All}
+use Rattle.std.proofs.lemmas.List.Elements.{All-nil, All-cons, All-tail, All-push, All-map}
 use Rattle.std.proofs.Math.IntN.{+ℤ_idl}
-use Rattle.std.specs.List.{AllByRecursion}
+use Rattle.std.specs.List.{All}
 use Rattle.std.specs.declared.cmp.Ordering.TheVariants.{Greater}
 use Rattle.coef_int.specs.declared.Overflow.{Overflow}
 use Rattle.coef_int.specs.Range.{IsCoefficient}
@@ -26,7 +26,7 @@ use Rattle.nc_polynomial.proofs.Distinct.{none_listed, apart-before}
 use Rattle.nc_polynomial.proofs.Kept.{product_nonzero}
 use Rattle.nc_polynomial.proofs.Products.{step_adds, step_fails, canonical_sum}
 use Rattle.nc_polynomial.proofs.RunningSums.{not_long, few_enough, sum_alone_sized}
-use Rattle.nc_polynomial.proofs.Shapes.{Descends, IsDescending-from_recursion, recursion_from_IsDescending}
+use Rattle.nc_polynomial.proofs.Shapes.{Descends, IsBelow, IsInRange, IsNonzero, descends_one, over-front, all_middle, IsDescending-from_recursion, recursion_from_IsDescending}
 use Rattle.nc_polynomial.proofs.TableSums.{first-sums_with, added_is}
 
 -- one term on the left
@@ -43,23 +43,14 @@ one-left_fault t q e why = subst (λ r. Explains r e) (sym (and_no_more (product
 
 -- all words of the list are above the word
 abbrev pub AreOver : List ℕ → List Term → Type 0
-AreOver w p = AllByRecursion (λ u. word_cmp u.1 w ≡ Greater) p
-
-all-push : (P : Term → Type 0) (p : List Term) (m : Term) → AllByRecursion P p → P m → AllByRecursion P (p ++ m ∷ [])
-all-push P [] m h k = (k, tt)
-all-push P (t ∷ p) m h k = (h.0, all-push P p m h.1 k)
+AreOver w p = All (λ u. word_cmp u.1 w ≡ Greater) p
 
 descending-push : (p : List Term) (m : Term) → Descends p → AreOver m.1 p → Descends (p ++ m ∷ [])
-descending-push [] m d over = (tt, tt)
-descending-push (t ∷ p) m d over = (all-push (λ u. word_cmp t.1 u.1 ≡ Greater) p m d.0 over.0, descending-push p m d.1 over.1)
+descending-push [] m d over = descends_one m
+descending-push (t ∷ p) m d over = (All-push (IsBelow t.1) p m d.0 (over 0 t (omega arith)), descending-push p m d.1 (All-tail (λ (u : Term). word_cmp u.1 m.1 ≡ Greater) t p over))
 
-pub over-front : (front : List Term) (t : Term) (more : List Term) → Descends (front ++ t ∷ more) → AreOver t.1 front
-over-front [] t more d = tt
-over-front (u ∷ front) t more d = (at front d.0, over-front front t more d.1)
-  where
-    at : (xs : List Term) → AllByRecursion (λ x. word_cmp u.1 x.1 ≡ Greater) (xs ++ t ∷ more) → word_cmp u.1 t.1 ≡ Greater
-    at [] h = h.0
-    at (x ∷ xs) h = at xs h.1
+short_one : (m : Term) → length m.1 ≤ 500 → All (λ t. length t.1 ≤ 500) (m ∷ [])
+short_one m short = All-cons (λ (t : Term). length t.1 ≤ 500) m [] short (All-nil (λ (t : Term). length t.1 ≤ 500))
 
 -- a term below all others goes to the end
 module _ (sum : List Term) (m : Term) (canonical : IsCanonical sum) (fits : IsCoefficient m.0) (nonzero : m.0 ≢ pos 0) (short : length m.1 ≤ 500) (over : AreOver m.1 sum) (room : length sum < 20000) where
@@ -71,27 +62,27 @@ module _ (sum : List Term) (m : Term) (canonical : IsCanonical sum) (fits : IsCo
 
   shaped_one : IsShaped (m ∷ [])
   shaped_one = record {
-    descending = IsDescending-from_recursion (m ∷ []) (tt, tt);
-    nonzero = All-from_recursion (λ (t : Term). t.0 ≢ pos 0) (m ∷ []) (nonzero, tt);
-    in_range = All-from_recursion (λ (t : Term). IsCoefficient t.0) (m ∷ []) (fits, tt);
+    descending = IsDescending-from_recursion (m ∷ []) (descends_one m);
+    nonzero = All-cons IsNonzero m [] nonzero (All-nil IsNonzero);
+    in_range = All-cons IsInRange m [] fits (All-nil IsInRange);
   }
 
   no_overflow : first_overflow (sums sum (m ∷ [])) ≡ None
   no_overflow =
       let none : coefficient_of sum m.1 ≡ pos 0 = none_listed m.1 sum (apart-before sum m [] down_more) in
-      first-sums_with sum (m ∷ []) (recursion_from_All (λ (t : Term). IsCoefficient t.0) sum canonical.shaped.in_range) down (tt, tt)
+      first-sums_with sum (m ∷ []) canonical.shaped.in_range down (descends_one m)
       ∙ first-fits (sum_of (coefficient_of sum m.1) m.0) [] (subst IsCoefficient (sym (ap (λ k. k +ℤ m.0) none ∙ +ℤ_idl m.0)) fits)
 
   whole : checked (sums sum (m ∷ [])) (added sum (m ∷ [])) ≡ Ok (sum ++ m ∷ [])
   whole =
       ap (λ o. unless_overflow o (Ok (added sum (m ∷ [])))) no_overflow
-      ∙ ap Ok (added_is sum (m ∷ []) (sum ++ m ∷ []) down (tt, tt) down_more
-      (all-push (λ t. t.0 ≢ pos 0) sum m (recursion_from_All (λ (t : Term). t.0 ≢ pos 0) sum canonical.shaped.nonzero) nonzero) (coefficient_of-append sum (m ∷ [])))
+      ∙ ap Ok (added_is sum (m ∷ []) (sum ++ m ∷ []) down (descends_one m) down_more
+      (All-push IsNonzero sum m canonical.shaped.nonzero nonzero) (coefficient_of-append sum (m ∷ [])))
 
   pub sum-behind : sum_result sum (m ∷ []) ≡ Ok (sum ++ m ∷ [])
   sum-behind =
       let count : length (sum ++ m ∷ []) ≡ length sum + 1 = length-append sum (m ∷ []) in
-      few_enough sum (m ∷ []) (sum ++ m ∷ []) canonical.short (All-from_recursion (λ (t : Term). length t.1 ≤ 500) (m ∷ []) (short, tt)) whole (omega (arith, count, room))
+      few_enough sum (m ∷ []) (sum ++ m ∷ []) canonical.short (short_one m short) whole (omega (arith, count, room))
 
   pub canonical-behind : IsCanonical (sum ++ m ∷ [])
   canonical-behind = canonical_sum sum (m ∷ []) (sum ++ m ∷ []) canonical.shaped shaped_one sum-behind
@@ -121,7 +112,7 @@ module _ (y : Term) (nonzero : y.0 ≢ pos 0) where
   one_moved w = ap (λ v. (y.0, w ++ v) ∷ []) (append-nil y.1)
 
   sized_one : (m : Term) → length m.1 ≤ 500 → sized (m ∷ []) ≡ Ok (m ∷ [])
-  sized_one m short = ap (λ b. cond b (Err (size_fault true)) (Ok (m ∷ []))) (not_long (m ∷ []) (short, tt))
+  sized_one m short = ap (λ b. cond b (Err (size_fault true)) (Ok (m ∷ []))) (not_long (m ∷ []) (short_one m short))
 
   pub long_word : (t : Term) → 500 < length t.1 + length y.1 → sized (poly_between t.1 (y ∷ []) []) ≡ Err (size_fault true)
   long_word t long =
@@ -151,18 +142,13 @@ module _ (y : Term) (nonzero : y.0 ≢ pos 0) where
       ∙ ap Ok (keep-nonzero (t.0 *ℤ y.0) (t.1 ++ (y.1 ++ [])) [] (product_nonzero t.0 y.0 left nonzero) ∙ ap (λ v. (t.0 *ℤ y.0, t.1 ++ v) ∷ []) (append-nil y.1))
 
   over-behind : (t : Term) (front : List Term) → AreOver t.1 front → AreOver (t.1 ++ y.1) (times_term y front)
-  over-behind t [] h = tt
-  over-behind t (u ∷ front) h = (word_cmp-around [] u.1 t.1 y.1 ∙ h.0, over-behind t front h.1)
+  over-behind t front h = All-map (λ (u : Term). word_cmp u.1 (t.1 ++ y.1) ≡ Greater) (behind y) front (λ i u lt. word_cmp-around [] (get_or front i u).1 t.1 y.1 ∙ h i u lt)
 
   -- one step
   module _ (front : List Term) (t : Term) (more : List Term) (sum : List Term) (left : IsCanonical (front ++ t ∷ more)) (made : sum ≡ times_term y front) (canonical : IsCanonical sum)
       (fits : IsCoefficient (t.0 *ℤ y.0)) (short : length t.1 + length y.1 ≤ 500) where
     nonzero_left : t.0 ≢ pos 0
-    nonzero_left = at front (recursion_from_All (λ (u : Term). u.0 ≢ pos 0) (front ++ t ∷ more) left.shaped.nonzero)
-      where
-        at : (xs : List Term) → AllByRecursion (λ (u : Term). u.0 ≢ pos 0) (xs ++ t ∷ more) → t.0 ≢ pos 0
-        at [] h = h.0
-        at (x ∷ xs) h = at xs h.1
+    nonzero_left = all_middle IsNonzero front t more left.shaped.nonzero
 
     short_word : length (t.1 ++ y.1) ≤ 500
     short_word = short-behind t short

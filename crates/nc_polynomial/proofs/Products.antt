@@ -3,8 +3,8 @@ use Rattle.std.proofs.Common.{◌≡◌, ℕ, ◌≤◌, ℤ, pos, ◌+ℤ◌, �
 use Rattle.std.proofs.lemmas.Bool.Decides.{nat_tests}
 use Rattle.std.proofs.Math.IntN.{+ℤ_idl, +ℤ_idr, +ℤ_assoc}
 use Rattle.std.proofs.lemmas.List.{append-nil}
-use Rattle.std.proofs.lemmas.List.Elements.{All-from_recursion, recursion_from_All}
-use Rattle.std.specs.List.{All, AllByRecursion}
+use Rattle.std.proofs.lemmas.List.Elements.{All-nil, All-cons}
+use Rattle.std.specs.List.{All}
 use Rattle.coef_int.specs.declared.Overflow.{Overflow}
 use Rattle.coef_int.specs.Operations.{product_of, first_overflow}
 use Rattle.definitions.specs.Poly.{Term, SamePolynomial, coefficient_of, poly_multiple, poly_between, poly_product}
@@ -52,13 +52,16 @@ pub step_is : (sum : List Term) (k : ℤ) (w : List ℕ) (q : List Term) → IsS
 step_is sum k w q h within = ap (λ r. and_then r (λ moved. combined (pos 1) sum k moved)) within ∙ combined-one sum k w q h
 
 -- limits
-short_words : (p : List Term) → has_long_word p ≡ false → AllByRecursion (λ t. length t.1 ≤ 500) p
-short_words [] e = tt
+abbrev IsShort : Term → Type 0
+IsShort t = length t.1 ≤ 500
+
+short_words : (p : List Term) → has_long_word p ≡ false → All IsShort p
+short_words [] e = All-nil IsShort
 short_words (t ∷ p) e = go (nat_lt 500 (length t.1)) refl e (short_words p)
   where
-    go : (b : Bool) → nat_lt 500 (length t.1) ≡ b → (b || has_long_word p) ≡ false → (has_long_word p ≡ false → AllByRecursion (λ u. length u.1 ≤ 500) p) → (length t.1 ≤ 500) × AllByRecursion (λ u. length u.1 ≤ 500) p
+    go : (b : Bool) → nat_lt 500 (length t.1) ≡ b → (b || has_long_word p) ≡ false → (has_long_word p ≡ false → All IsShort p) → All IsShort (t ∷ p)
     go true long k rest = absurd (cc)
-    go false long k rest = (within (length t.1) long, rest k)
+    go false long k rest = All-cons IsShort t p (within (length t.1) long) (rest k)
       where
         within : (n : ℕ) → nat_lt 500 n ≡ false → n ≤ 500
         within n h = grind (arith, nat_tests)
@@ -73,7 +76,7 @@ canonical_sized p v h e = go (has_long_word p) (nat_lt 20000 (length p)) refl re
     go : (long many : Bool) → has_long_word p ≡ long → nat_lt 20000 (length p) ≡ many → cond long (Err (size_fault true)) (cond many (Err (size_fault false)) (Ok p)) ≡ Ok v → IsCanonical p
     go true many a b k = absurd (no_error v (size_fault true) (sym k))
     go false true a b k = absurd (no_error v (size_fault false) (sym k))
-    go false false a b k = record { shaped = h; short = All-from_recursion (λ (t : Term). length t.1 ≤ 500) p (short_words p a); few = within (length p) b }
+    go false false a b k = record { shaped = h; short = short_words p a; few = within (length p) b }
 
 -- a sum within the limits is canonical
 pub canonical_sum : (p q v : List Term) → IsShaped p → IsShaped q → sum_result p q ≡ Ok v → IsCanonical v
@@ -89,7 +92,7 @@ short_shift k w q v h within e =
     let moved = poly_between w q [] in
     let short = canonical_sized moved moved (shaped-between w [] q h) within in
     subst (All (λ t. length t.1 ≤ 500)) (scaled-between k w q [] ∙ value_is (products k q) (shifted k w q []) v e)
-    (All-from_recursion (λ (t : Term). length t.1 ≤ 500) (scaled k moved) (all-scaled (λ u. length u ≤ 500) k moved (recursion_from_All (λ (t : Term). length t.1 ≤ 500) moved short.short)))
+    (all-scaled (λ u. length u ≤ 500) k moved short.short)
 
 -- where the moved factor is within the limits and its multiple fits, a step is a sum
 pub step_adds : (sum : List Term) (k : ℤ) (w : List ℕ) (q v : List Term) → IsShaped sum → sized (poly_between w q []) ≡ Ok (poly_between w q []) → checked (products k q) (shifted k w q []) ≡ Ok v

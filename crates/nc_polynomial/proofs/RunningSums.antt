@@ -1,10 +1,10 @@
 -- A table to which descending terms are added, as a sum of two descending lists.
-use Rattle.std.proofs.Common.{◌≡◌, ◌≢◌, ℕ, ◌<◌, ◌≤◌, ℤ, pos, ◌+ℤ◌, true, false, cond, ◌||◌, nat_lt, List, [], ◌∷◌, ◌++◌, length, None, Ok, Err, sym, refl, ap, ap₂, subst, ◌∙◌, arith}
+use Rattle.std.proofs.Common.{◌≡◌, ℕ, ◌<◌, ◌≤◌, ℤ, pos, ◌+ℤ◌, true, false, cond, ◌||◌, nat_lt, List, [], ◌∷◌, ◌++◌, length, None, Ok, Err, sym, refl, ap, ap₂, subst, ◌∙◌, arith}
 use Rattle.std.proofs.lemmas.Bool.Decides.{nat_tests}
 use Rattle.std.specs.BTreeMap.{BTreeMap, IsOrdered}
-use Rattle.std.specs.List.{All, AllByRecursion}
+use Rattle.std.specs.List.{All}
 use Rattle.std.proofs.Math.IntN.{+ℤ_idl}
-use Rattle.std.proofs.lemmas.List.Elements.{All-from_recursion, recursion_from_All}
+use Rattle.std.proofs.lemmas.List.Elements.{All-nil, All-tail}
 use Rattle.coef_int.specs.Range.{IsCoefficient}
 use Rattle.coef_int.specs.Operations.{sum_of, first_overflow}
 use Rattle.word_core.specs.Canonical.{word_cmp}
@@ -17,7 +17,7 @@ use Rattle.nc_polynomial.specs.Running.{IsRunning, terms_in}
 use Rattle.nc_polynomial.specs.Shape.{IsShaped, IsCanonical}
 use Rattle.nc_polynomial.specs.Terms.{aligned, added, sums}
 use Rattle.nc_polynomial.proofs.Chains.{ends, value_is, explains-first, first-fits}
-use Rattle.nc_polynomial.proofs.Shapes.{Descends, recursion_from_IsDescending, all-aligned, all-totals}
+use Rattle.nc_polynomial.proofs.Shapes.{Descends, IsInRange, recursion_from_IsDescending, all-aligned, all-totals}
 use Rattle.nc_polynomial.proofs.Tables.{shaped-running, descending-table, nonzero-table, coefficient_of-table}
 use Rattle.nc_polynomial.proofs.TableSums.{sums_with, first-sums_with, sums-with_same, added_is, sums-next}
 
@@ -30,7 +30,7 @@ module _ (table : BTreeMap (List ℕ) ℤ) (sorted : IsOrdered word_cmp table) (
 
   first-table : first_overflow (sums p q) ≡ first_overflow (sums_with (coefficient_in table) q)
   first-table =
-      first-sums_with p q (recursion_from_All (λ (t : Term). IsCoefficient t.0) p (shaped-running table sorted running).in_range) (descending-table table sorted) down_q
+      first-sums_with p q (shaped-running table sorted running).in_range (descending-table table sorted) down_q
       ∙ ap first_overflow (sums-with_same (coefficient_of p) (coefficient_in table) q (coefficient_of-table table sorted))
 
   -- a sum that overflows is the first that does
@@ -52,9 +52,9 @@ module _ (table : BTreeMap (List ℕ) ℤ) (sorted : IsOrdered word_cmp table) (
       (λ w. coefficient_of-table new sorted_new w ∙ same w ∙ ap (λ k. k +ℤ coefficient_of q w) (sym (coefficient_of-table table sorted w))))
 
 -- limits
-pub not_long : (p : List Term) → AllByRecursion (λ t. length t.1 ≤ 500) p → has_long_word p ≡ false
+pub not_long : (p : List Term) → All (λ t. length t.1 ≤ 500) p → has_long_word p ≡ false
 not_long [] h = refl
-not_long (t ∷ p) h = ap₂ ◌||◌ (within (length t.1) h.0) (not_long p h.1)
+not_long (t ∷ p) h = ap₂ ◌||◌ (within (length t.1) (h 0 t (omega arith))) (not_long p (All-tail (λ (u : Term). length u.1 ≤ 500) t p h))
   where
     within : (n : ℕ) → n ≤ 500 → nat_lt 500 n ≡ false
     within n k = grind (arith, nat_tests)
@@ -64,8 +64,7 @@ module _ (p q v : List Term) (short_p : All (λ t. length t.1 ≤ 500) p) (short
   short_sum : has_long_word v ≡ false
   short_sum =
       ap has_long_word (sym (value_is (sums p q) (added p q) v total))
-      ∙ not_long (added p q) (all-totals (λ w. length w ≤ 500) (aligned p q) (all-aligned (λ w. length w ≤ 500) p q
-      (recursion_from_All (λ (t : Term). length t.1 ≤ 500) p short_p) (recursion_from_All (λ (t : Term). length t.1 ≤ 500) q short_q)))
+      ∙ not_long (added p q) (all-totals (λ w. length w ≤ 500) (aligned p q) (all-aligned (λ w. length w ≤ 500) p q short_p short_q))
 
   by_count : sum_result p q ≡ cond (nat_lt 20000 (length v)) (Err (size_fault false)) (Ok v)
   by_count = ends (sums p q) (added p q) v total ∙ ap (λ b. cond b (Err (size_fault true)) (cond (nat_lt 20000 (length v)) (Err (size_fault false)) (Ok v))) short_sum
@@ -83,18 +82,18 @@ module _ (p q v : List Term) (short_p : All (λ t. length t.1 ≤ 500) p) (short
       within n k = grind (arith, nat_tests)
 
 -- a sum that begins with zero
-fits-alone : (q : List Term) → AllByRecursion (λ t. IsCoefficient t.0) q → first_overflow (sums [] q) ≡ None
+fits-alone : (q : List Term) → All (λ t. IsCoefficient t.0) q → first_overflow (sums [] q) ≡ None
 fits-alone [] h = refl
-fits-alone (y ∷ q) h = first-fits (sum_of (pos 0) y.0) (sums [] q) (subst IsCoefficient (sym (+ℤ_idl y.0)) h.0) ∙ fits-alone q h.1
+fits-alone (y ∷ q) h = first-fits (sum_of (pos 0) y.0) (sums [] q) (subst IsCoefficient (sym (+ℤ_idl y.0)) (h 0 y (omega arith))) ∙ fits-alone q (All-tail IsInRange y q h)
 
 sum_alone : (q : List Term) → IsShaped q → checked (sums [] q) (added [] q) ≡ Ok q
 sum_alone q h =
     let down = recursion_from_IsDescending q h.descending in
-    ap (λ o. unless_overflow o (Ok (added [] q))) (fits-alone q (recursion_from_All (λ (t : Term). IsCoefficient t.0) q h.in_range))
-    ∙ ap Ok (added_is [] q q tt down down (recursion_from_All (λ (t : Term). t.0 ≢ pos 0) q h.nonzero) (λ w. sym (+ℤ_idl (coefficient_of q w))))
+    ap (λ o. unless_overflow o (Ok (added [] q))) (fits-alone q h.in_range)
+    ∙ ap Ok (added_is [] q q tt down down h.nonzero (λ w. sym (+ℤ_idl (coefficient_of q w))))
 
 pub sum_alone_sized : (q : List Term) → IsShaped q → sum_result [] q ≡ sized q
 sum_alone_sized q h = ends (sums [] q) (added [] q) q (sum_alone q h)
 
 pub sum_with_none : (q : List Term) → IsCanonical q → sum_result [] q ≡ Ok q
-sum_with_none q h = few_enough [] q q (All-from_recursion (λ (t : Term). length t.1 ≤ 500) [] tt) h.short (sum_alone q h.shaped) h.few
+sum_with_none q h = few_enough [] q q (All-nil (λ (t : Term). length t.1 ≤ 500)) h.short (sum_alone q h.shaped) h.few

@@ -1,7 +1,7 @@
 -- Two polynomials with the same coefficients have the same terms.
-use Rattle.std.proofs.Common.{◌≡◌, ◌≢◌, ℕ, pos, Bool, true, false, List, [], ◌∷◌, ◌⊎◌, inl, inr, refl, ap, ◌∙◌}
-use Rattle.std.specs.List.{AllByRecursion}
-use Rattle.std.proofs.lemmas.List.Elements.{recursion_from_All}
+use Rattle.std.proofs.Common.{◌≡◌, ◌≢◌, ℕ, pos, Bool, true, false, List, [], ◌∷◌, get_or, ◌⊎◌, inl, inr, refl, ap, ◌∙◌, arith}
+use Rattle.std.specs.List.{All}
+use Rattle.std.proofs.lemmas.List.Elements.{All-tail, recursion_from_All}
 use Rattle.std.specs.Ordering.{is_lt, ordering_reverse}
 use Rattle.std.specs.declared.cmp.Ordering.{Ordering}
 use Rattle.std.specs.declared.cmp.Ordering.TheVariants.{Less, Equal, Greater}
@@ -11,7 +11,7 @@ use Rattle.definitions.proofs.Canonical.{IsCanonical as IsCanonicalBy, canonical
 use Rattle.word_core.specs.Canonical.{word_cmp, word_cmp_total}
 use Rattle.word_core.proofs.Order.{word_cmp-same}
 use Rattle.nc_polynomial.specs.Shape.{IsShaped, IsCanonical}
-use Rattle.nc_polynomial.proofs.Shapes.{Descends, recursion_from_IsDescending}
+use Rattle.nc_polynomial.proofs.Shapes.{Descends, IsNonzero, recursion_from_IsDescending}
 
 -- whether the first word is below the second
 abbrev pub is_below : List ℕ → List ℕ → Bool
@@ -45,22 +45,22 @@ below_is_strict = record {
   total = three_ways;
 }
 
-turned_below : (v : List ℕ) (p : List Term) → AllByRecursion (λ u. word_cmp v u.1 ≡ Greater) p → AllByRecursion (λ u. is_below u.1 v ≡ true) p
-turned_below v [] h = tt
-turned_below v (u ∷ p) h = (ap is_lt (word_cmp_total.antisymm u.1 v ∙ ap ordering_reverse h.0), turned_below v p h.1)
-
-canonical : (p : List Term) → Descends p → AllByRecursion (λ t. t.0 ≢ pos 0) p → IsCanonicalBy is_below p
+canonical : (p : List Term) → Descends p → All (λ t. t.0 ≢ pos 0) p → IsCanonicalBy is_below p
 canonical [] d h = tt
-canonical (t ∷ p) d h = (record { nonzero = h.0; above = turned_below t.1 p d.0 }, canonical p d.1 h.1)
+canonical (t ∷ p) d h = (
+  record {
+    nonzero = h 0 t (omega arith);
+    above = recursion_from_All (λ (u : Term). is_below u.1 t.1 ≡ true) p (λ i x k. ap is_lt (word_cmp_total.antisymm (get_or p i x).1 t.1 ∙ ap ordering_reverse (d.0 i x k)));
+  },
+  canonical p d.1 (All-tail IsNonzero t p h),
+)
 
 -- two descending lists with no zero coefficient and the same coefficients are equal
-pub descending_unique : (p q : List Term) → Descends p → Descends q → AllByRecursion (λ t. t.0 ≢ pos 0) p → AllByRecursion (λ t. t.0 ≢ pos 0) q → SamePolynomial p q → p ≡ q
+pub descending_unique : (p q : List Term) → Descends p → Descends q → All (λ t. t.0 ≢ pos 0) p → All (λ t. t.0 ≢ pos 0) q → SamePolynomial p q → p ≡ q
 descending_unique p q d e h k same = unique_by below_is_strict p q (canonical p d h) (canonical q e k) same
 
 pub shaped_unique : (p q : List Term) → IsShaped p → IsShaped q → SamePolynomial p q → p ≡ q
-shaped_unique p q h k same =
-    descending_unique p q (recursion_from_IsDescending p h.descending) (recursion_from_IsDescending q k.descending)
-    (recursion_from_All (λ t. t.0 ≢ pos 0) p h.nonzero) (recursion_from_All (λ t. t.0 ≢ pos 0) q k.nonzero) same
+shaped_unique p q h k same = descending_unique p q (recursion_from_IsDescending p h.descending) (recursion_from_IsDescending q k.descending) h.nonzero k.nonzero same
 
 pub canonical_unique : (p q : List Term) → IsCanonical p → IsCanonical q → SamePolynomial p q → p ≡ q
 canonical_unique p q h k same = shaped_unique p q h.shaped k.shaped same

@@ -1,8 +1,8 @@
 -- Sums and differences are combinations with the factors 1 and -1.
 use Rattle.std.proofs.Common.{◌≡◌, ◌≢◌, suc, ◌*◌, ℤ, pos, negsuc, neg_ℤ, ◌*ℤ◌, List, [], ◌∷◌, None, Ok, sym, refl, ap, ap₂, subst, ◌∙◌, arith}
 use Rattle.std.proofs.Math.IntN.{pos-*ℤ-pos, pos-*ℤ-negsuc}
-use Rattle.std.proofs.lemmas.List.Elements.{recursion_from_All}
-use Rattle.std.specs.List.{All, AllByRecursion}
+use Rattle.std.proofs.lemmas.List.Elements.{All-tail}
+use Rattle.std.specs.List.{All}
 use Rattle.coef_int.specs.Range.{IsCoefficient}
 use Rattle.coef_int.specs.Operations.{product_of, first_overflow}
 use Rattle.definitions.specs.Poly.{Term, SamePolynomial, poly_sum, poly_multiple}
@@ -12,7 +12,7 @@ use Rattle.nc_polynomial.specs.Faults.{checked, unless_overflow}
 use Rattle.nc_polynomial.specs.Arithmetic.{combined, sum_result, difference_result}
 use Rattle.nc_polynomial.proofs.Chains.{first-fits, passed_sum, finished-value}
 use Rattle.nc_polynomial.proofs.Kept.{scaled_by_nonzero}
-use Rattle.nc_polynomial.proofs.Shapes.{shaped-negated}
+use Rattle.nc_polynomial.proofs.Shapes.{IsInRange, shaped-negated}
 use Rattle.nc_polynomial.proofs.Values.{SamePolynomial-added, negated-multiple}
 
 pub one-*ℤ : (z : ℤ) → pos 1 *ℤ z ≡ z
@@ -27,15 +27,14 @@ multiple-one : (p : List Term) → poly_multiple (pos 1) p ≡ p
 multiple-one [] = refl
 multiple-one (t ∷ p) = ap₂ (λ z rest. (z, t.1) ∷ rest) (one-*ℤ t.0) (multiple-one p)
 
-products-fit : (k : ℤ) (p : List Term) → AllByRecursion (λ t. IsCoefficient t.0) (poly_multiple k p) → first_overflow (products k p) ≡ None
+products-fit : (k : ℤ) (p : List Term) → All (λ t. IsCoefficient t.0) (poly_multiple k p) → first_overflow (products k p) ≡ None
 products-fit k [] h = refl
-products-fit k (t ∷ p) h = first-fits (product_of k t.0) (products k p) h.0 ∙ products-fit k p h.1
+products-fit k (t ∷ p) h = first-fits (product_of k t.0) (products k p) (h 0 (k *ℤ t.0, t.1) (omega arith)) ∙ products-fit k p (All-tail IsInRange (k *ℤ t.0, t.1) (poly_multiple k p) h)
 
 -- a multiple that is a polynomial with the same words
 multiple_fits : (k : ℤ) (p r : List Term) → k ≢ pos 0 → poly_multiple k p ≡ r → IsShaped p → IsShaped r → checked (products k p) (scaled k p) ≡ Ok r
 multiple_fits k p r nonzero e h s =
-    let in_range : All (λ t. IsCoefficient t.0) (poly_multiple k p) = subst (All (λ t. IsCoefficient t.0)) (sym e) s.in_range in
-    let fits = products-fit k p (recursion_from_All (λ t. IsCoefficient t.0) (poly_multiple k p) in_range) in
+    let fits = products-fit k p (subst (All IsInRange) (sym e) s.in_range) in
     ap (λ o. unless_overflow o (Ok (scaled k p))) fits ∙ ap Ok (sym (scaled_by_nonzero k nonzero p h.nonzero) ∙ e)
 
 pub once_fits : (p : List Term) → IsShaped p → checked (products (pos 1) p) (scaled (pos 1) p) ≡ Ok p

@@ -3,7 +3,6 @@ use Rattle.std.proofs.Common.{◌≡◌, ◌≢◌, ◌⊎◌, inl, inr, ℕ, su
 use Rattle.std.specs.Prelude.{is_some, nat_le}
 use Rattle.definitions.specs.Quiver.{star}
 use Rattle.std.proofs.lemmas.Bool.{and_parts, and_from, cases_lt}
-use Rattle.std.proofs.lemmas.List.Elements.{recursion_from_All}
 use Rattle.std.proofs.lemmas.Option.{same_Some, slice_get-get_or}
 use Rattle.std.specs.List.{All, AllByRecursion, list_all, list_any}
 use Rattle.definitions.specs.Poly.{Term, coefficient_of}
@@ -72,7 +71,7 @@ module _ (test : List ℕ → Bool) where
   pub words_suffice : (p : Poly) → ((w : List ℕ) → coefficient_of p.terms w ≢ pos 0 → test w ≡ true) → list_all (λ t. test t.1) p.terms ≡ true
   words_suffice p at = all_words p.terms (words_listed (λ w. test w ≡ true) p.terms
       (distinct-descending p.terms (recursion_from_IsDescending p.terms p.canonical.shaped.descending))
-      (recursion_from_All (λ (t : Term). t.0 ≢ pos 0) p.terms p.canonical.shaped.nonzero) at)
+      p.canonical.shaped.nonzero at)
 
 -- the test of all letters
 module _ (play : ℕ → Bool) where

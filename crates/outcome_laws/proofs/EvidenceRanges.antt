@@ -1,7 +1,7 @@
 -- The numbers of evidence are coefficients, and its denominator and scales are positive.
 use Rattle.std.proofs.Common.{rules, ◌≡◌, ℕ, zero, suc, ℤ, pos, negsuc, ◌+ℤ◌, ◌*ℤ◌, ◌<ℤ◌, int_div, Bool, true, false, cond, List, [], ◌∷◌, ◌++◌, map, Option, Some, None, Result, Ok, Err, unwrap_or, refl, subst, arith}
 use Rattle.std.proofs.lemmas.Int.{ints}
-use Rattle.std.proofs.lemmas.List.Elements.{All-from_recursion, recursion_from_All}
+use Rattle.std.proofs.lemmas.List.Elements.{All-map, All-from_recursion}
 use Rattle.std.specs.List.{All, AllByRecursion, fold, flat_map}
 use Rattle.std.specs.Map.{lookup}
 use Rattle.std.specs.BTreeMap.{insert_entry, is_at}
@@ -78,10 +78,6 @@ no_overflow None e = refl
 no_overflow (Some x) e = absurd (cc)
 
 module _ (known : Known) (each_positive : (o : Origin) → pos 0 <ℤ (known o).denominator) where
-  positive_denominators : (rows : List Row) → AllByRecursion (λ d. pos 0 <ℤ d) (denominators known rows)
-  positive_denominators [] = tt
-  positive_denominators (r ∷ rows) = (each_positive r.from, positive_denominators rows)
-
   record_ranged : (m : Made) (c : Cofactors) → pos 0 <ℤ m.scale → record_expansion known m ≡ Ok c → IsRanged c
   record_ranged m c scale_in ends =
       let common = common_denominator known m.rows in
@@ -94,7 +90,7 @@ module _ (known : Known) (each_positive : (o : Origin) → pos 0 <ℤ (known o).
       let products = none_append (multiple_products (pos 1) (denominators known m.rows)) (product_of m.scale common ∷ []) (no_overflow (first_overflow (denominator_products known m)) first.0) in
       let d_fits : IsCoefficient d = (fits_first (product_of m.scale common) [] products.1).0 in
       let sums = none_append (joined_products known common m.rows) (sums_of_gathering rows) (no_overflow (first_overflow operations) third.0) in
-      let common_in : pos 0 <ℤ common = common_multiple-positive (pos 1) (denominators known m.rows) (omega (arith, ints)) (positive_denominators m.rows) in
+      let common_in : pos 0 <ℤ common = common_multiple-positive (pos 1) (denominators known m.rows) (omega (arith, ints)) (All-map (λ e. pos 0 <ℤ e) (λ (r : Row). (known r.from).denominator) m.rows (λ k r below. each_positive _)) in
       let d_in : pos 0 <ℤ d = product_positive m.scale common scale_in common_in in
       let coefs = map (λ (r : CertRow). r.coef) (gathered rows) in
       let g = content_of d (gathered rows) in
@@ -146,8 +142,4 @@ gathered_positive claim made target c rules scale_in ends =
     let p = parts claim made target c ends in
     let each = each_part claim made target (λ m. pos 0 <ℤ m.scale) (λ (l : Lemma). pos 0 <ℤ l.scale) (λ m h. h) (lemma_record_each claim made target (λ m. pos 0 <ℤ m.scale) (All-from_recursion (λ (m : Made). pos 0 <ℤ m.scale) made rules)) scale_in in
     subst (λ (x : LemmaCertificate). (pos 0 <ℤ x.denominator) × All (λ l. pos 0 <ℤ l.scale) (parts_of x)) p.is
-    (common_multiple-positive (pos 1) _ (omega (arith, ints)) (positive_scales _ (recursion_from_All (λ (l : Lemma). pos 0 <ℤ l.scale) _ each)), each)
-  where
-    positive_scales : (ls : List Lemma) → AllByRecursion (λ l. pos 0 <ℤ l.scale) ls → AllByRecursion (λ z. pos 0 <ℤ z) (map (λ l. l.scale) ls)
-    positive_scales [] each = tt
-    positive_scales (l ∷ ls) each = (each.0, positive_scales ls each.1)
+    (common_multiple-positive (pos 1) _ (omega (arith, ints)) (All-map (λ z. pos 0 <ℤ z) (λ (l : Lemma). l.scale) _ each), each)

@@ -1,10 +1,8 @@
 -- Each rest other than zero can be made a rule.
-use Rattle.std.proofs.Common.{◌≡◌, ◌≢◌, ◌<◌, ◌<ℤ◌, ℤ, pos, Bool, true, false, cond, List, [], ◌∷◌, length, Some, refl, ap, arith}
+use Rattle.std.proofs.Common.{◌≡◌, ◌<◌, ◌<ℤ◌, ℤ, pos, Bool, true, false, cond, List, [], ◌∷◌, length, Some, refl, ap, arith}
 use Rattle.std.specs.Option.{option_map}
-use Rattle.std.specs.Int.{◌∣◌}
 use Rattle.std.specs.Int.RustNames.{unsigned_abs, int_div}
 use Rattle.std.proofs.lemmas.List.{length-map}
-use Rattle.std.proofs.lemmas.List.Elements.{recursion_from_All}
 use Rattle.definitions.specs.Poly.{Term, poly_multiple}
 use Rattle.word_orders.specs.Admissible.{Compare}
 use Rattle.nc_polynomial.specs.Shape.{IsCanonical}
@@ -55,7 +53,7 @@ has_rule compare rest canonical some = record {
     scale = found.content
 
     positive : pos 0 <ℤ scale
-    positive = positive_content rest.polynomial scale some (recursion_from_All (λ (t : Term). t.0 ≢ pos 0) rest.polynomial canonical.shaped.nonzero) found.is
+    positive = positive_content rest.polynomial scale some canonical.shaped.nonzero found.is
 
     divisor : ℤ
     divisor = signed negative scale
@@ -65,7 +63,7 @@ has_rule compare rest canonical some = record {
 
     multiple : poly_multiple divisor terms ≡ rest.polynomial
     multiple = multiple_of_quotient divisor rest.polynomial
-        (recursion_from_All (λ (t : Term). unsigned_abs divisor ∣ unsigned_abs t.0) rest.polynomial (signed_divides negative scale rest.polynomial found.is.divides))
+        (signed_divides negative scale rest.polynomial found.is.divides)
 
     poly : Poly
     poly = record { terms = terms; canonical = canonical_back divisor (signed_nonzero negative scale positive) terms rest.polynomial multiple canonical }

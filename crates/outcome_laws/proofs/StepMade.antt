@@ -3,7 +3,7 @@ use Rattle.std.proofs.Common.{◌≡◌, ◌≢◌, ◌⊎◌, inl, inr, ℕ, �
 use Rattle.std.specs.List.{Contains, All, AllByRecursion}
 use Rattle.std.specs.declared.cmp.Ordering.TheVariants.{Greater}
 use Rattle.std.proofs.lemmas.Int.{ints}
-use Rattle.std.proofs.lemmas.List.Elements.{All-from_recursion, Contains-append_cases}
+use Rattle.std.proofs.lemmas.List.Elements.{Contains-append_cases}
 use Rattle.std.proofs.lemmas.Option.{same_Some}
 use Rattle.std.proofs.Math.IntN.{*ℤ_comm}
 use Rattle.coef_int.specs.declared.Overflow.{Overflow}
@@ -62,7 +62,7 @@ shifted_at k l g r w = coefficient_of-negated (shifted k l g r) w ∙ ap (λ q. 
 multiplied_shaped : (p : List Term) (k : ℤ) → IsShaped p → first_overflow (multiplications p k) ≡ None → IsShaped (multiplied p k)
 multiplied_shaped p k shaped none = record {
   descending = subst IsDescending (sym (multiplied-scaled p k)) (IsDescending-from_recursion (scaled k p) (descending-scaled k p (recursion_from_IsDescending p shaped.descending)));
-  nonzero = subst (All (λ t. t.0 ≢ pos 0)) (sym (multiplied-scaled p k)) (All-from_recursion (λ t. t.0 ≢ pos 0) (scaled k p) (nonzero-scaled k p));
+  nonzero = subst (All (λ t. t.0 ≢ pos 0)) (sym (multiplied-scaled p k)) (nonzero-scaled k p);
   in_range = ranged_multiply p k (multiplied p k) (ap (λ o. unless_overflow o (Ok (multiplied p k))) none);
 }
 

@@ -1,8 +1,8 @@
 -- The words of the nodes are the prefixes of the entries' words.
 use Rattle.std.proofs.Common.{◌≡◌, ◌⊎◌, inl, inr, ℕ, ◌<◌, ◌||◌, true, List, [], ◌∷◌, ◌++◌, length, sym, subst, arith}
-use Rattle.std.specs.List.{All, AllByRecursion}
+use Rattle.std.specs.List.{All}
 use Rattle.std.proofs.lemmas.List.{append_assoc, append-nil}
-use Rattle.std.proofs.lemmas.List.Elements.{recursion_from_All}
+use Rattle.std.proofs.lemmas.List.Elements.{All-tail}
 use Rattle.rule_index.specs.declared.tree.Node.{Node}
 use Rattle.rule_index.specs.Matches.{begins_with}
 use Rattle.rule_index.specs.Prefixes.{same_word, has, is_prefix, IsPrefixCount}
@@ -36,12 +36,12 @@ closed-front : (words : List (List ℕ)) → IsClosed words → (after w : List 
 closed-front words closed [] w e = subst (λ v. has words v ≡ true) (append-nil w) e
 closed-front words closed (x ∷ after) w e = closed.front w x (closed-front words closed after (w ++ x ∷ []) (subst (λ v. has words v ≡ true) (sym (append_assoc w (x ∷ []) after)) e))
 
-prefix-has : (words : List (List ℕ)) → IsClosed words → has words [] ≡ true → (entries : List (List ℕ × ℕ)) → AllByRecursion (λ e. has words e.0 ≡ true) entries → (w : List ℕ) → is_prefix entries w ≡ true → has words w ≡ true
+prefix-has : (words : List (List ℕ)) → IsClosed words → has words [] ≡ true → (entries : List (List ℕ × ℕ)) → All (λ e. has words e.0 ≡ true) entries → (w : List ℕ) → is_prefix entries w ≡ true → has words w ≡ true
 prefix-has words closed empty [] l w e = subst (λ v. has words v ≡ true) (sym (same-true w [] e)) empty
-prefix-has words closed empty (f ∷ entries) l w e = go (or_either (begins_with f.0 w) (is_prefix entries w) e) (prefix-has words closed empty entries l.1 w)
+prefix-has words closed empty (f ∷ entries) l w e = go (or_either (begins_with f.0 w) (is_prefix entries w) e) (prefix-has words closed empty entries (All-tail (λ (e : List ℕ × ℕ). has words e.0 ≡ true) f entries l) w)
   where
     go : (begins_with f.0 w ≡ true) ⊎ (is_prefix entries w ≡ true) → (is_prefix entries w ≡ true → has words w ≡ true) → has words w ≡ true
-    go (inl b) later = let p = prefix_from f.0 w b in closed-front words closed p.after w (subst (λ v. has words v ≡ true) p.splits l.0)
+    go (inl b) later = let p = prefix_from f.0 w b in closed-front words closed p.after w (subst (λ v. has words v ≡ true) p.splits (l 0 f (omega arith)))
     go (inr r) later = later r
 
 pub nodes-count : (entries : List (List ℕ × ℕ)) (nodes : List Node) → 0 < length nodes → IsSpelled nodes (words_of nodes) → All (λ e. has (words_of nodes) e.0 ≡ true) entries → IsWithin entries (words_of nodes) → IsPrefixCount entries (length nodes)
@@ -52,5 +52,5 @@ nodes-count entries nodes some spelled listed within =
       words = words;
       counted = spelled.sized;
       distinct = λ j k j_in k_in e. spelled.distinct j k (omega (arith, j_in, spelled.sized)) (omega (arith, k_in, spelled.sized)) e;
-      listed = λ w. (within w, prefix-has words (words-closed nodes words spelled) empty entries (recursion_from_All (λ e. has words e.0 ≡ true) entries listed) w);
+      listed = λ w. (within w, prefix-has words (words-closed nodes words spelled) empty entries listed w);
     }

@@ -1,8 +1,8 @@
 -- The first entry whose word passes a test, and the first that occurs.
 use Rattle.std.proofs.Common.{◌≡◌, ℕ, suc, ◌<◌, ◌||◌, ◌&&◌, Bool, true, false, nat_eq, List, [], ◌∷◌, ◌++◌, length, get_or, Option, Some, None, IsSome, MatchOption, cond, refl, sym, subst, ap, ap₂, ◌∙◌, arith}
 use Rattle.std.specs.Option.{option_map}
-use Rattle.std.specs.List.{All, AllByRecursion}
-use Rattle.std.proofs.lemmas.List.Elements.{recursion_from_All}
+use Rattle.std.specs.List.{All}
+use Rattle.std.proofs.lemmas.List.Elements.{All-tail}
 use Rattle.rule_index.specs.Matches.{begins_with, place_in, match_of, match_or}
 use Rattle.rule_index.specs.Prefixes.{same_word, has}
 use Rattle.rule_index.specs.Automaton.{longest, ends_with, first_of, occurs, sooner}
@@ -39,17 +39,13 @@ occurs-push (y ∷ t) w c =
     ∙ or_regroup (begins_with (y ∷ t) w) (same_word (y ∷ (t ++ c ∷ [])) w) (occurs t w) (ends_with (t ++ c ∷ []) w)
 
 -- tests that agree on the entries
-pub same_first : (p q : List ℕ → Bool) (entries : List (List ℕ × ℕ)) → AllByRecursion (λ e. p e.0 ≡ q e.0) entries → first_of p entries ≡ first_of q entries
+pub same_first : (p q : List ℕ → Bool) (entries : List (List ℕ × ℕ)) → All (λ e. p e.0 ≡ q e.0) entries → first_of p entries ≡ first_of q entries
 same_first p q [] h = refl
-same_first p q (e ∷ entries) h = rw h.0 (go (q e.0) (same_first p q entries h.1))
+same_first p q (e ∷ entries) h = let here : p e.0 ≡ q e.0 = h 0 e (omega arith) in rw here (go (q e.0) (same_first p q entries (All-tail (λ (f : List ℕ × ℕ). p f.0 ≡ q f.0) e entries h)))
   where
     go : (b : Bool) → first_of p entries ≡ first_of q entries → cond b (Some 0) (option_map suc (first_of p entries)) ≡ cond b (Some 0) (option_map suc (first_of q entries))
     go true s = refl
     go false s = ap (option_map suc) s
-
-all_same : (p q : List ℕ → Bool) (entries : List (List ℕ × ℕ)) → ((w : List ℕ) → p w ≡ q w) → AllByRecursion (λ e. p e.0 ≡ q e.0) entries
-all_same p q [] h = tt
-all_same p q (e ∷ entries) h = (h e.0, all_same p q entries h)
 
 -- either of two tests
 sooner_suc : (r s : Option ℕ) → sooner (option_map suc r) (option_map suc s) ≡ option_map suc (sooner r s)
@@ -81,13 +77,9 @@ pub first-more : (words : List (List ℕ)) (entries : List (List ℕ × ℕ)) (t
     → sooner (first_of (occurs t) entries) (first_of (ends_with (longest words (t ++ c ∷ []))) entries) ≡ first_of (occurs (t ++ c ∷ [])) entries
 first-more words entries t c listed =
     let u = t ++ c ∷ [] in
-    ap (sooner (first_of (occurs t) entries)) (same_first (ends_with (longest words u)) (ends_with u) entries (agree entries (recursion_from_All (λ e. has words e.0 ≡ true) entries listed)))
+    ap (sooner (first_of (occurs t) entries)) (same_first (ends_with (longest words u)) (ends_with u) entries (λ i e k. ends-longest words u (get_or entries i e).0 (listed i e k)))
     ∙ first_sooner (occurs t) (ends_with u) entries
-    ∙ same_first (λ w. occurs t w || ends_with u w) (occurs u) entries (all_same (λ w. occurs t w || ends_with u w) (occurs u) entries (λ w. sym (occurs-push t w c)))
-  where
-    agree : (entries : List (List ℕ × ℕ)) → AllByRecursion (λ e. has words e.0 ≡ true) entries → AllByRecursion (λ e. ends_with (longest words (t ++ c ∷ [])) e.0 ≡ ends_with (t ++ c ∷ []) e.0) entries
-    agree [] h = tt
-    agree (e ∷ entries) h = (ends-longest words (t ++ c ∷ []) e.0 h.0, agree entries h.1)
+    ∙ same_first (λ w. occurs t w || ends_with u w) (occurs u) entries (λ i e k. sym (occurs-push t (get_or entries i e).0 c))
 
 abbrev none : Option ℕ
 none = None

@@ -1,9 +1,8 @@
 -- One word more, and the links, the ends and the first entries.
 use Rattle.std.proofs.Common.{◌≡◌, ◌≢◌, ◌⊎◌, inl, inr, ℕ, ◌+◌, ◌<◌, ◌≤◌, ◌||◌, Bool, true, false, List, [], ◌∷◌, ◌++◌, length, get_or, take, drop, Option, None, refl, sym, ap, ◌∙◌, subst, arith}
-use Rattle.std.specs.List.{AllByRecursion}
 use Rattle.std.proofs.Math.Seq.{take-length, take-append_seam}
 use Rattle.std.proofs.lemmas.List.{length_push, length-drop, get_or_past}
-use Rattle.std.proofs.lemmas.List.Elements.{All-weaker, recursion_from_All}
+use Rattle.std.proofs.lemmas.List.Elements.{All-weaker}
 use Rattle.std.proofs.lemmas.Bool.{cases_lt}
 use Rattle.rule_index.specs.declared.tree.Node.{Node}
 use Rattle.rule_index.specs.declared.tree.Tree.{Tree}
@@ -157,14 +156,12 @@ module _ (words : List (List ℕ)) (s : List ℕ) (some : 0 < length s) (absent 
     listed = All-weaker (λ e. has words e.0 ≡ true) (λ e. has more e.0 ≡ true) (λ e listed. has-push words s e.0 ∙ or_true (has words e.0) (same_word e.0 s) listed) entries h.listed;
   }
     where
-      agree : (t : List ℕ) → 0 < length t → has words t ≡ false → (rest : List (List ℕ × ℕ)) → AllByRecursion (λ e. has words e.0 ≡ true) rest → AllByRecursion (λ e. ends_with (longest words (drop 1 t)) e.0 ≡ ends_with t e.0) rest
-      agree [] some_t absent_t rest l = absurd (omega arith)
-      agree (x ∷ t) some_t absent_t [] l = tt
-      agree (x ∷ t) some_t absent_t (e ∷ rest) l =
-          (ends-longest words t e.0 l.0 ∙ sym (ap (λ b. b || ends_with t e.0) (apart (same_word (x ∷ t) e.0) refl)), agree (x ∷ t) some_t absent_t rest l.1)
+      agree : (t : List ℕ) → 0 < length t → has words t ≡ false → (w : List ℕ) → has words w ≡ true → ends_with (longest words (drop 1 t)) w ≡ ends_with t w
+      agree [] some_t absent_t w listed = absurd (omega arith)
+      agree (x ∷ t) some_t absent_t w listed = ends-longest words t w listed ∙ sym (ap (λ b. b || ends_with t w) (apart (same_word (x ∷ t) w) refl))
         where
-          apart : (b : Bool) → same_word (x ∷ t) e.0 ≡ b → same_word (x ∷ t) e.0 ≡ false
-          apart true same = absurd (clash (subst (λ w. has words w ≡ true) (sym (same-true (x ∷ t) e.0 same)) l.0) absent_t)
+          apart : (b : Bool) → same_word (x ∷ t) w ≡ b → same_word (x ∷ t) w ≡ false
+          apart true same = absurd (clash (subst (λ v. has words v ≡ true) (sym (same-true (x ∷ t) w same)) listed) absent_t)
           apart false same = same
 
       go : (k : ℕ) → k < length more → Same k (length words) → get_or (leasts ++ get_or leasts link None ∷ []) k None ≡ first_of (ends_with (word_at more k)) entries
@@ -172,7 +169,7 @@ module _ (words : List (List ℕ)) (s : List ℕ) (some : 0 < length s) (absent 
           push-new leasts (get_or leasts link None) None k (e ∙ sym h.sized)
           ∙ h.least_is link link_in
           ∙ ap (λ w. first_of (ends_with w) entries) link_is
-          ∙ same_first (ends_with (longest words (drop 1 s))) (ends_with s) entries (agree s some absent entries (recursion_from_All (λ e. has words e.0 ≡ true) entries h.listed))
+          ∙ same_first (ends_with (longest words (drop 1 s))) (ends_with s) entries (λ i e below. agree s some absent (get_or entries i e).0 (h.listed i e below))
           ∙ ap (λ w. first_of (ends_with w) entries) (sym (more-new k e))
       go k within (is_other o) =
           let below : k < length words = omega (arith, length_push words s, o) in

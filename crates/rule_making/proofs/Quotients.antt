@@ -1,20 +1,20 @@
 -- A polynomial divided by its content, or by the negative of that.
-use Rattle.std.proofs.Common.{◌≡◌, ◌≢◌, ◌<◌, ◌≤◌, ◌<ℤ◌, ℕ, zero, suc, ◌*◌, ℤ, pos, negsuc, neg_ℤ, ◌*ℤ◌, List, [], ◌∷◌, length, Bool, true, false, cond, Option, Some, None, IsSomeAnd, refl, sym, ap, ◌∙◌, subst, arith}
-use Rattle.std.specs.List.{All, AllByRecursion}
+use Rattle.std.proofs.Common.{◌≡◌, ◌≢◌, ◌<◌, ◌≤◌, ◌<ℤ◌, ℕ, zero, suc, ◌*◌, ℤ, pos, negsuc, neg_ℤ, ◌*ℤ◌, List, [], ◌∷◌, length, Bool, true, false, cond, Option, Some, None, IsSomeAnd, refl, sym, ap, ◌∙◌, subst, arith, get_or}
+use Rattle.std.specs.List.{All}
 use Rattle.std.specs.Option.{option_map}
 use Rattle.std.specs.declared.cmp.Ordering.{Ordering}
 use Rattle.std.specs.declared.cmp.Ordering.TheVariants.{Less, Equal, Greater}
 use Rattle.std.specs.Int.{◌∣◌}
 use Rattle.std.specs.Int.RustNames.{unsigned_abs}
 use Rattle.std.proofs.lemmas.Int.{ints, unsigned_abs-mul}
-use Rattle.std.proofs.lemmas.List.Elements.{All-from_recursion, recursion_from_All}
+use Rattle.std.proofs.lemmas.List.Elements.{All-map}
 use Rattle.std.proofs.Math.Nat.{mul-dvd-mul_left, dvd_of_mul-dvd-mul_left, one-dvd, mul-one, le-mul_of_pos_right}
 use Rattle.std.proofs.Math.IntN.{pos-*ℤ-negsuc, negsuc-*ℤ-negsuc, *ℤ-zero}
 use Rattle.definitions.specs.Poly.{Term, poly_multiple}
 use Rattle.word_orders.specs.Admissible.{Compare}
 use Rattle.nc_polynomial.specs.Terms.{by_order}
 use Rattle.nc_polynomial.specs.Content.{IsContent, DividesEach}
-use Rattle.nc_polynomial.proofs.Divisors.{abs_positive}
+use Rattle.nc_polynomial.proofs.Divisors.{abs_positive, at_multiple}
 use Rattle.rule_reduce.proofs.AtMost.{leading-all}
 use Rattle.rule_reduce.specs.Leading.{greater_term, greatest_from, leading_term}
 use Rattle.rule_making.specs.Making.{is_negative, is_term_negative, leads_negative}
@@ -41,33 +41,23 @@ module _ (compare : Compare) (k : ℤ) where
 
 -- words
 module _ (P : List ℕ → Type 0) (k : ℤ) where
-  words_of_quotient : (v : List Term) → AllByRecursion (λ t. P t.1) (poly_multiple k v) → AllByRecursion (λ t. P t.1) v
-  words_of_quotient [] each = tt
-  words_of_quotient (t ∷ v) each = (each.0, words_of_quotient v each.1)
-
   -- the words are the same
   pub quotient_words : (v p : List Term) → poly_multiple k v ≡ p → All (λ t. P t.1) p → All (λ t. P t.1) v
-  quotient_words v p is each = All-from_recursion (λ t. P t.1) v (words_of_quotient v (recursion_from_All (λ t. P t.1) (poly_multiple k v) (subst (All (λ t. P t.1)) (sym is) each)))
+  quotient_words v p is each = at_multiple k (λ (t : Term). P t.1) v (subst (All (λ t. P t.1)) (sym is) each)
 
 -- the content
-multiples_divided : (k : ℤ) (d : ℕ) (v : List Term) → AllByRecursion (λ t. d ∣ unsigned_abs t.0) v → AllByRecursion (λ t. (unsigned_abs k * d) ∣ unsigned_abs t.0) (poly_multiple k v)
-multiples_divided k d [] each = tt
-multiples_divided k d (t ∷ v) each =
-    (subst (λ n. (unsigned_abs k * d) ∣ n) (sym (unsigned_abs-mul k t.0)) (mul-dvd-mul_left d (unsigned_abs k) each.0), multiples_divided k d v each.1)
-
-all_by_one : (v : List Term) → AllByRecursion (λ t. 1 ∣ unsigned_abs t.0) v
-all_by_one [] = tt
-all_by_one (t ∷ v) = (one-dvd (unsigned_abs t.0), all_by_one v)
+multiples_divided : (k : ℤ) (d : ℕ) (v : List Term) → DividesEach d v → DividesEach (unsigned_abs k * d) (poly_multiple k v)
+multiples_divided k d v each = All-map (λ (t : Term). (unsigned_abs k * d) ∣ unsigned_abs t.0) (λ (t : Term). (k *ℤ t.0, t.1)) v
+    (λ i t below. subst (λ n. (unsigned_abs k * d) ∣ n) (sym (unsigned_abs-mul k (get_or v i t).0)) (mul-dvd-mul_left d (unsigned_abs k) (each i t below)))
 
 -- divided by a number as large as the content, the content is 1
 pub quotient_content : (k g : ℤ) (v p : List Term) → k ≢ pos 0 → poly_multiple k v ≡ p → IsContent p g → unsigned_abs k ≡ unsigned_abs g → IsContent v (pos 1)
 quotient_content k g v p nonzero is content size = record {
   nonnegative = omega (arith, ints);
-  divides = All-from_recursion (λ t. 1 ∣ unsigned_abs t.0) v (all_by_one v);
+  divides = λ i t below. one-dvd (unsigned_abs (get_or v i t).0);
   greatest = λ d each.
       let times : DividesEach (unsigned_abs k * d) p =
-      subst (DividesEach (unsigned_abs k * d)) is (All-from_recursion (λ t. (unsigned_abs k * d) ∣ unsigned_abs t.0) (poly_multiple k v)
-      (multiples_divided k d v (recursion_from_All (λ t. d ∣ unsigned_abs t.0) v each))) in
+      subst (DividesEach (unsigned_abs k * d)) is (multiples_divided k d v each) in
       let below : (unsigned_abs k * d) ∣ unsigned_abs g = content.greatest (unsigned_abs k * d) times in
       let shared : (unsigned_abs k * d) ∣ (unsigned_abs k * 1) = subst (λ n. (unsigned_abs k * d) ∣ n) (sym size ∙ sym (mul-one (unsigned_abs k))) below in
       dvd_of_mul-dvd-mul_left d (abs_positive k nonzero) shared;
@@ -119,7 +109,7 @@ leading_positive compare s v p positive is some nonzero = go (leading_term compa
         let product_is : top ≡ multiple_term (signed (leads_negative compare p) s) t = same_some top _ (sym is_top ∙ terms ∙ ap (option_map (multiple_term (signed (leads_negative compare p) s))) has) in
         let sign : leads_negative compare p ≡ is_negative top.0 = ap is_term_negative is_top in
         positive_quotient s t.0 top.0 positive (sym (ap (λ (u : Term). u.0) product_is ∙ ap (λ b. signed b s *ℤ t.0) sign))
-        (leading-all (λ u. u.0 ≢ pos 0) compare p top is_top (recursion_from_All (λ (u : Term). u.0 ≢ pos 0) p nonzero))
+        (leading-all (λ u. u.0 ≢ pos 0) compare p top is_top nonzero)
 
 signed_size : (b : Bool) (s : ℤ) → unsigned_abs (signed b s) ≡ unsigned_abs s
 signed_size true s = omega (arith, ints)

@@ -1,6 +1,7 @@
 -- The greater of two words, in a total order that agrees with equality.
-use Rattle.std.proofs.Common.{◌≡◌, ◌⊎◌, inl, inr, ℕ, List, [], ◌∷◌, Some, refl, sym, ap, ◌∙◌, subst}
-use Rattle.std.specs.List.{AllByRecursion}
+use Rattle.std.proofs.Common.{◌≡◌, ◌⊎◌, inl, inr, ℕ, List, [], ◌∷◌, Some, refl, sym, ap, ◌∙◌, subst, arith}
+use Rattle.std.specs.List.{All}
+use Rattle.std.proofs.lemmas.List.Elements.{All-nil, All-cons, All-tail}
 use Rattle.std.proofs.lemmas.Option.{same_Some}
 use Rattle.std.proofs.lemmas.Cmp.{tied_itself}
 use Rattle.std.specs.Ordering.{ordering_reverse}
@@ -49,35 +50,36 @@ module _ (letters : ℕ) (compare : Compare) (rank : List ℕ → List ℕ) (law
 
   record AreAtMost (best : Term) (p : List Term) (top : Term) : Type 0 where
     first : IsAtMost compare best.1 top.1
-    others : AllByRecursion (λ t. IsAtMost compare t.1 top.1) p
+    others : All (λ t. IsAtMost compare t.1 top.1) p
 
   greatest : (best : Term) (p : List Term) → AreAtMost best p (greatest_from compare best p)
-  greatest best [] = record { first = inl refl; others = tt }
+  greatest best [] = record { first = inl refl; others = All-nil (λ (t : Term). IsAtMost compare t.1 best.1) }
   greatest best (t ∷ p) =
       let top = greatest_from compare (greater_term compare best t) p in
       let rest = greatest (greater_term compare best t) p in
       record {
         first = at_most-trans best.1 (greater_term compare best t).1 top.1 (left_at_most best t) rest.first;
-        others = (at_most-trans t.1 (greater_term compare best t).1 top.1 (right_at_most best t) rest.first, rest.others);
+        others = All-cons (λ (u : Term). IsAtMost compare u.1 top.1) t p (at_most-trans t.1 (greater_term compare best t).1 top.1 (right_at_most best t) rest.first) rest.others;
       }
 
   -- each word is at most the leading one
-  pub leading-greatest : (p : List Term) (top : Term) → leading_term compare p ≡ Some top → AllByRecursion (λ t. IsAtMost compare t.1 top.1) p
-  leading-greatest [] top is = tt
+  pub leading-greatest : (p : List Term) (top : Term) → leading_term compare p ≡ Some top → All (λ t. IsAtMost compare t.1 top.1) p
+  leading-greatest [] top is = All-nil (λ (t : Term). IsAtMost compare t.1 top.1)
   leading-greatest (t ∷ p) top is =
       let all = greatest t p in
-      subst (λ u. AllByRecursion (λ (v : Term). IsAtMost compare v.1 u.1) (t ∷ p)) (same_Some (greatest_from compare t p) top is) (all.first, all.others)
+      let last = greatest_from compare t p in
+      subst (λ u. All (λ (v : Term). IsAtMost compare v.1 u.1) (t ∷ p)) (same_Some last top is) (All-cons (λ (v : Term). IsAtMost compare v.1 last.1) t p all.first all.others)
 
 -- what holds of each term holds of the leading one
-pub leading-all : (P : Term → Type 0) (compare : Compare) (p : List Term) (top : Term) → leading_term compare p ≡ Some top → AllByRecursion P p → P top
+pub leading-all : (P : Term → Type 0) (compare : Compare) (p : List Term) (top : Term) → leading_term compare p ≡ Some top → All P p → P top
 leading-all P compare [] top is each = absurd (cc)
-leading-all P compare (t ∷ p) top is each = subst P (same_Some (greatest_from compare t p) top is) (from t p each.0 each.1)
+leading-all P compare (t ∷ p) top is each = subst P (same_Some (greatest_from compare t p) top is) (from t p (each 0 t (omega arith)) (All-tail P t p each))
   where
-    from : (best : Term) (q : List Term) → P best → AllByRecursion P q → P (greatest_from compare best q)
+    from : (best : Term) (q : List Term) → P best → All P q → P (greatest_from compare best q)
     from best [] held others = held
-    from best (u ∷ q) held others = from (greater_term compare best u) q (go (compare u.1 best.1)) others.1
+    from best (u ∷ q) held others = from (greater_term compare best u) q (go (compare u.1 best.1)) (All-tail P u q others)
       where
         go : (o : Ordering) → P (by_order o best best u)
         go Less = held
         go Equal = held
-        go Greater = others.0
+        go Greater = others 0 u (omega arith)

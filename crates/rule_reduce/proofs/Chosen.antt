@@ -1,8 +1,8 @@
 -- The choice that is computed is that of the greatest word, the least number and the leftmost place, and the only such one.
 use Rattle.std.proofs.Common.{◌≡◌, inl, inr, ℕ, ◌<◌, ℤ, List, [], ◌∷◌, length, get_or, Option, Some, None, IfSome, refl, sym, ap, ap₂, ◌∙◌, subst, arith}
-use Rattle.std.specs.List.{All, AllByRecursion, Contains}
+use Rattle.std.specs.List.{All, Contains}
 use Rattle.std.proofs.lemmas.List.{get_or_default}
-use Rattle.std.proofs.lemmas.List.Elements.{All-from_recursion, recursion_from_All, All-weaker, All-contains_itself, All-contains}
+use Rattle.std.proofs.lemmas.List.Elements.{All-nil, All-cons, All-tail, All-contains_itself, All-contains}
 use Rattle.std.proofs.lemmas.Option.{none-some, same_Some}
 use Rattle.std.specs.Ordering.{ordering_reverse}
 use Rattle.std.specs.declared.cmp.Ordering.{Ordering}
@@ -47,15 +47,15 @@ module _ (compare : Compare) (entries : List (List ℕ × ℕ)) where
   made t m = record { coefficient = t.0; word = t.1; number = m.0; place = m.1 }
 
   -- what holds of each choice that can be made holds of the one that is
-  all-choice : (Q : Choice → Type 0) (p : List Term) (best : Option Choice) (c : Choice) → AllByRecursion (λ t. (m : ℕ × ℕ) → match_of entries t.1 ≡ Some m → Q (made t m)) p
+  all-choice : (Q : Choice → Type 0) (p : List Term) (best : Option Choice) (c : Choice) → All (λ t. (m : ℕ × ℕ) → match_of entries t.1 ≡ Some m → Q (made t m)) p
       → IfSome best Q → choice_from compare entries best p ≡ Some c → Q c
   all-choice Q [] None c each held is = absurd (cc)
   all-choice Q [] (Some b) c each held is = subst Q (same_Some b c is) held
-  all-choice Q (t ∷ p) best c each held is = all-choice Q p (better_choice compare entries best t) c each.1 (better best held) is
+  all-choice Q (t ∷ p) best c each held is = all-choice Q p (better_choice compare entries best t) c (All-tail (λ (u : Term). (m : ℕ × ℕ) → match_of entries u.1 ≡ Some m → Q (made u m)) t p each) (better best held) is
     where
       found : (m : Option (ℕ × ℕ)) → match_of entries t.1 ≡ m → (b : Option Choice) → IfSome b Q → IfSome (choice_or t m b) Q
       found None e b h = h
-      found (Some m) e b h = each.0 m e
+      found (Some m) e b h = each 0 t (omega arith) m e
 
       better : (b : Option Choice) → IfSome b Q → IfSome (better_choice compare entries b t) Q
       better None h = found (match_of entries t.1) refl None h
@@ -70,34 +70,37 @@ module _ (compare : Compare) (entries : List (List ℕ × ℕ)) where
     lower : (u v w : List ℕ) → compare u v ≡ Less → IsAtMost compare v w → IsAtMost compare u w
     lower u v w less more = at_most-trans letters compare rank laws u v w (inr less) more
 
+    abbrev Reaches : Choice → Term → Type 0
+    Reaches c t = (m : ℕ × ℕ) → match_of entries t.1 ≡ Some m → IsAtMost compare t.1 c.word
+
     -- the choice so far and each term that can be reduced are at most the choice that is made
     record AreAtMost (best : Option Choice) (p : List Term) (c : Choice) : Type 0 where
       so_far : IfSome best (λ b. IsAtMost compare b.word c.word)
-      each : AllByRecursion (λ t. (m : ℕ × ℕ) → match_of entries t.1 ≡ Some m → IsAtMost compare t.1 c.word) p
+      each : All (Reaches c) p
 
     at_most : (p : List Term) (best : Option Choice) (c : Choice) → choice_from compare entries best p ≡ Some c → AreAtMost best p c
     at_most [] None c is = absurd (cc)
-    at_most [] (Some b) c is = record { so_far = inl (ap (λ (d : Choice). d.word) (same_Some b c is)); each = tt }
+    at_most [] (Some b) c is = record { so_far = inl (ap (λ (d : Choice). d.word) (same_Some b c is)); each = All-nil (Reaches c) }
     at_most (t ∷ p) None c is = go (match_of entries t.1) refl is (at_most p)
       where
         go : (m : Option (ℕ × ℕ)) → match_of entries t.1 ≡ m → choice_from compare entries (choice_or t m None) p ≡ Some c
             → ((b : Option Choice) (d : Choice) → choice_from compare entries b p ≡ Some d → AreAtMost b p d) → AreAtMost None (t ∷ p) c
-        go None none k more = record { so_far = tt; each = (λ m e. absurd (none-some m (sym none ∙ e)), (more None c k).each) }
-        go (Some m) found k more = let rest = more (Some (made t m)) c k in record { so_far = tt; each = (λ n e. rest.so_far, rest.each) }
+        go None none k more = record { so_far = tt; each = All-cons (Reaches c) t p (λ m e. absurd (none-some m (sym none ∙ e))) (more None c k).each }
+        go (Some m) found k more = let rest = more (Some (made t m)) c k in record { so_far = tt; each = All-cons (Reaches c) t p (λ n e. rest.so_far) rest.each }
     at_most (t ∷ p) (Some b) c is = go (compare t.1 b.word) refl (match_of entries t.1) refl is (at_most p)
       where
         go : (o : Ordering) → compare t.1 b.word ≡ o → (m : Option (ℕ × ℕ)) → match_of entries t.1 ≡ m → choice_from compare entries (by_order o (Some b) (Some b) (choice_or t m (Some b))) p ≡ Some c
             → ((a : Option Choice) (d : Choice) → choice_from compare entries a p ≡ Some d → AreAtMost a p d) → AreAtMost (Some b) (t ∷ p) c
-        go Less less m e k more = let rest = more (Some b) c k in record { so_far = rest.so_far; each = (λ n f. lower t.1 b.word c.word less rest.so_far, rest.each) }
+        go Less less m e k more = let rest = more (Some b) c k in record { so_far = rest.so_far; each = All-cons (Reaches c) t p (λ n f. lower t.1 b.word c.word less rest.so_far) rest.each }
         go Equal level m e k more =
             let rest = more (Some b) c k in
-            record { so_far = rest.so_far; each = (λ n f. subst (λ w. IsAtMost compare w c.word) (sym (laws.same t.1 b.word level)) rest.so_far, rest.each) }
+            record { so_far = rest.so_far; each = All-cons (Reaches c) t p (λ n f. subst (λ w. IsAtMost compare w c.word) (sym (laws.same t.1 b.word level)) rest.so_far) rest.each }
         go Greater greater None none k more =
             let rest = more (Some b) c k in
-            record { so_far = rest.so_far; each = (λ n e. absurd (none-some n (sym none ∙ e)), rest.each) }
+            record { so_far = rest.so_far; each = All-cons (Reaches c) t p (λ n e. absurd (none-some n (sym none ∙ e))) rest.each }
         go Greater greater (Some m) found k more =
             let rest = more (Some (made t m)) c k in
-            record { so_far = lower b.word t.1 c.word (turned letters compare rank laws t.1 b.word greater) rest.so_far; each = (λ n e. rest.so_far, rest.each) }
+            record { so_far = lower b.word t.1 c.word (turned letters compare rank laws t.1 b.word greater) rest.so_far; each = All-cons (Reaches c) t p (λ n e. rest.so_far) rest.each }
 
     -- a word above the chosen one has no match
     no_match_above : (t : Term) (c : Choice) → ((m : ℕ × ℕ) → match_of entries t.1 ≡ Some m → IsAtMost compare t.1 c.word) → compare t.1 c.word ≡ Greater → match_of entries t.1 ≡ None
@@ -107,10 +110,6 @@ module _ (compare : Compare) (entries : List (List ℕ × ℕ)) where
         go None e = e
         go (Some m) e = absurd (at_most-greater letters compare rank laws t.1 c.word (below m e) greater)
 
-each_term : (P : Term → Type 0) → ((t : Term) → P t) → (p : List Term) → AllByRecursion P p
-each_term P all [] = tt
-each_term P all (t ∷ p) = (all t, each_term P all p)
-
 -- the term that is chosen, and the rule that matches it
 pub record Found (rules : List Rule) (p : List Term) (c : Choice) : Type 0 where
   pub term : Contains p (c.coefficient, c.word)
@@ -119,21 +118,15 @@ pub record Found (rules : List Rule) (p : List Term) (c : Choice) : Type 0 where
 pub found : (compare : Compare) (rules : List Rule) (p : List Term) (c : Choice) → choice_of compare (entries_of rules) p ≡ Some c → Found rules p c
 found compare rules p c is =
     let entries = entries_of rules in
-    let listed = recursion_from_All (λ t. (m : ℕ × ℕ) → match_of entries t.1 ≡ Some m → Contains p t) p (All-weaker (Contains p) (λ t. (m : ℕ × ℕ) → match_of entries t.1 ≡ Some m → Contains p t) (λ t h. λ m e. h) p (All-contains_itself p)) in
-    let matches = each_term (λ t. (m : ℕ × ℕ) → match_of entries t.1 ≡ Some m → match_of entries t.1 ≡ Some m) (λ t m e. e) p in
     record {
-      term = all-choice compare entries (λ b. Contains p (b.coefficient, b.word)) p None c listed tt is;
-      match = matched rules c.word c.number c.place (all-choice compare entries (λ b. match_of entries b.word ≡ Some (b.number, b.place)) p None c matches tt is);
+      term = all-choice compare entries (λ b. Contains p (b.coefficient, b.word)) p None c (λ i t k m e. All-contains_itself p i t k) tt is;
+      match = matched rules c.word c.number c.place (all-choice compare entries (λ b. match_of entries b.word ≡ Some (b.number, b.place)) p None c (λ i t k m e. e) tt is);
     }
 
 module _ (letters : ℕ) (compare : Compare) (rank : List ℕ → List ℕ) (laws : IsAdmissible letters compare rank) (rules : List Rule) (p : List Term) where
   -- no word above the chosen one has a match
-  pub none_above : (c : Choice) → choice_of compare (entries_of rules) p ≡ Some c → AllByRecursion (λ t. IsSettled compare (entries_of rules) c.word t.1) p
-  none_above c is = go p (at_most compare (entries_of rules) letters rank laws p None c is).each
-    where
-      go : (q : List Term) → AllByRecursion (λ t. (m : ℕ × ℕ) → match_of (entries_of rules) t.1 ≡ Some m → IsAtMost compare t.1 c.word) q → AllByRecursion (λ t. IsSettled compare (entries_of rules) c.word t.1) q
-      go [] below = tt
-      go (t ∷ q) below = (λ greater. no_match_above compare (entries_of rules) letters rank laws t c below.0 greater, go q below.1)
+  pub none_above : (c : Choice) → choice_of compare (entries_of rules) p ≡ Some c → All (λ t. IsSettled compare (entries_of rules) c.word t.1) p
+  none_above c is i t k greater = no_match_above compare (entries_of rules) letters rank laws (get_or p i t) c ((at_most compare (entries_of rules) letters rank laws p None c is).each i t k) greater
 
   -- what is computed is such a choice
   pub choice_tells : (c : Choice) → choice_of compare (entries_of rules) p ≡ Some c → IsChoice compare rules p c
@@ -143,14 +136,10 @@ module _ (letters : ℕ) (compare : Compare) (rank : List ℕ → List ℕ) (law
         term = made.term;
         rule = made.match.rule;
         numbered = made.match.numbered;
-        greatest = All-from_recursion (λ t. compare t.1 c.word ≡ Greater → All (λ g. OccursNowhere t.1 g.lead) rules) p (above c p (none_above c is));
+        greatest = λ i t k greater. no_match 1 rules (get_or p i t).1 (none_above c is i t k greater);
         least = made.match.least;
         leftmost = made.match.leftmost;
       }
-    where
-      above : (c : Choice) (q : List Term) → AllByRecursion (λ t. IsSettled compare (entries_of rules) c.word t.1) q → AllByRecursion (λ t. compare t.1 c.word ≡ Greater → All (λ g. OccursNowhere t.1 g.lead) rules) q
-      above c [] settled = tt
-      above c (t ∷ q) settled = (λ greater. All-from_recursion (λ g. OccursNowhere t.1 g.lead) rules (no_match 1 rules t.1 (settled.0 greater)), above c q settled.1)
 
   -- a word that can be reduced is not above the chosen one
   not_above : (c d : Choice) → IsChoice compare rules p c → IsChoice compare rules p d → compare c.word d.word ≡ Greater → ⊥

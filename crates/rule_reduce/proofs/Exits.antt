@@ -1,7 +1,7 @@
 -- Where the arithmetic of a step ends.
-use Rattle.std.proofs.Common.{ℕ, zero, suc, ◌+◌, ◌≡◌, ◌≤◌, ℤ, negsuc, ◌*ℤ◌, List, [], ◌∷◌, ◌++◌, length, map, Option, Some, None, Result, Ok, Err, IsErr, IsErrAnd, MatchResult, ◌≢◌, pos, refl, sym, ap, ap₂, ◌∙◌, subst, arith}
-use Rattle.std.specs.List.{All, AllByRecursion}
-use Rattle.std.proofs.lemmas.List.Elements.{All-from_recursion, recursion_from_All}
+use Rattle.std.proofs.Common.{ℕ, zero, suc, ◌+◌, ◌≡◌, ◌≤◌, ℤ, negsuc, neg_ℤ, ◌*ℤ◌, List, [], ◌∷◌, ◌++◌, length, get_or, map, Option, Some, None, Result, Ok, Err, IsErr, IsErrAnd, MatchResult, ◌≢◌, pos, refl, sym, ap, ap₂, ◌∙◌, subst, arith}
+use Rattle.std.specs.List.{All}
+use Rattle.std.proofs.lemmas.List.Elements.{All-tail, All-map}
 use Rattle.std.proofs.lemmas.Int.{ints}
 use Rattle.std.proofs.Math.IntN.{*ℤ_comm}
 use Rattle.coef_int.specs.declared.Overflow.{Overflow}
@@ -14,7 +14,7 @@ use Rattle.nc_polynomial.specs.Terms.{IsDescending, keep, scaled, multiplied, mu
 use Rattle.nc_polynomial.specs.Faults.{checked, unless_overflow, sized, finished, Explains, IsMemory}
 use Rattle.nc_polynomial.specs.Shape.{IsShaped, IsCanonical}
 use Rattle.nc_polynomial.proofs.Checked.{checked-fits}
-use Rattle.nc_polynomial.proofs.Shapes.{IsDescending-from_recursion, recursion_from_IsDescending, descending-scaled, nonzero-scaled, shaped-negated}
+use Rattle.nc_polynomial.proofs.Shapes.{IsDescending-from_recursion, recursion_from_IsDescending, descending-scaled, nonzero-scaled, in_range-neg_ℤ, shaped-negated}
 use Rattle.nc_polynomial.proofs.Products.{shaped_shift}
 use Rattle.nc_polynomial.proofs.Chains.{shaped_add, ranged_multiply, first-fits, first-append, or_first, passes, explains-first, explains-last, none_overflows, value_is, ends, sized-value, no_error}
 use Rattle.traced_rows.specs.declared.Row.{Row}
@@ -25,12 +25,8 @@ use Rattle.rule_reduce.proofs.LettersKept.{each-multiplied}
 pub one_checked : (a b x : ℤ) → x ≡ a *ℤ b → IsCoefficient (a *ℤ b) → checked (product_of a b ∷ []) (a *ℤ b) ≡ Ok x
 one_checked a b x e h = checked-fits (product_of a b) [] (a *ℤ b) h ∙ ap Ok (sym e)
 
-all_negated : (p : List Term) → AllByRecursion (λ t. IsCoefficient t.0) p → AllByRecursion (λ t. IsCoefficient t.0) (negated p)
-all_negated [] h = tt
-all_negated (t ∷ p) h = (omega (arith, ints, h.0), all_negated p h.1)
-
 pub all-negated : (p : List Term) → All (λ t. IsCoefficient t.0) p → All (λ t. IsCoefficient t.0) (negated p)
-all-negated p h = All-from_recursion (λ t. IsCoefficient t.0) (negated p) (all_negated p (recursion_from_All (λ t. IsCoefficient t.0) p h))
+all-negated p h = All-map (λ (t : Term). IsCoefficient t.0) (λ (t : Term). (neg_ℤ t.0, t.1)) p (λ i t k. in_range-neg_ℤ (get_or p i t).0 (h i t k))
 
 -- want of memory explains anything
 pub memory-explains : {A B : Type 0} (r : Result A PolyFault) → IsErr r × IsErrAnd r IsMemory → (P : A → Type 0) (whole : Result B PolyFault) → MatchResult r P (Explains whole)
@@ -68,10 +64,10 @@ canonical_multiply p k v canonical fits =
     record {
       shaped = record {
         descending = subst IsDescending same (IsDescending-from_recursion (scaled k p) (descending-scaled k p (recursion_from_IsDescending p canonical.shaped.descending)));
-        nonzero = subst (All (λ t. t.0 ≢ pos 0)) same (All-from_recursion (λ t. t.0 ≢ pos 0) (scaled k p) (nonzero-scaled k p));
+        nonzero = subst (All (λ t. t.0 ≢ pos 0)) same (nonzero-scaled k p);
         in_range = ranged_multiply p k v fits;
       };
-      short = subst (All (λ t. length t.1 ≤ 500)) value (All-from_recursion (λ t. length t.1 ≤ 500) (multiplied p k) (each-multiplied (λ w. length w ≤ 500) p k (recursion_from_All (λ t. length t.1 ≤ 500) p canonical.short)));
+      short = subst (All (λ t. length t.1 ≤ 500)) value (each-multiplied (λ w. length w ≤ 500) p k canonical.short);
       few = subst (λ q. length q ≤ 20000) value (omega arith);
     }
 
@@ -79,9 +75,9 @@ canonical_multiply p k v canonical fits =
 times-one : (z : ℤ) → z *ℤ pos 1 ≡ z
 times-one z = omega (arith, ints)
 
-multiplied-one : (p : List Term) → AllByRecursion (λ t. t.0 ≢ pos 0) p → multiplied p (pos 1) ≡ p
+multiplied-one : (p : List Term) → All (λ t. t.0 ≢ pos 0) p → multiplied p (pos 1) ≡ p
 multiplied-one [] nonzero = refl
-multiplied-one (t ∷ p) nonzero = ap₂ (λ z rest. keep z t.1 rest) (times-one t.0) (multiplied-one p nonzero.1) ∙ kept t.0 nonzero.0
+multiplied-one (t ∷ p) nonzero = ap₂ (λ z rest. keep z t.1 rest) (times-one t.0) (multiplied-one p (All-tail (λ (u : Term). u.0 ≢ pos 0) t p nonzero)) ∙ kept t.0 (nonzero 0 t (omega arith))
   where
     kept : (z : ℤ) → z ≢ pos 0 → keep z t.1 p ≡ (z, t.1) ∷ p
     kept (pos zero) n = absurd (n refl)
@@ -91,28 +87,28 @@ multiplied-one (t ∷ p) nonzero = ap₂ (λ z rest. keep z t.1 rest) (times-one
 fits-times-one : (z : ℤ) → IsCoefficient z → IsCoefficient (z *ℤ pos 1)
 fits-times-one z fits = subst IsCoefficient (sym (times-one z)) fits
 
-multiplications-one : (p : List Term) → AllByRecursion (λ t. IsCoefficient t.0) p → first_overflow (multiplications p (pos 1)) ≡ None
+multiplications-one : (p : List Term) → All (λ t. IsCoefficient t.0) p → first_overflow (multiplications p (pos 1)) ≡ None
 multiplications-one [] in_range = refl
-multiplications-one (t ∷ p) in_range = first-fits (product_of t.0 (pos 1)) (multiplications p (pos 1)) (fits-times-one t.0 in_range.0) ∙ multiplications-one p in_range.1
+multiplications-one (t ∷ p) in_range = first-fits (product_of t.0 (pos 1)) (multiplications p (pos 1)) (fits-times-one t.0 (in_range 0 t (omega arith))) ∙ multiplications-one p (All-tail (λ (u : Term). IsCoefficient u.0) t p in_range)
 
 rows-one : (rows : List Row) → map (multiplied_row (pos 1)) rows ≡ rows
 rows-one [] = refl
 rows-one (row ∷ rows) = ap₂ (λ (z : ℤ) rest. record row { coef = z } ∷ rest) (times-one row.coef) (rows-one rows)
 
-row_operations-one : (rows : List Row) → AllByRecursion (λ row. IsCoefficient row.coef) rows → first_overflow (row_operations rows (pos 1)) ≡ None
+row_operations-one : (rows : List Row) → All (λ row. IsCoefficient row.coef) rows → first_overflow (row_operations rows (pos 1)) ≡ None
 row_operations-one [] in_range = refl
-row_operations-one (row ∷ rows) in_range = first-fits (product_of row.coef (pos 1)) (row_operations rows (pos 1)) (fits-times-one row.coef in_range.0) ∙ row_operations-one rows in_range.1
+row_operations-one (row ∷ rows) in_range = first-fits (product_of row.coef (pos 1)) (row_operations rows (pos 1)) (fits-times-one row.coef (in_range 0 row (omega arith))) ∙ row_operations-one rows (All-tail (λ (r : Row). IsCoefficient r.coef) row rows in_range)
 
 pub state-times-one : (s : State) → IsInRange s → checked (state_operations (pos 1) s) (multiplied_state (pos 1) s) ≡ Ok s
 state-times-one s in_range =
     let shaped = in_range.rest.shaped in
     let first = first-fits (product_of s.multiplier (pos 1)) (multiplications s.rest (pos 1) ++ row_operations s.rows (pos 1)) (fits-times-one s.multiplier in_range.multiplier) in
-    let second = multiplications-one s.rest (recursion_from_All (λ (t : Term). IsCoefficient t.0) s.rest shaped.in_range) in
-    let third = row_operations-one s.rows (recursion_from_All (λ (row : Row). IsCoefficient row.coef) s.rows in_range.rows) in
+    let second = multiplications-one s.rest shaped.in_range in
+    let third = row_operations-one s.rows in_range.rows in
     let none : first_overflow (state_operations (pos 1) s) ≡ None =
     first ∙ first-append (multiplications s.rest (pos 1)) (row_operations s.rows (pos 1)) ∙ ap₂ or_first second third in
     let multiplier = times-one s.multiplier in
-    let rest = multiplied-one s.rest (recursion_from_All (λ (t : Term). t.0 ≢ pos 0) s.rest shaped.nonzero) in
+    let rest = multiplied-one s.rest shaped.nonzero in
     let rows = rows-one s.rows in
     ap (λ o. unless_overflow o (Ok (multiplied_state (pos 1) s))) none ∙ ap Ok (λ i. record s { multiplier = multiplier i; rest = rest i; rows = rows i })
 

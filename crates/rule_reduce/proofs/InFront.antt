@@ -1,19 +1,19 @@
 -- Terms above the first word of another list stand in front of the sum as they are.
-use Rattle.std.proofs.Common.{◌≡◌, ◌≢◌, ℕ, pos, ◌+ℤ◌, List, [], ◌∷◌, ◌++◌, take, drop, slice_get, IfSome, Result, Ok, Err, refl, sym, ap, ◌∙◌, subst, arith}
-use Rattle.std.specs.List.{All, AllByRecursion}
+use Rattle.std.proofs.Common.{◌≡◌, ℕ, pos, ◌+ℤ◌, List, [], ◌∷◌, ◌++◌, take, drop, slice_get, IfSome, Result, Ok, Err, refl, sym, ap, ◌∙◌, subst, arith}
+use Rattle.std.specs.List.{All}
 use Rattle.std.specs.declared.cmp.Ordering.TheVariants.{Greater}
 use Rattle.std.proofs.lemmas.Int.{ints}
 use Rattle.std.proofs.lemmas.List.{take-append-drop}
-use Rattle.std.proofs.lemmas.List.Elements.{recursion_from_All, All-take}
+use Rattle.std.proofs.lemmas.List.Elements.{All-tail, All-take}
 use Rattle.coef_int.specs.Range.{IsCoefficient}
 use Rattle.coef_int.specs.Operations.{sum_of}
 use Rattle.definitions.specs.Poly.{Term}
 use Rattle.word_core.specs.Canonical.{word_cmp}
 use Rattle.nc_polynomial.specs.declared.fault.PolyFault.{PolyFault}
 use Rattle.nc_polynomial.specs.declared.fault.PolyFault.TheVariants as fault
-use Rattle.nc_polynomial.specs.Faults.{Explains}
 use Rattle.nc_polynomial.specs.Shape.{IsShaped}
 use Rattle.nc_polynomial.specs.Terms.{aligned, aligned_at, by_order, keep, totals, total_operations}
+use Rattle.nc_polynomial.proofs.Shapes.{IsInRange, IsNonzero}
 use Rattle.nc_polynomial.proofs.Checked.{join, join-none, keep-nonzero, one-fits, total_from}
 
 -- one term above the first word of the other list
@@ -25,44 +25,37 @@ join-one : (t : Term) (p : List Term) (r : Result (List Term) PolyFault) → joi
 join-one t p (Ok xs) = refl
 join-one t p (Err e) = refl
 
+abbrev IsAbove : List Term → Term → Type 0
+IsAbove q t = IfSome (slice_get q 0) (λ u. word_cmp t.1 u.1 ≡ Greater)
+
 -- what a front keeps and is
 record IsFront (q p : List Term) : Type 0 where
-  nonzero : AllByRecursion (λ t. t.0 ≢ pos 0) p
-  in_range : AllByRecursion (λ t. IsCoefficient t.0) p
-  above : AllByRecursion (λ t. IfSome (slice_get q 0) (λ u. word_cmp t.1 u.1 ≡ Greater)) p
+  nonzero : All IsNonzero p
+  in_range : All IsInRange p
+  above : All (IsAbove q) p
 
 front_stays : (q p r : List Term) → IsFront q p → total_from (aligned (p ++ r) q) ≡ join p (total_from (aligned r q))
 front_stays q [] r is = sym (join-none (total_from (aligned r q)))
 front_stays q (t ∷ p) r is =
     let rest = aligned (p ++ r) q in
     let same : t.0 +ℤ pos 0 ≡ t.0 = omega (arith, ints) in
-    let fits : IsCoefficient (t.0 +ℤ pos 0) = subst IsCoefficient (sym same) is.in_range.0 in
-    ap total_from (next_in_front t (p ++ r) q is.above.0)
+    let fits : IsCoefficient (t.0 +ℤ pos 0) = subst IsCoefficient (sym same) (is.in_range 0 t (omega arith)) in
+    ap total_from (next_in_front t (p ++ r) q (is.above 0 t (omega arith)))
     ∙ sym (join-none (total_from ((t.0, pos 0, t.1) ∷ rest)))
     ∙ one-fits (sum_of t.0 (pos 0)) (total_operations rest) t.1 [] (totals rest) fits
-    ∙ ap (λ l. join l (total_from rest)) (ap (λ z. keep z t.1 []) same ∙ keep-nonzero t.0 t.1 [] is.nonzero.0)
-    ∙ ap (join (t ∷ [])) (front_stays q p r (record { nonzero = is.nonzero.1; in_range = is.in_range.1; above = is.above.1 }))
+    ∙ ap (λ l. join l (total_from rest)) (ap (λ z. keep z t.1 []) same ∙ keep-nonzero t.0 t.1 [] (is.nonzero 0 t (omega arith)))
+    ∙ ap (join (t ∷ [])) (front_stays q p r (record { nonzero = All-tail IsNonzero t p is.nonzero; in_range = All-tail IsInRange t p is.in_range; above = All-tail (IsAbove q) t p is.above }))
     ∙ join-one t p (total_from (aligned r q))
 
-each_above : (q p : List Term) → IfSome (slice_get q 0) (λ u. All (λ t. word_cmp t.1 u.1 ≡ Greater) p) → AllByRecursion (λ t. IfSome (slice_get q 0) (λ u. word_cmp t.1 u.1 ≡ Greater)) p
-each_above [] p above = go p
-  where
-    go : (p : List Term) → AllByRecursion (λ t. Unit {0}) p
-    go [] = tt
-    go (t ∷ p) = (tt, go p)
-each_above (y ∷ q) p above = recursion_from_All (λ t. word_cmp t.1 y.1 ≡ Greater) p above
+each_above : (q p : List Term) → IfSome (slice_get q 0) (λ u. All (λ t. word_cmp t.1 u.1 ≡ Greater) p) → All (IsAbove q) p
+each_above [] p above = λ i t k. tt
+each_above (y ∷ q) p above = above
 
 pub in_front : (n : ℕ) (p q : List Term) → IsShaped p → IfSome (slice_get q 0) (λ u. All (λ t. word_cmp t.1 u.1 ≡ Greater) (take n p)) → total_from (aligned p q) ≡ join (take n p) (total_from (aligned (drop n p) q))
 in_front n p q shaped above =
     ap (λ l. total_from (aligned l q)) (sym (take-append-drop n p))
     ∙ front_stays q (take n p) (drop n p) (record {
-      nonzero = recursion_from_All (λ t. t.0 ≢ pos 0) (take n p) (All-take (λ t. t.0 ≢ pos 0) n p shaped.nonzero);
-      in_range = recursion_from_All (λ t. IsCoefficient t.0) (take n p) (All-take (λ t. IsCoefficient t.0) n p shaped.in_range);
+      nonzero = All-take IsNonzero n p shaped.nonzero;
+      in_range = All-take IsInRange n p shaped.in_range;
       above = each_above q (take n p) above;
     })
-
--- a fault behind a front is that of the whole
-pub explains-join : (p : List Term) (r : Result (List Term) PolyFault) (e : PolyFault) → Explains r e → Explains (join p r) e
-explains-join p r (fault.Overflow o) why = ap (join p) why
-explains-join p r (fault.Size s) why = ap (join p) why
-explains-join p r (fault.Memory m) why = tt

@@ -48,12 +48,6 @@ put_front front behind p z w next put = ap (take next) put.whole ∙ take_at (fr
 pub put_behind : (front behind p : List Term) (z : ℤ) (w : List ℕ) (next : ℕ) → IsPut front z w behind next p → drop next p ≡ behind
 put_behind front behind p z w next put = ap (drop next) put.whole ∙ drop_at (front ++ keep z w []) behind next (sym put.begins)
 
-pub put_within : (front behind p : List Term) (z : ℤ) (w : List ℕ) (next : ℕ) → IsPut front z w behind next p → next ≤ length p
-put_within front behind p z w next put =
-    let all = ap length put.whole ∙ length-append (front ++ keep z w []) behind in
-    let begins = put.begins in
-    omega (arith, all, begins)
-
 -- the sum from a place on stands behind what is in front of the place
 pub sum_from-join : (at : ℕ) (p q : List Term) → sum_from at p q ≡ join (take at p) (total_from (aligned (drop at p) q))
 sum_from-join at p q = go (first_overflow (total_operations (aligned (drop at p) q)))

@@ -1,7 +1,7 @@
 -- Where no term can be chosen, no leading word occurs in a word.
-use Rattle.std.proofs.Common.{◌≡◌, ℕ, suc, List, [], ◌∷◌, Option, Some, None, MatchOption, refl}
-use Rattle.std.specs.List.{All, AllByRecursion}
-use Rattle.std.proofs.lemmas.List.Elements.{All-from_recursion}
+use Rattle.std.proofs.Common.{◌≡◌, ℕ, suc, List, [], ◌∷◌, get_or, Option, Some, None, MatchOption, refl}
+use Rattle.std.specs.List.{All}
+use Rattle.std.proofs.lemmas.List.Elements.{All-nil, All-cons}
 use Rattle.std.specs.declared.cmp.Ordering.{Ordering}
 use Rattle.std.specs.declared.cmp.Ordering.TheVariants.{Less, Equal, Greater}
 use Rattle.definitions.specs.Poly.{Term}
@@ -19,13 +19,13 @@ use Rattle.rule_reduce.specs.Laws.{IsIrreducible, RestsAreIrreducible}
 use Rattle.rule_reduce.proofs.Runs.{reduction_keeps}
 
 -- no entry of a rule occurs where there is no match
-pub no_match : (n : ℕ) (rules : List Rule) (w : List ℕ) → match_of (entries_from n rules) w ≡ None → AllByRecursion (λ g. OccursNowhere w g.lead) rules
-no_match n [] w none = tt
+pub no_match : (n : ℕ) (rules : List Rule) (w : List ℕ) → match_of (entries_from n rules) w ≡ None → All (λ g. OccursNowhere w g.lead) rules
+no_match n [] w none = All-nil (λ (g : Rule). OccursNowhere w g.lead)
 no_match n (g ∷ rules) w none = go (place_in w g.lead) (place_in-tells w g.lead) none (no_match (suc n) rules w)
   where
     go : (p : Option ℕ) → MatchOption p (OccursNowhere w g.lead) (IsFirstPlace w g.lead) → match_or n p (match_of (entries_from (suc n) rules) w) ≡ None
-        → (match_of (entries_from (suc n) rules) w ≡ None → AllByRecursion (λ g. OccursNowhere w g.lead) rules) → OccursNowhere w g.lead × AllByRecursion (λ g. OccursNowhere w g.lead) rules
-    go None nowhere k more = (nowhere, more k)
+        → (match_of (entries_from (suc n) rules) w ≡ None → All (λ f. OccursNowhere w f.lead) rules) → All (λ f. OccursNowhere w f.lead) (g ∷ rules)
+    go None nowhere k more = All-cons (λ (f : Rule). OccursNowhere w f.lead) g rules nowhere (more k)
     go (Some place) first k more = absurd (cc)
 
 module _ (compare : Compare) (entries : List (List ℕ × ℕ)) where
@@ -41,21 +41,17 @@ module _ (compare : Compare) (entries : List (List ℕ × ℕ)) where
       go Greater None k more = more best k
       go Greater (Some m) k more = more (record { coefficient = t.0; word = t.1; number = m.0; place = m.1 }) k
 
-  none_matches : (p : List Term) → choice_from compare entries None p ≡ None → AllByRecursion (λ t. match_of entries t.1 ≡ None) p
-  none_matches [] none = tt
+  none_matches : (p : List Term) → choice_from compare entries None p ≡ None → All (λ t. match_of entries t.1 ≡ None) p
+  none_matches [] none = All-nil (λ (t : Term). match_of entries t.1 ≡ None)
   none_matches (t ∷ p) none = go (match_of entries t.1) refl none (none_matches p)
     where
       go : (m : Option (ℕ × ℕ)) → match_of entries t.1 ≡ m → choice_from compare entries (choice_or t m None) p ≡ None
-          → (choice_from compare entries None p ≡ None → AllByRecursion (λ u. match_of entries u.1 ≡ None) p) → (match_of entries t.1 ≡ None) × AllByRecursion (λ u. match_of entries u.1 ≡ None) p
-      go None is k more = (is, more k)
+          → (choice_from compare entries None p ≡ None → All (λ u. match_of entries u.1 ≡ None) p) → All (λ u. match_of entries u.1 ≡ None) (t ∷ p)
+      go None is k more = All-cons (λ (u : Term). match_of entries u.1 ≡ None) t p is (more k)
       go (Some m) is k more = absurd (stays p (record { coefficient = t.0; word = t.1; number = m.0; place = m.1 }) k)
 
 pub irreducible_where_none : (compare : Compare) (rules : List Rule) (p : List Term) → choice_of compare (entries_of rules) p ≡ None → IsIrreducible rules p
-irreducible_where_none compare rules p none = All-from_recursion _ p (each p (none_matches compare (entries_of rules) p none))
-  where
-    each : (q : List Term) → AllByRecursion (λ t. match_of (entries_of rules) t.1 ≡ None) q → AllByRecursion (λ t. All (λ g. OccursNowhere t.1 g.lead) rules) q
-    each [] h = tt
-    each (t ∷ q) h = (All-from_recursion (λ g. OccursNowhere t.1 g.lead) rules (no_match 1 rules t.1 h.0), each q h.1)
+irreducible_where_none compare rules p none i t k = no_match 1 rules (get_or p i t).1 (none_matches compare (entries_of rules) p none i t k)
 
 -- the law
 pub rests_are_irreducible : RestsAreIrreducible

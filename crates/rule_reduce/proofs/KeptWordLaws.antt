@@ -1,8 +1,8 @@
 -- The words of a reduction stay below those of the polynomial, are typed like it, and have its letters or those of the rules.
-use Rattle.std.proofs.Common.{◌≡◌, ◌≢◌, ◌⊎◌, inl, inr, ℕ, pos, Bool, List, [], ◌∷◌, ◌++◌, refl, sym, ◌∙◌, subst}
-use Rattle.std.specs.List.{All, AllByRecursion, list_all}
+use Rattle.std.proofs.Common.{◌≡◌, ◌≢◌, ◌⊎◌, inl, inr, ℕ, pos, Bool, List, ◌++◌, get_or, refl, sym, ◌∙◌, subst}
+use Rattle.std.specs.List.{All, list_all}
 use Rattle.std.proofs.lemmas.Bool.{and_parts, and_from}
-use Rattle.std.proofs.lemmas.List.Elements.{recursion_from_All}
+use Rattle.std.proofs.lemmas.List.Elements.{All-weaker}
 use Rattle.std.proofs.lemmas.List.Folds.{list_all-append}
 use Rattle.definitions.specs.Poly.{Term, coefficient_of}
 use Rattle.definitions.specs.Quiver.{Quiver, IsPath}
@@ -22,13 +22,8 @@ use Rattle.rule_reduce.proofs.AtMost.{IsAtMost, leading-greatest, leading-all}
 use Rattle.rule_reduce.proofs.WordsKept.{words_with_coefficients, words_kept}
 
 -- what holds of each word with a coefficient holds of each that stands there
-words_of : (P : List ℕ → Type 0) (p : List Term) → IsShaped p → ((w : List ℕ) → coefficient_of p w ≢ pos 0 → P w) → AllByRecursion (λ t. P t.1) p
-words_of P p shaped each = words_listed P p (distinct-descending p (recursion_from_IsDescending p shaped.descending)) (recursion_from_All (λ t. t.0 ≢ pos 0) p shaped.nonzero) each
-
--- what follows from a property of each term
-each_weaker : (P Q : Term → Type 0) → ((t : Term) → P t → Q t) → (p : List Term) → AllByRecursion P p → AllByRecursion Q p
-each_weaker P Q weaker [] each = tt
-each_weaker P Q weaker (t ∷ p) each = (weaker t each.0, each_weaker P Q weaker p each.1)
+words_of : (P : List ℕ → Type 0) (p : List Term) → IsShaped p → ((w : List ℕ) → coefficient_of p w ≢ pos 0 → P w) → All (λ t. P t.1) p
+words_of P p shaped each = words_listed P p (distinct-descending p (recursion_from_IsDescending p shaped.descending)) shaped.nonzero each
 
 -- words stay below
 module _ (letters : ℕ) (compare : Compare) (rank : List ℕ → List ℕ) (laws : IsAdmissible letters compare rank) (p : List Term) (p_over : All (λ t. IsOver letters t.1) p) where
@@ -36,7 +31,7 @@ module _ (letters : ℕ) (compare : Compare) (rank : List ℕ → List ℕ) (law
   over_at_most w most = go most.at_most
     where
       go : (w ≡ most.word) ⊎ IsBelow letters compare w most.word → IsOver letters w
-      go (inl same) = subst (IsOver letters) (sym same) (words_with_coefficients (IsOver letters) p (recursion_from_All (λ (t : Term). IsOver letters t.1) p p_over) most.word most.occurs)
+      go (inl same) = subst (IsOver letters) (sym same) (words_with_coefficients (IsOver letters) p p_over most.word most.occurs)
       go (inr below) = below.left
 
   lower : (u w : List ℕ) → IsBelow letters compare u w → IsAtMostOf letters compare p w → IsAtMostOf letters compare p u
@@ -55,12 +50,10 @@ module _ (letters : ℕ) (compare : Compare) (rank : List ℕ → List ℕ) (law
       let right = IsOver-back letters v r (IsOver-back letters l (v ++ r) whole) in
       lower (l ++ (u ++ r)) (l ++ (v ++ r)) (record { left = IsOver-append letters l (u ++ r) left (IsOver-append letters u r u_over right); right = whole; less = laws.around l u v r less }) most
 
-  replaced_at_most : (g : Rule) → IsRule letters compare g → (l r : List ℕ) → IsAtMostOf letters compare p (l ++ (g.lead ++ r)) → AllByRecursion (λ t. IsAtMostOf letters compare p (l ++ (t.1 ++ r))) g.poly.terms
-  replaced_at_most g is_rule l r most = go g.poly.terms (leading-greatest letters compare rank laws g.poly.terms (g.leading, g.lead) is_rule.leading) (recursion_from_All (λ (t : Term). IsOver letters t.1) g.poly.terms is_rule.over)
-    where
-      go : (q : List Term) → AllByRecursion (λ t. IsAtMost compare t.1 g.lead) q → AllByRecursion (λ t. IsOver letters t.1) q → AllByRecursion (λ t. IsAtMostOf letters compare p (l ++ (t.1 ++ r))) q
-      go [] below over = tt
-      go (t ∷ q) below over = (around_at_most l t.1 g.lead r over.0 below.0 most, go q below.1 over.1)
+  replaced_at_most : (g : Rule) → IsRule letters compare g → (l r : List ℕ) → IsAtMostOf letters compare p (l ++ (g.lead ++ r)) → All (λ t. IsAtMostOf letters compare p (l ++ (t.1 ++ r))) g.poly.terms
+  replaced_at_most g is_rule l r most i t k =
+      let below = leading-greatest letters compare rank laws g.poly.terms (g.leading, g.lead) is_rule.leading in
+      around_at_most l (get_or g.poly.terms i t).1 g.lead r (is_rule.over i t k) (below i t k) most
 
 pub words_stay_below : WordsStayBelow
 words_stay_below letters compare rank rules p steps s laws are_rules shaped over ends =
@@ -69,12 +62,12 @@ words_stay_below letters compare rank rules p steps s laws are_rules shaped over
     p steps s (words_of (IsAtMostOf letters compare p) p shaped (λ w occurs. record { word = w; occurs = occurs; at_most = inl refl })) ends
 
 -- types are kept
-replaced_path : (q : Quiver) (u v letters : ℕ) (compare : Compare) (g : Rule) → IsRule letters compare g → IsTypedRule q g → (l r : List ℕ) → IsPath q u v (l ++ (g.lead ++ r)) → AllByRecursion (λ t. IsPath q u v (l ++ (t.1 ++ r))) g.poly.terms
+replaced_path : (q : Quiver) (u v letters : ℕ) (compare : Compare) (g : Rule) → IsRule letters compare g → IsTypedRule q g → (l r : List ℕ) → IsPath q u v (l ++ (g.lead ++ r)) → All (λ t. IsPath q u v (l ++ (t.1 ++ r))) g.poly.terms
 replaced_path q u v letters compare g is_rule typed l r path =
     let paths = words_of (IsPath q typed.source typed.target) g.poly.terms g.poly.canonical.shaped typed.typed.at in
     let lead = leading-all (λ t. IsPath q typed.source typed.target t.1) compare g.poly.terms (g.leading, g.lead) is_rule.leading paths in
     let fits = fits_from_path q u v typed.source typed.target l g.lead r lead path in
-    each_weaker (λ t. IsPath q typed.source typed.target t.1) (λ t. IsPath q u v (l ++ (t.1 ++ r))) (λ t is_path. path_from_fits q u v typed.source typed.target l t.1 r fits is_path) g.poly.terms paths
+    All-weaker (λ (t : Term). IsPath q typed.source typed.target t.1) (λ (t : Term). IsPath q u v (l ++ (t.1 ++ r))) (λ t is_path. path_from_fits q u v typed.source typed.target l t.1 r fits is_path) g.poly.terms paths
 
 pub types_are_kept : TypesAreKept
 types_are_kept q u v letters compare rules p steps s are_rules typed shaped p_typed ends =
@@ -89,12 +82,12 @@ in_play-parts play u v both = and_parts (list_all play u) (list_all play v) (sym
 in_play-append : (play : ℕ → Bool) (u v : List ℕ) → IsInPlay play u → IsInPlay play v → IsInPlay play (u ++ v)
 in_play-append play u v left right = list_all-append play u v ∙ and_from (list_all play u) (list_all play v) left right
 
-replaced_in_play : (play : ℕ → Bool) (g : Rule) → IsPolyInPlay play g.poly.terms → (l r : List ℕ) → IsInPlay play (l ++ (g.lead ++ r)) → AllByRecursion (λ t. IsInPlay play (l ++ (t.1 ++ r))) g.poly.terms
+replaced_in_play : (play : ℕ → Bool) (g : Rule) → IsPolyInPlay play g.poly.terms → (l r : List ℕ) → IsInPlay play (l ++ (g.lead ++ r)) → All (λ t. IsInPlay play (l ++ (t.1 ++ r))) g.poly.terms
 replaced_in_play play g in_play l r whole =
     let outer = in_play-parts play l (g.lead ++ r) whole in
     let inner = in_play-parts play g.lead r outer.1 in
     let words = words_of (IsInPlay play) g.poly.terms g.poly.canonical.shaped in_play.at in
-    each_weaker (λ t. IsInPlay play t.1) (λ t. IsInPlay play (l ++ (t.1 ++ r))) (λ t held. in_play-append play l (t.1 ++ r) outer.0 (in_play-append play t.1 r held inner.1)) g.poly.terms words
+    All-weaker (λ (t : Term). IsInPlay play t.1) (λ (t : Term). IsInPlay play (l ++ (t.1 ++ r))) (λ t held. in_play-append play l (t.1 ++ r) outer.0 (in_play-append play t.1 r held inner.1)) g.poly.terms words
 
 pub letters_are_kept : LettersAreKept
 letters_are_kept play compare rules p steps s in_play shaped p_in_play ends =

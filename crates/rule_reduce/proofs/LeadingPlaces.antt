@@ -1,6 +1,7 @@
 -- The place of the leading term.
 use Rattle.std.proofs.Common.{◌≡◌, ℕ, ◌<◌, List, [], ◌∷◌, length, drop, get_or, slice_get, Some, refl, sym, ap, ◌∙◌, arith}
-use Rattle.std.specs.List.{AllByRecursion}
+use Rattle.std.specs.List.{All}
+use Rattle.std.proofs.lemmas.List.Elements.{All-tail}
 use Rattle.std.specs.declared.cmp.Ordering.TheVariants.{Greater}
 use Rattle.std.proofs.lemmas.List.{drop_all}
 use Rattle.std.proofs.lemmas.Option.{slice_get-get_or}
@@ -25,10 +26,10 @@ leading_at compare (t ∷ p) best inside is_best =
     ap Some (sym (is_best t) ∙ here) ∙ sym (slice_get-get_or (t ∷ p) best t inside)
 
 -- in the canonical order the first of descending terms leads
-first_stays : (compare : Compare) → IsPlain compare → (t : Term) (p : List Term) → AllByRecursion (λ u. word_cmp t.1 u.1 ≡ Greater) p → greatest_from compare t p ≡ t
+first_stays : (compare : Compare) → IsPlain compare → (t : Term) (p : List Term) → All (λ u. word_cmp t.1 u.1 ≡ Greater) p → greatest_from compare t p ≡ t
 first_stays compare plain t [] below = refl
 first_stays compare plain t (u ∷ p) below =
-    ap (λ o. greatest_from compare (by_order o t t u) p) (plain u.1 t.1 ∙ word_cmp-turned_back t.1 u.1 below.0) ∙ first_stays compare plain t p below.1
+    ap (λ o. greatest_from compare (by_order o t t u) p) (plain u.1 t.1 ∙ word_cmp-turned_back t.1 u.1 (below 0 u (omega arith))) ∙ first_stays compare plain t p (All-tail (λ (v : Term). word_cmp t.1 v.1 ≡ Greater) u p below)
 
 pub first_leads : (compare : Compare) → IsPlain compare → (p : List Term) → Descends p → 0 < length p → leading_term compare p ≡ slice_get p 0
 first_leads compare plain [] descends some = absurd (omega arith)

@@ -1,7 +1,6 @@
 -- The rule of a polynomial.
-use Rattle.std.proofs.Common.{◌≡◌, ℕ, zero, suc, ℤ, pos, ◌<◌, ◌<ℤ◌, List, [], ◌∷◌, length, slice_get, Option, Some, IsSomeAnd, ◌∙◌, arith, subst}
-use Rattle.std.specs.List.{All, AllByRecursion}
-use Rattle.std.proofs.lemmas.List.Elements.{recursion_from_All}
+use Rattle.std.proofs.Common.{◌≡◌, ℕ, ℤ, pos, ◌<◌, ◌<ℤ◌, List, [], ◌∷◌, length, slice_get, Some, IsSomeAnd, ◌∙◌, arith, subst}
+use Rattle.std.specs.List.{All}
 use Rattle.definitions.specs.Poly.{Term}
 use Rattle.std.specs.Int.{IsNonNegative}
 use Rattle.std.specs.Int.RustNames.{unsigned_abs}
@@ -14,23 +13,12 @@ use Rattle.word_orders.specs.Admissible.{Compare}
 use Rattle.nc_polynomial.specs.declared.poly.Poly.{Poly}
 use Rattle.rule_reduce.specs.Leading.{leading_term}
 use Rattle.rule_reduce.specs.RuleLists.{IsRule}
+use Rattle.rule_reduce.proofs.Numbers.{all_at}
 
 -- a polynomial with a leading term has a term
 pub has_terms : (compare : Compare) (p : List Term) (P : Term → Type 0) → IsSomeAnd (leading_term compare p) P → 0 < length p
 has_terms compare [] P some = absurd some
 has_terms compare (t ∷ p) P some = omega arith
-
--- what holds of each term holds of the one at a place
-term_at : (P : Term → Type 0) (p : List Term) (n : ℕ) (t : Term) → slice_get p n ≡ Some t → AllByRecursion P p → P t
-term_at P [] n t is each = absurd (cc)
-term_at P (u ∷ p) zero t is each = subst P (same u t is) each.0
-  where
-    same : (x y : Term) → ◌≡◌ {A = Option Term} (Some x) (Some y) → x ≡ y
-    same x y k = cc
-term_at P (u ∷ p) (suc n) t is each = term_at P p n t is each.1
-
-pub all_at : (P : Term → Type 0) (p : List Term) (n : ℕ) (t : Term) → slice_get p n ≡ Some t → All P p → P t
-all_at P p n t is each = term_at P p n t is (recursion_from_All P p each)
 
 pub rule_is : (letters : ℕ) (compare : Compare) (poly : Poly) (n : ℕ) (leading : ℤ) (lead : List ℕ) → leading_term compare poly.terms ≡ slice_get poly.terms n → slice_get poly.terms n ≡ Some (leading, lead)
     → IsSomeAnd (leading_term compare poly.terms) (λ t. pos 0 <ℤ t.0) → All (λ t. 0 < length t.1) poly.terms → All (λ t. IsOver letters t.1) poly.terms

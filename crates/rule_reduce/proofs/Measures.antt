@@ -1,6 +1,7 @@
 -- Words by their measures: which is greater, and where no term behind the choice so far can be better.
 use Rattle.std.proofs.Common.{◌≡◌, ◌<◌, ◌≤◌, inl, inr, ℕ, Bool, List, [], ◌∷◌, Option, Some, None, IfSome, IsSome, IsSomeAnd, IsTrue, refl, sym, ap, ◌∙◌, arith}
-use Rattle.std.specs.List.{AllByRecursion}
+use Rattle.std.specs.List.{All}
+use Rattle.std.proofs.lemmas.List.Elements.{All-tail}
 use Rattle.std.specs.Option.{option_map}
 use Rattle.std.proofs.lemmas.Bool.{false≢true}
 use Rattle.std.proofs.lemmas.Cmp.{ranked}
@@ -46,16 +47,17 @@ passes_greater compare measure by_measure last w is_above above (inr (upper, sam
 
 module _ (compare : Compare) (measure : List ℕ → ℕ) (by_measure : (u v : List ℕ) → compare u v ≡ measured_cmp measure u v) (entries : List (List ℕ × ℕ)) where
   -- where the words above the last one cannot be reduced, a choice with its measure is better than all terms canonically below it
-  choice_stays : (last : List ℕ) (b : Choice) (p : List Term) → measure last ≤ measure b.word → AllByRecursion (λ t. IsSettled compare entries last t.1) p
-      → AllByRecursion (λ t. word_cmp b.word t.1 ≡ Greater) p → choice_from compare entries (Some b) p ≡ Some b
+  choice_stays : (last : List ℕ) (b : Choice) (p : List Term) → measure last ≤ measure b.word → All (λ t. IsSettled compare entries last t.1) p
+      → All (λ t. word_cmp b.word t.1 ≡ Greater) p → choice_from compare entries (Some b) p ≡ Some b
   choice_stays last b [] reached settled behind = refl
   choice_stays last b (t ∷ p) reached settled behind =
-      ap (λ best. choice_from compare entries best p) (stays (compare t.1 b.word) refl) ∙ choice_stays last b p reached settled.1 behind.1
+      ap (λ best. choice_from compare entries best p) (stays (compare t.1 b.word) refl)
+      ∙ choice_stays last b p reached (All-tail (λ (u : Term). IsSettled compare entries last u.1) t p settled) (All-tail (λ (u : Term). word_cmp b.word u.1 ≡ Greater) t p behind)
     where
       unmatched : compare t.1 b.word ≡ Greater → match_of entries t.1 ≡ None
       unmatched greater =
-          let more = greater_only_if measure t.1 b.word behind.0 (sym (by_measure t.1 b.word) ∙ greater) in
-          settled.0 (by_measure t.1 last ∙ greater_if measure t.1 last (omega (arith, reached, more)))
+          let more = greater_only_if measure t.1 b.word (behind 0 t (omega arith)) (sym (by_measure t.1 b.word) ∙ greater) in
+          settled 0 t (omega arith) (by_measure t.1 last ∙ greater_if measure t.1 last (omega (arith, reached, more)))
 
       stays : (o : Ordering) → compare t.1 b.word ≡ o → by_order o (Some b) (Some b) (choice_or t (match_of entries t.1) (Some b)) ≡ Some b
       stays Less e = refl
@@ -64,8 +66,8 @@ module _ (compare : Compare) (measure : List ℕ → ℕ) (by_measure : (u v : L
 
   -- the same where there may be no last word, and no choice
   pub ends_search : {X : Type 0} (word : X → List ℕ) (last : Option X) (best : Option Choice) (p : List Term)
-      → IsSomeAnd (option_map (λ x. measure (word x)) last) (λ m. IsSomeAnd best (λ b. m ≤ measure b.word)) → IfSome last (λ x. AllByRecursion (λ t. IsSettled compare entries (word x) t.1) p)
-      → IfSome best (λ b. AllByRecursion (λ t. word_cmp b.word t.1 ≡ Greater) p) → choice_from compare entries best p ≡ best
+      → IsSomeAnd (option_map (λ x. measure (word x)) last) (λ m. IsSomeAnd best (λ b. m ≤ measure b.word)) → IfSome last (λ x. All (λ t. IsSettled compare entries (word x) t.1) p)
+      → IfSome best (λ b. All (λ t. word_cmp b.word t.1 ≡ Greater) p) → choice_from compare entries best p ≡ best
   ends_search word None best p reached settled behind = absurd reached
   ends_search word (Some x) None p reached settled behind = absurd reached
   ends_search word (Some x) (Some b) p reached settled behind = choice_stays (word x) b p reached settled behind

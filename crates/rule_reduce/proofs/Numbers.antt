@@ -1,7 +1,8 @@
 -- Rules by their numbers.
-use Rattle.std.proofs.Common.{◌≡◌, ℕ, zero, suc, ◌+◌, ◌<◌, ◌≤◌, List, [], ◌∷◌, ◌++◌, length, take, get_or, slice_get, Option, Some, None, refl, ap, ◌∙◌, arith, subst}
-use Rattle.std.specs.List.{All, AllByRecursion}
-use Rattle.std.proofs.lemmas.List.Elements.{All-from_recursion, recursion_from_All}
+use Rattle.std.proofs.Common.{◌≡◌, ℕ, zero, suc, ◌+◌, ◌<◌, ◌≤◌, List, [], ◌∷◌, ◌++◌, length, take, get_or, slice_get, Option, Some, None, refl, sym, ap, ◌∙◌, arith, subst}
+use Rattle.std.specs.List.{All}
+use Rattle.std.proofs.lemmas.List.Elements.{All-nil, All-cons}
+use Rattle.std.proofs.lemmas.Option.{same_Some, slice_get_within, slice_get-get_or}
 use Rattle.definitions.specs.Combination.{generator_at}
 use Rattle.rule_reduce.specs.declared.rule.Rule.{Rule}
 use Rattle.rule_reduce.specs.RuleLists.{rule_at, polynomials_of, entries_from, entries_of}
@@ -52,22 +53,17 @@ no_longer (suc count) [] = omega arith
 no_longer (suc count) (g ∷ rules) = let rest = no_longer count rules in omega (arith, rest)
 
 -- all numbers are below that one
-below_from : (n : ℕ) (rules : List Rule) (m : ℕ) → n + length rules ≤ m → AllByRecursion (λ e. e.1 < m) (entries_from n rules)
-below_from n [] m enough = tt
-below_from n (f ∷ rules) m enough = (omega arith, below_from (suc n) rules m (omega arith))
+below_from : (n : ℕ) (rules : List Rule) (m : ℕ) → n + length rules ≤ m → All (λ e. e.1 < m) (entries_from n rules)
+below_from n [] m enough = All-nil (λ (e : List ℕ × ℕ). e.1 < m)
+below_from n (f ∷ rules) m enough = All-cons (λ (e : List ℕ × ℕ). e.1 < m) (f.lead, n) (entries_from (suc n) rules) (omega arith) (below_from (suc n) rules m (omega arith))
 
 pub entries_of-below : (rules : List Rule) (m : ℕ) → length rules < m → All (λ e. e.1 < m) (entries_of rules)
-entries_of-below rules m enough = All-from_recursion (λ e. e.1 < m) (entries_of rules) (below_from 1 rules m (omega arith))
+entries_of-below rules m enough = below_from 1 rules m (omega arith)
 
 -- what holds of each rule holds of the one with a number
-slice_get-all : (P : Rule → Type 0) (rules : List Rule) (n : ℕ) (g : Rule) → slice_get rules n ≡ Some g → AllByRecursion P rules → P g
-slice_get-all P [] n g is each = absurd (cc)
-slice_get-all P (f ∷ rules) zero g is each = subst P (same f g is) each.0
-  where
-    same : (x y : Rule) → ◌≡◌ {A = Option Rule} (Some x) (Some y) → x ≡ y
-    same x y k = cc
-slice_get-all P (f ∷ rules) (suc n) g is each = slice_get-all P rules n g is each.1
+pub all_at : {X : Type 0} (P : X → Type 0) (xs : List X) (n : ℕ) (x : X) → slice_get xs n ≡ Some x → All P xs → P x
+all_at P xs n x is each = let inside = slice_get_within xs n x is in subst P (same_Some (get_or xs n x) x (sym (slice_get-get_or xs n x inside) ∙ is)) (each n x inside)
 
 pub rule_at-all : (P : Rule → Type 0) (rules : List Rule) (n : ℕ) (g : Rule) → rule_at rules n ≡ Some g → All P rules → P g
 rule_at-all P rules zero g is each = absurd (cc)
-rule_at-all P rules (suc n) g is each = slice_get-all P rules n g is (recursion_from_All P rules each)
+rule_at-all P rules (suc n) g is each = all_at P rules n g is each

@@ -1,7 +1,7 @@
 -- Each row is a multiple of a rule.
 use Rattle.std.proofs.Common.{◌≡◌, ℕ, zero, suc, ◌<◌, ◌≤◌, List, length, Some, arith}
-use Rattle.std.specs.List.{AllByRecursion}
-use Rattle.std.proofs.lemmas.List.Elements.{All-from_recursion}
+use Rattle.std.specs.List.{All}
+use Rattle.std.proofs.lemmas.List.Elements.{All-nil}
 use Rattle.std.proofs.lemmas.Option.{slice_get_within}
 use Rattle.traced_rows.specs.declared.Row.{Row}
 use Rattle.rule_reduce.specs.declared.rule.Rule.{Rule}
@@ -19,7 +19,6 @@ number_within rules (suc n) g has = let within = slice_get_within rules n g has 
 
 pub rows_are_by_rules : RowsAreByRules
 rows_are_by_rules compare rules p steps s ends =
-    All-from_recursion (λ (row : Row). IsByRule (length rules) row.from) s.rows
-    (reduction_keeps (λ t. AllByRecursion (λ row. IsByRule (length rules) row.from) t.rows) compare rules
+    (reduction_keeps (λ t. All (λ row. IsByRule (length rules) row.from) t.rows) compare rules
     (λ c g t chosen has before. all-multiplied (λ row. IsByRule (length rules) row.from) (λ by row held. held) (move_of c g).by t.rows (move_row (move_of c g)) before (number_within rules c.number g has))
-    steps steps (start_of p) s ends tt).kept
+    steps steps (start_of p) s ends (All-nil (λ (row : Row). IsByRule (length rules) row.from))).kept

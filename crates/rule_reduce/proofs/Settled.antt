@@ -1,8 +1,7 @@
 -- A step brings in no word above the one that it reduces, so the words above that one still have no match.
-use Rattle.std.proofs.Common.{◌≡◌, inl, inr, ℕ, ◌+◌, List, [], ◌∷◌, ◌++◌, length, take, drop, Option, Some, None, IfSome, Ok, Bor, sym, ap, ◌∙◌, subst}
+use Rattle.std.proofs.Common.{◌≡◌, inl, inr, ℕ, ◌+◌, List, ◌++◌, length, get_or, take, drop, Option, Some, None, IfSome, Ok, Bor, sym, ap, ◌∙◌, subst}
 use Rattle.std.specs.Option.{option_copied}
-use Rattle.std.specs.List.{All, AllByRecursion}
-use Rattle.std.proofs.lemmas.List.Elements.{All-from_recursion}
+use Rattle.std.specs.List.{All}
 use Rattle.std.proofs.lemmas.Option.{same_Some}
 use Rattle.word_core.specs.Occurrence.{OccursAt}
 use Rattle.definitions.specs.Poly.{Term}
@@ -30,7 +29,7 @@ module _ (letters : ℕ) (compare : Compare) (rank : List ℕ → List ℕ) (law
   Settled = IsSettled compare (entries_of rules) c.word
 
   abbrev AllSettled : State → Type 0
-  AllSettled s = AllByRecursion (λ t. Settled t.1) s.rest
+  AllSettled s = All (λ t. Settled t.1) s.rest
 
   -- words around two words keep their order
   around_at_most : (l u v r : List ℕ) → IsAtMost compare u v → IsAtMost compare (l ++ (u ++ r)) (l ++ (v ++ r))
@@ -40,17 +39,15 @@ module _ (letters : ℕ) (compare : Compare) (rank : List ℕ → List ℕ) (law
   at_most_settled : (w : List ℕ) → IsAtMost compare w c.word → Settled w
   at_most_settled w most = λ greater. absurd (at_most-greater letters compare rank laws w c.word most greater)
 
-  around_settled : (l r : List ℕ) (lead : List ℕ) → c.word ≡ l ++ (lead ++ r) → (p : List Term) → AllByRecursion (λ t. IsAtMost compare t.1 lead) p → AllByRecursion (λ t. Settled (l ++ (t.1 ++ r))) p
-  around_settled l r lead splits [] below = tt
-  around_settled l r lead splits (t ∷ p) below = (
-    at_most_settled (l ++ (t.1 ++ r)) (subst (IsAtMost compare (l ++ (t.1 ++ r))) (sym splits) (around_at_most l t.1 lead r below.0)),
-    around_settled l r lead splits p below.1,
-  )
+  around_settled : (l r : List ℕ) (lead : List ℕ) → c.word ≡ l ++ (lead ++ r) → (p : List Term) → All (λ t. IsAtMost compare t.1 lead) p → All (λ t. Settled (l ++ (t.1 ++ r))) p
+  around_settled l r lead splits p below i t k =
+      let w = (get_or p i t).1 in
+      at_most_settled (l ++ (w ++ r)) (subst (IsAtMost compare (l ++ (w ++ r))) (sym splits) (around_at_most l w lead r (below i t k)))
 
   pub step_settles : All (IsRule letters compare) rules → (s t : State) → choice_of compare (entries_of rules) s.rest ≡ Some c → step_result rules c s ≡ Ok t → All (λ u. Settled u.1) t.rest
   step_settles are_rules s t chosen stepped =
       let one = found compare rules s.rest c chosen in
-      All-from_recursion (λ u. Settled u.1) t.rest (step_keeps AllSettled rules c (keeps one.match.rule one.match.numbered one.match.leftmost.occurs) s t stepped (none_above letters compare rank laws rules s.rest c chosen))
+      step_keeps AllSettled rules c (keeps one.match.rule one.match.numbered one.match.leftmost.occurs) s t stepped (none_above letters compare rank laws rules s.rest c chosen)
     where
       keeps : (f : Rule) → rule_at rules c.number ≡ Some f → OccursAt c.word f.lead c.place → (g : Rule) (u : State) → rule_at rules c.number ≡ Some g → AllSettled u → AllSettled (moved (move_of c g) u)
       keeps f numbered occurs g u has settled =

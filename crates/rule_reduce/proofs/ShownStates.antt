@@ -1,7 +1,8 @@
 -- What a store keeps of the rows of a state tells of the state.
-use Rattle.std.proofs.Common.{◌≡◌, ℤ, ◌*ℤ◌, List, [], ◌∷◌, map, Some, None, Result, Ok, Err, IfOk, MatchResult, refl, sym, ap, subst, ◌∙◌}
-use Rattle.std.specs.List.{All, AllByRecursion}
-use Rattle.std.proofs.lemmas.List.Elements.{All-from_recursion, recursion_from_All}
+use Rattle.std.proofs.Common.{◌≡◌, ℤ, ◌*ℤ◌, List, [], ◌∷◌, length, map, Some, None, Result, Ok, Err, IfOk, MatchResult, refl, sym, ap, subst, ◌∙◌, arith}
+use Rattle.std.specs.List.{All}
+use Rattle.std.proofs.lemmas.List.Elements.{All-map}
+use Rattle.std.proofs.lemmas.List.{get_or-map, length-map}
 use Rattle.coef_int.specs.declared.Overflow.{Overflow}
 use Rattle.coef_int.specs.Range.{IsCoefficient}
 use Rattle.coef_int.specs.Operations.{product_of, first_overflow}
@@ -21,18 +22,12 @@ coefficients-multiplied [] by = refl
 coefficients-multiplied (row ∷ rows) by = ap (λ zs. (row.coef *ℤ by) ∷ zs) (coefficients-multiplied rows by)
 
 pub all-coefficients : (rows : List Row) → All IsCoefficient (coefficients rows) → All (λ row. IsCoefficient row.coef) rows
-all-coefficients rows each = All-from_recursion (λ (row : Row). IsCoefficient row.coef) rows (go rows (recursion_from_All IsCoefficient (coefficients rows) each))
-  where
-    go : (rows : List Row) → AllByRecursion IsCoefficient (coefficients rows) → AllByRecursion (λ row. IsCoefficient row.coef) rows
-    go [] each = tt
-    go (row ∷ rows) each = (each.0, go rows each.1)
+all-coefficients rows each i row k =
+    let size : length (coefficients rows) ≡ length rows = length-map rows (λ (r : Row). r.coef) in
+    subst IsCoefficient (get_or-map (λ (r : Row). r.coef) rows i row row.coef k) (each i row.coef (omega arith))
 
 pub coefficients-all : (rows : List Row) → All (λ row. IsCoefficient row.coef) rows → All IsCoefficient (coefficients rows)
-coefficients-all rows each = All-from_recursion IsCoefficient (coefficients rows) (go rows (recursion_from_All (λ (row : Row). IsCoefficient row.coef) rows each))
-  where
-    go : (rows : List Row) → AllByRecursion (λ row. IsCoefficient row.coef) rows → AllByRecursion IsCoefficient (coefficients rows)
-    go [] each = tt
-    go (row ∷ rows) each = (each.0, go rows each.1)
+coefficients-all rows each = All-map IsCoefficient (λ (row : Row). row.coef) rows each
 
 module _ {S : Type 0} (of : List Row → S) (numbers : S → List ℤ) (of_rows : (rows : List Row) → numbers (of rows) ≡ coefficients rows) (p : Progress S) (rows : List Row) (kept : p.rows ≡ of rows) where
   numbers_are : numbers p.rows ≡ coefficients rows

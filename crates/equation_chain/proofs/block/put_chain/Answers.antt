@@ -1,15 +1,15 @@
 use Rattle.std.proofs.Common.{rules, ◌≡◌, ◌++◌, List, ℕ, codes, sym, subst, ap, ◌∙◌}
 use Rattle.std.specs.List.{All}
-use Rattle.std.proofs.lemmas.List.Elements.{recursion_from_All}
+use Rattle.std.proofs.lemmas.List.Elements.{All-map}
+use Rattle.word_core.specs.Letters.{IsOver}
 use Rattle.nc_polynomial.specs.declared.poly.Poly.{Poly}
+use Rattle.quiver.specs.Declarations.{letter_count}
 use Rattle.traced_rows.specs.declared.certificate.CertRow.{CertRow}
 use Rattle.adjoint_rules.specs.Problem.{polynomials}
-use Rattle.certificate_text.specs.Evidence.{IsRowOver}
 use Rattle.certificate_text.specs.Written.{opening_text}
 use Rattle.equation_chain.specs.Spelled.{lines_spelled, IsStepSpelled, IsLineSpelled}
 use Rattle.equation_chain.specs.Written.{lines_text}
 use Rattle.equation_chain.proofs.Spelled.{step_spelled, line_spelled, lines_are}
-use Rattle.equation_chain.proofs.Letters.{lines_listed}
 use Rattle.equation_chain.proofs.Blocks.{chain_put}
 use Rattle.equation_chain.proofs.block.put_chain.Goals as goal
 
@@ -33,7 +33,8 @@ returns c =
     let lines : c.as_slice-2.result.now ≡ chain.lines = search rules in
     let opening : c.put_opening.new.out.items ≡ before ++ opening_text (codes "chain 1\nclaim ") chain.claim chain.denominator = search rules in
     let spelled : lines_spelled texts chain.steps (polynomials chain.lines) ≡ lines_text ds chain.steps (polynomials chain.lines) =
-    lines_are ds texts c.in_ok-texts.ensures chain.steps (polynomials chain.lines) (recursion_from_All (IsRowOver ds) chain.steps c.requires.steps) (lines_listed ds chain.lines c.requires.lines) in
+    lines_are ds texts c.in_ok-texts.ensures chain.steps (polynomials chain.lines) c.requires.steps
+    (All-map (λ l. All (λ t. IsOver (letter_count ds) t.1) l) (λ p. p.terms) chain.lines c.requires.lines) in
     let put : c.put_lines.new.out.items ≡ c.put_opening.new.out.items ++ lines_text ds chain.steps (polynomials chain.lines) = c.in_ok-put_lines.ensures ∙ ap (λ (t : List ℕ). c.put_opening.new.out.items ++ t) (ap (λ (l : List CertRow). lines_spelled texts l (polynomials c.as_slice-2.result.now)) steps ∙ ap (λ (l : List Poly). lines_spelled texts chain.steps (polynomials l)) lines ∙ spelled) in
     chain_put c.put.result before (opening_text (codes "chain 1\nclaim ") chain.claim chain.denominator) (lines_text ds chain.steps (polynomials chain.lines)) (codes "end") c.put_opening.new.out.items c.put_lines.new.out.items c.put.new.out.items
     opening put c.put.ensures

@@ -1,7 +1,5 @@
 use Rattle.std.proofs.Common.{rules, arith, ◌≡◌, Some, Err, true, false}
-use Rattle.std.proofs.lemmas.List.Elements.{recursion_from_All}
 use Rattle.coef_int.specs.Range.{IsCoefficient}
-use Rattle.traced_rows.specs.declared.certificate.CertRow.{CertRow}
 use Rattle.equation_chain.specs.Steps.{is_step, generator_of}
 use Rattle.equation_chain.specs.Made.{GoesOn}
 use Rattle.equation_chain.proofs.Numbered.{poly_named, poly_absent}
@@ -14,7 +12,7 @@ is_step-requires c = poly_named c.args.problem.now.generators c.at-row.result.no
 
 pub line_behind-requires : goal.line_behind-requires
 line_behind-requires c =
-    all_there (λ r. IsCoefficient r.coef) c.args.certificate.now.rows c.args.place c.at-row.result.now (recursion_from_All (λ (r : CertRow). IsCoefficient r.coef) c.args.certificate.now.rows c.requires.coefficients) c.at-row.ensures
+    all_there (λ r. IsCoefficient r.coef) c.args.certificate.now.rows c.args.place c.at-row.result.now c.requires.coefficients c.at-row.ensures
 
 -- the row names no generator
 none : (c : goal.In_default) → is_step c.args.problem.now c.args.certificate.now.claim c.at-row.result.now ≡ false

@@ -1,5 +1,4 @@
 use Rattle.std.proofs.Common.{rules, ◌≡◌, ◌+◌, ◌++◌, ℕ, List, Some, false, sym, subst, ap, ◌∙◌}
-use Rattle.std.proofs.lemmas.List.Elements.{recursion_from_All}
 use Rattle.definitions.specs.Poly.{Term}
 use Rattle.certificate_text.specs.Evidence.{IsRowOver}
 use Rattle.equation_chain.specs.Steps.{is_step}
@@ -21,7 +20,7 @@ goes c = c.in_ok-next.ensures.line c.at-row.result.now c.at-row.ensures
 over : (c : In_ok-next) → IsRowOver c.args.problem.now.parts.quiver c.at-row.result.now
 over c =
     let ds = c.args.problem.now.parts.quiver in
-    all_there (IsRowOver ds) c.args.certificate.now.rows c.args.place c.at-row.result.now (recursion_from_All (IsRowOver ds) c.args.certificate.now.rows c.requires.checkable.letters) c.at-row.ensures
+    all_there (IsRowOver ds) c.args.certificate.now.rows c.args.place c.at-row.result.now c.requires.checkable.letters c.at-row.ensures
 
 -- the row is no step
 pub returns-in-None-clause-line : goal.returns-in-None-clause-line
@@ -48,7 +47,7 @@ spelled : (c : In-Some) → IsStepSpelled c.args.texts.now c.at-row.result.now
 spelled c =
     let ds = c.args.problem.now.parts.quiver in
     step_spelled ds c.args.texts.now c.requires.texts c.at-row.result.now
-    (all_there (IsRowOver ds) c.args.certificate.now.rows c.args.place c.at-row.result.now (recursion_from_All (IsRowOver ds) c.args.certificate.now.rows c.requires.checkable.letters) c.at-row.ensures)
+    (all_there (IsRowOver ds) c.args.certificate.now.rows c.args.place c.at-row.result.now c.requires.checkable.letters c.at-row.ensures)
 
 pub put_use-requires-clause-left : goal.put_use-requires-clause-left
 put_use-requires-clause-left c = (spelled (goal.at.put_use-requires-clause-left c).In-Some).left

@@ -1,8 +1,8 @@
 use Rattle.std.proofs.Common.{rules, ◌≡◌, ℕ, ◌+◌, ◌<◌, ◌≤◌, List, ◌∷◌, length, take, drop, get_or, nat_lt, Bool, Option, Some, None, IsTrue, IfSome, IsSomeAnd, true, sym, ap, subst, ◌∙◌, arith}
-use Rattle.std.specs.List.{All, AllByRecursion}
+use Rattle.std.specs.List.{All}
 use Rattle.std.specs.declared.cmp.Ordering.TheVariants.{Greater}
 use Rattle.std.proofs.lemmas.List.{get_or-take, length-take}
-use Rattle.std.proofs.lemmas.List.Elements.{recursion_from_All, All-drop}
+use Rattle.std.proofs.lemmas.List.Elements.{All-drop, All-tail}
 use Rattle.std.proofs.lemmas.Option.{IfSome_then}
 use Rattle.coef_int.specs.Range.{IsCoefficient}
 use Rattle.definitions.specs.Poly.{Term}
@@ -42,7 +42,7 @@ in_front p t i n w all inside is front =
     subst (λ (u : Term). word_cmp u.1 w ≡ Greater) (get_or-take n p i t front ∙ sym is) (all i t there)
 
 abbrev IsBehind : List Term → Choice → Type 0
-IsBehind p c = AllByRecursion (λ t. word_cmp c.word t.1 ≡ Greater) p
+IsBehind p c = All (λ t. word_cmp c.word t.1 ≡ Greater) p
 
 -- a term whose measure passes that of the last word is settled
 passed : {X : Type 0} (compare : Compare) (measure : List ℕ → ℕ) → ((u v : List ℕ) → compare u v ≡ measured_cmp measure u v) → (entries : List (List ℕ × ℕ)) (word : X → List ℕ) (last : Option X) (t : Term) (is_above : Bool)
@@ -76,7 +76,7 @@ improve-better-requires-clause-behind g c =
     let i = c.loop-place.place in
     let t : Term = c.index-terms-place.result in
     let back : drop i p ≡ t ∷ drop (i + 1) p = drop_next p i t c.loop-place-test.true c.index-terms-place.is in
-    IfSome_then c.loop-place.best c.loop-place.invariant.behind (λ b below. (subst (λ q. IsBehind q b) back below).0)
+    IfSome_then c.loop-place.best c.loop-place.invariant.behind (λ b below. subst (λ q. IsBehind q b) back below 0 t (omega arith))
 
 pub improve-better-requires-clause-short : goal.improve-better-requires-clause-short
 improve-better-requires-clause-short g c =
@@ -120,7 +120,7 @@ module _ (letters : ℕ) (p : List Term) (t : Term) (i : ℕ) (inside : i < leng
   next_behind compare entries best next exact descends behind =
       let back : drop i p ≡ t ∷ drop (i + 1) p = drop_next p i t inside is in
       kept_by (IsBehind (drop (i + 1) p)) compare entries t best next exact (λ m. (subst Descends back descends).0)
-      (IfSome_then best behind (λ b below. (subst (λ q. IsBehind q b) back below).1))
+      (IfSome_then best behind (λ b below. All-tail (λ (u : Term). word_cmp b.word u.1 ≡ Greater) t (drop (i + 1) p) (subst (λ q. IsBehind q b) back below)))
 
 pub loop-place-preserved : goal.loop-place-preserved
 loop-place-preserved g c =
@@ -190,7 +190,7 @@ returns-then-is_last-clause-exact g c =
     let exact : next ≡ better_choice compare entries c.loop-place.best t = search rules in
     let behind = next_behind 0 p t i inside is c.requires.canonical compare entries c.loop-place.best next exact at.descends at.behind in
     let settled = IfSome_then c.args.last c.requires.settled
-    (λ w all. recursion_from_All (λ u. IsSettled compare entries w.now u.1) (drop (i + 1) p) (All-drop (λ u. IsSettled compare entries w.now u.1) (i + 1) p all)) in
+    (λ w all. All-drop (λ u. IsSettled compare entries w.now u.1) (i + 1) p all) in
     let bound : c.last_measure-bound.result ≡ option_map (λ w. measure w.now) c.args.last = search rules in
     let told : IsSomeAnd c.last_measure-bound.result (λ m. IsSomeAnd next (λ b. m ≤ measure b.word)) = search rules in
     let reached = subst (λ o. IsSomeAnd o (λ m. IsSomeAnd next (λ b. m ≤ measure b.word))) bound told in
@@ -223,8 +223,7 @@ returns-then-is_canonical-clause-in_range g c =
     let yes : g.O.WordOrder.is_plain order ≡ true = search rules in
     let plain = plain_order compare (g.O.WordOrder.measure_of order) (λ u v. g.met.O.WordOrder.by_measure order u v) (λ w. g.met.O.WordOrder.unmeasured order w yes) in
     let p = c.args.terms.now in
-    let each : AllByRecursion (λ t. (m : ℕ × ℕ) → IsCoefficient t.0) p = recursion_from_All (λ t. (m : ℕ × ℕ) → IsCoefficient t.0) p (λ k d inside m. c.requires.canonical.shaped.in_range k d inside) in
-    subst (λ (o : Option Choice). IfSome o (λ b. IsCoefficient b.coefficient)) (sym (c.first_choice.ensures compare plain)) (holds-choice compare entries (λ b. IsCoefficient b.coefficient) p None each tt)
+    subst (λ (o : Option Choice). IfSome o (λ b. IsCoefficient b.coefficient)) (sym (c.first_choice.ensures compare plain)) (holds-choice compare entries (λ b. IsCoefficient b.coefficient) p None (λ k d inside m. c.requires.canonical.shaped.in_range k d inside) tt)
 
 pub returns-then-is_canonical-clause-over : goal.returns-then-is_canonical-clause-over
 returns-then-is_canonical-clause-over g c =
@@ -235,8 +234,7 @@ returns-then-is_canonical-clause-over g c =
     let plain = plain_order compare (g.O.WordOrder.measure_of order) (λ u v. g.met.O.WordOrder.by_measure order u v) (λ w. g.met.O.WordOrder.unmeasured order w yes) in
     let p = c.args.terms.now in
     let letters = g.O.WordOrder.letters order in
-    let each : AllByRecursion (λ t. (m : ℕ × ℕ) → IsOver letters t.1) p = recursion_from_All (λ t. (m : ℕ × ℕ) → IsOver letters t.1) p (λ k d inside m. c.requires.over k d inside) in
-    subst (λ (o : Option Choice). IfSome o (λ b. IsOver letters b.word)) (sym (c.first_choice.ensures compare plain)) (holds-choice compare entries (λ b. IsOver letters b.word) p None each tt)
+    subst (λ (o : Option Choice). IfSome o (λ b. IsOver letters b.word)) (sym (c.first_choice.ensures compare plain)) (holds-choice compare entries (λ b. IsOver letters b.word) p None (λ k d inside m. c.requires.over k d inside) tt)
 
 pub returns-then-is_canonical-clause-short : goal.returns-then-is_canonical-clause-short
 returns-then-is_canonical-clause-short g c =
@@ -247,6 +245,4 @@ returns-then-is_canonical-clause-short g c =
     let plain = plain_order compare (g.O.WordOrder.measure_of order) (λ u v. g.met.O.WordOrder.by_measure order u v) (λ w. g.met.O.WordOrder.unmeasured order w yes) in
     let p = c.args.terms.now in
     let few : (n : ℕ) → n ≤ word_limit → n ≤ measured_letters = λ n short. omega (arith, short) in
-    let each : AllByRecursion (λ t. (m : ℕ × ℕ) → length t.1 ≤ measured_letters) p =
-    recursion_from_All (λ t. (m : ℕ × ℕ) → length t.1 ≤ measured_letters) p (λ k d inside m. few (length (get_or p k d).1) (c.requires.canonical.short k d inside)) in
-    subst (λ (o : Option Choice). IfSome o (λ b. length b.word ≤ measured_letters)) (sym (c.first_choice.ensures compare plain)) (holds-choice compare entries (λ b. length b.word ≤ measured_letters) p None each tt)
+    subst (λ (o : Option Choice). IfSome o (λ b. length b.word ≤ measured_letters)) (sym (c.first_choice.ensures compare plain)) (holds-choice compare entries (λ b. length b.word ≤ measured_letters) p None (λ k d inside m. few (length (get_or p k d).1) (c.requires.canonical.short k d inside)) tt)

@@ -1,5 +1,5 @@
 use Rattle.std.proofs.Common.{◌≡◌, ◌≤◌, length, drop, IfSome}
-use Rattle.std.specs.List.{AllByRecursion}
+use Rattle.std.specs.List.{All}
 use Rattle.std.specs.declared.cmp.Ordering.TheVariants.{Greater}
 use Rattle.coef_int.specs.Range.{IsCoefficient}
 use Rattle.word_core.specs.Canonical.{word_cmp}
@@ -17,7 +17,7 @@ invariant-loop-place g l = record {
   best_over : IfSome l.best (λ c. IsOver (g.O.WordOrder.letters l.order) c.word);
   best_short : IfSome l.best (λ c. length c.word ≤ measured_letters);
   most : IfSome l.best (λ c. l.most ≡ g.O.WordOrder.measure_of l.order c.word);
-  behind : IfSome l.best (λ c. AllByRecursion (λ t. word_cmp c.word t.1 ≡ Greater) (drop l.place l.terms));
+  behind : IfSome l.best (λ c. All (λ t. word_cmp c.word t.1 ≡ Greater) (drop l.place l.terms));
   descends : Descends (drop l.place l.terms);
   same : choice_from (g.O.WordOrder.compare l.order) l.index l.best (drop l.place l.terms) ≡ choice_of (g.O.WordOrder.compare l.order) l.index l.terms;
 }

@@ -1,7 +1,6 @@
-use Rattle.std.proofs.Common.{rules, ◌≡◌, ◌+◌, ◌<◌, ◌∷◌, length, take, drop, Some, None, sym, ap, subst, ◌∙◌, arith}
-use Rattle.std.specs.List.{AllByRecursion}
+use Rattle.std.proofs.Common.{rules, ◌≡◌, ◌+◌, ◌<◌, ◌∷◌, length, drop, Some, None, sym, ap, subst, ◌∙◌, arith}
+use Rattle.std.specs.List.{All}
 use Rattle.std.specs.declared.cmp.Ordering.TheVariants.{Greater}
-use Rattle.std.proofs.lemmas.List.Elements.{recursion_from_All}
 use Rattle.definitions.specs.Poly.{Term}
 use Rattle.word_core.specs.Canonical.{word_cmp}
 use Rattle.nc_polynomial.proofs.Steps.{drop_next}
@@ -20,7 +19,7 @@ loop-place-init c =
     record {
       within = c.requires.in_range;
       descends = recursion_from_IsDescending (drop n p) (shaped-drop n p c.requires.canonical.shaped).descending;
-      same = λ compare plain. passed_by compare c.args.index.now n p (recursion_from_All (λ t. match_of c.args.index.now t.1 ≡ None) (take n p) c.requires.settled);
+      same = λ compare plain. passed_by compare c.args.index.now n p c.requires.settled;
     }
 
 pub loop-place-preserved : goal.loop-place-preserved
@@ -50,7 +49,7 @@ returns-in-Some c =
     let found : match_of entries t.1 ≡ Some (c.in-Some.number, c.in-Some.place) = search rules in
     let inside : i < length p = search rules in
     let next : drop i p ≡ t ∷ drop (i + 1) p = drop_next p i t inside c.index-terms-place.is in
-    let below : AllByRecursion (λ u. word_cmp t.1 u.1 ≡ Greater) (drop (i + 1) p) = (subst Descends next c.loop-place.invariant.descends).0 in
+    let below : All (λ u. word_cmp t.1 u.1 ≡ Greater) (drop (i + 1) p) = (subst Descends next c.loop-place.invariant.descends).0 in
     λ compare plain.
     sym (first_stays compare entries plain choice (drop (i + 1) p) below)
     ∙ ap (λ m. choice_from compare entries (choice_or t m None) (drop (i + 1) p)) (sym found)

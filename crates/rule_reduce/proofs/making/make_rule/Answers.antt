@@ -2,7 +2,8 @@ use Rattle.std.proofs.Common.{rules, ◌≡◌, ◌<◌, ◌<ℤ◌, pos, length
 use Rattle.std.specs.Option.{option_map}
 use Rattle.rule_reduce.specs.Leading.{leading_term}
 use Rattle.rule_reduce.specs.RuleLists.{rule_from}
-use Rattle.rule_reduce.proofs.MadeRules.{has_terms, all_at, rule_is}
+use Rattle.rule_reduce.proofs.MadeRules.{has_terms, rule_is}
+use Rattle.rule_reduce.proofs.Numbers.{all_at}
 use Rattle.rule_reduce.proofs.making.make_rule.Goals as goal
 
 pub lead_place-place-requires-clause-nonzero : goal.lead_place-place-requires-clause-nonzero

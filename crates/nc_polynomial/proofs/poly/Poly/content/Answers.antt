@@ -1,6 +1,5 @@
-use Rattle.std.proofs.Common.{rules, ◌≡◌, ◌≢◌, pos, ◌+◌, ◌++◌, [], ◌∷◌, length, take, get_or, to_z, of_z, sym, ap, subst, ◌∙◌, arith}
+use Rattle.std.proofs.Common.{rules, ◌≡◌, pos, ◌+◌, ◌++◌, [], ◌∷◌, length, take, get_or, to_z, of_z, sym, ap, subst, ◌∙◌, arith}
 use Rattle.std.proofs.lemmas.List.{take_all}
-use Rattle.std.proofs.lemmas.List.Elements.{recursion_from_All}
 use Rattle.std.specs.Int.{IsGcd}
 use Rattle.std.specs.Int.RustNames.{unsigned_abs}
 use mir.Syntax.{w128}
@@ -38,7 +37,7 @@ returns-clause-exact c = whole c
 
 pub returns-clause-zero : goal.returns-clause-zero
 returns-clause-zero c =
-    content-zero c.args.self.now.terms (to_z w128 c.loop-term.divisor-bits) (recursion_from_All (λ (t : Term). t.0 ≢ pos 0) c.args.self.now.terms c.args.self.now.canonical.shaped.nonzero) (whole c)
+    content-zero c.args.self.now.terms (to_z w128 c.loop-term.divisor-bits) c.args.self.now.canonical.shaped.nonzero (whole c)
 
 -- the divisor of the first terms is that of all where it is 1
 pub returns-then-divisor-eq1-clause-exact : goal.returns-then-divisor-eq1-clause-exact
@@ -52,4 +51,4 @@ returns-then-divisor-eq1-clause-zero c =
     let p = c.args.self.now.terms in
     let one : c.loop-term.divisor ≡ pos 1 = search rules in
     let all = content-one c.loop-term.term-index p (subst (IsContent (take c.loop-term.term-index p)) (c.loop-term.divisor-is ∙ one) c.loop-term.invariant.content) in
-    content-zero p (pos 1) (recursion_from_All (λ (t : Term). t.0 ≢ pos 0) p c.args.self.now.canonical.shaped.nonzero) all
+    content-zero p (pos 1) c.args.self.now.canonical.shaped.nonzero all
