@@ -1,11 +1,11 @@
 -- Lines that are written are read.
 use Rattle.std.proofs.Common.{◌≡◌, ◌<◌, ◌-◌, ◌==◌, ℕ, Bool, true, false, not, List, [], ◌∷◌, ◌++◌, arith, refl, ap, ◌∙◌, length, get_or}
-use Rattle.std.specs.List.{AllByRecursion, list_all, slice_split}
+use Rattle.std.specs.List.{All, list_all, slice_split}
 use Rattle.std.specs.Str.Lines.{lines, lines_of_parts, strip_carriage_return}
 use Rattle.std.proofs.lemmas.Bool.{and_parts, true_from_ne_false}
-use Rattle.std.proofs.lemmas.List.Elements.{All-from_recursion}
 use Rattle.std.proofs.lemmas.List.Folds.{list_all_at}
 use Rattle.std.proofs.lemmas.List.Splits.{slice_split_at}
+use Rattle.std.proofs.lemmas.List.Sums.{AllPass-from_list_all}
 use Rattle.block_text.specs.Tokens.{is_line_end}
 use Rattle.block_text.specs.Back.{is_whole, is_inside}
 use Rattle.block_text.proofs.Cuts.{first_part, part_is_line}
@@ -14,11 +14,8 @@ not_false : (b : Bool) → not b ≡ true → b ≡ false
 not_false true known = absurd (cc)
 not_false false known = refl
 
-no_line_end : (line : List ℕ) → list_all is_inside line ≡ true → AllByRecursion (λ c. is_line_end c ≡ false) line
-no_line_end [] all = tt
-no_line_end (c ∷ cs) all =
-    let parts : (is_inside c ≡ true) × (list_all is_inside cs ≡ true) = and_parts _ _ all in
-    (not_false (c == 10) (and_parts (not (c == 10)) (not (c == 13)) parts.0).0, no_line_end cs parts.1)
+no_line_end : (line : List ℕ) → list_all is_inside line ≡ true → All (λ c. is_line_end c ≡ false) line
+no_line_end line all = λ k c below. not_false (get_or line k c == 10) (and_parts (not (get_or line k c == 10)) _ (AllPass-from_list_all is_inside line all k c below)).0
 
 inside_at : (line : List ℕ) (i : ℕ) → list_all is_inside line ≡ true → i < length line → is_inside (get_or line i 0) ≡ true
 inside_at line i all within =
@@ -35,7 +32,7 @@ kept (c ∷ cs) all =
 pub line_is : (line rest : List ℕ) → list_all is_inside line ≡ true → lines (line ++ 10 ∷ rest) ≡ line ∷ lines rest
 line_is line rest all =
     let split : slice_split is_line_end (line ++ 10 ∷ rest) ≡ line ∷ slice_split is_line_end rest =
-    slice_split_at is_line_end line 10 rest (All-from_recursion (λ c. is_line_end c ≡ false) line (no_line_end line all)) refl in
+    slice_split_at is_line_end line 10 rest (no_line_end line all) refl in
     rw split (part_is_line line rest ∙ ap (λ l. l ∷ lines rest) (kept line all))
 
 -- the first part of a whole text, and the lines after it with and without what follows the text

@@ -1,13 +1,14 @@
 -- Texts one after another, and texts of several parts: written blocks, comments and blocks of other kinds.
-use Rattle.std.proofs.Common.{◌≡◌, ◌≤◌, ◌<◌, ◌+◌, ◌==◌, ℕ, zero, suc, Bool, true, false, not, cond, ◌||◌, List, [], ◌∷◌, ◌++◌, arith, refl, sym, ap, ◌∙◌, subst, length, take, map, codes, IsTrue, flat_map}
-use Rattle.std.specs.List.{All, AllByRecursion, AllZip, list_all, onto_first, slice_split}
+use Rattle.std.proofs.Common.{◌≡◌, ◌≤◌, ◌<◌, ◌+◌, ◌==◌, ℕ, zero, suc, Bool, true, false, not, cond, ◌||◌, List, [], ◌∷◌, ◌++◌, arith, refl, sym, ap, ◌∙◌, subst, length, get_or, take, map, codes, IsTrue, flat_map}
+use Rattle.std.specs.List.{All, AllZip, list_all, onto_first, slice_split}
 use Rattle.std.specs.Str.{IsUtf8}
 use Rattle.std.specs.Str.Lines.{lines, strip_carriage_return}
 use Rattle.std.proofs.lemmas.Bool.{and_parts}
 use Rattle.std.proofs.lemmas.Grind.{flat_map-append}
 use Rattle.std.proofs.lemmas.List.{length-append, append-nil, append_assoc}
-use Rattle.std.proofs.lemmas.List.Elements.{All-nil, All-cons, All-head, All-tail, All-append, All-weaker, All-map, All-filter, All-from_recursion}
+use Rattle.std.proofs.lemmas.List.Elements.{All-nil, All-cons, All-head, All-tail, All-append, All-weaker, All-map, All-filter}
 use Rattle.std.proofs.lemmas.List.Splits.{slice_split_at}
+use Rattle.std.proofs.lemmas.List.Sums.{AllPass-from_list_all}
 use Rattle.std.proofs.lemmas.Slice.Eq.{bytes_eq-Decides}
 use Rattle.std.proofs.lemmas.Str.{IsUtf8-append, IsUtf8-from_is_utf8, is_utf8-from_IsUtf8}
 use Rattle.block_text.specs.Tokens.{is_line_end, goes_on, begins_comment, tokens_of, is_skipped}
@@ -47,11 +48,8 @@ stripped_by n cs false = comment_is_skipped cs
 abbrev pub is_before_end : ℕ → Bool
 is_before_end c = not (c == 10)
 
-no_line_end : (line : List ℕ) → list_all is_before_end line ≡ true → AllByRecursion (λ c. is_line_end c ≡ false) line
-no_line_end [] all = tt
-no_line_end (c ∷ cs) all =
-    let parts : (is_before_end c ≡ true) × (list_all is_before_end cs ≡ true) = and_parts _ _ all in
-    (not_true (c == 10) parts.0, no_line_end cs parts.1)
+no_line_end : (line : List ℕ) → list_all is_before_end line ≡ true → All (λ c. is_line_end c ≡ false) line
+no_line_end line all = λ k c below. not_true (get_or line k c == 10) (AllPass-from_list_all is_before_end line all k c below)
   where
     not_true : (b : Bool) → not b ≡ true → b ≡ false
     not_true true known = absurd (cc)
@@ -60,7 +58,7 @@ no_line_end (c ∷ cs) all =
 pub comment_is_text : (text : List ℕ) → IsUtf8 text → list_all is_before_end text ≡ true → IsTextOf (ended (codes "#" ++ text)) []
 comment_is_text text utf8 all =
     let split : slice_split is_line_end ((35 ∷ text) ++ 10 ∷ []) ≡ (35 ∷ text) ∷ slice_split is_line_end [] =
-    slice_split_at is_line_end (35 ∷ text) 10 [] (All-from_recursion (λ c. is_line_end c ≡ false) (35 ∷ text) (refl, no_line_end text all)) refl in
+    slice_split_at is_line_end (35 ∷ text) 10 [] (no_line_end (35 ∷ text) all) refl in
     let one_line : lines ((35 ∷ text) ++ 10 ∷ []) ≡ strip_carriage_return (35 ∷ text) ∷ [] = rw split (part_is_line (35 ∷ text) []) in
     record {
       utf8 = IsUtf8-append (35 ∷ text) (10 ∷ []) (IsUtf8-append (35 ∷ []) text (ascii (35 ∷ []) refl) utf8) (ascii (10 ∷ []) refl);

@@ -1,19 +1,19 @@
 -- The polynomial that the terms of a line make.
 use Rattle.std.proofs.Common.{◌≡◌, ◌<◌, ◌≤◌, ◌+◌, ℕ, suc, Bool, true, false, not, cond, ◌||◌, List, [], ◌∷◌, ◌++◌, Option, Some, None, arith, refl, sym, ap, ◌∙◌, subst, length, IsTrue, nat_le}
-use Rattle.std.specs.List.{All, AllZip, AllByRecursion}
+use Rattle.std.specs.List.{All, AllZip}
 use Rattle.std.specs.Option.{option_map, option_and_then}
 use Rattle.std.specs.declared.cmp.Ordering.{Ordering}
 use Rattle.std.specs.declared.cmp.Ordering.TheVariants.{Less, Equal, Greater}
 use Rattle.std.specs.Str.Parse.{digits_value}
 use Rattle.std.proofs.lemmas.Bool.{leb-true, leb-false, le-leb, lt-leb}
 use Rattle.std.proofs.lemmas.List.{append_assoc, append-nil, length-append}
-use Rattle.std.proofs.lemmas.List.Elements.{All-nil, All-cons, All-head, All-tail}
+use Rattle.std.proofs.lemmas.List.Elements.{All-nil, All-cons, All-head, All-tail, All-push}
 use Rattle.std.proofs.lemmas.Option.{option_and_then_some, cond_some}
 use Rattle.definitions.specs.Poly.{Poly, Term}
 use Rattle.word_core.specs.Canonical.{word_cmp}
 use Rattle.word_core.proofs.Order.{word_cmp-trans}
 use Rattle.nc_polynomial.specs.Limits.{word_limit, term_limit}
-use Rattle.nc_polynomial.proofs.Shapes.{Descends}
+use Rattle.nc_polynomial.proofs.Shapes.{Descends, IsBelow, descends_one}
 use Rattle.quiver.specs.Declarations.{Declaration}
 use Rattle.block_text.specs.Letters.{number_within, letter_of, word_of, signed}
 use Rattle.block_text.specs.Lines.{Line, integer_limit}
@@ -164,26 +164,22 @@ greater_from Greater known = refl
 
 last_above : (x : Term) (p : Poly) (w : List ℕ) → Descends (x ∷ p) → may_follow (x ∷ p) w ≡ true → word_cmp x.1 w ≡ Greater
 last_above x [] w descends follows = greater_from (word_cmp x.1 w) follows
-last_above x (y ∷ p) w descends follows = word_cmp-trans x.1 y.1 w descends.0.0 (last_above y p w descends.1 follows)
-
-all_push : (P : Term → Type 0) (p : Poly) (t : Term) → AllByRecursion P p → P t → AllByRecursion P (p ++ t ∷ [])
-all_push P [] t all last = (last, tt)
-all_push P (x ∷ p) t all last = (all.0, all_push P p t all.1 last)
+last_above x (y ∷ p) w descends follows = word_cmp-trans x.1 y.1 w (All-head (IsBelow x.1) y p descends.0) (last_above y p w descends.1 follows)
 
 rest_follows : (x : Term) (p : Poly) (w : List ℕ) → may_follow (x ∷ p) w ≡ true → may_follow p w ≡ true
 rest_follows x [] w follows = refl
 rest_follows x (y ∷ p) w follows = follows
 
 descends_push : (p : Poly) (t : Term) → Descends p → may_follow p t.1 ≡ true → Descends (p ++ t ∷ [])
-descends_push [] t descends follows = (tt, tt)
+descends_push [] t descends follows = descends_one t
 descends_push (x ∷ p) t descends follows = (
-  all_push (λ u. word_cmp x.1 u.1 ≡ Greater) p t descends.0 (last_above x p t.1 descends follows),
+  All-push (IsBelow x.1) p t descends.0 (last_above x p t.1 descends follows),
   descends_push p t descends.1 (rest_follows x p t.1 follows),
 )
 
 follows_there : (p : Poly) (t : Term) (more : Poly) → Descends (p ++ t ∷ more) → may_follow p t.1 ≡ true
 follows_there [] t more descends = refl
-follows_there (x ∷ []) t more descends = let above : word_cmp x.1 t.1 ≡ Greater = descends.0.0 in rw above refl
+follows_there (x ∷ []) t more descends = let above : word_cmp x.1 t.1 ≡ Greater = All-head (IsBelow x.1) t more descends.0 in rw above refl
 follows_there (x ∷ y ∷ p) t more descends = follows_there (y ∷ p) t more descends.1
 
 -- polynomials

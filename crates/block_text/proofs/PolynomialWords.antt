@@ -7,10 +7,11 @@ use Rattle.std.specs.Cmp.Lexicographic.{slice_cmp}
 use Rattle.std.specs.declared.cmp.Ordering.{Ordering}
 use Rattle.std.specs.declared.cmp.Ordering.TheVariants.{Less, Equal, Greater}
 use Rattle.std.proofs.lemmas.Bool.{and_parts, false_from_ne_true, lt-ltb, ltb-false, ne_eqb}
+use Rattle.std.proofs.lemmas.List.Elements.{All-cons, All-head}
 use Rattle.std.proofs.lemmas.Option.{option_and_then_some}
 use Rattle.definitions.specs.Poly.{Poly, Term}
 use Rattle.word_core.specs.Canonical.{word_cmp}
-use Rattle.nc_polynomial.proofs.Shapes.{Descends, higher}
+use Rattle.nc_polynomial.proofs.Shapes.{Descends, IsBelow, descends_one, higher}
 use Rattle.quiver.specs.Declarations.{Declaration}
 use Rattle.block_text.specs.Letters.{letter_of, word_of}
 use Rattle.block_text.specs.Lines.{Line}
@@ -89,14 +90,14 @@ module _ (ds : List Declaration) where
   words_are xs ys v w v_says w_says = words_order xs ys v w Equal v_says w_says
 
   descends_behind : (t : TermTokens) (x : Term) (ts : List TermTokens) (p : Poly) → IsTermOf ds t x → AllZip (IsTermOf ds) ts p → descend_behind ds t ts ≡ true → Descends (x ∷ p)
-  descends_behind t x [] [] says each known = (tt, tt)
+  descends_behind t x [] [] says each known = descends_one x
   descends_behind t x [] (y ∷ p) says each known = absurd each
   descends_behind t x (u ∷ ts) [] says each known = absurd each
   descends_behind t x (u ∷ ts) (y ∷ p) says each known =
       let parts : (is_greater (words_cmp ds Equal t.letters u.letters) ≡ true) × (descend_behind ds u ts ≡ true) = and_parts _ _ known in
       let above : word_cmp x.1 y.1 ≡ Greater = sym (words_are t.letters u.letters x.1 y.1 says.letters each.0.letters) ∙ greater_from (words_cmp ds Equal t.letters u.letters) parts.0 in
       let rest = descends_behind u y ts p each.0 each.1 parts.1 in
-      ((above, higher x.1 y.1 p above rest.0), rest)
+      (All-cons (IsBelow x.1) y p above (higher x.1 y.1 p above rest.0), rest)
 
   pub descends_is : (ts : List TermTokens) (p : Poly) → AllZip (IsTermOf ds) ts p → descend ds ts ≡ true → Descends p
   descends_is [] [] each known = tt
@@ -108,7 +109,7 @@ module _ (ds : List Declaration) where
   behind_there t x [] p says each descends = refl
   behind_there t x (u ∷ ts) [] says each descends = absurd each
   behind_there t x (u ∷ ts) (y ∷ p) says each descends =
-      let first : words_cmp ds Equal t.letters u.letters ≡ Greater = words_are t.letters u.letters x.1 y.1 says.letters each.0.letters ∙ descends.0.0 in
+      let first : words_cmp ds Equal t.letters u.letters ≡ Greater = words_are t.letters u.letters x.1 y.1 says.letters each.0.letters ∙ All-head (IsBelow x.1) y p descends.0 in
       rw (first, behind_there u y ts p each.0 each.1 descends.1) refl
 
   pub descends_there : (ts : List TermTokens) (p : Poly) → AllZip (IsTermOf ds) ts p → Descends p → descend ds ts ≡ true

@@ -1,5 +1,5 @@
 -- the sum compared with a multiple of the claim, from the least word on
-use Rattle.std.proofs.Common.{◌≡◌, ◌≢◌, ℕ, zero, suc, ℤ, pos, negsuc, ◌+ℤ◌, ◌*ℤ◌, ◌<ℤ◌, List, [], ◌∷◌, ◌++◌, map, Bool, true, false, cond, Option, Some, None, unwrap_or, Result, Ok, Err, IfOk, sym, refl, ap, ap₂, ◌∙◌, subst, arith, All, append_assoc}
+use Rattle.std.proofs.Common.{◌≡◌, ◌≢◌, ℕ, zero, suc, ℤ, pos, negsuc, ◌+ℤ◌, ◌*ℤ◌, ◌<ℤ◌, List, [], ◌∷◌, ◌++◌, map, get_or, Bool, true, false, cond, Option, Some, None, unwrap_or, Result, Ok, Err, IfOk, sym, refl, ap, ap₂, ◌∙◌, subst, arith, All, append_assoc}
 use Rattle.std.specs.BTreeMap.{BTreeMap, get, is_at, IsOrdered}
 use Rattle.std.specs.List.{AllByRecursion}
 use Rattle.std.specs.List.Sorted.{IsStrictlySortedBy}
@@ -9,7 +9,7 @@ use Rattle.std.specs.declared.cmp.Ordering.TheVariants.{Less, Equal, Greater}
 use Rattle.std.proofs.lemmas.Int.{ints}
 use Rattle.std.specs.declared.alloc.AllocError.{AllocError}
 use Rattle.std.proofs.lemmas.List.{append-nil}
-use Rattle.std.proofs.lemmas.List.Elements.{recursion_from_All}
+use Rattle.std.proofs.lemmas.List.Elements.{All-nil, All-cons, All-head, All-tail}
 use Rattle.std.proofs.lemmas.Map.Keys.{sorted_head, sorted_tail}
 use Rattle.std.proofs.Math.IntN.{+ℤ_idl, +ℤ_idr, +ℤ_comm, *ℤ-zero}
 use Rattle.coef_int.specs.Operations.{first_overflow}
@@ -39,15 +39,15 @@ terms_of es = map (λ e. (e.1, e.0)) es
 entries_absent : (w : List ℕ) (es : List (List ℕ × ℤ)) → AllByRecursion (λ k. word_cmp w k ≡ Less) (keys_of es) → coefficient_of (terms_of es) w ≡ pos 0
 entries_absent w es below = none_listed w (terms_of es) (go es below)
   where
-    go : (es : List (List ℕ × ℤ)) → AllByRecursion (λ k. word_cmp w k ≡ Less) (keys_of es) → AllByRecursion (λ t. word_eq t.1 w ≡ false) (terms_of es)
-    go [] below = tt
-    go (e ∷ es) below = (apart_greater e.0 w (word_cmp-turned w e.0 below.0), go es below.1)
+    go : (es : List (List ℕ × ℤ)) → AllByRecursion (λ k. word_cmp w k ≡ Less) (keys_of es) → All (λ t. word_eq t.1 w ≡ false) (terms_of es)
+    go [] below = All-nil _
+    go (e ∷ es) below = All-cons (λ t. word_eq t.1 w ≡ false) (e.1, e.0) (terms_of es) (apart_greater e.0 w (word_cmp-turned w e.0 below.0)) (go es below.1)
 
 -- The entries of the map and the terms of the claim that are left differ by as much as the whole map and the whole claim.
 pub record Compares (m : BTreeMap (List ℕ) ℤ) (d : ℤ) (claim rest : List (ℤ × List ℕ)) (entries : List (List ℕ × ℤ)) : Type 0 where
   pub same : (w : List ℕ) → d *ℤ coefficient_of claim w +ℤ coefficient_of (terms_of entries) w ≡ coefficient_in m w +ℤ d *ℤ coefficient_of rest w
   pub sorted : IsStrictlySortedBy word_cmp (keys_of entries)
-  pub found : AllByRecursion (λ e. get word_cmp m e.0 ≡ Some e.1) entries
+  pub found : All (λ e. get word_cmp m e.0 ≡ Some e.1) entries
   pub passed : List (ℤ × List ℕ)
   pub splits : claim ≡ rest ++ passed
 
@@ -75,8 +75,11 @@ module _ {m : BTreeMap (List ℕ) ℤ} {d : ℤ} {claim : List (ℤ × List ℕ)
   -- an entry is left
   module _ {rest : List (ℤ × List ℕ)} {e : List ℕ × ℤ} {es : List (List ℕ × ℤ)} (compares : Compares m d claim rest (e ∷ es)) where
     -- it is what the map has at its word
+    first_found : get word_cmp m e.0 ≡ Some e.1
+    first_found = All-head (λ x. get word_cmp m x.0 ≡ Some x.1) e es compares.found
+
     entry_is : coefficient_in m e.0 ≡ e.1
-    entry_is = ap (λ o. unwrap_or o (pos 0)) compares.found.0
+    entry_is = ap (λ o. unwrap_or o (pos 0)) first_found
 
     later_keys : AllByRecursion (λ k. word_cmp e.0 k ≡ Less) (keys_of es)
     later_keys = sorted_head word_cmp e.0 (keys_of es) compares.sorted
@@ -99,7 +102,7 @@ module _ {m : BTreeMap (List ℕ) ℤ} {d : ℤ} {claim : List (ℤ × List ℕ)
           let is = entry_is in
           omega (arith, ints);
       found_there = entry_is;
-      differ = λ none. running.nonzero e.0 (compares.found.0 ∙ ap Some (sym none));
+      differ = λ none. running.nonzero e.0 (first_found ∙ ap Some (sym none));
       least = λ w less. agree_below compares w (below_entries w less) (none_below w less);
     }
 
@@ -123,7 +126,7 @@ module _ {m : BTreeMap (List ℕ) ℤ} {d : ℤ} {claim : List (ℤ × List ℕ)
     pub product_fits : IsCoefficient (d *ℤ t.0)
     product_fits = term_holds (λ u. IsCoefficient (d *ℤ u.0)) (products_fit d claim turn.fits)
 
-    terms_above : AllByRecursion (λ u. word_cmp u.1 t.1 ≡ Greater) greater
+    terms_above : All (λ u. word_cmp u.1 t.1 ≡ Greater) greater
     terms_above = above greater t turn.compares.passed descending
 
     wanted_is : wanted d claim t.1 ≡ d *ℤ t.0
@@ -134,13 +137,13 @@ module _ {m : BTreeMap (List ℕ) ℤ} {d : ℤ} {claim : List (ℤ × List ℕ)
     below_terms w less =
         let least = word_cmp-turned w t.1 less in
         coefficient_of-append greater (t ∷ []) w
-        ∙ ap₂ ◌+ℤ◌ (none_listed w greater (weaker (λ u higher. apart_greater u.1 w (word_cmp-trans u.1 t.1 w higher least)) greater terms_above))
-        (none_listed w (t ∷ []) (apart_greater t.1 w least, tt))
+        ∙ ap₂ ◌+ℤ◌ (none_listed w greater (λ k d inside. let u = (get_or greater k d).1 in apart_greater u w (word_cmp-trans u t.1 w (terms_above k d inside) least)))
+        (none_listed w (t ∷ []) (All-cons (λ u. word_eq u.1 w ≡ false) t [] (apart_greater t.1 w least) (All-nil _)))
 
     last_there : coefficient_of (greater ++ t ∷ []) t.1 ≡ t.0
     last_there =
         coefficient_of-append greater (t ∷ []) t.1
-        ∙ ap₂ ◌+ℤ◌ (none_listed t.1 greater (weaker (λ u higher. apart_greater u.1 t.1 higher) greater terms_above))
+        ∙ ap₂ ◌+ℤ◌ (none_listed t.1 greater (λ k d inside. apart_greater (get_or greater k d).1 t.1 (terms_above k d inside)))
         (coefficient_at t.1 t [] (word_eq-same t.1) ∙ +ℤ_idr t.0)
         ∙ +ℤ_idl t.0
 
@@ -195,7 +198,7 @@ module _ {m : BTreeMap (List ℕ) ℤ} {d : ℤ} {claim : List (ℤ × List ℕ)
     both_agree equal agree = record {
       same = λ w. same w;
       sorted = sorted_tail word_cmp e.0 (keys_of es) turn.compares.sorted;
-      found = turn.compares.found.1;
+      found = All-tail (λ x. get word_cmp m x.0 ≡ Some x.1) e es turn.compares.found;
       passed = t ∷ turn.compares.passed;
       splits = split turn;
     }
@@ -237,7 +240,7 @@ pub begins : (m : BTreeMap (List ℕ) ℤ) (d : ℤ) (claim : List (ℤ × List 
 begins m d claim ordered found = record {
   same = λ w. let is = entries_are w m.entries ordered in ap (λ k. d *ℤ coefficient_of claim w +ℤ k) is ∙ +ℤ_comm (d *ℤ coefficient_of claim w) (coefficient_in m w);
   sorted = ordered;
-  found = recursion_from_All (λ e. get word_cmp m e.0 ≡ Some e.1) m.entries found;
+  found = found;
   passed = [];
   splits = sym (append-nil claim);
 }

@@ -1,9 +1,10 @@
 -- the number of terms of a sum is the length of its table
 use Rattle.std.proofs.Common.{◌≡◌, ◌≢◌, ℕ, ℤ, pos, List, [], ◌∷◌, map, not, Bool, true, false, ◌||◌, Option, Some, None, unwrap_or, is_some, sym, refl, ap, ◌∙◌}
 use Rattle.std.specs.HashMap.{get, keys, hash_map_len, IsUnique}
-use Rattle.std.specs.List.{AllByRecursion, IsDistinct}
+use Rattle.std.specs.List.{All, AllByRecursion, IsDistinct}
 use Rattle.std.specs.declared.cmp.Ordering.TheVariants.{Greater}
 use Rattle.std.proofs.lemmas.List.{length-map}
+use Rattle.std.proofs.lemmas.List.Elements.{All-head, All-tail, All-weaker}
 use Rattle.std.specs.Set.{is_member}
 use Rattle.std.specs.Ordering.{int_eq}
 use Rattle.std.proofs.lemmas.Bool.{false_from_ne_true}
@@ -22,7 +23,7 @@ use Rattle.nc_polynomial.proofs.Distinct.{first_coefficient}
 use Rattle.nc_polynomial.proofs.Shapes.{Descends}
 use Rattle.nc_polynomial.proofs.Words.{word_eq-turned}
 use Rattle.cofactor_checker.proofs.Words.{word_eq_equivalence}
-use Rattle.cofactor_checker.proofs.Descending.{apart_greater, weaker}
+use Rattle.cofactor_checker.proofs.Descending.{apart_greater}
 
 -- whether the word has a coefficient other than zero
 abbrev has : List (ℤ × List ℕ) → List ℕ → Bool
@@ -32,16 +33,16 @@ int_eq_zero : int_eq (pos 0) (pos 0) ≡ true
 int_eq_zero = (Decides-int_eq (pos 0) (pos 0)).1 refl
 
 -- in a descending list without zeros the words are those with such a coefficient
-listed : (q : List (ℤ × List ℕ)) → Descends q → AllByRecursion (λ t. t.0 ≢ pos 0) q → (w : List ℕ) → is_member word_eq (map (λ t. t.1) q) w ≡ has q w
+listed : (q : List (ℤ × List ℕ)) → Descends q → All (λ t. t.0 ≢ pos 0) q → (w : List ℕ) → is_member word_eq (map (λ t. t.1) q) w ≡ has q w
 listed [] descends nonzero w = sym (ap not int_eq_zero)
-listed (t ∷ q) descends nonzero w = go (word_eq t.1 w) refl (listed q descends.1 nonzero.1 w)
+listed (t ∷ q) descends nonzero w = go (word_eq t.1 w) refl (listed q descends.1 (All-tail (λ (u : ℤ × List ℕ). u.0 ≢ pos 0) t q nonzero) w)
   where
     go : (b : Bool) → word_eq t.1 w ≡ b → is_member word_eq (map (λ u. u.1) q) w ≡ has q w → (word_eq w t.1 || is_member word_eq (map (λ u. u.1) q) w) ≡ has (t ∷ q) w
     go true same later =
         let here : coefficient_of (t ∷ q) w ≡ t.0 =
-        ap (coefficient_of (t ∷ q)) (sym (word_eq-true t.1 w same)) ∙ first_coefficient t q (weaker (λ u greater. sym (word_eq-turned t.1 u.1) ∙ apart_greater t.1 u.1 greater) q descends.0) in
+        ap (coefficient_of (t ∷ q)) (sym (word_eq-true t.1 w same)) ∙ first_coefficient t q (All-weaker (λ u. word_cmp t.1 u.1 ≡ Greater) (λ u. word_eq u.1 t.1 ≡ false) (λ u greater. sym (word_eq-turned t.1 u.1) ∙ apart_greater t.1 u.1 greater) q descends.0) in
         ap (λ b. b || is_member word_eq (map (λ u. u.1) q) w) (word_eq-turned w t.1 ∙ same)
-        ∙ sym (ap (λ k. not (int_eq k (pos 0))) here ∙ ap not (false_from_ne_true (int_eq t.0 (pos 0)) (λ zero. nonzero.0 ((Decides-int_eq t.0 (pos 0)).0 zero))))
+        ∙ sym (ap (λ k. not (int_eq k (pos 0))) here ∙ ap not (false_from_ne_true (int_eq t.0 (pos 0)) (λ zero. All-head (λ (u : ℤ × List ℕ). u.0 ≢ pos 0) t q nonzero ((Decides-int_eq t.0 (pos 0)).0 zero))))
     go false apart later =
         ap (λ b. b || is_member word_eq (map (λ u. u.1) q) w) (word_eq-turned w t.1 ∙ apart)
         ∙ later
@@ -53,9 +54,9 @@ unfolding IsDistinct
 distinct [] descends = tt
 distinct (t ∷ q) descends = IsDistinct-cons word_eq t.1 (map (λ u. u.1) q) (words q descends.0) (distinct q descends.1)
   where
-    words : (q : List (ℤ × List ℕ)) → AllByRecursion (λ u. word_cmp t.1 u.1 ≡ Greater) q → AllByRecursion (λ v. word_eq t.1 v ≡ false) (map (λ u. u.1) q)
+    words : (q : List (ℤ × List ℕ)) → All (λ u. word_cmp t.1 u.1 ≡ Greater) q → AllByRecursion (λ v. word_eq t.1 v ≡ false) (map (λ u. u.1) q)
     words [] below = tt
-    words (u ∷ q) below = (apart_greater t.1 u.1 below.0, words q below.1)
+    words (u ∷ q) below = (apart_greater t.1 u.1 (All-head (λ (x : ℤ × List ℕ). word_cmp t.1 x.1 ≡ Greater) u q below), words q (All-tail (λ (x : ℤ × List ℕ). word_cmp t.1 x.1 ≡ Greater) u q below))
 
 module _ (m : Table) (p : List (ℤ × List ℕ)) (unique : IsUnique word_eq m) (kept : IsTable m) (sum : (w : List ℕ) → coefficient_at m w ≡ coefficient_of p w) where
   -- the words that are in the table

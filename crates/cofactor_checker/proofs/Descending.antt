@@ -5,7 +5,6 @@ use Rattle.std.specs.Ordering.{is_eq}
 use Rattle.std.specs.declared.cmp.Ordering.TheVariants.{Less, Greater}
 use Rattle.std.proofs.lemmas.Int.{ints}
 use Rattle.std.proofs.lemmas.List.{get_or_append_left, get_or_at, get_or-append-add, length-append}
-use Rattle.std.proofs.lemmas.List.Elements.{recursion_from_All}
 use Rattle.word_core.specs.Canonical.{word_cmp}
 use Rattle.word_core.proofs.Order.{word_cmp-turned_back}
 use Rattle.definitions.specs.Poly.{word_eq, coefficient_of}
@@ -27,24 +26,24 @@ weaker f (x ∷ xs) all = (f x all.0, weaker f xs all.1)
 
 module _ (p : List (ℤ × List ℕ)) (t : ℤ × List ℕ) (q : List (ℤ × List ℕ)) (descending : IsDescending (p ++ t ∷ q)) where
   -- what stands before a term is above it
-  pub above : AllByRecursion (λ u. word_cmp u.1 t.1 ≡ Greater) p
-  above = recursion_from_All _ p (λ k d inside.
+  pub above : All (λ u. word_cmp u.1 t.1 ≡ Greater) p
+  above k d inside =
       let at : word_cmp (get_or (p ++ t ∷ q) k d).1 (get_or (p ++ t ∷ q) (length p) d).1 ≡ Greater = descending k (length p) d inside (omega (arith, length-append p (t ∷ q))) in
-      sym (ap₂ (λ x y. word_cmp x.1 y.1) (get_or_append_left p (t ∷ q) d k inside) (get_or_at p t q d (length p) refl)) ∙ at)
+      sym (ap₂ (λ x y. word_cmp x.1 y.1) (get_or_append_left p (t ∷ q) d k inside) (get_or_at p t q d (length p) refl)) ∙ at
 
   -- what stands behind it is below it
-  pub below : AllByRecursion (λ u. word_cmp u.1 t.1 ≡ Less) q
-  below = recursion_from_All _ q (λ k d inside.
+  pub below : All (λ u. word_cmp u.1 t.1 ≡ Less) q
+  below k d inside =
       let at : word_cmp (get_or (p ++ t ∷ q) (length p) d).1 (get_or (p ++ t ∷ q) (length p + suc k) d).1 ≡ Greater =
       descending (length p) (length p + suc k) d (omega arith) (omega (arith, length-append p (t ∷ q))) in
-      word_cmp-turned_back t.1 (get_or q k d).1 (sym (ap₂ (λ x y. word_cmp x.1 y.1) (get_or_at p t q d (length p) refl) (get_or-append-add p (t ∷ q) (suc k) d)) ∙ at))
+      word_cmp-turned_back t.1 (get_or q k d).1 (sym (ap₂ (λ x y. word_cmp x.1 y.1) (get_or_at p t q d (length p) refl) (get_or-append-add p (t ∷ q) (suc k) d)) ∙ at)
 
   -- so its coefficient is that of its word
   pub coefficient_there : coefficient_of (p ++ t ∷ q) t.1 ≡ t.0
   coefficient_there =
       coefficient_of-append p (t ∷ q) t.1
-      ∙ ap₂ ◌+ℤ◌ (none_listed t.1 p (weaker (λ u greater. apart_greater u.1 t.1 greater) p above))
-      (coefficient_at t.1 t q (word_eq-same t.1) ∙ ap (λ k. t.0 +ℤ k) (none_listed t.1 q (weaker (λ u less. apart_less u.1 t.1 less) q below)))
+      ∙ ap₂ ◌+ℤ◌ (none_listed t.1 p (λ k d inside. apart_greater (get_or p k d).1 t.1 (above k d inside)))
+      (coefficient_at t.1 t q (word_eq-same t.1) ∙ ap (λ k. t.0 +ℤ k) (none_listed t.1 q (λ k d inside. apart_less (get_or q k d).1 t.1 (below k d inside))))
       ∙ omega (arith, ints)
 
 -- what holds of all terms holds of one between others

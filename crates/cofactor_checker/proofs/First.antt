@@ -1,10 +1,9 @@
 -- the first overflow of some operations, one operation on
 use Rattle.std.proofs.Common.{◌≡◌, ◌^◌, ℕ, ◌+◌, ◌<◌, ◌≤◌, ℤ, ◌*ℤ◌, All, List, [], ◌∷◌, length, drop, get_or, Bool, true, false, cond, Option, Some, None, refl, sym, ap, ◌∙◌, arith}
 use Rattle.std.specs.Int.RustNames.{unsigned_abs}
-use Rattle.std.specs.List.{AllByRecursion}
 use Rattle.std.proofs.lemmas.Bool.Decides.{nat_tests}
 use Rattle.std.proofs.lemmas.List.{at_drop_more, at_drop_all}
-use Rattle.std.proofs.lemmas.List.Elements.{All-from_recursion}
+use Rattle.std.proofs.lemmas.List.Elements.{All-nil, All-cons}
 use borrow.Author.Tests.{ltb-true}
 use Rattle.coef_int.specs.declared.Overflow.{Overflow}
 use Rattle.coef_int.specs.Range.{IsCoefficient, is_coefficient}
@@ -33,17 +32,14 @@ stopped_before o os (fault.Memory e) stopped = tt
 
 -- where no product of a multiple overflows, all are coefficients
 pub products_fit : (d : ℤ) (p : List (ℤ × List ℕ)) → first_overflow (products d p) ≡ None → All (λ t. IsCoefficient (d *ℤ t.0)) p
-products_fit d p none = All-from_recursion (λ t. IsCoefficient (d *ℤ t.0)) p (go p none)
+products_fit d [] none = All-nil _
+products_fit d (t ∷ p) none =
+    let parts = one (is_coefficient (d *ℤ t.0)) (product_of d t.0) (first_overflow (products d p)) none in
+    All-cons (λ (u : ℤ × List ℕ). IsCoefficient (d *ℤ u.0)) t p (ltb-true (unsigned_abs (d *ℤ t.0)) (2 ^ 127) parts.0) (products_fit d p parts.1)
   where
     one : (b : Bool) (o : Overflow) (later : Option Overflow) → cond b later (Some o) ≡ None → (b ≡ true) × (later ≡ None)
     one true o later none = (refl, none)
     one false o later none = (cc)
-
-    go : (p : List (ℤ × List ℕ)) → first_overflow (products d p) ≡ None → AllByRecursion (λ t. IsCoefficient (d *ℤ t.0)) p
-    go [] none = tt
-    go (t ∷ p) none =
-        let parts = one (is_coefficient (d *ℤ t.0)) (product_of d t.0) (first_overflow (products d p)) none in
-        (ltb-true (unsigned_abs (d *ℤ t.0)) (2 ^ 127) parts.0, go p parts.1)
 
 -- The products before the place i of a polynomial fit.
 module _ (d : ℤ) (p : List (ℤ × List ℕ)) (i : ℕ) (so_far : first_overflow (products d (drop i p)) ≡ first_overflow (products d p)) where

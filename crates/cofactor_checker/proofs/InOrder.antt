@@ -5,9 +5,9 @@ use Rattle.std.proofs.lemmas.Map.Views.{All-values_from_lookup}
 use Rattle.std.proofs.lemmas.Map.Keys.{IsDistinct-head, IsDistinct-tail}
 use Rattle.std.proofs.Math.IntN.{+ℤ_idl, +ℤ_idr}
 use Rattle.std.specs.BTreeMap.{BTreeMap, Updates, IsEmpty, is_at}
-use Rattle.std.proofs.lemmas.List.Elements.{recursion_from_All}
+use Rattle.std.proofs.lemmas.List.Elements.{All-nil, All-cons, All-head, All-tail}
 use Rattle.std.specs.HashMap.{get, IsUnique}
-use Rattle.std.specs.List.{AllByRecursion, IsDistinct}
+use Rattle.std.specs.List.{All, AllByRecursion, IsDistinct}
 use Rattle.std.specs.Map.{keys_of, values_of, lookup}
 use Rattle.coef_int.specs.Range.{IsCoefficient}
 use Rattle.word_core.specs.Canonical.{word_cmp}
@@ -27,15 +27,15 @@ abbrev Entry : Type 0
 Entry = List ℕ × ℤ
 
 -- what a list of different words has at a word
-turned : (w : List ℕ) (es : List Entry) → AllByRecursion (λ k. word_eq w k ≡ false) (keys_of es) → AllByRecursion (λ t. word_eq t.1 w ≡ false) (terms_of es)
-turned w [] apart = tt
-turned w (e ∷ es) apart = (word_eq-turned e.0 w ∙ apart.0, turned w es apart.1)
+turned : (w : List ℕ) (es : List Entry) → AllByRecursion (λ k. word_eq w k ≡ false) (keys_of es) → All (λ t. word_eq t.1 w ≡ false) (terms_of es)
+turned w [] apart = All-nil _
+turned w (e ∷ es) apart = All-cons (λ t. word_eq t.1 w ≡ false) (e.1, e.0) (terms_of es) (word_eq-turned e.0 w ∙ apart.0) (turned w es apart.1)
 
 listed_at : (w : List ℕ) (es : List Entry) → IsDistinct word_eq (keys_of es) → unwrap_or (lookup (word_eq w) es) (pos 0) ≡ coefficient_of (terms_of es) w
 listed_at w [] distinct = refl
 listed_at w (e ∷ es) distinct = go (word_eq w e.0) refl (listed_at w es (IsDistinct-tail word_eq e.0 (keys_of es) distinct))
   where
-    later : AllByRecursion (λ t. word_eq t.1 e.0 ≡ false) (terms_of es)
+    later : All (λ t. word_eq t.1 e.0 ≡ false) (terms_of es)
     later = turned e.0 es (IsDistinct-head word_eq e.0 (keys_of es) distinct)
 
     go : (b : Bool) → word_eq w e.0 ≡ b → unwrap_or (lookup (word_eq w) es) (pos 0) ≡ coefficient_of (terms_of es) w
@@ -56,7 +56,7 @@ Fits c = (c ≢ pos 0) × IsCoefficient c
 pub record Moves (table : Table) (rest : List Entry) (sum : BTreeMap (List ℕ) ℤ) : Type 0 where
   pub total : (w : List ℕ) → coefficient_in sum w +ℤ coefficient_of (terms_of rest) w ≡ coefficient_at table w
   pub distinct : IsDistinct word_eq (keys_of rest)
-  pub fit : AllByRecursion Fits (values_of rest)
+  pub fit : All Fits (values_of rest)
   pub fresh : AllByRecursion (λ e. coefficient_in sum e.0 ≡ pos 0) rest
 
 -- before the first entry
@@ -64,7 +64,7 @@ pub begins : (table : Table) (sum : BTreeMap (List ℕ) ℤ) → IsTable table �
 begins table sum kept unique empty = record {
   total = λ w. ap (λ k. k +ℤ coefficient_of (terms_of table.entries) w) (nothing w) ∙ +ℤ_idl (coefficient_of (terms_of table.entries) w) ∙ sym (listed_at w table.entries unique);
   distinct = unique;
-  fit = recursion_from_All Fits (values_of table.entries) (All-values_from_lookup word_eq_equivalence Fits table.entries unique (λ w. fits w (get word_eq table w) refl));
+  fit = All-values_from_lookup word_eq_equivalence Fits table.entries unique (λ w. fits w (get word_eq table w) refl);
   fresh = all table.entries;
 }
   where
@@ -84,11 +84,14 @@ module _ {table : Table} {e : Entry} {es : List Entry} {sum : BTreeMap (List ℕ
   adds : Adds sum new ((e.1, e.0) ∷ [])
   adds = adds_from_update sum new e.0 (Some e.1) update e.1 (sym (ap (λ k. k +ℤ e.1) moves.fresh.0 ∙ +ℤ_idl e.1))
 
+  first_fits : Fits e.1
+  first_fits = All-head Fits e.1 (values_of es) moves.fit
+
   pub running_more : IsRunning sum → IsRunning new
-  running_more running = running_from_update sum new e.0 (Some e.1) update running (λ zero. moves.fit.0.0 (ap (λ o. unwrap_or o e.1) zero)) moves.fit.0.1
+  running_more running = running_from_update sum new e.0 (Some e.1) update running (λ zero. first_fits.0 (ap (λ o. unwrap_or o e.1) zero)) first_fits.1
 
   pub moves_more : Moves table es new
-  moves_more = record { total = total; distinct = IsDistinct-tail word_eq e.0 (keys_of es) moves.distinct; fit = moves.fit.1; fresh = fresh es (IsDistinct-head word_eq e.0 (keys_of es) moves.distinct) moves.fresh.1 }
+  moves_more = record { total = total; distinct = IsDistinct-tail word_eq e.0 (keys_of es) moves.distinct; fit = All-tail Fits e.1 (values_of es) moves.fit; fresh = fresh es (IsDistinct-head word_eq e.0 (keys_of es) moves.distinct) moves.fresh.1 }
     where
       total : (w : List ℕ) → coefficient_in new w +ℤ coefficient_of (terms_of es) w ≡ coefficient_at table w
       total w =

@@ -1,10 +1,10 @@
 -- what an accepted certificate with lemmas shows
 use Rattle.std.proofs.Common.{◌≡◌, ℕ, ℤ, List, [], ◌∷◌, ◌++◌, map, int_div, refl, sym, ap, ap₂, ◌∙◌, arith}
-use Rattle.std.specs.List.{AllByRecursion}
+use Rattle.std.specs.List.{All}
 use Rattle.std.specs.Int.{◌∣◌}
 use Rattle.std.specs.Int.RustNames.{unsigned_abs}
 use Rattle.std.proofs.lemmas.Int.{ints}
-use Rattle.std.proofs.lemmas.List.Elements.{All-push, recursion_from_All}
+use Rattle.std.proofs.lemmas.List.Elements.{All-head, All-tail, All-push}
 use Rattle.definitions.specs.Poly.{coefficient_of, poly_multiple, poly_sum, poly_between}
 use Rattle.nc_polynomial.specs.Collected.{collected}
 use Rattle.nc_polynomial.proofs.CollectedTerms.{coefficient_of-collected}
@@ -23,15 +23,17 @@ pub sums_agree : (gs ls : List (List (ℤ × List ℕ))) (rows : List LemmaRow) 
 sums_agree gs ls [] = refl
 sums_agree gs ls (r ∷ rows) = ap₂ poly_sum (ap (λ g. poly_multiple r.coef (poly_between r.left g r.right)) (stands_there gs ls r.from)) (sums_agree gs ls rows)
 
-times_back : (s : ℤ) (p : List (ℤ × List ℕ)) → AllByRecursion (λ t. unsigned_abs s ∣ unsigned_abs t.0) p → poly_multiple s (map (λ t. (int_div t.0 s, t.1)) p) ≡ p
+times_back : (s : ℤ) (p : List (ℤ × List ℕ)) → All (λ t. unsigned_abs s ∣ unsigned_abs t.0) p → poly_multiple s (map (λ t. (int_div t.0 s, t.1)) p) ≡ p
 times_back s [] each = refl
-times_back s (t ∷ p) each = ap₂ (λ z q. (z, t.1) ∷ q) (quotient_times t.0 s each.0) (times_back s p each.1)
+times_back s (t ∷ p) each =
+    let divides : ℤ × List ℕ → Type 0 = λ u. unsigned_abs s ∣ unsigned_abs u.0 in
+    ap₂ (λ z q. (z, t.1) ∷ q) (quotient_times t.0 s (All-head divides t p each)) (times_back s p (All-tail divides t p each))
 
 pub lemma_adds_up : (gs ps : List (List (ℤ × List ℕ))) (l : Lemma) → LemmaPasses gs ps l → AddsUpTo gs ps l (lemma_polynomial gs ps l)
 lemma_adds_up gs ps l passes = record {
   at = λ w.
       ap (λ q. coefficient_of q w) (sums_agree gs ps l.rows) ∙ sym (coefficient_of-collected (plain_sum gs ps l.rows) w)
-      ∙ sym (ap (λ q. coefficient_of q w) (times_back l.scale (collected (plain_sum gs ps l.rows)) (recursion_from_All (λ t. unsigned_abs l.scale ∣ unsigned_abs t.0) (collected (plain_sum gs ps l.rows)) passes.made.divisible.each)));
+      ∙ sym (ap (λ q. coefficient_of q w) (times_back l.scale (collected (plain_sum gs ps l.rows)) passes.made.divisible.each));
 }
 
 lemmas_add_up : (gs ps : List (List (ℤ × List ℕ))) (lemmas : List Lemma) → LemmasPass gs ps lemmas → AreOfLemmas gs ps lemmas (lemma_polynomials gs ps lemmas)

@@ -2,7 +2,7 @@
 use Rattle.std.proofs.Common.{◌≡◌, ℕ, zero, suc, ◌+◌, ◌<◌, negsuc, true, List, [], ◌∷◌, take, length, get_or, Result, Ok, Err, IfOk, sym, subst, arith}
 use Rattle.std.specs.List.{All, AllByRecursion, range_with_len}
 use Rattle.std.proofs.lemmas.List.{get_or-map, length-map}
-use Rattle.std.proofs.lemmas.List.Elements.{All-nil, All-cons, All-map, All-take, All-filter, All-from_recursion}
+use Rattle.std.proofs.lemmas.List.Elements.{All-nil, All-cons, All-map, All-take, All-filter}
 use Rattle.std.proofs.lemmas.Slice.Zip.{AllZip-long}
 use Rattle.definitions.specs.Poly.{Term, poly_sum, poly_multiple}
 use Rattle.definitions.specs.Combination.{row_sum}
@@ -68,9 +68,8 @@ module _ (problem : Problem) (c : Certificate) where
       let line : List Term = line_less problem c steps in
       let terms : List Term = poly_sum (poly_multiple c.denominator (claim_in problem c)) (poly_multiple (negsuc 0) (row_sum (polynomials problem.generators) (rows_of steps))) in
       let typed : IsTyped (quiver_of ds) (claim_ends problem c.claim).0 (claim_ends problem c.claim).1 line = line_typed problem c steps all in
-      All-from_recursion (λ (t : Term). IsOver (letter_count ds) t.1) line
-      (words_listed (IsOver (letter_count ds)) line (distinct-descending line (descending-collected terms)) (nonzero-collected terms)
-      (λ w there. subst (λ (n : ℕ). IsOver n w) (letters-quiver_of ds) (path_over (quiver_of ds) (claim_ends problem c.claim).0 (claim_ends problem c.claim).1 w (typed.at w there))))
+      words_listed (IsOver (letter_count ds)) line (distinct-descending line (descending-collected terms)) (nonzero-collected terms)
+      (λ w there. subst (λ (n : ℕ). IsOver n w) (letters-quiver_of ds) (path_over (quiver_of ds) (claim_ends problem c.claim).0 (claim_ends problem c.claim).1 w (typed.at w there)))
 
   pub line_over : (i : ℕ) → IsLineOver (line_before problem c i)
   line_over i = less_over (steps_before problem c i) (typed_in problem c (take i c.rows))

@@ -1,6 +1,6 @@
 -- A line less a step is the next line.
 use Rattle.std.proofs.Common.{◌≡◌, ◌≢◌, ℕ, zero, suc, ◌+◌, ◌≤◌, ℤ, pos, negsuc, ◌+ℤ◌, ◌*ℤ◌, neg_ℤ, List, [], ◌∷◌, ◌++◌, map, take, length, Result, Ok, Err, sym, refl, ap, ap₂, subst, ◌∙◌, arith}
-use Rattle.std.specs.List.{AllByRecursion, range_with_len}
+use Rattle.std.specs.List.{All, range_with_len}
 use Rattle.std.proofs.lemmas.Int.{ints}
 use Rattle.std.proofs.Math.IntN.{*ℤ_comm}
 use Rattle.definitions.proofs.Integers.{*ℤ-neg_ℤ}
@@ -90,11 +90,11 @@ module _ (problem : Problem) (c : Certificate) where
   pub line_descends : (steps : List CertRow) → Descends (line_less problem c steps)
   line_descends steps = descending-collected (poly_sum (poly_multiple c.denominator (claim_in problem c)) (poly_multiple (negsuc 0) (row_sum gs (rows_of steps))))
 
-  pub line_nonzero : (steps : List CertRow) → AllByRecursion (λ t. t.0 ≢ pos 0) (line_less problem c steps)
+  pub line_nonzero : (steps : List CertRow) → All (λ t. t.0 ≢ pos 0) (line_less problem c steps)
   line_nonzero steps = nonzero-collected (poly_sum (poly_multiple c.denominator (claim_in problem c)) (poly_multiple (negsuc 0) (row_sum gs (rows_of steps))))
 
   -- a descending list with its coefficients is the line
-  pub line_is : (steps : List CertRow) (p : List Term) → Descends p → AllByRecursion (λ t. t.0 ≢ pos 0) p
+  pub line_is : (steps : List CertRow) (p : List Term) → Descends p → All (λ t. t.0 ≢ pos 0) p
       → ((w : List ℕ) → coefficient_of p w ≡ coefficient_of (line_less problem c steps) w) → p ≡ line_less problem c steps
   line_is steps p descends nonzero same = descending_unique p (line_less problem c steps) descends (line_descends steps) nonzero (line_nonzero steps) (record { at = same })
 

@@ -2,7 +2,7 @@
 use Rattle.std.proofs.Common.{◌≡◌, ◌≢◌, ◌<◌, ◌≤◌, ◌+◌, ℕ, zero, suc, ℤ, pos, negsuc, ◌≤ℤ◌, neg_ℤ, true, List, [], ◌∷◌, ◌++◌, Option, Some, None, Ok, arith, refl, sym, subst, ◌∙◌, length, take, get_or}
 use Rattle.std.specs.List.{All, range_with_len}
 use Rattle.std.proofs.lemmas.Int.{ints}
-use Rattle.std.proofs.lemmas.List.Elements.{All-nil, All-cons, All-map, All-from_recursion, recursion_from_All, All-filter}
+use Rattle.std.proofs.lemmas.List.Elements.{All-nil, All-cons, All-map, All-filter}
 use Rattle.coef_int.specs.declared.Overflow.{Overflow}
 use Rattle.coef_int.specs.Operations.{first_overflow}
 use Rattle.coef_int.specs.Range.{IsCoefficient}
@@ -72,7 +72,7 @@ next_canonical line g step next shaped shaped_g made =
     let whole : IsShaped total = record {
       descending = IsDescending-from_recursion total (descending-added left right (descending-scaled (pos 1) line (recursion_from_IsDescending line shaped.descending))
           (descending-scaled (neg_ℤ step.coef) m (recursion_from_IsDescending m between.descending)));
-      nonzero = All-from_recursion (λ (t : Term). t.0 ≢ pos 0) total (nonzero-added left right);
+      nonzero = nonzero-added left right;
       in_range = in_range-added left right (last_fit (products (neg_ℤ step.coef) m) (sums left right) later);
     } in
     subst IsCanonical (sized-value total next done.within) (canonical_sized total next whole done.within)
@@ -85,7 +85,7 @@ few_scaled k (t ∷ p) = grind (arith, few_scaled k p)
 multiple_canonical : (k : ℤ) (p : List Term) → IsCanonical p → first_overflow (products k p) ≡ None → IsCanonical (scaled k p)
 multiple_canonical k p canonical fit = record {
   shaped = shaped-scaled k p fit canonical.shaped;
-  short = All-from_recursion (λ (t : Term). length t.1 ≤ 500) (scaled k p) (all-scaled (λ w. length w ≤ 500) k p (recursion_from_All (λ (t : Term). length t.1 ≤ 500) p canonical.short));
+  short = all-scaled (λ w. length w ≤ 500) k p canonical.short;
   few = (let few = few_scaled k p in let most = canonical.few in omega (arith, few, most));
 }
 
@@ -164,9 +164,8 @@ module _ (problem : Problem) (c : Certificate) (checkable : IsCheckable problem.
   line_nonempty k =
       let line : List Term = line_less problem c (take k (steps_of problem c)) in
       let typed : IsTyped (quiver_of ds) (claim_ends problem c.claim).0 (claim_ends problem c.claim).1 line = typed_line problem c k in
-      All-from_recursion (λ (t : Term). 0 < length t.1) line
-      (words_listed (λ w. 0 < length w) line (distinct-descending line (line_descends problem c (take k (steps_of problem c)))) (line_nonzero problem c (take k (steps_of problem c)))
-      (λ w there. path_has_letters (quiver_of ds) (claim_ends problem c.claim).0 (claim_ends problem c.claim).1 w (typed.at w there)))
+      words_listed (λ w. 0 < length w) line (distinct-descending line (line_descends problem c (take k (steps_of problem c)))) (line_nonzero problem c (take k (steps_of problem c)))
+      (λ w there. path_has_letters (quiver_of ds) (claim_ends problem c.claim).0 (claim_ends problem c.claim).1 w (typed.at w there))
 
   lines_readable : All (IsReadableLine ds) (lines_of problem c)
   lines_readable =

@@ -1,11 +1,11 @@
 -- One word decides whether a row is typed: either all its words are paths of a signature, or none is.
 use Rattle.std.proofs.Common.{◌≡◌, ◌≢◌, ◌⊎◌, inl, inr, ℕ, pos, Bool, true, false, ◌&&◌, ◌||◌, List, [], ◌∷◌, ◌++◌, filter, length, slice_get, Some, refl, sym, ap, subst, ◌∙◌, arith}
 use Rattle.std.specs.Prelude.{not}
-use Rattle.std.specs.List.{All, AllByRecursion, list_all}
+use Rattle.std.specs.List.{All, list_all}
 use Rattle.std.specs.Ordering.{int_eq}
 use Rattle.std.proofs.lemmas.Bool.{and_parts, and_from, or_cases, or_left, or_right}
 use Rattle.std.proofs.lemmas.Bool.Decides.{Decides-int_eq}
-use Rattle.std.proofs.lemmas.List.Elements.{All-weaker, filter_passes, recursion_from_All}
+use Rattle.std.proofs.lemmas.List.Elements.{All-head, All-weaker, filter_passes, recursion_from_All}
 use Rattle.std.proofs.Math.IntN.{ℤ_discrete}
 use Rattle.definitions.specs.Poly.{Term, coefficient_of}
 use Rattle.definitions.specs.Quiver.{Quiver, leads, is_path, IsPath}
@@ -14,7 +14,7 @@ use Rattle.definitions.specs.Soundness.{HasSignature}
 use Rattle.definitions.proofs.Coefficients.{at_word}
 use Rattle.definitions.proofs.Paths.{Fits, fits_from_path, path_from_fits}
 use Rattle.nc_polynomial.specs.Shape.{IsShaped}
-use Rattle.nc_polynomial.proofs.Shapes.{recursion_from_IsDescending}
+use Rattle.nc_polynomial.proofs.Shapes.{IsNonzero, recursion_from_IsDescending}
 use Rattle.nc_polynomial.proofs.Distinct.{AreDistinct, distinct-descending, first_coefficient, words_listed}
 use Rattle.quiver.specs.Declarations.{quiver_of}
 use Rattle.traced_rows.specs.declared.certificate.CertRow.{CertRow}
@@ -92,9 +92,6 @@ module _ (problem : Problem) (claim : ℕ) (row : CertRow) where
   distinct : AreDistinct (generator_of problem row)
   distinct = distinct-descending (generator_of problem row) (recursion_from_IsDescending (generator_of problem row) shaped.descending)
 
-  nonzero : AllByRecursion (λ t. t.0 ≢ pos 0) (generator_of problem row)
-  nonzero = recursion_from_All (λ (t : Term). t.0 ≢ pos 0) (generator_of problem row) shaped.nonzero
-
   signed : (t : Term) (rest : List Term) → generator_of problem row ≡ t ∷ rest → HasSignature drawn (generator_of problem row)
   signed t rest is = go (signed_or_zero drawn (polynomials problem.generators) row.generator (generators_have_signatures problem.parts problem.posed problem.generators problem.closed))
     where
@@ -106,8 +103,7 @@ module _ (problem : Problem) (claim : ℕ) (row : CertRow) where
   first_there : (t : Term) (rest : List Term) → generator_of problem row ≡ t ∷ rest → coefficient_of (generator_of problem row) t.1 ≢ pos 0
   first_there t rest is none =
       let apart : AreDistinct (t ∷ rest) = subst AreDistinct is distinct in
-      let some : AllByRecursion (λ u. u.0 ≢ pos 0) (t ∷ rest) = subst (AllByRecursion (λ u. u.0 ≢ pos 0)) is nonzero in
-      some.0 (sym (first_coefficient t rest apart.0) ∙ sym (ap (λ p. coefficient_of p t.1) is) ∙ none)
+      All-head IsNonzero t rest (subst (All IsNonzero) is shaped.nonzero) (sym (first_coefficient t rest apart.0) ∙ sym (ap (λ p. coefficient_of p t.1) is) ∙ none)
 
   -- it decides whether the row is typed
   pub first_decides : (t : Term) (rest : List Term) → generator_of problem row ≡ t ∷ rest
@@ -123,8 +119,8 @@ module _ (problem : Problem) (claim : ℕ) (row : CertRow) where
       record {
         coefficient = λ zero. not_both (int_eq row.coef (pos 0)) ((Decides-int_eq row.coef (pos 0)).1 zero) both.0;
         generator = λ none. not_both (is_empty (generator_of problem row)) (ap is_empty none) both.1;
-        words = words_listed (λ w. IsPath drawn (claim_ends problem claim).0 (claim_ends problem claim).1 (row.left ++ (w ++ row.right))) (generator_of problem row) distinct nonzero
-            (words_are_paths drawn (claim_ends problem claim).0 (claim_ends problem claim).1 (polynomials problem.generators) (row_of row) parts.1);
+        words = recursion_from_All _ (generator_of problem row) (words_listed (λ w. IsPath drawn (claim_ends problem claim).0 (claim_ends problem claim).1 (row.left ++ (w ++ row.right))) (generator_of problem row) distinct shaped.nonzero
+            (words_are_paths drawn (claim_ends problem claim).0 (claim_ends problem claim).1 (polynomials problem.generators) (row_of row) parts.1));
       }
     where
       not_both : (b : Bool) → b ≡ true → not b ≡ true → ⊥

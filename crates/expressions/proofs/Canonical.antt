@@ -1,8 +1,8 @@
 -- The polynomials that the code makes itself are within the limits.
 use Rattle.std.proofs.Common.{◌≡◌, ◌≤◌, [], ◌∷◌, length, arith}
 use Rattle.std.proofs.lemmas.List.{length-map}
-use Rattle.std.proofs.lemmas.List.Elements.{All-from_recursion, recursion_from_All}
-use Rattle.std.specs.List.{All, AllByRecursion}
+use Rattle.std.proofs.lemmas.List.Elements.{All-map}
+use Rattle.std.specs.List.{All}
 use Rattle.coef_int.specs.Range.{IsCoefficient}
 use Rattle.definitions.specs.Poly.{Poly, Term}
 use Rattle.definitions.specs.Quiver.{Quiver}
@@ -17,14 +17,10 @@ canonical-negated p h =
     let same : length (negated p) ≡ length p = length-map p _ in
     record {
       shaped = shaped-negated p h.shaped;
-      short = All-from_recursion (λ (t : Term). length t.1 ≤ 500) (negated p) (words-negated (λ w. length w ≤ 500) p (recursion_from_All (λ (t : Term). length t.1 ≤ 500) p h.short));
+      short = words-negated (λ w. length w ≤ 500) p h.short;
       few = omega (arith, same, h.few);
     }
 
 -- an adjoint has the same coefficients
 pub in_range-adjoint_poly : (q : Quiver) (p : Poly) → All (λ t. IsCoefficient t.0) p → All (λ t. IsCoefficient t.0) (adjoint_poly q p)
-in_range-adjoint_poly q p h = All-from_recursion (λ (t : Term). IsCoefficient t.0) (adjoint_poly q p) (go p (recursion_from_All (λ (t : Term). IsCoefficient t.0) p h))
-  where
-    go : (p : Poly) → AllByRecursion (λ t. IsCoefficient t.0) p → AllByRecursion (λ t. IsCoefficient t.0) (adjoint_poly q p)
-    go [] k = tt
-    go (t ∷ p) k = (k.0, go p k.1)
+in_range-adjoint_poly q p h = All-map (λ (t : Term). IsCoefficient t.0) _ p h

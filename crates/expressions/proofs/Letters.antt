@@ -1,12 +1,11 @@
 -- What holds of all letters that an expression writes holds of all letters of its polynomial.
 use Rattle.std.proofs.Common.{◌≡◌, ◌<◌, ℕ, zero, suc, ℤ, pos, negsuc, Bool, true, false, ◌||◌, List, [], ◌∷◌, ◌++◌, replicate, Option, Some, None, Ok, refl, subst, eq-eqb}
 use Rattle.std.proofs.lemmas.Bool.{and_parts}
-use Rattle.std.proofs.lemmas.List.Elements.{All-from_recursion, recursion_from_All}
+use Rattle.std.proofs.lemmas.List.Elements.{All-nil, All-head, All-tail, All-append, All-push, All-replicate}
 use Rattle.std.specs.List.{All, AllByRecursion, list_any}
 use Rattle.definitions.specs.Poly.{Poly, Term as term}
 use Rattle.definitions.specs.Quiver.{star}
 use Rattle.definitions.specs.Generators.{adjoint_word, adjoint_poly}
-use Rattle.definitions.proofs.StarSound.{all-append}
 use Rattle.word_core.specs.declared.letter.Letter.{Letter}
 use Rattle.quiver.specs.declared.named.Named.{Named}
 use Rattle.quiver.specs.declared.named.Named.TheVariants.{Object, Map}
@@ -25,21 +24,6 @@ use Rattle.expressions.specs.Polynomials.{letter_poly, power_poly, mark_poly, ma
 use Rattle.expressions.proofs.Sequences.{bound, same_value}
 use Rattle.expressions.proofs.Words.{Words, words-negated, words-sum, words-difference, words-multiple, words-collection, words-adjoint, words-product}
 
--- the same of the letters of all words, by recursion and by places
-pub letters_by_places : (L : ℕ → Type 0) (p : Poly) → Words (AllByRecursion L) p → All (λ t. All L t.1) p
-letters_by_places L p h = All-from_recursion (λ (t : term). All L t.1) p (go p h)
-  where
-    go : (p : Poly) → Words (AllByRecursion L) p → AllByRecursion (λ t. All L t.1) p
-    go [] k = tt
-    go (t ∷ p) k = (All-from_recursion L t.1 k.0, go p k.1)
-
-pub letters_by_recursion : (L : ℕ → Type 0) (p : Poly) → All (λ t. All L t.1) p → Words (AllByRecursion L) p
-letters_by_recursion L p h = go p (recursion_from_All (λ (t : term). All L t.1) p h)
-  where
-    go : (p : Poly) → AllByRecursion (λ t. All L t.1) p → Words (AllByRecursion L) p
-    go [] k = tt
-    go (t ∷ p) k = (recursion_from_All L t.1 k.0, go p k.1)
-
 -- sums, multiples and products
 module _ (P : List ℕ → Type 0) where
   pub words-signed : (s : Summand) → Words P s.1 → Words P (signed s)
@@ -57,7 +41,7 @@ module _ (P : List ℕ → Type 0) where
       words-sum_from step.value ss r (words-sum_step p s step.value h k.0 step.is) k.1 step.then
 
   words-total : (ss : List Summand) (r : Poly) → AllByRecursion (λ s. Words P s.1) ss → total ss ≡ Ok r → Words P r
-  words-total [] r h e = subst (Words P) (same_value [] r e) tt
+  words-total [] r h e = subst (Words P) (same_value [] r e) (All-nil _)
   words-total (s ∷ ss) r h e = words-sum_from (signed s) ss r (words-signed s h.0) h.1 e
 
   pub words-scaled_by : (l : Option Number) (p r : Poly) → Words P p → scaled_by l p ≡ Ok r → Words P r
@@ -72,7 +56,7 @@ module _ (P : List ℕ → Type 0) where
         words-product_from step.value ps r (words-product P P P joined p q step.value h k.0 step.is) k.1 step.then
 
     pub words-product_poly : (ps : List Poly) (r : Poly) → AllByRecursion (Words P) ps → product_poly ps ≡ Ok r → Words P r
-    words-product_poly [] r h e = subst (Words P) (same_value [] r e) tt
+    words-product_poly [] r h e = subst (Words P) (same_value [] r e) (All-nil _)
     words-product_poly (p ∷ ps) r h e = words-product_from p ps r h.0 h.1 e
 
     words-copies : (n : ℕ) (p : Poly) → Words P p → AllByRecursion (Words P) (replicate n p)
@@ -95,7 +79,7 @@ right_of false b h = h
 
 module _ (ds : List Declaration) (L : ℕ → Type 0) (maps : (name : List ℕ) (a : Letter) → named_in ds name ≡ Some (Map a) → L a.0) where
   abbrev pub Over : List ℕ → Type 0
-  Over w = AllByRecursion L w
+  Over w = All L w
 
   -- adjoints of such letters are such letters
   abbrev pub IsClosed : Type 0
@@ -106,16 +90,13 @@ module _ (ds : List Declaration) (L : ℕ → Type 0) (maps : (name : List ℕ) 
   Identities occurs = (v : ℕ) → v < object_count ds → occurs v ≡ true → L (identity_in ds v)
 
   over-adjoint_word : IsClosed → (w : List ℕ) → Over w → Over (adjoint_word (quiver_of ds) w)
-  over-adjoint_word closed [] h = tt
-  over-adjoint_word closed (a ∷ w) h = all-append L (adjoint_word (quiver_of ds) w) (star (quiver_of ds) a ∷ []) (over-adjoint_word closed w h.1) (closed a h.0, tt)
-
-  over-append : (v w : List ℕ) → Over v → Over w → Over (v ++ w)
-  over-append v w h k = all-append L v w h k
+  over-adjoint_word closed [] h = All-nil L
+  over-adjoint_word closed (a ∷ w) h = All-push L (adjoint_word (quiver_of ds) w) (star (quiver_of ds) a) (over-adjoint_word closed w (All-tail L a w h)) (closed a (All-head L a w h))
 
   pub over-mark_poly : (m : Mark) → (is_adjoint m ≡ true → IsClosed) → (p r : Poly) → Words Over p → mark_poly (quiver_of ds) m p ≡ Ok r → Words Over r
   over-mark_poly Adjoint closed p r h e =
       words-collection Over (adjoint_poly (quiver_of ds) p) r (words-adjoint Over Over (quiver_of ds) (over-adjoint_word (closed refl)) p h) e
-  over-mark_poly (Power at exponent) closed p r h e = words-power_poly Over over-append exponent.value p r h e
+  over-mark_poly (Power at exponent) closed p r h e = words-power_poly Over (All-append L) exponent.value p r h e
 
   over-marked_poly : (marks : List Mark) → (list_any is_adjoint marks ≡ true → IsClosed) → (p r : Poly) → Words Over p → marked_poly (quiver_of ds) marks p ≡ Ok r → Words Over r
   over-marked_poly [] closed p r h e = subst (Words Over) (same_value p r e) h
@@ -123,14 +104,17 @@ module _ (ds : List Declaration) (L : ℕ → Type 0) (maps : (name : List ℕ) 
       let step = bound (mark_poly (quiver_of ds) m p) (marked_poly (quiver_of ds) marks) r e in
       over-marked_poly marks (λ more. closed (right_of _ _ more)) step.value r (over-mark_poly m (λ here. closed (left_of _ _ here)) p step.value h step.is) step.then
 
+  over-one : (a : ℕ) → L a → Words Over (letter_poly a)
+  over-one a h = All-replicate (λ (t : term). Over t.1) 1 (pos 1, a ∷ []) (All-replicate L 1 a h)
+
   over-letter : (o : Option Named) (name : List ℕ) → named_in ds name ≡ o → is_map o ≡ true → Words Over (letter_poly (letter_number o))
   over-letter None name e known = absurd (cc)
   over-letter (Some (Object v)) name e known = absurd (cc)
-  over-letter (Some (Map a)) name e known = ((maps name a e, tt), tt)
+  over-letter (Some (Map a)) name e known = over-one a.0 (maps name a e)
 
   over-identity : (o : Option Named) (name : List ℕ) → named_in ds name ≡ o → is_object o ≡ true → Identities (λ v. is_the_object v o) → Words Over (letter_poly (identity_in ds (object_number o)))
   over-identity None name e known ids = absurd (cc)
-  over-identity (Some (Object v)) name e known ids = ((ids v.0 (is_named ds name (Object v) e).0 (eq-eqb v.0 v.0 refl), tt), tt)
+  over-identity (Some (Object v)) name e known ids = over-one (identity_in ds v.0) (ids v.0 (is_named ds name (Object v) e).0 (eq-eqb v.0 v.0 refl))
   over-identity (Some (Map a)) name e known ids = absurd (cc)
 
   -- by induction on the expression
@@ -157,7 +141,7 @@ module _ (ds : List Declaration) (L : ℕ → Type 0) (maps : (name : List ℕ) 
     over-term (Term' at negative literal shape factors) known ids closed r e =
         let product = bound (factor_polys ds factors >>= product_poly) (scaled_by literal) r e in
         let parts = bound (factor_polys ds factors) product_poly product.value product.is in
-        words-scaled_by Over literal product.value r (words-product_poly Over over-append parts.value product.value (over-factors factors known ids closed parts.value parts.is) parts.then) product.then
+        words-scaled_by Over literal product.value r (words-product_poly Over (All-append L) parts.value product.value (over-factors factors known ids closed parts.value parts.is) parts.then) product.then
 
     over-factors : {m : _} (k : Row_of-Factor m) → are_names_of_factors ds k ≡ true → Identities (λ v. has_identity_in_factors ds v k) → (has_quote_in_factors k ≡ true → IsClosed)
         → (ps : List Poly) → factor_polys ds k ≡ Ok ps → AllByRecursion (Words Over) ps

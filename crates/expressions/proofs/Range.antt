@@ -18,7 +18,7 @@ use Rattle.expressions.specs.Polynomials.{mark_poly, primary_poly}
 use Rattle.expressions.specs.declared.powers.Marked.{Marked}
 use Rattle.expressions.specs.Due.{due_poly}
 use Rattle.expressions.proofs.Sequences.{same_value}
-use Rattle.expressions.proofs.Letters.{letters_by_places, letters_by_recursion, over-primary, over-mark_poly}
+use Rattle.expressions.proofs.Letters.{over-primary, over-mark_poly}
 
 module _ (ds : List Declaration) (declared : IsDeclared ds) where
   pub star_in_range : (a : ℕ) → a < letter_count ds → star (quiver_of ds) a < letter_count ds
@@ -36,11 +36,10 @@ module _ (ds : List Declaration) (declared : IsDeclared ds) where
   maps_in_range name a e = (is_named ds name (Map a) e).0
 
   pub in_range-primary : (x : Primary) (p : Poly) → are_names_of_primary ds x ≡ true → primary_poly ds x ≡ Ok p → AllOver p
-  in_range-primary x p known e = letters_by_places IsLetter p (over-primary ds IsLetter maps_in_range x known (λ v below h. identity_in_range ds v below) (λ h. star_in_range) p e)
+  in_range-primary x p known e = over-primary ds IsLetter maps_in_range x known (λ v below h. identity_in_range ds v below) (λ h. star_in_range) p e
 
   pub in_range-mark_poly : (m : Mark) (p r : Poly) → AllOver p → mark_poly (quiver_of ds) m p ≡ Ok r → AllOver r
-  in_range-mark_poly m p r h e =
-      letters_by_places IsLetter r (over-mark_poly ds IsLetter maps_in_range m (λ adjoint. star_in_range) p r (letters_by_recursion IsLetter p h) e)
+  in_range-mark_poly m p r h e = over-mark_poly ds IsLetter maps_in_range m (λ adjoint. star_in_range) p r h e
 
   -- of the polynomial of which an adjoint may be due
   pub in_range-due : (m : Marked) (r : Poly) → AllOver m.poly.terms → due_poly (quiver_of ds) m ≡ Ok r → AllOver r

@@ -4,9 +4,9 @@ use Rattle.std.proofs.Math.IntN.{+ℤ_idl, +ℤ_idr}
 use Rattle.std.proofs.Math.Seq.{drop-cons}
 use Rattle.std.proofs.lemmas.Cmp.{back_total}
 use Rattle.std.proofs.lemmas.List.{get_or-drop, length-drop}
-use Rattle.std.proofs.lemmas.List.Elements.{All-drop, recursion_from_All}
+use Rattle.std.proofs.lemmas.List.Elements.{All-head, All-tail, All-drop}
 use Rattle.std.proofs.lemmas.List.Sorted.{searchable_from_sorted}
-use Rattle.std.specs.List.{AllByRecursion, AllWithin, HoldsAt, insert}
+use Rattle.std.specs.List.{All, AllWithin, HoldsAt, insert}
 use Rattle.std.specs.List.Sorted.{IsNonDecreasingBy, IsBinarySearchResult}
 use Rattle.std.specs.Ordering.{is_lt, ordering_index}
 use Rattle.std.specs.declared.cmp.Ordering.{Ordering}
@@ -54,9 +54,9 @@ term-stays a b t rest total is =
     sum-fits a b t.1 rest (subst IsCoefficient (sym total) is.0)
     ∙ ap (λ out. join out (total_from rest)) (ap (λ z. keep z t.1 []) total ∙ keep-nonzero t.0 t.1 [] is.1)
 
-alone : (p : List Term) → AllByRecursion IsTerm p → total_from (aligned p []) ≡ Ok p
+alone : (p : List Term) → All IsTerm p → total_from (aligned p []) ≡ Ok p
 alone [] terms = refl
-alone (x ∷ p) terms = term-stays x.0 (pos 0) x (aligned p []) (+ℤ_idr x.0) terms.0 ∙ ap (join (x ∷ [])) (alone p terms.1)
+alone (x ∷ p) terms = term-stays x.0 (pos 0) x (aligned p []) (+ℤ_idr x.0) (All-head IsTerm x p terms) ∙ ap (join (x ∷ [])) (alone p (All-tail IsTerm x p terms))
 
 module _ (c : ℤ) (w : List ℕ) where
   abbrev sum_with : List Term → Result (List Term) PolyFault
@@ -66,16 +66,16 @@ module _ (c : ℤ) (w : List ℕ) where
   abbrev pairs : Term → List Term → Ordering → List Pair
   pairs x p o = by_order o ((pos 0, c, w) ∷ aligned (x ∷ p) []) ((x.0, c, x.1) ∷ aligned p []) ((x.0, pos 0, x.1) ∷ aligned p ((c, w) ∷ []))
 
-  behind : (p : List Term) (i : ℕ) → AllByRecursion IsTerm p → AllWithin (λ t. word_cmp w t.1 ≡ Less) p 0 i → sum_with p ≡ join (take i p) (sum_with (drop i p))
+  behind : (p : List Term) (i : ℕ) → All IsTerm p → AllWithin (λ t. word_cmp w t.1 ≡ Less) p 0 i → sum_with p ≡ join (take i p) (sum_with (drop i p))
   behind p zero terms above = join-none (sum_with p)
   behind [] (suc i) terms above = join-none (sum_with [])
   behind (x ∷ p) (suc i) terms above =
       ap (λ o. total_from (pairs x p o)) (word_cmp-turned w x.1 (above 0 x (omega arith) (omega arith)))
-      ∙ term-stays x.0 (pos 0) x (aligned p ((c, w) ∷ [])) (+ℤ_idr x.0) terms.0
-      ∙ ap (join (x ∷ [])) (behind p i terms.1 (λ k d low high. above (suc k) d (omega arith) (omega arith)))
+      ∙ term-stays x.0 (pos 0) x (aligned p ((c, w) ∷ [])) (+ℤ_idr x.0) (All-head IsTerm x p terms)
+      ∙ ap (join (x ∷ [])) (behind p i (All-tail IsTerm x p terms) (λ k d low high. above (suc k) d (omega arith) (omega arith)))
       ∙ join-more x (take i p) (sum_with (drop i p))
 
-  before : (p : List Term) → AllByRecursion IsTerm p → ((d : Term) → 0 < length p → word_cmp w (get_or p 0 d).1 ≡ Greater) → IsTerm (c, w) → sum_with p ≡ Ok ((c, w) ∷ p)
+  before : (p : List Term) → All IsTerm p → ((d : Term) → 0 < length p → word_cmp w (get_or p 0 d).1 ≡ Greater) → IsTerm (c, w) → sum_with p ≡ Ok ((c, w) ∷ p)
   before [] terms below is = term-stays (pos 0) c (c, w) [] (+ℤ_idl c) is
   before (x ∷ p) terms below is =
       ap (λ o. total_from (pairs x p o)) (word_cmp-turned_back w x.1 (below x (omega arith)))
@@ -88,8 +88,8 @@ module _ (c : ℤ) (w : List ℕ) where
       ∙ ap (λ v. total_from ((x.0, c, v) ∷ aligned p [])) (sym same)
 
 module _ (p : List Term) (shaped : IsShaped p) (c : ℤ) (w : List ℕ) (i : ℕ) where
-  terms_from : (n : ℕ) → AllByRecursion IsTerm (drop n p)
-  terms_from n = recursion_from_All IsTerm (drop n p) (All-drop IsTerm n p (λ k d inside. (shaped.in_range k d inside, shaped.nonzero k d inside)))
+  terms_from : (n : ℕ) → All IsTerm (drop n p)
+  terms_from n = All-drop IsTerm n p (λ k d inside. (shaped.in_range k d inside, shaped.nonzero k d inside))
 
   rises : IsNonDecreasingBy (λ t. ordering_index (word_cmp w t.1)) p
   rises = searchable_from_sorted (back_total word_cmp_total) (λ t. t.1) p w (λ k d low high. ap is_lt (shaped.descending k (k + 1) d (omega arith) high))

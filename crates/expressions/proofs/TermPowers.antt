@@ -1,7 +1,6 @@
 -- The power of one term, by its coefficient and its word factor by factor, and the power of zero.
 use Rattle.std.proofs.Common.{◌≡◌, ◌≢◌, ℕ, zero, suc, ◌+◌, ◌-◌, ◌<◌, ◌≤◌, ℤ, pos, negsuc, ◌*ℤ◌, true, List, [], ◌∷◌, ◌++◌, length, replicate, Ok, sym, ap, subst, ◌∙◌, arith, refl}
 use Rattle.std.proofs.lemmas.List.{length-append}
-use Rattle.std.proofs.lemmas.List.Elements.{recursion_from_All}
 use Rattle.coef_int.specs.declared.Overflow.{Overflow}
 use Rattle.coef_int.specs.Operations.{product_of}
 use Rattle.coef_int.specs.Range.{IsCoefficient}
@@ -19,13 +18,13 @@ use Rattle.expressions.proofs.Copies.{power-next, power-fault}
 
 module _ (t : Term) (canonical : IsCanonical (t ∷ [])) where
   pub coefficient-alone : IsCoefficient t.0
-  coefficient-alone = (recursion_from_All (λ (u : Term). IsCoefficient u.0) (t ∷ []) canonical.shaped.in_range).0
+  coefficient-alone = canonical.shaped.in_range 0 t (omega arith)
 
   nonzero-alone : t.0 ≢ pos 0
-  nonzero-alone = (recursion_from_All (λ (u : Term). u.0 ≢ pos 0) (t ∷ []) canonical.shaped.nonzero).0
+  nonzero-alone = canonical.shaped.nonzero 0 t (omega arith)
 
   pub short-alone : length t.1 ≤ 500
-  short-alone = (recursion_from_All (λ (u : Term). length u.1 ≤ 500) (t ∷ []) canonical.short).0
+  short-alone = canonical.short 0 t (omega arith)
 
 -- one more time
 pub repeated-next : (i : ℕ) (w : List ℕ) → repeated_word (i + 1) w ≡ repeated_word i w ++ w

@@ -1,11 +1,11 @@
 -- Two adjoints change nothing: the adjoint of an adjoint is the polynomial itself, and none of them is a fault.
-use Rattle.std.proofs.Common.{◌≡◌, ◌≢◌, ℕ, zero, suc, ◌+◌, ◌<◌, ◌≤◌, ◌⊎◌, inl, inr, pos, negsuc, ℤ, ◌+ℤ◌, Bool, true, false, not, cond, List, [], ◌∷◌, ◌++◌, length, map, None, Ok, sym, refl, ap, ap₂, subst, ◌∙◌, arith, append_assoc}
+use Rattle.std.proofs.Common.{◌≡◌, ◌≢◌, ℕ, zero, suc, ◌+◌, ◌<◌, ◌≤◌, ◌⊎◌, inl, inr, pos, negsuc, ℤ, ◌+ℤ◌, Bool, true, false, not, cond, List, [], ◌∷◌, ◌++◌, length, map, get_or, None, Ok, sym, refl, ap, ap₂, subst, ◌∙◌, arith, append_assoc}
 use Rattle.std.proofs.Math.IntN.{+ℤ_idl}
 use Rattle.std.proofs.lemmas.Bool.{cases_lt}
 use Rattle.std.proofs.lemmas.List.{length-append, length-map, get_or_past}
-use Rattle.std.proofs.lemmas.List.Elements.{All-from_recursion, recursion_from_All}
+use Rattle.std.proofs.lemmas.List.Elements.{All-nil, All-cons, All-head, All-tail, All-map}
 use Rattle.std.specs.Cmp.{both_ways}
-use Rattle.std.specs.List.{AllByRecursion}
+use Rattle.std.specs.List.{All}
 use Rattle.std.specs.declared.cmp.Ordering.{Ordering}
 use Rattle.std.specs.declared.cmp.Ordering.TheVariants.{Less, Equal, Greater}
 use Rattle.coef_int.specs.Operations.{sum_of, first_overflow}
@@ -24,7 +24,7 @@ use Rattle.nc_polynomial.specs.Terms.{Pair, only_right, keep, by_order, aligned,
 use Rattle.nc_polynomial.proofs.Chains.{first-fits}
 use Rattle.nc_polynomial.proofs.CollectedTerms.{coefficient_of-collected, descending-collected, nonzero-collected, collected-end}
 use Rattle.nc_polynomial.proofs.Distinct.{AreDistinct, none_listed, distinct-descending, ranged-descending, coefficient-ranged}
-use Rattle.nc_polynomial.proofs.Shapes.{IsDescending-from_recursion, recursion_from_IsDescending, all-totals, all-aligned}
+use Rattle.nc_polynomial.proofs.Shapes.{IsInRange, IsDescending-from_recursion, recursion_from_IsDescending, all_middle}
 use Rattle.nc_polynomial.proofs.Words.{word_eq-turned}
 use Rattle.quiver.specs.Declarations.{Declaration, IsDeclared, quiver_of}
 use Rattle.adjoint_rules.proofs.Stars.{stars_are_involution}
@@ -34,6 +34,8 @@ use Rattle.expressions.specs.declared.powers.Marked.{Marked}
 use Rattle.expressions.specs.Due.{due_poly, due_marked}
 use Rattle.expressions.specs.Polynomials.{mark_poly, marked_poly}
 use Rattle.expressions.specs.Results.{◌>>=◌}
+use Rattle.expressions.proofs.Canonical.{in_range-adjoint_poly}
+use Rattle.expressions.proofs.Words.{words-adjoint, words-collected}
 use Rattle.expressions.proofs.WordRuns.{sized-canonical, bind-assoc}
 
 -- the size of what terms add up to
@@ -64,37 +66,21 @@ pub length-collected : (p : Poly) → length (collected p) ≤ length p
 length-collected [] = omega arith
 length-collected (t ∷ p) = omega (arith, length-totals (aligned (t ∷ []) (collected p)), length-aligned (t ∷ []) (collected p), length-collected p)
 
-pub words-collected : (P : List ℕ → Type 0) (p : Poly) → AllByRecursion (λ t. P t.1) p → AllByRecursion (λ t. P t.1) (collected p)
-words-collected P [] h = tt
-words-collected P (t ∷ p) h = all-totals P (aligned (t ∷ []) (collected p)) (all-aligned P (t ∷ []) (collected p) (h.0, tt) (words-collected P p h.1))
-
 pub length-adjoint_word : (q : Quiver) (w : List ℕ) → length (adjoint_word q w) ≡ length w
 length-adjoint_word q [] = refl
 length-adjoint_word q (a ∷ w) = let more : length (adjoint_word q w ++ (star q a ∷ [])) ≡ length (adjoint_word q w) + 1 = length-append (adjoint_word q w) (star q a ∷ []) in omega (arith, more, length-adjoint_word q w)
 
-pub short-adjoint : (q : Quiver) (p : Poly) → AllByRecursion (λ t. length t.1 ≤ 500) p → AllByRecursion (λ t. length t.1 ≤ 500) (adjoint_poly q p)
-short-adjoint q [] h = tt
-short-adjoint q (t ∷ p) h = (omega (arith, h.0, length-adjoint_word q t.1), short-adjoint q p h.1)
-
-ranged-adjoint : (q : Quiver) (p : Poly) → AllByRecursion (λ t. IsCoefficient t.0) p → AllByRecursion (λ t. IsCoefficient t.0) (adjoint_poly q p)
-ranged-adjoint q [] h = tt
-ranged-adjoint q (t ∷ p) h = (h.0, ranged-adjoint q p h.1)
-
 -- terms with different words add up without a sum
-before_last : (done : List Term) (t : Term) (rest : List Term) → AreDistinct (done ++ t ∷ rest) → AllByRecursion (λ u. word_eq u.1 t.1 ≡ false) done
-before_last [] t rest d = tt
-before_last (u ∷ done) t rest d = (word_eq-turned u.1 t.1 ∙ at done d.0, before_last done t rest d.1)
-  where
-    at : (xs : List Term) → AllByRecursion (λ x. word_eq x.1 u.1 ≡ false) (xs ++ t ∷ rest) → word_eq t.1 u.1 ≡ false
-    at [] h = h.0
-    at (x ∷ xs) h = at xs h.1
+before_last : (done : List Term) (t : Term) (rest : List Term) → AreDistinct (done ++ t ∷ rest) → All (λ u. word_eq u.1 t.1 ≡ false) done
+before_last [] t rest d = All-nil _
+before_last (u ∷ done) t rest d = All-cons (λ x. word_eq x.1 t.1 ≡ false) u done (word_eq-turned u.1 t.1 ∙ all_middle (λ x. word_eq x.1 u.1 ≡ false) done t rest d.0) (before_last done t rest d.1)
 
-additions-fit : (done rest : List Term) → AreDistinct (done ++ rest) → AllByRecursion (λ t. IsCoefficient t.0) rest → first_overflow (additions done rest) ≡ None
+additions-fit : (done rest : List Term) → AreDistinct (done ++ rest) → All (λ t. IsCoefficient t.0) rest → first_overflow (additions done rest) ≡ None
 additions-fit done [] d h = refl
 additions-fit done (t ∷ rest) d h =
     let none : coefficient_of done t.1 ≡ pos 0 = none_listed t.1 done (before_last done t rest d) in
-    first-fits (sum_of (coefficient_of done t.1) t.0) (additions (done ++ t ∷ []) rest) (subst IsCoefficient (sym (ap (λ k. k +ℤ t.0) none ∙ +ℤ_idl t.0)) h.0)
-    ∙ additions-fit (done ++ t ∷ []) rest (subst AreDistinct (sym (append_assoc done (t ∷ []) rest)) d) h.1
+    first-fits (sum_of (coefficient_of done t.1) t.0) (additions (done ++ t ∷ []) rest) (subst IsCoefficient (sym (ap (λ k. k +ℤ t.0) none ∙ +ℤ_idl t.0)) (All-head IsInRange t rest h))
+    ∙ additions-fit (done ++ t ∷ []) rest (subst AreDistinct (sym (append_assoc done (t ∷ []) rest)) d) (All-tail IsInRange t rest h)
 
 -- adjoints
 module _ (q : Quiver) (twice : (w : List ℕ) → adjoint_word q (adjoint_word q w) ≡ w) where
@@ -109,11 +95,11 @@ module _ (q : Quiver) (twice : (w : List ℕ) → adjoint_word q (adjoint_word q
 
   distinct-adjoint : (p : Poly) → AreDistinct p → AreDistinct (adjoint_poly q p)
   distinct-adjoint [] d = tt
-  distinct-adjoint (t ∷ p) d = (apart p d.0, distinct-adjoint p d.1)
-    where
-      apart : (xs : Poly) → AllByRecursion (λ u. word_eq u.1 t.1 ≡ false) xs → AllByRecursion (λ u. word_eq u.1 (adjoint_word q t.1) ≡ false) (adjoint_poly q xs)
-      apart [] h = tt
-      apart (u ∷ xs) h = (word_eq-adjoint u.1 (adjoint_word q t.1) ∙ ap (word_eq u.1) (twice t.1) ∙ h.0, apart xs h.1)
+  distinct-adjoint (t ∷ p) d = (
+    All-map (λ (u : Term). word_eq u.1 (adjoint_word q t.1) ≡ false) _ p
+        (λ k u below. let w = (get_or p k u).1 in word_eq-adjoint w (adjoint_word q t.1) ∙ ap (word_eq w) (twice t.1) ∙ d.0 k u below),
+    distinct-adjoint p d.1,
+  )
 
   module _ (p : Poly) (canonical : IsCanonical p) where
     abbrev pub adjoint_of : Poly
@@ -122,9 +108,6 @@ module _ (q : Quiver) (twice : (w : List ℕ) → adjoint_word q (adjoint_word q
     falls : AreDistinct p
     falls = distinct-descending p (recursion_from_IsDescending p canonical.shaped.descending)
 
-    ranged : AllByRecursion (λ t. IsCoefficient t.0) p
-    ranged = recursion_from_All (λ (t : Term). IsCoefficient t.0) p canonical.shaped.in_range
-
     same : (w : List ℕ) → coefficient_of adjoint_of w ≡ coefficient_of p (adjoint_word q w)
     same w = coefficient_of-collected (adjoint_poly q p) w ∙ coefficient_of-adjoint p w
 
@@ -132,18 +115,19 @@ module _ (q : Quiver) (twice : (w : List ℕ) → adjoint_word q (adjoint_word q
     canonical-adjoint = record {
       shaped = record {
         descending = IsDescending-from_recursion adjoint_of (descending-collected (adjoint_poly q p));
-        nonzero = All-from_recursion (λ (t : Term). t.0 ≢ pos 0) adjoint_of (nonzero-collected (adjoint_poly q p));
-        in_range = All-from_recursion (λ (t : Term). IsCoefficient t.0) adjoint_of (ranged-descending adjoint_of (descending-collected (adjoint_poly q p)) (λ w.
-            subst IsCoefficient (sym (same w)) (coefficient-ranged p falls ranged (adjoint_word q w))));
+        nonzero = nonzero-collected (adjoint_poly q p);
+        in_range = ranged-descending adjoint_of (descending-collected (adjoint_poly q p)) (λ w.
+            subst IsCoefficient (sym (same w)) (coefficient-ranged p falls canonical.shaped.in_range (adjoint_word q w)));
       };
-      short = All-from_recursion (λ (t : Term). length t.1 ≤ 500) adjoint_of (words-collected (λ w. length w ≤ 500) (adjoint_poly q p) (short-adjoint q p (recursion_from_All (λ (t : Term). length t.1 ≤ 500) p canonical.short)));
+      short = words-collected (λ w. length w ≤ 500) (adjoint_poly q p)
+          (words-adjoint (λ w. length w ≤ 500) (λ w. length w ≤ 500) q (λ w less. omega (arith, less, length-adjoint_word q w)) p canonical.short);
       few = let count : length (adjoint_poly q p) ≡ length p = length-map p _ in omega (arith, canonical.few, count, length-collected (adjoint_poly q p));
     }
 
     -- an adjoint is no fault
     pub adjoint-fits : collection_result (adjoint_poly q p) ≡ Ok adjoint_of
     adjoint-fits =
-        ap (λ o. unless_overflow o (sized adjoint_of)) (additions-fit [] (adjoint_poly q p) (distinct-adjoint p falls) (ranged-adjoint q p ranged))
+        ap (λ o. unless_overflow o (sized adjoint_of)) (additions-fit [] (adjoint_poly q p) (distinct-adjoint p falls) (in_range-adjoint_poly q p canonical.shaped.in_range))
         ∙ sized-canonical adjoint_of canonical-adjoint
 
   -- the adjoint of an adjoint
@@ -152,9 +136,9 @@ module _ (q : Quiver) (twice : (w : List ℕ) → adjoint_word q (adjoint_word q
       let r = adjoint_of p canonical in
       let r_canonical = canonical-adjoint p canonical in
       collected-end (adjoint_poly q r) p
-      (additions-fit [] (adjoint_poly q r) (distinct-adjoint r (falls r r_canonical)) (ranged-adjoint q r (ranged r r_canonical)))
+      (additions-fit [] (adjoint_poly q r) (distinct-adjoint r (falls r r_canonical)) (in_range-adjoint_poly q r r_canonical.shaped.in_range))
       (recursion_from_IsDescending p canonical.shaped.descending)
-      (recursion_from_All (λ (t : Term). t.0 ≢ pos 0) p canonical.shaped.nonzero)
+      canonical.shaped.nonzero
       (λ w. sym (coefficient_of-adjoint r w ∙ same p canonical (adjoint_word q w) ∙ ap (coefficient_of p) (twice w)))
       ∙ sized-canonical p canonical
 

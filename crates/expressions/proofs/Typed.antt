@@ -1,9 +1,9 @@
 -- The words of an expression's polynomial are paths of its signature, and it has none where the expression is open.
 use Rattle.std.proofs.Common.{◌≡◌, ◌<◌, ℕ, Bool, true, false, cond, List, [], ◌∷◌, Option, Some, None, Ok, Err, refl, sym, subst, ◌∙◌}
 use Rattle.std.proofs.lemmas.Bool.{and_parts}
+use Rattle.std.proofs.lemmas.List.Elements.{All-replicate}
 use Rattle.definitions.specs.Poly.{Poly}
 use Rattle.definitions.specs.Quiver.{Quiver, IsQuiver, source, is_path}
-use Rattle.definitions.proofs.Typed.{typed_from_terms}
 use Rattle.nc_polynomial.specs.Arithmetic.{difference_result}
 use Rattle.quiver.specs.declared.named.Sig.{Sig}
 use Rattle.quiver.specs.declared.named.Named.{Named}
@@ -12,6 +12,7 @@ use Rattle.quiver.specs.Declarations.{Declaration, named_in, object_count, quive
 use Rattle.quiver.proofs.Counts.{letters-quiver_of}
 use Rattle.quiver.proofs.Found.{is_named}
 use Rattle.quiver.proofs.Identities.{identity_is, is_quiver}
+use Rattle.quiver.proofs.TypedTerms.{typed_from_paths}
 use Rattle.statement_tokens.specs.declared.place.Spot.{Spot}
 use Rattle.statement_syntax.specs.declared.tree.Primary.{Primary, Letter, Identity, Bracket}
 use Rattle.statement_syntax.specs.declared.tree.Term.{Term, Term', Row_of-Factor, end_of-Factor, more_of-Factor}
@@ -42,7 +43,7 @@ module _ (ds : List Declaration) (declared : IsDeclared ds) (first : ObjectsFirs
   typed-letter : (o : Option Named) (name : List ℕ) → named_in ds name ≡ o → is_map o ≡ true → Typed (Some (letter_signature q (letter_number o))) (letter_poly (letter_number o))
   typed-letter None name e known = absurd (cc)
   typed-letter (Some (Object v)) name e known = absurd (cc)
-  typed-letter (Some (Map a)) name e known = (path-letter q a.0 (subst (λ n. a.0 < n) (sym (letters-quiver_of ds)) (is_named ds name (Map a) e).0), tt)
+  typed-letter (Some (Map a)) name e known = All-replicate _ 1 _ (path-letter q a.0 (subst (λ n. a.0 < n) (sym (letters-quiver_of ds)) (is_named ds name (Map a) e).0))
 
   -- the identity of an object is a path from it to itself
   path-identity : (v : ℕ) → v < object_count ds → is_path q v v (identity_in ds v ∷ []) ≡ true
@@ -53,7 +54,7 @@ module _ (ds : List Declaration) (declared : IsDeclared ds) (first : ObjectsFirs
 
   typed-identity : (o : Option Named) (name : List ℕ) → named_in ds name ≡ o → is_object o ≡ true → Typed (Some (from_to (object_number o) (object_number o))) (letter_poly (identity_in ds (object_number o)))
   typed-identity None name e known = absurd (cc)
-  typed-identity (Some (Object v)) name e known = (path-identity v.0 (is_named ds name (Object v) e).0, tt)
+  typed-identity (Some (Object v)) name e known = All-replicate _ 1 _ (path-identity v.0 (is_named ds name (Object v) e).0)
   typed-identity (Some (Map a)) name e known = absurd (cc)
 
   -- by induction on the expression
@@ -142,4 +143,4 @@ module _ (ds : List Declaration) (declared : IsDeclared ds) (first : ObjectsFirs
 
 pub equations_are_typed : EquationsAreTyped
 equations_are_typed ds left right s p declared first left_names right_names signature poly =
-    typed_from_terms (quiver_of ds) s.source.0 s.target.0 p (typed-equation ds declared first left right left_names right_names s signature p poly)
+    typed_from_paths (quiver_of ds) s.source.0 s.target.0 p (typed-equation ds declared first left right left_names right_names s signature p poly)

@@ -1,6 +1,7 @@
 -- The words of sums, products and adjoints are paths of their signatures.
 use Rattle.std.proofs.Common.{◌≡◌, ◌<◌, ℕ, zero, suc, ℤ, pos, negsuc, Bool, true, false, cond, nat_eq, List, [], ◌∷◌, ◌++◌, Option, Some, None, Result, Ok, Err, refl, sym, ap, ap₂, subst, ◌∙◌, eqb-true, eq-eqb, lt-ltb}
 use Rattle.std.proofs.lemmas.Bool.{and_parts, and_from}
+use Rattle.std.proofs.lemmas.List.Elements.{All-nil}
 use Rattle.std.specs.Option.{option_map}
 use Rattle.definitions.specs.Poly.{Poly}
 use Rattle.definitions.specs.Quiver.{Quiver, IsQuiver, letters, source, target, is_path}
@@ -98,7 +99,7 @@ module _ (q : Quiver) where
   first-sum_step at (Some s) = refl
 
   pub typed-total : (parts : List Part) (ss : List Summand) (o : Option Sig) (r : Poly) → AreSummands parts ss → signatures.sum_from (Ok None) parts ≡ Ok o → polynomials.total ss ≡ Ok r → Words (IsPathOf o) r
-  typed-total [] [] o r k e d = subst (Words (IsPathOf o)) (same_value [] r d) tt
+  typed-total [] [] o r k e d = subst (Words (IsPathOf o)) (same_value [] r d) (All-nil _)
   typed-total [] (s ∷ ss) o r k e d = absurd k
   typed-total (p ∷ parts) [] o r k e d = absurd k
   typed-total (p ∷ parts) (s ∷ ss) o r k e d =
@@ -142,7 +143,7 @@ module _ (q : Quiver) where
       go v product_is (Some right) rest factor more = fits v product_is right factor more (nat_eq left.source.0 right.target.0) refl rest
 
   pub typed-product : (parts : List Part) (ps : List Poly) (o : Option Sig) (r : Poly) → AreFactors parts ps → signatures.product_signature parts ≡ Ok o → polynomials.product_poly ps ≡ Ok r → Words (IsPathOf o) r
-  typed-product [] [] o r k e d = subst (Words (IsPathOf o)) (same_value [] r d) tt
+  typed-product [] [] o r k e d = subst (Words (IsPathOf o)) (same_value [] r d) (All-nil _)
   typed-product [] (p ∷ ps) o r k e d = absurd k
   typed-product (part ∷ []) [] o r k e d = absurd k
   typed-product (part ∷ []) (p ∷ []) o r k e d = subst (Words (IsPathOf o)) (same_value p r d) (subst (λ s. Words (IsPathOf s) p) (same_value part.1 o e) k.0)

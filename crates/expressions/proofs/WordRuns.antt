@@ -3,8 +3,6 @@ use Rattle.std.proofs.Common.{◌≡◌, ◌≢◌, ℕ, ◌+◌, ◌<◌, ◌�
 use Rattle.std.proofs.lemmas.Bool.Decides.{nat_tests}
 use Rattle.std.proofs.lemmas.Int.{ints}
 use Rattle.std.proofs.lemmas.List.{length-append, length-map}
-use Rattle.std.proofs.lemmas.List.Elements.{recursion_from_All}
-use Rattle.std.specs.List.{AllByRecursion}
 use Rattle.coef_int.specs.Range.{IsCoefficient}
 use Rattle.definitions.specs.Poly.{Term, poly_between}
 use Rattle.nc_polynomial.specs.Arithmetic.{combined}
@@ -16,6 +14,7 @@ use Rattle.nc_polynomial.proofs.Around.{shaped-between}
 use Rattle.nc_polynomial.proofs.OneTerm.{behind, times_term, canonical_none, long_word, from-step, canonical-step, made-step}
 use Rattle.nc_polynomial.proofs.Products.{canonical_sized}
 use Rattle.nc_polynomial.proofs.RunningSums.{not_long}
+use Rattle.nc_polynomial.proofs.Shapes.{all_middle}
 use Rattle.expressions.specs.Results.{◌>>=◌}
 
 -- sizes
@@ -32,7 +31,7 @@ by_words p small = ap (λ b. cond (has_long_word p) (Err (size_fault true)) (con
 pub sized-canonical : (p : List Term) → IsCanonical p → sized p ≡ Ok p
 sized-canonical p canonical =
     by_words p canonical.few
-    ∙ ap (λ b. cond b (Err (size_fault true)) (Ok p)) (not_long p (recursion_from_All (λ (t : Term). length t.1 ≤ word_limit) p canonical.short))
+    ∙ ap (λ b. cond b (Err (size_fault true)) (Ok p)) (not_long p canonical.short)
 
 -- a word after
 abbrev one : List ℕ → Term
@@ -44,10 +43,6 @@ times_one k = omega (arith, ints)
 times-word : (w : List ℕ) (p : List Term) → times_term (one w) p ≡ poly_between [] p w
 times-word w [] = refl
 times-word w (t ∷ p) = ap₂ (λ c ts. (c, t.1 ++ w) ∷ ts) (times_one t.0) (times-word w p)
-
-at : (P : Term → Type 0) (front : List Term) (t : Term) (more : List Term) → AllByRecursion P (front ++ t ∷ more) → P t
-at P [] t more h = h.0
-at P (u ∷ front) t more h = at P front t more h.1
 
 module _ (w : List ℕ) where
   abbrev y : Term
@@ -75,7 +70,7 @@ module _ (w : List ℕ) where
       let count : length (t.1 ++ w) ≡ length t.1 + length w = length-append t.1 w in
       let small : length (t.1 ++ w) ≤ word_limit = short (length (t.1 ++ w)) under in
       let within : length t.1 + length w ≤ word_limit = omega (arith, count, small) in
-      let fits : IsCoefficient (t.0 *ℤ pos 1) = subst IsCoefficient (sym (times_one t.0)) (at (λ u. IsCoefficient u.0) front t more (recursion_from_All (λ (u : Term). IsCoefficient u.0) (front ++ t ∷ more) left.shaped.in_range)) in
+      let fits : IsCoefficient (t.0 *ℤ pos 1) = subst IsCoefficient (sym (times_one t.0)) (all_middle (λ u. IsCoefficient u.0) front t more left.shaped.in_range) in
       let sum = times_term y front in
       let made : sum ++ behind y t ∷ [] ≡ times_term y (front ++ t ∷ []) = made-step y nonzero front t more sum left refl canonical fits within in
       let next = later within (subst IsCanonical made (canonical-step y nonzero front t more sum left refl canonical fits within)) in

@@ -1,7 +1,8 @@
 -- What holds of the words of all operands holds of the words of a result.
-use Rattle.std.proofs.Common.{◌≡◌, ℕ, ℤ, pos, List, [], ◌∷◌, ◌++◌, Option, Some, None, Result, Ok, Err, sym, refl, subst}
+use Rattle.std.proofs.Common.{◌≡◌, ℕ, ℤ, pos, List, [], ◌∷◌, ◌++◌, Option, Some, None, Result, Ok, Err, get_or, sym, refl, subst}
 use Rattle.std.proofs.lemmas.List.{append-nil}
-use Rattle.std.specs.List.{AllByRecursion}
+use Rattle.std.proofs.lemmas.List.Elements.{All-nil, All-head, All-tail, All-map, All-replicate, All-weaker}
+use Rattle.std.specs.List.{All}
 use Rattle.coef_int.specs.declared.Overflow.{Overflow}
 use Rattle.coef_int.specs.Operations.{first_overflow}
 use Rattle.definitions.specs.Poly.{Poly, poly_between}
@@ -18,7 +19,7 @@ use Rattle.nc_polynomial.proofs.Shapes.{all-scaled, all-totals, all-aligned}
 use Rattle.nc_polynomial.proofs.Chains.{no_error, sized-value}
 
 abbrev pub Words : (List ℕ → Type 0) → Poly → Type 0
-Words P p = AllByRecursion (λ t. P t.1) p
+Words P p = All (λ t. P t.1) p
 
 -- a result is the value that was finished
 finished-value : (os : List Overflow) (p r : Poly) → finished os p ≡ Ok r → p ≡ r
@@ -29,16 +30,14 @@ finished-value os p r h = go (first_overflow os) h
     go (Some o) k = absurd (no_error r (fault.Overflow o) (sym k))
 
 pub weaker : (P Q : List ℕ → Type 0) → ((w : List ℕ) → P w → Q w) → (p : Poly) → Words P p → Words Q p
-weaker P Q then [] h = tt
-weaker P Q then (t ∷ p) h = (then t.1 h.0, weaker P Q then p h.1)
+weaker P Q then p h = All-weaker (λ (t : ℤ × List ℕ). P t.1) (λ (t : ℤ × List ℕ). Q t.1) (λ t. then t.1) p h
 
 module _ (P : List ℕ → Type 0) where
   words-added : (p q : Poly) → Words P p → Words P q → Words P (added p q)
   words-added p q h k = all-totals P (aligned p q) (all-aligned P p q h k)
 
   pub words-negated : (p : Poly) → Words P p → Words P (negated p)
-  words-negated [] h = tt
-  words-negated (t ∷ p) h = (h.0, words-negated p h.1)
+  words-negated p h = All-map (λ (t : ℤ × List ℕ). P t.1) _ p h
 
   pub words-sum : (p q r : Poly) → Words P p → Words P q → sum_result p q ≡ Ok r → Words P r
   words-sum p q r h k e = subst (Words P) (finished-value (sums p q) (added p q) r e) (words-added p q h k)
@@ -54,22 +53,24 @@ module _ (P : List ℕ → Type 0) where
       subst (Words P) (finished-value (products a p ++ (products b q ++ sums (scaled a p) (scaled b q))) (added (scaled a p) (scaled b q)) r e)
       (words-added (scaled a p) (scaled b q) (all-scaled P a p h) (all-scaled P b q k))
 
-  words-collected : (p : Poly) → Words P p → Words P (collected p)
-  words-collected [] h = tt
-  words-collected (t ∷ p) h = words-added (t ∷ []) (collected p) (h.0, tt) (words-collected p h.1)
+  abbrev HasWord : ℤ × List ℕ → Type 0
+  HasWord t = P t.1
+
+  pub words-collected : (p : Poly) → Words P p → Words P (collected p)
+  words-collected [] h = All-nil HasWord
+  words-collected (t ∷ p) h = words-added (t ∷ []) (collected p) (All-replicate HasWord 1 t (All-head HasWord t p h)) (words-collected p (All-tail HasWord t p h))
 
   pub words-collection : (p r : Poly) → Words P p → collection_result p ≡ Ok r → Words P r
   words-collection p r h e = subst (Words P) (finished-value (additions [] p) (collected p) r e) (words-collected p h)
 
 pub words-adjoint : (P Q : List ℕ → Type 0) (q : Quiver) → ((w : List ℕ) → P w → Q (adjoint_word q w)) → (p : Poly) → Words P p → Words Q (adjoint_poly q p)
-words-adjoint P Q q turned [] h = tt
-words-adjoint P Q q turned (t ∷ p) h = (turned t.1 h.0, words-adjoint P Q q turned p h.1)
+words-adjoint P Q q turned p h = All-map (λ (t : ℤ × List ℕ). Q t.1) _ p (λ k t below. turned (get_or p k t).1 (h k t below))
 
 -- products
 module _ (P Q R : List ℕ → Type 0) (joined : (v w : List ℕ) → P v → Q w → R (v ++ w)) where
   words-between : (v : List ℕ) (q : Poly) → P v → Words Q q → Words R (poly_between v q [])
-  words-between v [] h k = tt
-  words-between v (t ∷ q) h k = (subst (λ w. R (v ++ w)) (sym (append-nil t.1)) (joined v t.1 h k.0), words-between v q h k.1)
+  words-between v q h k =
+      All-map (λ (t : ℤ × List ℕ). R t.1) _ q (λ i t below. let w = (get_or q i t).1 in subst (λ x. R (v ++ x)) (sym (append-nil w)) (joined v w h (k i t below)))
 
   words-step : (sum : Poly) (t : ℤ × List ℕ) (q r : Poly) → Words R sum → P t.1 → Words Q q → product_step sum t q ≡ Ok r → Words R r
   words-step sum t q r h k m e = go (sized (poly_between t.1 q [])) refl e
@@ -83,12 +84,12 @@ module _ (P Q R : List ℕ → Type 0) (joined : (v w : List ℕ) → P v → Q 
     where
       same : ◌≡◌ {A = Result Poly PolyFault} (Ok sum) (Ok r) → sum ≡ r
       same n = cc
-  words-product_from sum (t ∷ p) q r h k m e = go (product_step sum t q) refl e (λ next made n. words-product_from next p q r made k.1 m n)
+  words-product_from sum (t ∷ p) q r h k m e = go (product_step sum t q) refl e (λ next made n. words-product_from next p q r made (All-tail (λ (u : ℤ × List ℕ). P u.1) t p k) m n)
     where
       go : (s : Result Poly PolyFault) → product_step sum t q ≡ s → and_then s (λ next. product_from next p q) ≡ Ok r
           → ((next : Poly) → Words R next → product_from next p q ≡ Ok r → Words R r) → Words R r
-      go (Ok next) step n more = more next (words-step sum t q next h k.0 m step) n
+      go (Ok next) step n more = more next (words-step sum t q next h (All-head (λ (u : ℤ × List ℕ). P u.1) t p k) m step) n
       go (Err f) step n more = absurd (no_error r f (sym n))
 
   pub words-product : (p q r : Poly) → Words P p → Words Q q → product_result p q ≡ Ok r → Words R r
-  words-product p q r h k e = words-product_from [] p q r tt h k e
+  words-product p q r h k e = words-product_from [] p q r (All-nil _) h k e

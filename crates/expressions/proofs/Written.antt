@@ -1,6 +1,6 @@
 -- The letters of an equation's polynomial are those that the equation writes.
 use Rattle.std.proofs.Common.{◌≡◌, ◌<◌, ℕ, true, ◌||◌, List, Ok, Some, sym, subst, ◌∙◌, arith}
-use Rattle.std.specs.List.{All, AllByRecursion}
+use Rattle.std.specs.List.{All}
 use Rattle.definitions.specs.Poly.{Poly}
 use Rattle.definitions.specs.Quiver.{star, letters}
 use Rattle.nc_polynomial.specs.Arithmetic.{difference_result}
@@ -18,7 +18,7 @@ use Rattle.expressions.specs.Polynomials.{sum_poly, equation_poly}
 use Rattle.expressions.specs.Laws.{IsWritten, LettersAreWritten}
 use Rattle.expressions.proofs.Sequences.{bound}
 use Rattle.expressions.proofs.Words.{words-difference}
-use Rattle.expressions.proofs.Letters.{left_of, right_of, over-sum, letters_by_places}
+use Rattle.expressions.proofs.Letters.{left_of, right_of, over-sum}
 use Rattle.expressions.proofs.Maps.{map_after_objects, map_before_adjoint}
 use Rattle.expressions.proofs.Range.{star_in_range}
 
@@ -62,7 +62,7 @@ module _ (ds : List Declaration) (declared : IsDeclared ds) (first : ObjectsFirs
       let subtrahend = bound (sum_poly ds right) (λ s. difference_result minuend.value s) p minuend.then in
       let on_left = over-sum ds L written_map left left_names (λ v below h. written_identity v below (left_of _ _ h)) (λ h. written_adjoint (left_of _ _ h)) minuend.value minuend.is in
       let on_right = over-sum ds L written_map right right_names (λ v below h. written_identity v below (right_of _ _ h)) (λ h. written_adjoint (right_of _ _ h)) subtrahend.value subtrahend.is in
-      letters_by_places L p (words-difference (AllByRecursion L) minuend.value subtrahend.value p on_left on_right subtrahend.then)
+      words-difference (All L) minuend.value subtrahend.value p on_left on_right subtrahend.then
 
 pub letters_are_written : LettersAreWritten
 letters_are_written ds left right p declared first left_names right_names e = letters_written ds declared first left right p left_names right_names e

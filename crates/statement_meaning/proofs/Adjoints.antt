@@ -1,6 +1,7 @@
 -- The value of the adjoint of a polynomial is the adjoint of its value, in a star representation.
 use Rattle.std.proofs.Common.{◌≡◌, ℕ, ◌<◌, ◌≤◌, List, [], ◌∷◌, ◌++◌, ◌⊎◌, inl, inr, true, sym, ap, ap₂, ◌∙◌, arith}
 use Rattle.std.proofs.lemmas.Bool.{cases_lt}
+use Rattle.std.proofs.lemmas.List.Elements.{All-head, All-tail}
 use Rattle.definitions.specs.Category.{Structure, IsArrow, PreadditiveLaws, InvolutionLaws}
 use Rattle.definitions.specs.Poly.{Poly}
 use Rattle.definitions.specs.Quiver.{Quiver, IsQuiver, letters, source, star, leads, is_path}
@@ -67,9 +68,10 @@ module _ {Object Arrow : Type 0} {s : Structure Object Arrow} (laws : Preadditiv
     value-adjoint [] h = sym (additive-none there back adjoint adjoint_in (involution.star_add (f.object u) (f.object v)))
     value-adjoint (t ∷ p) h =
         let x = word_between laws q f plain u v t.1 in
-        let x_in = word_value_is_arrow laws q f plain u v t.1 (s.zero (f.object u) (f.object v)) h.0 in
+        let path = All-head (λ r. is_path q u v r.1 ≡ true) t p h in
+        let x_in = word_value_is_arrow laws q f plain u v t.1 (s.zero (f.object u) (f.object v)) path in
         let add = involution.star_add (f.object u) (f.object v) in
-        value-term laws q f plain v u in_v in_u (t.0, adjoint_word q t.1) (adjoint_poly q p) (is_path-adjoint_word q quiver u v t.1 h.0)
-        ∙ ap₂ s.add (ap (times_at laws q f plain v u t.0) (word-adjoint u v t.1 h.0) ∙ sym (additive-times there back adjoint adjoint_in add t.0 x x_in)) (value-adjoint p h.1)
+        value-term laws q f plain v u in_v in_u (t.0, adjoint_word q t.1) (adjoint_poly q p) (is_path-adjoint_word q quiver u v t.1 path)
+        ∙ ap₂ s.add (ap (times_at laws q f plain v u t.0) (word-adjoint u v t.1 path) ∙ sym (additive-times there back adjoint adjoint_in add t.0 x x_in)) (value-adjoint p (All-tail (λ r. is_path q u v r.1 ≡ true) t p h))
         ∙ sym (add (times_at laws q f plain u v t.0 x) (value_at s q f u v p) (times_in there t.0 x x_in) (value_in laws q f plain u v in_u in_v p))
-        ∙ ap adjoint (sym (value-term laws q f plain u v in_u in_v t p h.0))
+        ∙ ap adjoint (sym (value-term laws q f plain u v in_u in_v t p path))

@@ -1,6 +1,7 @@
 -- The polynomial of an expression says its value.
 use Rattle.std.proofs.Common.{◌≡◌, ℕ, ◌<◌, ℤ, pos, negsuc, Bool, true, false, ◌||◌, List, [], ◌∷◌, Option, Some, None, Ok, refl, sym, ap, ap₂, subst, ◌∙◌}
 use Rattle.std.proofs.lemmas.Bool.{and_parts}
+use Rattle.std.proofs.lemmas.List.Elements.{All-replicate}
 use Rattle.std.specs.List.{list_any}
 use Rattle.std.specs.Option.{option_map}
 use Rattle.definitions.specs.Category.{Structure, PreadditiveLaws}
@@ -68,7 +69,7 @@ module _ {Object Arrow : Type 0} (r : Reading Object Arrow) (laws : PreadditiveL
       record {
         source_below = in_u;
         target_below = in_v;
-        paths = (path, tt);
+        paths = All-replicate _ 1 _ path;
         same = ap Some (sym (value-term laws q f rep u v in_u in_v (pos 1, a ∷ []) [] path ∙ ap (λ x. s.add x none) is_zero ∙ is_zero));
       }
 

@@ -1,6 +1,7 @@
 -- The values of sums, multiples and products of polynomials.
 use Rattle.std.proofs.Common.{◌≡◌, ℕ, ◌<◌, ℤ, ◌*ℤ◌, true, cond, List, [], ◌∷◌, ◌++◌, map, sym, ap, ap₂, subst, ◌∙◌}
-use Rattle.std.specs.List.{AllByRecursion}
+use Rattle.std.specs.List.{All}
+use Rattle.std.proofs.lemmas.List.Elements.{All-head, All-tail}
 use Rattle.definitions.specs.Category.{Structure, IsArrow, PreadditiveLaws}
 use Rattle.definitions.specs.Poly.{Poly, Term, SamePolynomial, poly_sum, poly_multiple, poly_product}
 use Rattle.definitions.specs.Quiver.{Quiver, is_path}
@@ -14,7 +15,7 @@ use Rattle.definitions.proofs.Rows.{path_value-append}
 
 -- all words are paths of the signature (u, v)
 abbrev pub ArePaths : Quiver → ℕ → ℕ → Poly → Type 0
-ArePaths q u v p = AllByRecursion (λ t. is_path q u v t.1 ≡ true) p
+ArePaths q u v p = All (λ t. is_path q u v t.1 ≡ true) p
 
 pub path-append : (q : Quiver) (u k v : ℕ) (l y : List ℕ) → is_path q k v l ≡ true → is_path q u k y ≡ true → is_path q u v (l ++ y) ≡ true
 path-append q u k v [] y h m = absurd (cc)
@@ -87,19 +88,20 @@ module _ {Object Arrow : Type 0} {s : Structure Object Arrow} (laws : Preadditiv
         let x = word_between k v w in
         let x_in = word_value_is_arrow laws q f rep k v w (s.zero (f.object k) (f.object v)) h in
         let y = word_between u k t.1 in
-        let y_in = word_value_is_arrow laws q f rep u k t.1 (s.zero (f.object u) (f.object k)) m.0 in
+        let path = All-head (λ t. is_path q u k t.1 ≡ true) t r m in
+        let y_in = word_value_is_arrow laws q f rep u k t.1 (s.zero (f.object u) (f.object k)) path in
         let z = value_at s q f u k r in
         let z_in = value_in u k in_u in_k r in
         let G = group u v in_u in_v in
         let xy_in = after_in x x_in y y_in in
         let xz_in = after_in x x_in z z_in in
-        value-term u v in_u in_v (c *ℤ t.0, w ++ t.1) (map (λ t. (c *ℤ t.0, w ++ t.1)) r) (path-append q u k v w t.1 h m.0)
-        ∙ ap₂ s.add (ap (times_at u v (c *ℤ t.0)) (word-append u k v w t.1 h m.0) ∙ times-*ℤ G c t.0 (s.compose x y) xy_in) (value-row c w r h m.1)
+        value-term u v in_u in_v (c *ℤ t.0, w ++ t.1) (map (λ t. (c *ℤ t.0, w ++ t.1)) r) (path-append q u k v w t.1 h path)
+        ∙ ap₂ s.add (ap (times_at u v (c *ℤ t.0)) (word-append u k v w t.1 h path) ∙ times-*ℤ G c t.0 (s.compose x y) xy_in) (value-row c w r h (All-tail (λ t. is_path q u k t.1 ≡ true) t r m))
         ∙ sym (times-add G c (times_at u v t.0 (s.compose x y)) (s.compose x z) (times_in G t.0 (s.compose x y) xy_in) xz_in)
         ∙ ap (times_at u v c)
         (ap (λ a. s.add a (s.compose x z)) (sym (additive-times (group u k in_u in_k) G (s.compose x) (after_in x x_in) (λ a b i j. laws.compose_add_right (f.object u) (f.object k) (f.object v) x a b x_in i j) t.0 y y_in))
         ∙ sym (laws.compose_add_right (f.object u) (f.object k) (f.object v) x (times_at u k t.0 y) z x_in (times_in (group u k in_u in_k) t.0 y y_in) z_in)
-        ∙ ap (s.compose x) (sym (value-term u k in_u in_k t r m.0)))
+        ∙ ap (s.compose x) (sym (value-term u k in_u in_k t r path)))
 
     pub value-product : (p r : Poly) → ArePaths q k v p → ArePaths q u k r → value_at s q f u v (poly_product p r) ≡ s.compose (value_at s q f k v p) (value_at s q f u k r)
     value-product [] r h m =
@@ -110,12 +112,13 @@ module _ {Object Arrow : Type 0} {s : Structure Object Arrow} (laws : Preadditiv
         let z = value_at s q f u k r in
         let z_in = value_in u k in_u in_k r in
         let x = word_between k v t.1 in
-        let x_in = word_value_is_arrow laws q f rep k v t.1 (s.zero (f.object k) (f.object v)) h.0 in
+        let path = All-head (λ t. is_path q k v t.1 ≡ true) t p h in
+        let x_in = word_value_is_arrow laws q f rep k v t.1 (s.zero (f.object k) (f.object v)) path in
         let y = value_at s q f k v p in
         let y_in = value_in k v in_k in_v p in
         let H = group k v in_k in_v in
         value-sum u v in_u in_v (map (λ t'. (t.0 *ℤ t'.0, t.1 ++ t'.1)) r) (poly_product p r)
-        ∙ ap₂ s.add (value-row t.0 t.1 r h.0 m) (value-product p r h.1 m)
+        ∙ ap₂ s.add (value-row t.0 t.1 r path m) (value-product p r (All-tail (λ t. is_path q k v t.1 ≡ true) t p h) m)
         ∙ ap (λ a. s.add a (s.compose y z)) (sym (additive-times H (group u v in_u in_v) (λ a. s.compose a z) (λ a i. after_in a i z z_in) (λ a b i j. laws.compose_add_left (f.object u) (f.object k) (f.object v) a b z i j z_in) t.0 x x_in))
         ∙ sym (laws.compose_add_left (f.object u) (f.object k) (f.object v) (times_at k v t.0 x) y z (times_in H t.0 x x_in) y_in z_in)
         ∙ ap (λ a. s.compose a z) (sym (value-term k v in_k in_v t p h.0))

@@ -1,6 +1,7 @@
 -- The value of a sum is the sum of the values of its terms.
 use Rattle.std.proofs.Common.{◌≡◌, ℕ, ◌<◌, Bool, true, false, cond, List, [], ◌∷◌, ◌++◌, Option, Some, None, Ok, Err, ◌⊎◌, inl, inr, sym, refl, ap, subst, ◌∙◌}
 use Rattle.std.proofs.lemmas.List.{append-nil, append_assoc}
+use Rattle.std.proofs.lemmas.List.Elements.{All-nil, All-append}
 use Rattle.definitions.specs.Category.{Structure, PreadditiveLaws}
 use Rattle.definitions.specs.Poly.{Poly, SamePolynomial}
 use Rattle.definitions.specs.Quiver.{Quiver}
@@ -51,10 +52,6 @@ sum_from-fault : (x : SignatureFault) (parts : List Part) → signatures.sum_fro
 sum_from-fault x [] = refl
 sum_from-fault x (p ∷ parts) = sum_from-fault x parts
 
-paths-append : (q : Quiver) (u v : ℕ) (p r : Poly) → ArePaths q u v p → ArePaths q u v r → ArePaths q u v (p ++ r)
-paths-append q u v [] r h m = m
-paths-append q u v (t ∷ p) r h m = (h.0, paths-append q u v p r h.1 m)
-
 module _ {Object Arrow : Type 0} {s : Structure Object Arrow} (laws : PreadditiveLaws s) (q : Quiver) (f : Representation Object Arrow) (rep : Represents s q f) where
   -- each term is denoted by its signed polynomial
   abbrev pub AreTerms : List Part → List Summand → List (Option Arrow) → Type 0
@@ -76,7 +73,7 @@ module _ {Object Arrow : Type 0} {s : Structure Object Arrow} (laws : Preadditiv
     added p r a b h m = record {
       source_below = in_u;
       target_below = in_v;
-      paths = paths-append q e.source.0 e.target.0 p r h.paths m.paths;
+      paths = All-append _ p r h.paths m.paths;
       same = ap (λ x. plus s x b) h.same ∙ go m.same;
     }
       where
@@ -90,7 +87,7 @@ module _ {Object Arrow : Type 0} {s : Structure Object Arrow} (laws : Preadditiv
     -- after a term of this signature
     rest : (parts : List Part) (ss : List Summand) (vs : List (Option Arrow)) (o : Option Sig) → AreTerms parts ss vs
         → signatures.sum_from (Ok (Some e)) parts ≡ Ok o → (o ≡ Some e) × Adds e (summed ss) (total_value s vs)
-    rest [] [] [] o h m = (sym (same_value (Some e) o m), record { paths = tt; same = inl (refl, refl) })
+    rest [] [] [] o h m = (sym (same_value (Some e) o m), record { paths = All-nil _; same = inl (refl, refl) })
     rest [] [] (v ∷ vs) o h m = absurd h
     rest [] (t ∷ ss) vs o h m = absurd h
     rest (part ∷ parts) [] vs o h m = absurd h
