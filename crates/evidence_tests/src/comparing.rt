@@ -1,7 +1,0 @@
-//! The comparison of what came with what a row says.
-use std::process::Abort;
-
-/// Ends the test where the text that came is not the one that is wanted, and tells both with the name of the row.
-pub fn same(rt: &impl Abort, got: &str, want: &str, row: &str) {
-    assert_eq!(rt; got, want, "{row}");
-}

@@ -1,5 +1,0 @@
-use Rattle.std.proofs.Common.{◌<◌, length}
-use Rattle.word_tests.proofs.matching.random.Given as goal
-
-abbrev pub invariant-loop : goal.invariant-loop
-invariant-loop g l = 0 < length l.word
