@@ -2,3 +2,8 @@ pub mod LineKinds
 pub mod LineReadings
 pub mod Sections
 pub mod SectionSteps
+pub mod BasisLines
+pub mod Written
+pub mod Bases
+pub mod Back
+pub mod Reading

@@ -11,8 +11,8 @@ use Rattle.definitions.specs.Combination.{generator_at}
 use Rattle.definitions.specs.Soundness.{HasSignature}
 use Rattle.nc_polynomial.specs.Terms.{products}
 use Rattle.traced_rows.specs.declared.evidence.Lemma.{Lemma}
-use Rattle.common_lemmas.proofs.Decided.{IsDecided, decided_by, both_decided, le_decided}
-use Rattle.common_lemmas.proofs.FirstFailure.{HasOneOutcome, each_decided, no_test, one_test, then_test, reworded}
+use Rattle.lists.proofs.Decided.{IsDecided, decided_by, both_decided, le_decided}
+use Rattle.lists.proofs.FirstFailure.{HasOneOutcome, each_decided, no_test, one_test, then_test, reworded}
 use Rattle.cofactor_checker.specs.Rows.{IsNumberUpTo}
 use Rattle.cofactor_checker.specs.Lemmas.{term_total, kept_limit}
 use Rattle.cofactor_checker.specs.LemmaAcceptance.{HasScale, IsTight}

@@ -11,7 +11,7 @@ use Rattle.nc_polynomial.specs.Collected.{collected}
 use Rattle.nc_polynomial.proofs.CollectedTerms.{coefficient_of-collected, descending-collected, nonzero-collected}
 use Rattle.nc_polynomial.proofs.Distinct.{distinct-descending, words_listed}
 use Rattle.quiver.proofs.TypedTerms.{typed_from_paths}
-use Rattle.common_lemmas.proofs.FirstFailure.{each_decided}
+use Rattle.lists.proofs.FirstFailure.{each_decided}
 
 module _ (q : Quiver) where
   -- each word is a path from u to v, or one isn't

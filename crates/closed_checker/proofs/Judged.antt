@@ -8,8 +8,8 @@ use Rattle.std.proofs.lemmas.List.{get_or-take, length-take-le}
 use Rattle.std.proofs.lemmas.Option.{slice_get-get_or, get_or_from_slice_get}
 use Rattle.definitions.specs.Poly.{Term, word_eq}
 use Rattle.definitions.proofs.Linear.{word_eq-same, word_eq-true}
-use Rattle.common_lemmas.proofs.Decided.{IsDecided, decided_by, both_decided, le_decided}
-use Rattle.common_lemmas.proofs.FirstFailure.{HasOneOutcome, PassUpTo, FailsFirst, FirstNot, not_each, one_test, then_test, item_test, each_test, tests_up_to, reworded}
+use Rattle.lists.proofs.Decided.{IsDecided, decided_by, both_decided, le_decided}
+use Rattle.lists.proofs.FirstFailure.{HasOneOutcome, PassUpTo, FailsFirst, FirstNot, not_each, one_test, then_test, item_test, each_test, tests_up_to, reworded}
 use Rattle.word_orders.proofs.AskedOrders.{asked_rank}
 use Rattle.nc_polynomial.specs.Shape.{IsCanonical}
 use Rattle.nc_polynomial.specs.declared.poly.Poly.{Poly}

@@ -5,7 +5,7 @@ use Rattle.std.specs.List.{All}
 use Rattle.std.proofs.lemmas.Int.{ints}
 use Rattle.std.proofs.lemmas.List.Elements.{All-nil, All-cons, All-tail}
 use Rattle.definitions.specs.Poly.{Term}
-use Rattle.common_lemmas.proofs.Decided.{IsDecided, decided_by, both_decided}
+use Rattle.lists.proofs.Decided.{IsDecided, decided_by, both_decided}
 use Rattle.word_orders.specs.Admissible.{Compare}
 use Rattle.nc_polynomial.specs.Content.{IsContent}
 use Rattle.nc_polynomial.specs.declared.poly.Poly.{Poly}

@@ -9,7 +9,7 @@ use Rattle.word_core.specs.Canonical.{word_cmp}
 use Rattle.word_core.proofs.Order.{word_cmp-cases, word_cmp-itself, word_cmp-turned, word_cmp-turned_back, word_cmp-trans}
 use Rattle.definitions.specs.Poly.{word_eq, coefficient_of, SamePolynomial}
 use Rattle.definitions.proofs.Linear.{word_eq-true, coefficient_other}
-use Rattle.common_lemmas.proofs.FirstFailure.{HasOneOutcome}
+use Rattle.lists.proofs.FirstFailure.{HasOneOutcome}
 use Rattle.cofactor_checker.specs.Difference.{IsLeastDifference}
 use Rattle.cofactor_checker.specs.Acceptance.{IsMemory}
 use Rattle.cofactor_checker.specs.declared.refusal.Refusal.{Refusal}

@@ -11,8 +11,8 @@ use Rattle.traced_rows.specs.declared.evidence.Lemma.{Lemma}
 use Rattle.traced_rows.specs.declared.evidence.LemmaCertificate.{LemmaCertificate}
 use Rattle.traced_rows.specs.declared.evidence.Evidence.TheVariants.{Plain, Lemmas}
 use Rattle.traced_rows.specs.Rows.{rows_of}
-use Rattle.common_lemmas.proofs.Decided.{IsDecided, decided_by, both_decided}
-use Rattle.common_lemmas.proofs.FirstFailure.{HasOneOutcome, FirstNot, each_decided, one_test, value_test, each_test, then_test, reworded}
+use Rattle.lists.proofs.Decided.{IsDecided, decided_by, both_decided}
+use Rattle.lists.proofs.FirstFailure.{HasOneOutcome, FirstNot, each_decided, one_test, value_test, each_test, then_test, reworded}
 use Rattle.cofactor_checker.specs.declared.accepted.Accepted.{Accepted}
 use Rattle.cofactor_checker.specs.Rows.{IsNumberUpTo, RowsPass}
 use Rattle.cofactor_checker.specs.RowRefusals.{RefusesRow}

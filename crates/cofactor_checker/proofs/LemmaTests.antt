@@ -12,8 +12,8 @@ use Rattle.nc_polynomial.specs.Collected.{collected}
 use Rattle.nc_polynomial.specs.Content.{DividesEach}
 use Rattle.nc_polynomial.specs.Faults.{sized, size_fault, has_long_word}
 use Rattle.traced_rows.specs.declared.evidence.Lemma.{Lemma}
-use Rattle.common_lemmas.proofs.Decided.{IsDecided, le_decided}
-use Rattle.common_lemmas.proofs.FirstFailure.{HasOneOutcome, no_test, one_test, then_test, reworded}
+use Rattle.lists.proofs.Decided.{IsDecided, le_decided}
+use Rattle.lists.proofs.FirstFailure.{HasOneOutcome, no_test, one_test, then_test, reworded}
 use Rattle.cofactor_checker.specs.PlainRows.{plain_sum}
 use Rattle.cofactor_checker.specs.Lemmas.{LemmaRowsPass, lemma_polynomial, term_total, kept_limit, LemmaPasses, LemmasPass, RefusesLemmaRows, IsLeastIndivisible, RefusesLemma, RefusesLemmas}
 use Rattle.cofactor_checker.specs.Acceptance.{IsMemory}

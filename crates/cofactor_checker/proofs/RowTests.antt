@@ -12,8 +12,8 @@ use Rattle.traced_rows.specs.declared.evidence.CertFrom.TheVariants as cert
 use Rattle.traced_rows.specs.declared.evidence.Lemma.{Lemma}
 use Rattle.traced_rows.specs.declared.evidence.LemmaRow.{LemmaRow}
 use Rattle.traced_rows.specs.Rows.{row_of, rows_of}
-use Rattle.common_lemmas.proofs.Decided.{IsDecided, decided_by, both_decided, le_decided}
-use Rattle.common_lemmas.proofs.FirstFailure.{HasOneOutcome, PassUpTo, FailsFirst, one_test, value_test, then_test, item_test, tests_up_to, reworded}
+use Rattle.lists.proofs.Decided.{IsDecided, decided_by, both_decided, le_decided}
+use Rattle.lists.proofs.FirstFailure.{HasOneOutcome, PassUpTo, FailsFirst, one_test, value_test, then_test, item_test, tests_up_to, reworded}
 use Rattle.cofactor_checker.specs.Operations.{row_operations}
 use Rattle.cofactor_checker.specs.Rows.{term_count, sum_limit, IsNumberUpTo, RowPasses, RowsPass, Reaches, LacksGenerator, Overflows, Outgrows}
 use Rattle.cofactor_checker.specs.RowRefusals.{RefusesRow}

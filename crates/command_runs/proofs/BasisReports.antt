@@ -20,10 +20,10 @@ use Rattle.block_text.proofs.Zips.{zip_length}
 use Rattle.certificate_text.specs.Back.{part_text}
 use Rattle.certificate_text.specs.Blocks.{head_line as certificate_head}
 use Rattle.adjoint_rules.specs.declared.basis.Basis.{Basis}
-use Rattle.basis_text.specs.Back.{IsWritableBasis, text_of}
-use Rattle.basis_text.specs.Bases.{other_words, basis_kind, by_terms, HasBases, IsFirstFault}
-use Rattle.basis_text.proofs.BasesBack.{basis_written}
-use Rattle.basis_text.proofs.Reader.{reader}
+use Rattle.block_lines.specs.Back.{IsWritableBasis, text_of}
+use Rattle.block_lines.specs.Bases.{other_words, basis_kind, by_terms, HasBases, IsFirstFault}
+use Rattle.block_lines.proofs.BasesBack.{basis_written}
+use Rattle.block_lines.proofs.Reader.{reader}
 use Rattle.model_text.specs.Written.{model_text}
 use Rattle.report_text.specs.declared.verdict.Verdict.{Verdict}
 use Rattle.report_text.specs.declared.verdict.Verdict.TheVariants as verdict

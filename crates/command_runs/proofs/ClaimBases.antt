@@ -29,7 +29,7 @@ use Rattle.outcome_laws.proofs.ProblemPolynomials.{any_letter, claim_is}
 use Rattle.outcome_laws.proofs.ProblemStates.{state_kept}
 use Rattle.report_text.specs.declared.verdict.Verdict.{Verdict}
 use Rattle.adjoint_rules.specs.declared.basis.Basis.{Basis}
-use Rattle.basis_text.specs.Back.{HasLetters, IsWritableBasis}
+use Rattle.block_lines.specs.Back.{HasLetters, IsWritableBasis}
 use Rattle.adjoint_rules.specs.Limits.{rule_limit}
 use Rattle.report_readback.specs.ReadBack.{IsVerdictOfHalt, AreVerdictsOf}
 use Rattle.closed_checker.specs.Closed.{IsNumberUpTo}

@@ -7,9 +7,9 @@ use Rattle.definitions.specs.Soundness.{IsSound}
 use Rattle.representations.specs.Evidence.{IsEvidenceSound}
 use Rattle.cancel_rules.specs.Meaning.{IsCancellationSound}
 use Rattle.report_text.specs.Report.{heads_of}
-use Rattle.command_words.specs.declared.call.BenchCall.{BenchCall}
-use Rattle.command_words.specs.declared.call.Call.{Call}
-use Rattle.command_words.specs.declared.call.Call.TheVariants.{Prove, Refute, Bench, Evidence}
+use Rattle.command_shape.specs.declared.call.BenchCall.{BenchCall}
+use Rattle.command_shape.specs.declared.call.Call.{Call}
+use Rattle.command_shape.specs.declared.call.Call.TheVariants.{Prove, Refute, Bench, Evidence}
 use Rattle.command_shape.specs.declared.stop.Stop.{Stop}
 use Rattle.command_shape.specs.declared.files.FileWord.{FileWord}
 use Rattle.command_shape.specs.FileWords.{statement_limit, evidence_limit, statement_file, pair_files}

@@ -5,11 +5,11 @@ use Rattle.definitions.specs.Soundness.{IsSound}
 use Rattle.representations.specs.Evidence.{IsEvidenceSound}
 use Rattle.cancel_rules.specs.Meaning.{IsCancellationSound}
 use Rattle.clap.specs.Words.{subcommand_of}
-use Rattle.command_words.specs.CommandSet.{command_set}
-use Rattle.command_words.specs.Usage.{usage_text}
-use Rattle.command_words.proofs.Unique.{one_call}
+use Rattle.command_shape.specs.CommandSet.{command_set}
+use Rattle.command_shape.specs.Usage.{usage_text}
+use Rattle.command_shape.proofs.Unique.{one_call}
 use Rattle.command_shape.specs.declared.files.FileWord.{FileWord}
-use Rattle.command_words.specs.declared.call.Call.{Call}
+use Rattle.command_shape.specs.declared.call.Call.{Call}
 use Rattle.command_runs.specs.CallFiles.{files_of}
 use Rattle.command_runs.specs.Call.{IsCalled, IsTaken}
 use Rattle.command_shape.specs.Ending.{Ending, usage, too_long}

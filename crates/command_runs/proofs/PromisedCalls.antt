@@ -7,10 +7,10 @@ use Rattle.cancel_rules.specs.Meaning.{IsCancellationSound}
 use Rattle.adjoint_rules.specs.declared.problem.Problem.{Problem}
 use Rattle.traced_completion.specs.declared.budget.Budget.{Budget}
 use Rattle.statement_meaning.specs.Meanings.{SaysEquations}
-use Rattle.command_words.specs.declared.call.Call.{Call}
-use Rattle.command_words.specs.declared.call.Call.TheVariants.{Prove, Refute, Bench, Evidence}
-use Rattle.command_words.specs.declared.evidence.EvidenceCommand.{EvidenceCommand}
-use Rattle.command_words.specs.declared.evidence.EvidenceCommand.TheVariants.{Check, Model, Confirm, Explain, Cancel}
+use Rattle.command_shape.specs.declared.call.Call.{Call}
+use Rattle.command_shape.specs.declared.call.Call.TheVariants.{Prove, Refute, Bench, Evidence}
+use Rattle.command_shape.specs.declared.evidence.EvidenceCommand.{EvidenceCommand}
+use Rattle.command_shape.specs.declared.evidence.EvidenceCommand.TheVariants.{Check, Model, Confirm, Explain, Cancel}
 use Rattle.command_shape.specs.Ending.{Ending}
 use Rattle.stated_problem.specs.Statement.{OverStatement, faulty, stated}
 use Rattle.stated_problem.specs.Stated.{IsStated}

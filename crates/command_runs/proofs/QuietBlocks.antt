@@ -28,7 +28,7 @@ use Rattle.block_text.proofs.NumbersBack.{bytes_inside}
 use Rattle.block_text.proofs.PartsBack.{inside_is_before_end}
 use Rattle.certificate_text.specs.Written as certificate
 use Rattle.certificate_text.specs.Written.{opening_text, evidence_text, lemmas_text}
-use Rattle.basis_text.specs.Written.{rule_line, basis_text}
+use Rattle.block_lines.specs.Written.{rule_line, basis_text}
 use Rattle.model_text.specs.Written as model
 use Rattle.model_text.specs.Written.{model_text, numbered_text, sides_text, maps_text}
 use Rattle.equation_chain.specs.Written.{line_text, use_text, steps_text, lines_text, chain_text}

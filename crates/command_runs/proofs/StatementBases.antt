@@ -3,7 +3,7 @@ use Rattle.std.proofs.Common.{sym, subst}
 use Rattle.std.specs.List.{All}
 use Rattle.adjoint_rules.specs.Claims.{claim_numbers}
 use Rattle.outcome_laws.proofs.OutcomeLetters.{last_rules_have_letters}
-use Rattle.basis_text.specs.Back.{IsWritableBasis}
+use Rattle.block_lines.specs.Back.{IsWritableBasis}
 use Rattle.report_text.specs.Report.{report_of}
 use Rattle.report_readback.proofs.Declared.{declared_names_are_names}
 use Rattle.report_readback.proofs.Outcomes.{verdicts_writable, few_verdicts}

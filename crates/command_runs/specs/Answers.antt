@@ -1,8 +1,8 @@
 -- What each command answers, from the contents of its files.
 use Rattle.std.specs.Prelude.{ℕ, List}
 use Rattle.adjoint_rules.specs.declared.problem.Problem.{Problem}
-use Rattle.command_words.specs.declared.call.Call.{Call}
-use Rattle.command_words.specs.declared.call.Call.TheVariants.{Prove, Refute, Bench, Evidence}
+use Rattle.command_shape.specs.declared.call.Call.{Call}
+use Rattle.command_shape.specs.declared.call.Call.TheVariants.{Prove, Refute, Bench, Evidence}
 use Rattle.report_text.specs.Report.{report_of, heads_of}
 use Rattle.command_shape.specs.Ending.{Ending}
 use Rattle.stated_problem.specs.Statement.{OverStatement}

@@ -18,8 +18,8 @@ use Rattle.block_text.specs.Fault.{no_block}
 use Rattle.block_text.specs.Lines.{block_limit}
 use Rattle.block_text.specs.Back.{is_named}
 use Rattle.adjoint_rules.specs.declared.basis.Basis.{Basis}
-use Rattle.basis_text.specs.Back.{IsWritableBasis}
-use Rattle.basis_text.specs.Bases.{HasBases, IsBases, IsFirstFault}
+use Rattle.block_lines.specs.Back.{IsWritableBasis}
+use Rattle.block_lines.specs.Bases.{HasBases, IsBases, IsFirstFault}
 use Rattle.adjoint_rules.specs.Limits.{rule_limit}
 use Rattle.quiver.specs.Over.{IsPolyOver}
 use Rattle.report_text.specs.declared.verdict.Verdict.{Verdict}

@@ -2,10 +2,10 @@
 use Rattle.std.specs.Prelude.{List, String, string_bytes, map}
 use Rattle.std.specs.declared.alloc.Global.{Global}
 use Rattle.clap.specs.Words.{subcommand_of}
-use Rattle.command_words.specs.CommandSet.{command_set}
-use Rattle.command_words.specs.CommandSet as set
-use Rattle.command_words.specs.Calls.{MatchesGive}
-use Rattle.command_words.specs.declared.call.Call.{Call}
+use Rattle.command_shape.specs.CommandSet.{command_set}
+use Rattle.command_shape.specs.CommandSet as set
+use Rattle.command_shape.specs.Calls.{MatchesGive}
+use Rattle.command_shape.specs.declared.call.Call.{Call}
 
 -- clap's stated function of the command set takes the words
 abbrev pub IsTaken : List (String Global) → Type 0

@@ -1,7 +1,7 @@
 -- The files of a call, with the statement and the evidence in them.
 use Rattle.std.specs.Prelude.{ℕ, List, [], ◌≡◌, length, get_or}
-use Rattle.command_words.specs.declared.call.Call.{Call}
-use Rattle.command_words.specs.declared.call.Call.TheVariants.{Prove, Refute, Bench, Evidence}
+use Rattle.command_shape.specs.declared.call.Call.{Call}
+use Rattle.command_shape.specs.declared.call.Call.TheVariants.{Prove, Refute, Bench, Evidence}
 use Rattle.report_text.specs.Bench.{bench_statement}
 use Rattle.command_shape.specs.declared.files.FileWord.{FileWord}
 use Rattle.command_shape.specs.FileWords.{statement_file, pair_files}

@@ -2,8 +2,8 @@
 use Rattle.std.specs.Prelude.{ℕ, ◌≡◌, List, String}
 use Rattle.std.specs.declared.alloc.Global.{Global}
 use Rattle.flow_io.specs.Told.{Told}
-use Rattle.command_words.specs.declared.call.Call.{Call}
-use Rattle.command_words.specs.Usage.{usage_text}
+use Rattle.command_shape.specs.declared.call.Call.{Call}
+use Rattle.command_shape.specs.Usage.{usage_text}
 use Rattle.command_runs.specs.CallFiles.{files_of}
 use Rattle.command_runs.specs.Call.{IsCalled, IsTaken}
 use Rattle.command_shape.specs.Ending.{Ending, usage}

@@ -1,6 +1,6 @@
 -- The laws of all answers, for users.
 use Rattle.std.specs.Prelude.{ℕ, ◌≡◌, List, length}
-use Rattle.command_words.specs.declared.call.Call.{Call}
+use Rattle.command_shape.specs.declared.call.Call.{Call}
 use Rattle.command_shape.specs.Ending.{Ending}
 use Rattle.command_runs.specs.CallFiles.{files_of}
 use Rattle.command_runs.specs.Answers.{Answers}

@@ -12,7 +12,7 @@ pub mod Run
 pub mod Headline
 pub mod Promises
 pub use Rattle.outcome_laws.specs.Meanings
-pub use Rattle.basis_text.specs.Back
+pub use Rattle.block_lines.specs.Back
 pub use Rattle.closed_checker.specs.Closed
 pub mod Printed
 pub mod SharpBases

@@ -14,7 +14,7 @@ pub mod Undecided
 use Rattle.std.specs.Prelude.{◌≢◌, ℕ, List, String}
 use Rattle.std.specs.declared.alloc.Global.{Global}
 use Rattle.definitions.specs.Category.{Structure}
-use Rattle.command_words.specs.declared.call.Call.{Call}
+use Rattle.command_shape.specs.declared.call.Call.{Call}
 use Rattle.traced_completion.specs.declared.budget.Budget.{Budget}
 use Rattle.command_runs.specs.Call.{IsCalled}
 use Rattle.command_runs.specs.CallFiles.{files_of, statement_of, evidence_of}

@@ -2,7 +2,7 @@
 use Rattle.std.specs.Prelude.{ℕ, ◌≡◌, ◌≢◌, ◌⊎◌, List, take, String}
 use Rattle.std.specs.declared.alloc.Global.{Global}
 use Rattle.flow_io.specs.Told.{MayExceed}
-use Rattle.command_words.specs.declared.call.Call.{Call}
+use Rattle.command_shape.specs.declared.call.Call.{Call}
 use Rattle.command_shape.specs.declared.files.FileWord.{FileWord}
 use Rattle.command_runs.specs.CallFiles.{files_of}
 use Rattle.command_runs.specs.Call.{IsCalled, IsTaken}

@@ -2,8 +2,8 @@
 use Rattle.std.specs.Prelude.{ℕ, List}
 use Rattle.definitions.specs.Category.{Structure}
 use Rattle.report_text.specs.Report.{heads_of}
-use Rattle.command_words.specs.declared.call.Call.{Call}
-use Rattle.command_words.specs.declared.call.Call.TheVariants as call
+use Rattle.command_shape.specs.declared.call.Call.{Call}
+use Rattle.command_shape.specs.declared.call.Call.TheVariants as call
 use Rattle.command_shape.specs.Ending.{Ending}
 use Rattle.prove_command.specs.Answers.{asked_by, asked_by_bench}
 use Rattle.prove_command.specs.Says.{SaysDecided, SaysReported}

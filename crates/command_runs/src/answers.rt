@@ -1,7 +1,7 @@
 //! The answer of a call.
 ghost use Rattle.std.specs.Prelude.{◌≡◌, ◌≤◌, IfOk, length};
 ghost use Rattle.std.specs.List.{AllZip};
-ghost use Rattle.command_words.specs.Calls.{IsInRange};
+ghost use Rattle.command_shape.specs.Calls.{IsInRange};
 ghost use Rattle.command_shape.specs.FileWords.{statement_limit, evidence_limit};
 ghost use Rattle.stated_problem.specs.Statement.{OverStatement};
 ghost use Rattle.command_shape.specs.Stop.{EndsAs};
@@ -10,7 +10,7 @@ ghost use Rattle.command_runs.specs.Answers.{AnswersOver, Answers};
 
 use adjoint_rules::Problem;
 use command_shape::{Ending, Stop};
-use command_words::Call;
+use command_shape::Call;
 use evidence_commands::answer_evidence;
 use in_order_parallel::Gate;
 use lists::Listing;

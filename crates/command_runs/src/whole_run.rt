@@ -2,7 +2,7 @@
 ghost use Rattle.std.specs.Prelude.{◌≡◌, IfOk, IfErr, IsTrue};
 ghost use Rattle.std.specs.Io.KnownBytes.{Appends};
 ghost use Rattle.flow_io.specs.Causes.{Rose};
-ghost use Rattle.command_words.specs.Calls.{IsInRange};
+ghost use Rattle.command_shape.specs.Calls.{IsInRange};
 ghost use Rattle.command_runs.specs.Answers.{Answers};
 ghost use Rattle.command_runs.specs.CallFiles.{files_of};
 ghost use Rattle.command_runs.specs.Ends.{MayEnd};
@@ -23,7 +23,7 @@ use cancel_rules::cancellation_sound;
 use category_laws::Preadditive;
 use command_shape::status::{OUT_OF_MEMORY, SINK_FAILED};
 use command_shape::{Ending, Stop};
-use command_words::{Call, Refusal, read_words, usage_text};
+use command_shape::{Call, Refusal, read_words, usage_text};
 use flow_io::{Shelf, Sink, put_all};
 use in_order_parallel::Gate;
 use lists::Listing;

@@ -4,3 +4,9 @@ pub mod Texts
 pub mod Blocks
 pub mod Judged
 pub mod Stop
+pub mod Limits
+pub mod CommandSet
+pub mod Accepted
+pub mod Calls
+pub mod Present
+pub mod Usage

@@ -10,9 +10,9 @@ use Rattle.adjoint_rules.specs.declared.problem.Problem.{Problem}
 use Rattle.adjoint_rules.specs.Problem.{polynomials}
 use Rattle.quiver.specs.Declarations.{Declaration}
 use Rattle.adjoint_rules.specs.declared.basis.Basis.{Basis}
-use Rattle.basis_text.specs.Bases.{IsBases, IsFirstFault}
-use Rattle.basis_text.proofs.BasisValues.{are_over}
-use Rattle.basis_text.proofs.EachText.{each_text_is_read, bases_are_unique, first_fault_is_unique, bases_have_no_fault}
+use Rattle.block_lines.specs.Bases.{IsBases, IsFirstFault}
+use Rattle.block_lines.proofs.BasisValues.{are_over}
+use Rattle.block_lines.proofs.EachText.{each_text_is_read, bases_are_unique, first_fault_is_unique, bases_have_no_fault}
 use Rattle.closed_checker.specs.declared.refusal.ClosedRefusal.{ClosedRefusal}
 use Rattle.closed_checker.specs.declared.refusal.ClosedRefusal.TheVariants as refusal
 use Rattle.closed_checker.specs.Rests.{rules_of, claim_of}

@@ -1,7 +1,7 @@
 -- What each command of evidence owes, one line a command.
 use Rattle.std.proofs.Common.{ℕ, List}
-use Rattle.command_words.specs.declared.evidence.EvidenceCommand.{EvidenceCommand}
-use Rattle.command_words.specs.declared.evidence.EvidenceCommand.TheVariants.{Check, Model, Confirm, Explain, Cancel}
+use Rattle.command_shape.specs.declared.evidence.EvidenceCommand.{EvidenceCommand}
+use Rattle.command_shape.specs.declared.evidence.EvidenceCommand.TheVariants.{Check, Model, Confirm, Explain, Cancel}
 use Rattle.stated_problem.specs.Statement.{OverStatement}
 use Rattle.stated_problem.proofs.Owed.{OwesEnding}
 use Rattle.evidence_commands.specs.Commands.{judged_by, AnswersEvidence, SaysEvidence}

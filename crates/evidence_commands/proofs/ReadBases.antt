@@ -4,7 +4,7 @@ use Rattle.block_text.proofs.PolynomialBounds.{all_with}
 use Rattle.adjoint_rules.specs.declared.basis.Basis.{Basis}
 use Rattle.adjoint_rules.specs.Bases.{IsBasisOver}
 use Rattle.adjoint_rules.specs.Limits.{rule_limit}
-use Rattle.basis_text.proofs.BasisValues.{are_few}
+use Rattle.block_lines.proofs.BasisValues.{are_few}
 use Rattle.closed_checker.specs.Closed.{IsReadableBasis}
 use Rattle.evidence_commands.specs.Laws.{ReadBasesAreReadable}
 

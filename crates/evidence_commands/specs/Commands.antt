@@ -2,8 +2,8 @@
 use Rattle.std.specs.Prelude.{ℕ, List}
 use Rattle.definitions.specs.Category.{Structure}
 use Rattle.adjoint_rules.specs.declared.problem.Problem.{Problem}
-use Rattle.command_words.specs.declared.evidence.EvidenceCommand.{EvidenceCommand}
-use Rattle.command_words.specs.declared.evidence.EvidenceCommand.TheVariants.{Check, Model, Confirm, Explain, Cancel}
+use Rattle.command_shape.specs.declared.evidence.EvidenceCommand.{EvidenceCommand}
+use Rattle.command_shape.specs.declared.evidence.EvidenceCommand.TheVariants.{Check, Model, Confirm, Explain, Cancel}
 use Rattle.command_shape.specs.Ending.{Ending}
 use Rattle.evidence_commands.specs.Kind.{Kind, AnswersText, Says}
 use Rattle.evidence_commands.specs.Check.{certificates}

@@ -7,7 +7,7 @@ use Rattle.adjoint_rules.specs.Problem.{polynomials}
 use Rattle.cofactor_trace.specs.declared.halt.Cause.{Cause}
 use Rattle.block_text.specs.Written.{poly_text}
 use Rattle.adjoint_rules.specs.declared.basis.Basis.{Basis}
-use Rattle.basis_text.specs.Bases.{IsBases, IsFirstFault}
+use Rattle.block_lines.specs.Bases.{IsBases, IsFirstFault}
 use Rattle.quiver.specs.Over.{IsPolyOver}
 use Rattle.report_text.specs.Heads.{cause_text}
 use Rattle.ambiguities.specs.declared.ambiguity.Kind as ambiguity

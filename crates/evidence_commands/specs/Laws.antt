@@ -6,7 +6,7 @@ use Rattle.quiver.specs.Declarations.{Declaration}
 use Rattle.adjoint_rules.specs.declared.problem.Problem.{Problem}
 use Rattle.adjoint_rules.specs.declared.basis.Basis.{Basis}
 use Rattle.adjoint_rules.specs.Bases.{IsBasisOver}
-use Rattle.basis_text.specs.Bases.{IsBases}
+use Rattle.block_lines.specs.Bases.{IsBases}
 use Rattle.closed_checker.specs.Closed.{IsReadableBasis}
 use Rattle.command_shape.specs.Ending.{Ending, refused_statement}
 use Rattle.stated_problem.specs.Statement.{IsRefusedStatement}

@@ -13,7 +13,7 @@ ghost use Rattle.evidence_commands.specs.Confirm.{got_text, HasRefusalLetters};
 use crate::kind::EvidenceKind;
 use adjoint_rules::{Basis, Problem};
 use ambiguities::{Ambiguity, Kind};
-use basis_text::read_bases;
+use block_lines::read_bases;
 use block_text::{CertFault, put, put_labelled, put_poly};
 use closed_checker::{ClosedRefusal, Part, confirm_closed};
 use cofactor_trace::Cause;

@@ -1,5 +1,5 @@
 //! The laws of each command of evidence, for users.
-ghost use Rattle.command_words.specs.declared.evidence.EvidenceCommand.{EvidenceCommand};
+ghost use Rattle.command_shape.specs.declared.evidence.EvidenceCommand.{EvidenceCommand};
 ghost use Rattle.evidence_commands.specs.Commands.{judged_by};
 ghost use Rattle.evidence_commands.specs.Laws.{PassingAreAnswered, ZeroIsPassing, ZeroMeans, FaultsAreAnswered, ThreeIsFaulty, ReadBasesAreReadable};
 

@@ -11,7 +11,7 @@ use Rattle.statement_syntax.specs.declared.tree.Factor.{Factor}
 use Rattle.statement_syntax.specs.declared.tree.Term.{Term, roll-Term, out-roll-Term}
 use Rattle.expressions.specs.declared.fault.SignatureFault.TheVariants.{NotComposable, SumMismatch, OpenZero}
 use Rattle.expressions.specs.Results.{◌>>=◌}
-use Rattle.expression_names.specs.Names.{letter_of, object_of}
+use Rattle.abbreviations.specs.Names.{letter_of, object_of}
 use Rattle.expressions.specs.Signatures.{from_to, Part, marked_signature, product_signature, sum_from, sides_signature, term_signature}
 use Rattle.expressions.specs.Polynomials.{letter_poly, marked_poly, product_poly, scaled_by, total, term_poly, factor_poly}
 use Rattle.expressions.proofs.Trees.{each, factor_part, poly-term, signature-term}

@@ -13,7 +13,7 @@ use Rattle.quiver.proofs.Letters.{letter_is, in_range_from_table, star-quiver_of
 use Rattle.statement_syntax.specs.declared.tree.Mark.{Mark}
 use Rattle.statement_syntax.specs.declared.tree.Mark.TheVariants.{Adjoint}
 use Rattle.statement_syntax.specs.declared.tree.Primary.{Primary}
-use Rattle.expression_names.specs.Names.{are_names_of_primary}
+use Rattle.abbreviations.specs.Names.{are_names_of_primary}
 use Rattle.expressions.specs.Polynomials.{mark_poly, primary_poly}
 use Rattle.expressions.specs.declared.powers.Marked.{Marked}
 use Rattle.expressions.specs.Due.{due_poly}

@@ -6,7 +6,7 @@ use Rattle.statement_syntax.specs.declared.tree.Factor.{Factor}
 use Rattle.statement_syntax.specs.declared.tree.Term.{Term, Term', out-Term, outs-Term', Row_of-Factor, end_of-Factor, more_of-Factor, items-the_row-Factor, items_shown-the_row-Factor-1}
 use Rattle.statement_syntax.specs.declared.tree.Sum.{Sum, Sum', out-Sum, Row_of-Term, end_of-Term, more_of-Term, items-the_row-Term, items_shown-the_row-Term-0}
 use Rattle.expressions.specs.declared.fault.SignatureFault.{SignatureFault}
-use Rattle.expression_names.proofs.Trees.{of_sum, of_term}
+use Rattle.abbreviations.proofs.Trees.{of_sum, of_term}
 use Rattle.expressions.specs.Results.{◌>>=◌}
 use Rattle.expressions.specs.Signatures as signatures
 use Rattle.expressions.specs.Polynomials as polynomials

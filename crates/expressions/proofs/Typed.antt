@@ -19,7 +19,7 @@ use Rattle.statement_syntax.specs.declared.tree.Term.{Term, Term', Row_of-Factor
 use Rattle.statement_syntax.specs.declared.tree.Sum.{Sum, Sum', Row_of-Term, end_of-Term, more_of-Term}
 use Rattle.expressions.specs.declared.fault.SignatureFault.TheVariants.{SumMismatch}
 use Rattle.expressions.specs.Results.{◌>>=◌}
-use Rattle.expression_names.specs.Names.{is_map, is_object, letter_number, object_number, letter_of, object_of, are_names, are_names_of_terms, are_names_of_term, are_names_of_factors, are_names_of_primary}
+use Rattle.abbreviations.specs.Names.{is_map, is_object, letter_number, object_number, letter_of, object_of, are_names, are_names_of_terms, are_names_of_term, are_names_of_factors, are_names_of_primary}
 use Rattle.expressions.specs.Signatures as signatures
 use Rattle.expressions.specs.Signatures.{Part, from_to, letter_signature, same_ends, marked_signature, sides_signature, equation_signature, sum_at}
 use Rattle.expressions.specs.Polynomials as polynomials

@@ -12,8 +12,8 @@ use Rattle.quiver.proofs.Found.{is_named}
 use Rattle.quiver.proofs.Identities.{identity_in_range, identity_is, is_quiver}
 use Rattle.statement_syntax.specs.declared.tree.Sum.{Sum}
 use Rattle.expressions.specs.Results.{◌>>=◌}
-use Rattle.expression_names.specs.Names.{are_names}
-use Rattle.expression_names.specs.Occurrences.{has_quote, has_identity}
+use Rattle.abbreviations.specs.Names.{are_names}
+use Rattle.abbreviations.specs.Occurrences.{has_quote, has_identity}
 use Rattle.expressions.specs.Polynomials.{sum_poly, equation_poly}
 use Rattle.expressions.specs.Laws.{IsWritten, LettersAreWritten}
 use Rattle.expressions.proofs.Sequences.{bound}

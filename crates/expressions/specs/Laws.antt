@@ -6,8 +6,8 @@ use Rattle.definitions.specs.Quiver.{star, IsTyped}
 use Rattle.quiver.specs.declared.named.Sig.{Sig}
 use Rattle.quiver.specs.Declarations.{Declaration, object_count, letter_count, quiver_of, ObjectsFirst, IsDeclared}
 use Rattle.statement_syntax.specs.declared.tree.Sum.{Sum}
-use Rattle.expression_names.specs.Names.{AreNames}
-use Rattle.expression_names.specs.Occurrences.{has_quote, has_identity}
+use Rattle.abbreviations.specs.Names.{AreNames}
+use Rattle.abbreviations.specs.Occurrences.{has_quote, has_identity}
 use Rattle.expressions.specs.Signatures.{equation_signature}
 use Rattle.expressions.specs.Polynomials.{equation_poly}
 

@@ -17,7 +17,7 @@ use Rattle.statement_syntax.specs.declared.tree.Factor.{Factor}
 use Rattle.statement_syntax.specs.declared.tree.Term.{Term, Term', Row_of-Factor, end_of-Factor, more_of-Factor}
 use Rattle.statement_syntax.specs.declared.tree.Sum.{Sum, Sum', Row_of-Term, end_of-Term, more_of-Term}
 use Rattle.expressions.specs.Results.{◌>>=◌}
-use Rattle.expression_names.specs.Names.{letter_of, object_of}
+use Rattle.abbreviations.specs.Names.{letter_of, object_of}
 
 abbrev pub letter_poly : ℕ → Poly
 letter_poly a = (pos 1, a ∷ []) ∷ []

@@ -14,7 +14,7 @@ use Rattle.statement_syntax.specs.declared.tree.Sum.{Sum, Sum', Row_of-Term, end
 use Rattle.expressions.specs.declared.fault.SignatureFault.{SignatureFault}
 use Rattle.expressions.specs.declared.fault.SignatureFault.TheVariants.{NotComposable, SumMismatch, OpenZero}
 use Rattle.expressions.specs.Results.{◌>>=◌}
-use Rattle.expression_names.specs.Names.{letter_of, object_of}
+use Rattle.abbreviations.specs.Names.{letter_of, object_of}
 
 -- from one object to another
 abbrev pub from_to : ℕ → ℕ → Sig

@@ -4,7 +4,7 @@ ghost use Rattle.nc_polynomial.specs.Arithmetic.{multiple_result};
 ghost use Rattle.nc_polynomial.specs.Faults.{Explains, IsMemory};
 ghost use Rattle.nc_polynomial.specs.Shape.{IsCanonical};
 ghost use Rattle.quiver.specs.Declarations.{quiver_of, identity_in, IsDeclared};
-ghost use Rattle.expression_names.specs.Names.{AreNames, are_names_of_term, are_names_of_primary, letter_of, object_of};
+ghost use Rattle.abbreviations.specs.Names.{AreNames, are_names_of_term, are_names_of_primary, letter_of, object_of};
 ghost use Rattle.expressions.specs.Begun.{product_begun, product_followed};
 ghost use Rattle.expressions.specs.Polynomials.{letter_poly, marked_poly, product_poly, scaled_by, signed, sum_step, total, sum_poly};
 ghost use Rattle.expressions.specs.Polynomials.{term_poly, factor_poly, primary_poly, equation_poly};
@@ -12,7 +12,7 @@ ghost use Rattle.expressions.specs.Polynomials.{term_poly, factor_poly, primary_
 use crate::added::add;
 use crate::powers::with_marks;
 use coef_int::Overflow;
-use expression_names::{letter_of, object_of};
+use abbreviations::{letter_of, object_of};
 use lists::Listing;
 use nc_polynomial::{Poly, PolyFault, RunningSum, WORD_LIMIT, negate_terms};
 use quiver::{OBJECT_LIMIT, Quiver};

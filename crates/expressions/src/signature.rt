@@ -1,13 +1,13 @@
 //! The signature of an expression, or the first fault of its signatures.
 ghost use Rattle.std.specs.Prelude.{◌≡◌, ◌<◌, IfOk, IsTrue};
 ghost use Rattle.quiver.specs.Declarations.{object_count};
-ghost use Rattle.expression_names.specs.Names.{AreNames, are_names_of_term, are_names_of_primary};
+ghost use Rattle.abbreviations.specs.Names.{AreNames, are_names_of_term, are_names_of_primary};
 ghost use Rattle.expressions.specs.Signatures.{HasObjects, turned, repeated, mark_signature, marked_signature, product_step, sum_step};
 ghost use Rattle.expressions.specs.Signatures.{sum_signature, term_signature, factor_signature, primary_signature, sides_signature};
 ghost use Rattle.expressions.specs.Signatures.{equation_signature};
 
 use crate::SignatureFault;
-use expression_names::{letter_of, object_of};
+use abbreviations::{letter_of, object_of};
 use quiver::{Quiver, Sig};
 use statement_syntax::{Factor, Mark, Primary, Sum, Term};
 use statement_tokens::Spot;

@@ -21,7 +21,7 @@ use Rattle.model_checker.specs.Representations.{representation_of}
 use Rattle.model_candidates.specs.Candidates.{entries_of, model_by, is_exhaustive, digits, draws, is_linear, IsShapeOf, IsSolution, CanBegin, CanTake, IsGreedy, IsCandidate}
 use Rattle.model_candidates.specs.Unknowns.{solved_flags}
 use Rattle.model_checker.proofs.Values.{zero_from_value}
-use Rattle.common_lemmas.proofs.Decided.{IsDecided, decided_by, both_decided, lt_decided, all_decided}
+use Rattle.lists.proofs.Decided.{IsDecided, decided_by, both_decided, lt_decided, all_decided}
 use Rattle.model_checker.proofs.Decided.{matrix_decided}
 use Rattle.model_candidates.proofs.SolvedEntries.{IsAsDrawn}
 use Rattle.model_candidates.proofs.DrawnEntries.{drawn_by_flags, drawn_by_entries}

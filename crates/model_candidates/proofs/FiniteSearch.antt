@@ -5,7 +5,7 @@ use Rattle.std.proofs.lemmas.Bool.{cases_eq, cases_lt}
 use Rattle.std.proofs.lemmas.List.{length-append, append_assoc, get_or_at}
 use Rattle.std.proofs.lemmas.List.Elements.{All-get_or}
 use Rattle.std.proofs.Math.Seq.{take-append_seam}
-use Rattle.common_lemmas.proofs.Decided.{IsDecided, decided_by}
+use Rattle.lists.proofs.Decided.{IsDecided, decided_by}
 use Rattle.model_candidates.proofs.EntryCounts.{append_nil}
 
 -- the least number that passes, or none below the bound does

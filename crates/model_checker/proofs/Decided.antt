@@ -2,7 +2,7 @@
 use Rattle.std.proofs.Common.{◌≡◌, ℕ, ◌*◌, ◌<◌, List, [], ◌∷◌, length, ◌⊎◌, inl, inr, refl, ap}
 use Rattle.std.proofs.lemmas.Bool.{cases_eq}
 use Rattle.std.proofs.lemmas.List.Elements.{All-from_recursion, recursion_from_All}
-use Rattle.common_lemmas.proofs.Decided.{IsDecided, decided_by, both_decided, le_decided, lt_decided, all_decided}
+use Rattle.lists.proofs.Decided.{IsDecided, decided_by, both_decided, le_decided, lt_decided, all_decided}
 use Rattle.matrix_models.specs.Limits.{modulus_limit, side_limit}
 use Rattle.matrix_models.specs.Matrix.{Matrix, IsModulus, IsSide, HasShape, IsMatrix}
 

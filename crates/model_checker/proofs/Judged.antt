@@ -10,8 +10,8 @@ use Rattle.definitions.specs.Poly as terms
 use Rattle.definitions.specs.Quiver.{Quiver, letters, source, target, star}
 use Rattle.definitions.specs.Combination.{generator_at}
 use Rattle.definitions.specs.Representation.{value_at}
-use Rattle.common_lemmas.proofs.Decided.{IsDecided, decided_by, both_decided, le_decided, lt_decided}
-use Rattle.common_lemmas.proofs.FirstFailure.{HasOneOutcome, PassUpTo, FailsFirst, FirstNot, not_each, one_test, found_test, where_test, then_test, each_test, tests_up_to, reworded}
+use Rattle.lists.proofs.Decided.{IsDecided, decided_by, both_decided, le_decided, lt_decided}
+use Rattle.lists.proofs.FirstFailure.{HasOneOutcome, PassUpTo, FailsFirst, FirstNot, not_each, one_test, found_test, where_test, then_test, each_test, tests_up_to, reworded}
 use Rattle.nc_polynomial.specs.declared.poly.Poly.{Poly}
 use Rattle.quiver.specs.declared.named.Sig.{Sig}
 use Rattle.quiver.specs.Declarations.{quiver_of}

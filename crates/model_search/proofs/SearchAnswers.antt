@@ -14,7 +14,7 @@ use Rattle.model_search.specs.Searches.{NoneBreaksAt}
 use Rattle.model_search.proofs.Breaking.{named_model, breaks_where_it_refutes, none_without_model, none_where_it_does_not, breaking_model_is_one}
 use Rattle.model_candidates.proofs.NumberedShapes.{shape_is_one}
 use Rattle.model_candidates.proofs.CandidateLaws.{each_number_has_a_candidate}
-use Rattle.common_lemmas.proofs.Decided.{IsDecided}
+use Rattle.lists.proofs.Decided.{IsDecided}
 use Rattle.model_checker.proofs.Judged.{refutes_decided}
 
 -- of two places one is earlier, or they are one

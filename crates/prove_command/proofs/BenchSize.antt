@@ -4,7 +4,7 @@ use Rattle.std.specs.List.{flat_map, range_with_len}
 use Rattle.std.proofs.lemmas.List.{length-append}
 use Rattle.std.proofs.lemmas.Fmt.{length-decimal-le}
 use Rattle.report_text.specs.Bench.{numbered, maps_of_step, assumption_of_step, there_and_back, bench_statement}
-use Rattle.command_words.specs.Limits.{size_limit}
+use Rattle.command_shape.specs.Limits.{size_limit}
 use Rattle.command_shape.specs.FileWords.{statement_limit}
 
 -- at most this many bytes

@@ -18,8 +18,8 @@ use Rattle.model_search.specs.LeastBreaking.{LeastBreaks}
 use Rattle.report_text.specs.declared.verdict.Verdict.{Verdict}
 use Rattle.report_text.specs.declared.verdict.Verdict.TheVariants as verdict
 use Rattle.report_text.specs.Report.{report_of, heads_of, status_of}
-use Rattle.command_words.specs.Limits.{default_pairs, default_steps, default_seed, default_format}
-use Rattle.command_words.specs.declared.call.ProveCall.{ProveCall}
+use Rattle.command_shape.specs.Limits.{default_pairs, default_steps, default_seed, default_format}
+use Rattle.command_shape.specs.declared.call.ProveCall.{ProveCall}
 use Rattle.prove_command.specs.declared.prove.Asked.{Asked}
 use Rattle.prove_command.specs.declared.prove.Extent.{Extent}
 use Rattle.prove_command.specs.declared.prove.Extent.TheVariants as extent

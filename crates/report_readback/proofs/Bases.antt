@@ -14,7 +14,7 @@ use Rattle.certificate_text.specs.Back.{part_text, IsPart}
 use Rattle.block_text.proofs.PartsBack.{begins_no_end}
 use Rattle.block_text.proofs.PolysBack.{poly_is_line}
 use Rattle.block_text.proofs.TextsBack.{literal, line_text-append}
-use Rattle.basis_text.specs.Written.{rule_line, basis_text}
+use Rattle.block_lines.specs.Written.{rule_line, basis_text}
 use Rattle.quiver.specs.Over.{IsPolyOver}
 use Rattle.report_readback.proofs.Numerals.{decimal_is_line}
 

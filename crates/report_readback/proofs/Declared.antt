@@ -25,7 +25,7 @@ use Rattle.statement_syntax.proofs.Moved.{kinds}
 use Rattle.statement_syntax.proofs.StatedKinds.{kinds-append}
 use Rattle.statement_syntax.proofs.BareTokens.{AreTokensOf, AllSpelled, file_are}
 use Rattle.statement_names.specs.Numbered.{objects_in, maps_in, declared_objects, declarations_of}
-use Rattle.expression_names.specs.Names.{object_of}
+use Rattle.abbreviations.specs.Names.{object_of}
 use Rattle.block_text.specs.Back.{is_named}
 use Rattle.report_readback.specs.Names.{DeclaredNamesAreNames}
 use Rattle.report_readback.proofs.Spellings.{spelled_is_name}

@@ -10,7 +10,7 @@ use Rattle.block_text.specs.Fault.{no_block}
 use Rattle.block_text.specs.Lines.{content, block_limit}
 use Rattle.block_text.specs.Tokens.{tokens_of}
 use Rattle.block_text.specs.Back.{is_whole, is_named, comment, other}
-use Rattle.basis_text.specs.Written.{basis_text}
+use Rattle.block_lines.specs.Written.{basis_text}
 use Rattle.quiver.specs.Over.{IsPolyOver}
 use Rattle.certificate_text.specs.Back.{part_text}
 use Rattle.block_text.proofs.ContentBack.{no_text, whole_append}

@@ -4,7 +4,7 @@ use Rattle.std.specs.List.{list_all, list_any}
 use Rattle.word_core.specs.Letters.{IsOver}
 use Rattle.nc_polynomial.specs.declared.poly.Poly.{Poly}
 use Rattle.quiver.specs.Declarations.{Declaration, letter_count}
-use Rattle.basis_text.specs.Written.{basis_text}
+use Rattle.block_lines.specs.Written.{basis_text}
 use Rattle.quiver.specs.Over.{IsPolyOver}
 use Rattle.certificate_text.specs.Written.{evidence_text, IsEvidenceOver}
 use Rattle.model_text.specs.Written.{model_text, HasPlaces}

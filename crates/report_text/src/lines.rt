@@ -7,7 +7,7 @@ ghost use Rattle.report_text.specs.Report.{block_text, report_of, heads_of, IsVe
 
 use crate::Verdict;
 use crate::head::put_head;
-use basis_text::put_basis;
+use block_lines::put_basis;
 use certificate_text::put_evidence;
 use model_text::put_model;
 use nc_polynomial::Poly;

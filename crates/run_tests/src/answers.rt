@@ -1,7 +1,7 @@
 //! What comes of a run over files and a sink in memory, as a text.
 use category_laws::Parity;
 use command_runs::run;
-use command_words::usage_text;
+use command_shape::usage_text;
 use flow_io::{MemoryShelf, MemorySink};
 use in_order_parallel::OpenGate;
 use lists::{Listing, Text};

@@ -5,7 +5,7 @@ use crate::answers::owned;
 use crate::comparing::equal;
 use category_laws::Parity;
 use command_runs::run;
-use command_words::usage_text;
+use command_shape::usage_text;
 use flow_io::{SteadyShelf, SteadySink};
 use in_order_parallel::OpenGate;
 use lists::{Listing, Text};

@@ -8,7 +8,7 @@ use Rattle.quiver.specs.Declarations.{Declaration, IsDeclared, named_in, quiver_
 use Rattle.quiver.proofs.Found.{is_named}
 use Rattle.quiver.proofs.Letters.{letter_is, source-quiver_of, target-quiver_of}
 use Rattle.expressions.specs.Results.{◌>>=◌}
-use Rattle.expression_names.specs.Names.{AreNames, is_map, is_object, letter_number, object_number, are_names_of_terms, are_names_of_term, are_names_of_factors, are_names_of_primary}
+use Rattle.abbreviations.specs.Names.{AreNames, is_map, is_object, letter_number, object_number, are_names_of_terms, are_names_of_term, are_names_of_factors, are_names_of_primary}
 use Rattle.expressions.specs.Signatures.{Part, from_to, letter_signature, same_ends, is_repeated, repeated, mark_signature, marked_signature, product_step, product_from, product_signature, sum_step, sum_from, term_at, sum_at, sum_signature, terms_parts, term_signature, factors_parts, primary_signature, sides_signature, equation_signature}
 use Rattle.adjoint_rules.specs.Problem.{HasObjects}
 use Rattle.signature_typing.specs.Named.{HasFaultObjects}

@@ -14,8 +14,8 @@ use Rattle.statement_names.specs.Marked.{stated_by, all_equations, writes_identi
 use Rattle.statement_names.specs.Starred.{is_starred_in, is_starred}
 use Rattle.statement_names.specs.Solved.{numbers_that}
 use Rattle.abbreviations.specs.Written.{product_at, equation, equations_in, equations_of, assumptions_of, claims_in, claims_of}
-use Rattle.expression_names.specs.Occurrences.{has_quote, has_quote_in_term}
-use Rattle.expression_names.proofs.Trees.{has_quote_in_factor, mark-sum, mark-term}
+use Rattle.abbreviations.specs.Occurrences.{has_quote, has_quote_in_term}
+use Rattle.abbreviations.proofs.Trees.{has_quote_in_factor, mark-sum, mark-term}
 use Rattle.expressions.specs.Laws.{IsWritten}
 use Rattle.adjoint_rules.specs.Problem.{numbers, IsInPlay}
 use Rattle.statement_names.proofs.Each.{Each-append, Each-weaker}

@@ -25,7 +25,7 @@ use Rattle.nc_polynomial.proofs.Products.{canonical_sized}
 use Rattle.nc_polynomial.proofs.Shapes.{Descends, IsDescending-from_recursion, shaped-scaled, shaped-added}
 use Rattle.quiver.specs.Declarations.{Declaration, quiver_of, identity_in}
 use Rattle.expressions.specs.Results.{◌>>=◌}
-use Rattle.expression_names.specs.Names.{letter_of, object_of}
+use Rattle.abbreviations.specs.Names.{letter_of, object_of}
 use Rattle.expressions.specs.Polynomials.{letter_poly, power_poly, mark_poly, marked_poly, product_from, product_poly, scaled_by, Summand, signed, sum_step, sum_from, total, sum_poly, summands, term_poly, factor_polys, primary_poly, equation_poly}
 use Rattle.expressions.proofs.Canonical.{canonical-negated}
 use Rattle.expressions.proofs.TwoAdjoints.{canonical-adjoint}

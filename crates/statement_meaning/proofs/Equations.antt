@@ -15,7 +15,7 @@ use Rattle.quiver.specs.declared.named.Sig.{Sig}
 use Rattle.quiver.specs.Declarations.{Declaration, quiver_of}
 use Rattle.quiver.proofs.Identities.{is_quiver}
 use Rattle.statement_syntax.specs.declared.tree.Sum.{Sum}
-use Rattle.expression_names.specs.Occurrences.{has_quote}
+use Rattle.abbreviations.specs.Occurrences.{has_quote}
 use Rattle.expressions.specs.declared.fault.SignatureFault.TheVariants.{SumMismatch}
 use Rattle.expressions.specs.Results.{◌>>=◌}
 use Rattle.expressions.specs.Signatures as signatures

@@ -23,8 +23,8 @@ use Rattle.statement_syntax.specs.declared.tree.Number.{Number}
 use Rattle.statement_syntax.specs.declared.tree.Primary.{Primary, Letter, Identity, Bracket}
 use Rattle.statement_syntax.specs.declared.tree.Term.{Term, Term', Row_of-Factor, end_of-Factor, more_of-Factor}
 use Rattle.statement_syntax.specs.declared.tree.Sum.{Sum, Sum', Row_of-Term, end_of-Term, more_of-Term}
-use Rattle.expression_names.specs.Names.{is_map, is_object, letter_number, object_number, letter_of, object_of, are_names, are_names_of_terms, are_names_of_term, are_names_of_factors, are_names_of_primary}
-use Rattle.expression_names.specs.Occurrences.{is_adjoint, has_quote, has_quote_in_terms, has_quote_in_term, has_quote_in_factors, has_quote_in_primary}
+use Rattle.abbreviations.specs.Names.{is_map, is_object, letter_number, object_number, letter_of, object_of, are_names, are_names_of_terms, are_names_of_term, are_names_of_factors, are_names_of_primary}
+use Rattle.abbreviations.specs.Occurrences.{is_adjoint, has_quote, has_quote_in_terms, has_quote_in_term, has_quote_in_factors, has_quote_in_primary}
 use Rattle.expressions.specs.Results.{◌>>=◌}
 use Rattle.expressions.specs.Signatures as signatures
 use Rattle.expressions.specs.Signatures.{Part, from_to, letter_signature, marked_signature}

@@ -16,7 +16,7 @@ use Rattle.quiver.specs.declared.named.Sig.{Sig}
 use Rattle.statement_tokens.specs.declared.place.Spot.{Spot}
 use Rattle.statement_syntax.specs.declared.tree.Mark.{Mark}
 use Rattle.statement_syntax.specs.declared.tree.Mark.TheVariants.{Adjoint, Power}
-use Rattle.expression_names.specs.Occurrences.{is_adjoint}
+use Rattle.abbreviations.specs.Occurrences.{is_adjoint}
 use Rattle.expressions.specs.declared.fault.SignatureFault.TheVariants.{NotComposable}
 use Rattle.expressions.specs.Signatures.{turned, is_repeated, repeated, mark_signature, marked_signature}
 use Rattle.expressions.specs.Polynomials.{product_from, product_poly, power_poly, mark_poly, marked_poly}

@@ -11,8 +11,8 @@ use Rattle.nc_polynomial.specs.declared.poly.Poly as made
 use Rattle.statement_syntax.specs.declared.tree.Statement.{Statement}
 use Rattle.statement_syntax.specs.declared.tree.Sum.{Sum}
 use Rattle.statement_syntax.specs.Texts.{IsTreeOf}
-use Rattle.expression_names.specs.Names.{AreNames}
-use Rattle.expression_names.specs.Occurrences.{has_quote}
+use Rattle.abbreviations.specs.Names.{AreNames}
+use Rattle.abbreviations.specs.Occurrences.{has_quote}
 use Rattle.abbreviations.specs.declared.written.Equation.{Equation}
 use Rattle.abbreviations.specs.Written.{assumptions_of, claims_of}
 use Rattle.expressions.specs.Signatures.{equation_signature}

@@ -10,7 +10,7 @@ use Rattle.statement_syntax.specs.declared.tree.Number.{Number}
 use Rattle.statement_syntax.specs.declared.tree.Primary.{Primary, Letter, Identity, Bracket}
 use Rattle.statement_syntax.specs.declared.tree.Term.{Term, Term', Row_of-Factor, end_of-Factor, more_of-Factor}
 use Rattle.statement_syntax.specs.declared.tree.Sum.{Sum, Sum', Row_of-Term, end_of-Term, more_of-Term}
-use Rattle.expression_names.specs.Names.{letter_of, object_of}
+use Rattle.abbreviations.specs.Names.{letter_of, object_of}
 
 -- Where an expression is read: a category, its involution, the declared names, and a representation of their quiver.
 pub record Reading (Object Arrow : Type 0) : Type 1 where

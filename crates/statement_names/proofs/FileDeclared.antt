@@ -16,7 +16,7 @@ use Rattle.quiver.specs.Declarations.{Declaration, object, arrow, object_count, 
 use Rattle.quiver.proofs.Counts.{object_count-append}
 use Rattle.quiver.proofs.Growth.{naming_table-append}
 use Rattle.quiver.proofs.Found.{is_named}
-use Rattle.expression_names.specs.Names.{is_object, object_number, object_of}
+use Rattle.abbreviations.specs.Names.{is_object, object_number, object_of}
 use Rattle.statement_names.specs.Faults.{Objects, Maps, kind_in, is_kind, are_two_objects, kind_within, name_fault_of}
 use Rattle.statement_names.specs.Limits.{map_limit_after, map_limit_of}
 use Rattle.statement_names.specs.Occurrences.{declares_map, uses, kind_occurrences, statement_occurrences, occurrences_of}

@@ -11,7 +11,7 @@ use Rattle.quiver.proofs.Counts.{letter_count-append}
 use Rattle.quiver.proofs.Found.{plus_zero, letter_at-split, object_name-split, letter_name-split}
 use Rattle.quiver.proofs.Growth.{names_from, naming_table-append}
 use Rattle.quiver.proofs.Letters.{star-quiver_of}
-use Rattle.expression_names.specs.Names.{letter_number}
+use Rattle.abbreviations.specs.Names.{letter_number}
 use Rattle.statement_names.proofs.Apart.{Apart, own_bytes}
 use Rattle.statement_names.specs.Ordered.{letter, with_star}
 use Rattle.statement_names.proofs.Each.{Each}

@@ -9,7 +9,7 @@ use Rattle.std.proofs.lemmas.List.Elements.{filter-append}
 use Rattle.statement_names.specs.Types.{Named, named, Name, Statement, StatementKind, statement, Kind, Object, Map}
 use Rattle.quiver.specs.Declarations.{Declaration, object, arrow, name_of, objects_of, letters_of, Turn, named_by, named_in}
 use Rattle.quiver.proofs.Growth.{names_from}
-use Rattle.expression_names.specs.Names.{is_map, is_object, object_of}
+use Rattle.abbreviations.specs.Names.{is_map, is_object, object_of}
 use Rattle.statement_names.specs.Faults.{kind_in, is_kind, kind_within, name_fault_of}
 use Rattle.statement_names.specs.Limits.{map_limit_of}
 use Rattle.statement_names.specs.Occurrences.{occurrences_of}

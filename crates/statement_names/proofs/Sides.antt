@@ -10,7 +10,7 @@ use Rattle.statement_names.specs.Types.{Named, named, Name, Number}
 use Rattle.std.proofs.lemmas.List.FromFn.{length-map-range_with_len, get_or-map-range_with_len}
 use Rattle.quiver.specs.Declarations.{Declaration, object_count, object_name, named_in, IsDeclared}
 use Rattle.quiver.proofs.Found.{is_named}
-use Rattle.expression_names.specs.Names.{is_object, object_number, object_of}
+use Rattle.abbreviations.specs.Names.{is_object, object_number, object_of}
 use Rattle.statement_names.specs.Faults.{value_of}
 use Rattle.statement_names.specs.Shapes.{side_in, sides_of}
 use Rattle.statement_names.proofs.Apart.{own_bytes, fresh_before}

@@ -13,7 +13,7 @@ use Rattle.word_orders.specs.Faults.{is_weight, letter_fault, block_fault, entry
 use Rattle.word_orders.specs.Lists.{is_listed}
 use Rattle.word_orders.specs.Specified.{IsSound}
 use Rattle.quiver.specs.Declarations.{Declaration, letter_count, letter_name, named_in}
-use Rattle.expression_names.specs.Names.{is_map, letter_number, letter_of}
+use Rattle.abbreviations.specs.Names.{is_map, letter_number, letter_of}
 use Rattle.word_orders.specs.Limits.{weight_limit}
 use Rattle.statement_names.specs.Faults.{value_of, name_fault_of}
 use Rattle.statement_names.specs.Numbered.{declarations_of}

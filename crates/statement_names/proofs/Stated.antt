@@ -11,7 +11,7 @@ use Rattle.std.proofs.lemmas.Map.Keys.{IsDistinct-push}
 use Rattle.std.proofs.lemmas.Simd.{map-map}
 use Rattle.definitions.specs.Moduli.{field_moduli, is_field_modulus}
 use Rattle.quiver.specs.Declarations.{Declaration, named_in}
-use Rattle.expression_names.specs.Names.{is_map, is_object}
+use Rattle.abbreviations.specs.Names.{is_map, is_object}
 use Rattle.statement_names.specs.Types.{Spot, Name, Number, Statement, StatementKind, statement, Kind, Object, Map}
 use Rattle.adjoint_rules.specs.Limits.{shape_side_limit}
 use Rattle.word_orders.specs.Limits.{weight_limit}

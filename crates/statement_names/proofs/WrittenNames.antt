@@ -2,8 +2,8 @@
 use Rattle.std.proofs.Common.{◌≡◌, ℕ, ◌<◌, true, false, ◌&&◌, IsTrue, List, [], ◌∷◌, ◌++◌, map, Option, Some, None, refl, ap, ap₂, sym, subst, ◌∙◌}
 use Rattle.std.specs.List.{list_all, flat_map}
 use Rattle.quiver.specs.Declarations.{Declaration, object_count, letter_count, named_in, quiver_of, IsDeclared}
-use Rattle.expression_names.specs.Names.{is_map, is_object, are_names, are_names_of_terms, are_names_of_term, are_names_of_factors, are_names_of_primary, AreNames}
-use Rattle.expression_names.proofs.Trees.{are_names_of_factor, names-term, names-sum}
+use Rattle.abbreviations.specs.Names.{is_map, is_object, are_names, are_names_of_terms, are_names_of_term, are_names_of_factors, are_names_of_primary, AreNames}
+use Rattle.abbreviations.proofs.Trees.{are_names_of_factor, names-term, names-sum}
 use Rattle.statement_names.specs.Types.{Spot, Primary, Identity, Bracket, Factor, Adjoint, Term, Term', out-roll-Term, Row_of-Factor, end_of-Factor}
 use Rattle.statement_names.specs.Types.{more_of-Factor, Sum, Sum', out-roll-Sum, Row_of-Term, end_of-Term, more_of-Term, Statement, StatementKind, statement}
 use Rattle.statement_names.specs.Types.{Named, named, Kind, Object, Map}

@@ -2,7 +2,7 @@
 use Rattle.std.specs.Prelude.{ℕ, Bool, ◌||◌, List, ◌++◌, map}
 use Rattle.std.specs.List.{flat_map, list_any}
 use Rattle.quiver.specs.Declarations.{Declaration, object_count}
-use Rattle.expression_names.specs.Occurrences.{has_identity}
+use Rattle.abbreviations.specs.Occurrences.{has_identity}
 use Rattle.statement_names.specs.Types.{Statement, Equation}
 use Rattle.word_core.specs.declared.letter.Object.{Object}
 use Rattle.statement_names.specs.Solved.{numbers_that}

@@ -3,7 +3,7 @@ use Rattle.std.specs.Prelude.{IsTrue, List, [], ◌++◌, map}
 use Rattle.std.specs.List.{flat_map}
 use Rattle.statement_names.specs.Types.{Statement, StatementKind, statement}
 use Rattle.quiver.specs.Declarations.{Declaration, object, arrow, named_in, IsDeclared}
-use Rattle.expression_names.specs.Names.{is_object, object_of}
+use Rattle.abbreviations.specs.Names.{is_object, object_of}
 
 -- the objects of a statement
 abbrev pub objects_in : StatementKind → List Declaration

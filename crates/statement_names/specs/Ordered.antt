@@ -4,7 +4,7 @@ use Rattle.std.specs.List.{flat_map}
 use Rattle.definitions.specs.Quiver.{star}
 use Rattle.quiver.specs.Declarations.{Declaration, quiver_of}
 use Rattle.statement_names.specs.Types.{Name, Number, Statement, StatementKind, statement, Letter, OrderSpec, Degree, Weight, Block}
-use Rattle.expression_names.specs.Names.{letter_of}
+use Rattle.abbreviations.specs.Names.{letter_of}
 use Rattle.statement_names.specs.Faults.{value_of}
 
 abbrev pub letter : ℕ → Letter

@@ -3,7 +3,7 @@ use Rattle.std.specs.Prelude.{◌<◌, ◌≤◌, List, length, AllPairs}
 use Rattle.std.specs.List.{All}
 use Rattle.word_orders.specs.Specified.{IsSound}
 use Rattle.quiver.specs.Declarations.{Declaration, object_count, letter_count, IsDeclared, ObjectsFirst}
-use Rattle.expression_names.specs.Names.{AreNames}
+use Rattle.abbreviations.specs.Names.{AreNames}
 use Rattle.adjoint_rules.specs.Problem.{IsShape, IsDeclaredMap}
 use Rattle.statement_names.specs.Types.{Statement, Equation}
 use Rattle.statement_names.specs.Marked.{marked_of}

@@ -1,7 +1,7 @@
 -- Whether a file is starred: it has adjoints.
 use Rattle.std.specs.Prelude.{Bool, true, false, ◌||◌, List}
 use Rattle.std.specs.List.{list_any}
-use Rattle.expression_names.specs.Occurrences.{has_quote}
+use Rattle.abbreviations.specs.Occurrences.{has_quote}
 use Rattle.statement_names.specs.Types.{Statement, StatementKind, statement}
 
 -- whether a quote or the word `self` occurs in a statement, abbreviations written out

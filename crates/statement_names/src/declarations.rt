@@ -4,7 +4,7 @@ ghost use Rattle.std.specs.Prelude.{◌≡◌, ◌++◌, None, IfOk, OnOk};
 ghost use Rattle.statement_names.specs.Faults.{name_fault_of};
 ghost use Rattle.statement_names.specs.Numbered.{objects_in, maps_in, declarations_of, HasEnds, AreFirst};
 
-use expression_names::object_of;
+use abbreviations::object_of;
 use quiver::Quiver;
 use statement_syntax::{Statement, StatementKind};
 use std::alloc::{AllocError, Global};

@@ -3,7 +3,7 @@
 ghost use Rattle.std.specs.Prelude.{◌≡◌, ◌≤◌, ◌^◌, ◌||◌, false, length, map, IfOk, OnOk};
 ghost use Rattle.std.specs.List.{list_any, slice_index_or};
 ghost use Rattle.quiver.specs.Declarations.{named_in, object_count};
-ghost use Rattle.expression_names.specs.Occurrences.{has_identity, has_identity_in_term, has_identity_in_primary, is_the_object};
+ghost use Rattle.abbreviations.specs.Occurrences.{has_identity, has_identity_in_term, has_identity_in_primary, is_the_object};
 ghost use Rattle.statement_names.specs.Marked.{an_object, is_marked, writes_identity, stated_by, marked_of};
 ghost use Rattle.statement_names.specs.Marks.{Marks};
 ghost use Rattle.statement_names.specs.Solved.{numbers_that};

@@ -4,13 +4,13 @@ ghost use Rattle.std.specs.Prelude.{◌≡◌, ◌≤◌, None, IfOk, IsTrue};
 ghost use Rattle.std.specs.List.{All, flat_map};
 ghost use Rattle.word_orders.specs.Limits.{weight_limit};
 ghost use Rattle.quiver.specs.Declarations.{named_in};
-ghost use Rattle.expression_names.specs.Names.{is_map};
+ghost use Rattle.abbreviations.specs.Names.{is_map};
 ghost use Rattle.statement_names.specs.Faults.{name_fault_of, value_of};
 ghost use Rattle.statement_names.specs.Numbered.{declarations_of};
 ghost use Rattle.statement_names.specs.Ordered.{order_of, letters_for, weights_of};
 
 use crate::literal::value_of;
-use expression_names::letter_of;
+use abbreviations::letter_of;
 use lists::Listing;
 use quiver::Quiver;
 use statement_syntax::{Name, Number, Statement, StatementKind};

@@ -4,7 +4,7 @@ ghost use Rattle.std.specs.Prelude.{◌≡◌, ◌≤◌, ◌<◌, map, replicat
 ghost use Rattle.std.specs.List.{All, IsDistinct};
 ghost use Rattle.std.specs.Str.{bytes_eq};
 ghost use Rattle.quiver.specs.Declarations.{named_in, object_count};
-ghost use Rattle.expression_names.specs.Names.{is_object};
+ghost use Rattle.abbreviations.specs.Names.{is_object};
 ghost use Rattle.adjoint_rules.specs.Limits.{shape_side_limit};
 ghost use Rattle.statement_names.specs.Faults.{name_fault_of, value_of};
 ghost use Rattle.statement_names.specs.Numbered.{declarations_of};
@@ -12,7 +12,7 @@ ghost use Rattle.statement_names.specs.Shapes.{shape, sides_of, shapes_of};
 
 use crate::literal::value_of;
 use adjoint_rules::Shape;
-use expression_names::object_of;
+use abbreviations::object_of;
 use lists::Listing;
 use quiver::Quiver;
 use statement_syntax::{Name, Number, Statement, StatementKind};

@@ -3,7 +3,7 @@
 ghost use Rattle.std.specs.Prelude.{◌≡◌};
 ghost use Rattle.statement_names.specs.Starred.{is_starred, is_starred_in};
 
-use expression_names::has_quote;
+use abbreviations::has_quote;
 use statement_syntax::{Statement, StatementKind};
 
 /// Whether a quote or the word `self` occurs in a statement, abbreviations written out.

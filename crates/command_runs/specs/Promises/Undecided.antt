@@ -3,9 +3,9 @@ use Rattle.std.specs.Prelude.{◌≡◌, ◌<◌, ℕ, List, ◌++◌, codes}
 use Rattle.cofactor_trace.specs.declared.halt.Halt.{Halt}
 use Rattle.adjoint_rules.specs.declared.problem.Problem.{Problem}
 use Rattle.traced_completion.specs.declared.budget.Budget.{Budget}
-use Rattle.command_words.specs.Limits.{default_pairs, default_steps}
-use Rattle.command_words.specs.declared.call.Call.{Call}
-use Rattle.command_words.specs.declared.call.Call.TheVariants.{Prove}
+use Rattle.command_shape.specs.Limits.{default_pairs, default_steps}
+use Rattle.command_shape.specs.declared.call.Call.{Call}
+use Rattle.command_shape.specs.declared.call.Call.TheVariants.{Prove}
 use Rattle.outcome_laws.specs.Halts.{HaltMeans}
 use Rattle.report_text.specs.Heads.{cause_text, place_text, least_text}
 use Rattle.stated_problem.specs.Stated.{IsStated}

@@ -1,5 +1,5 @@
 use Rattle.std.proofs.Common.{◌≡◌, ◌∙◌, ◌≤◌, ℕ, List, [], length, sym, subst, rules, arith}
-use Rattle.command_words.specs.declared.call.Call.{Call}
+use Rattle.command_shape.specs.declared.call.Call.{Call}
 use Rattle.command_shape.specs.FileWords.{statement_limit, evidence_limit}
 use Rattle.command_shape.proofs.Stops.{memory_ends}
 use Rattle.command_runs.specs.CallFiles.{written_by}

@@ -1,6 +1,6 @@
 use Rattle.std.proofs.Common.{sym, subst}
 use Rattle.adjoint_rules.specs.declared.problem.Problem.{Problem}
-use Rattle.command_words.specs.declared.call.Call.{Call}
+use Rattle.command_shape.specs.declared.call.Call.{Call}
 use Rattle.report_text.specs.Report.{report_of}
 use Rattle.prove_command.specs.declared.prove.Asked.{Asked}
 use Rattle.command_runs.specs.Answers.{AnswersOver}

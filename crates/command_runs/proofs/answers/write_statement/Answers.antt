@@ -1,8 +1,8 @@
 use Rattle.std.proofs.Common.{◌≡◌, ◌∙◌, ◌≤◌, ℕ, List, IfOk, length, sym, subst, ap, rules, arith}
 use Rattle.std.proofs.lemmas.Result.{IfOk-weaker}
-use Rattle.command_words.specs.Calls.{IsInRange}
-use Rattle.command_words.specs.declared.call.Call.{Call}
-use Rattle.command_words.specs.declared.call.Call.TheVariants.{Bench}
+use Rattle.command_shape.specs.Calls.{IsInRange}
+use Rattle.command_shape.specs.declared.call.Call.{Call}
+use Rattle.command_shape.specs.declared.call.Call.TheVariants.{Bench}
 use Rattle.report_text.specs.Bench.{bench_statement}
 use Rattle.command_shape.specs.FileWords.{statement_limit}
 use Rattle.prove_command.proofs.BenchSize.{bench_fits}

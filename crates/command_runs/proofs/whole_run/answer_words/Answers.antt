@@ -1,6 +1,6 @@
 use Rattle.std.proofs.Common.{ℕ, List}
 use Rattle.flow_io.specs.Told.{Told}
-use Rattle.command_words.specs.declared.call.Call.{Call}
+use Rattle.command_shape.specs.declared.call.Call.{Call}
 use Rattle.command_runs.specs.CallFiles.{files_of}
 use Rattle.command_runs.specs.Call.{IsCalled}
 use Rattle.command_runs.specs.Files.{AfterFiles, RoseAt}

@@ -1,6 +1,6 @@
 use Rattle.std.proofs.Common.{arith}
 use Rattle.std.proofs.lemmas.Grind.{common_steps}
-use Rattle.expression_names.proofs.Trees.{identity-sum, identity-term}
+use Rattle.abbreviations.proofs.Trees.{identity-sum, identity-term}
 use Rattle.statement_names.proofs.marked.+identities.Goals as goal
 
 pub mark_sum-returns : goal.mark_sum-returns

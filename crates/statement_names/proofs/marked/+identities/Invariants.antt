@@ -1,7 +1,7 @@
 use Rattle.std.proofs.Common.{take}
 use Rattle.std.specs.List.{list_any}
-use Rattle.expression_names.specs.Occurrences.{has_identity_in_term}
-use Rattle.expression_names.proofs.Trees.{has_identity_in_factor}
+use Rattle.abbreviations.specs.Occurrences.{has_identity_in_term}
+use Rattle.abbreviations.proofs.Trees.{has_identity_in_factor}
 use Rattle.statement_names.specs.Marks.{Marks}
 use Rattle.statement_names.proofs.marked.+identities.Given as goal
 

@@ -1,7 +1,7 @@
 use Rattle.std.proofs.Common.{◌≡◌, ◌∙◌, IsTrue, get_or, set, ap₂, sym, subst, rules}
 use Rattle.std.proofs.Math.ListN.{length-set}
 use Rattle.quiver.specs.Declarations.{named_in}
-use Rattle.expression_names.specs.Names.{is_object, object_of}
+use Rattle.abbreviations.specs.Names.{is_object, object_of}
 use Rattle.statement_names.specs.Faults.{value_of}
 use Rattle.statement_names.proofs.Sides.{side_put, sides_from}
 use Rattle.statement_names.proofs.shapes.sides_of.Goals as goal

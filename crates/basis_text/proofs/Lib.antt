@@ -1,4 +1,0 @@
-pub mod Reader
-pub mod BasisValues
-pub mod EachText
-pub mod BasesBack

@@ -1,0 +1,13 @@
+use Rattle.std.proofs.Common.{◌≡◌, ◌++◌, map, length}
+use Rattle.std.specs.List.{All}
+use Rattle.std.specs.Vec.Iter.{into_iter_items, into_iter_len}
+use Rattle.nc_polynomial.specs.Shape.{IsCanonical}
+use Rattle.block_lines.proofs.read.polynomials.Given as goal
+
+-- those that were taken are the terms of the polynomials so far, and those that are left are canonical
+abbrev pub invariant-loop-terms : goal.invariant-loop-terms
+invariant-loop-terms l = record {
+  canonical : All IsCanonical (into_iter_items l.terms-iterator);
+  left : into_iter_len l.terms-iterator ≡ length (into_iter_items l.terms-iterator);
+  same : map (λ p. p.terms) l.polynomials ++ into_iter_items l.terms-iterator ≡ l.fn.lists;
+}

@@ -1,0 +1,7 @@
+use Rattle.std.proofs.Common.{◌≡◌, ◌++◌, take}
+use Rattle.std.specs.List.{flat_map}
+use Rattle.block_lines.specs.Written.{rule_line}
+use Rattle.block_lines.proofs.write.put_basis.Given as goal
+
+abbrev pub invariant-loop-rule : goal.invariant-loop-rule
+invariant-loop-rule l = l.out.items ≡ l.initial.out.items ++ flat_map (rule_line l.quiver) (take l.rule-index l.rules)

@@ -1,0 +1,13 @@
+use Rattle.std.proofs.Common.{◌≡◌, IfOk, false, take}
+use Rattle.std.specs.List.{fold}
+use Rattle.clap.specs.Words.{App, app_of}
+use Rattle.clap.specs.declared.builder.command.Command.TheViews.{out-Command as fields_of}
+use Rattle.command_shape.specs.CommandSet.{with_evidence}
+use Rattle.command_shape.proofs.set.with_evidence.Given as goal
+
+-- the commands so far are below it
+abbrev pub invariant-loop-other : goal.invariant-loop-other
+invariant-loop-other l = record {
+  app : (a : App) → IfOk l.initial.set (λ c. app_of c ≡ a) → IfOk l.set (λ c. app_of c ≡ fold with_evidence a (take l.other-index l.below));
+  local : IfOk l.set (λ c. (fields_of c).has_globals ≡ false);
+}

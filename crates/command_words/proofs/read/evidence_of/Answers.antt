@@ -1,4 +1,0 @@
-use Rattle.command_words.proofs.read.evidence_of.Goals as goal
-
-pub returns : goal.returns
-returns c = (c.evidence_command-command.ensures, c.in_ok-pair_of.ensures)

@@ -1,2 +1,0 @@
-//! Lemmas that std lacks and several crates need. It has no function.
-#![tactic(auto)]

@@ -1,7 +1,0 @@
-use Rattle.std.proofs.Common.{◌≡◌, drop}
-use Rattle.std.specs.List.{list_any}
-use Rattle.expression_names.specs.Occurrences.{is_adjoint}
-use Rattle.expression_names.proofs.occurrence.has_adjoint.Given as goal
-
-abbrev pub invariant-loop-mark : goal.invariant-loop-mark
-invariant-loop-mark l = list_any is_adjoint (drop l.mark-index l.marks) ≡ list_any is_adjoint l.marks
