@@ -52,17 +52,8 @@ fn put_abbreviation(
     match &statement.kind {
         StatementKind::Pinv(a, x) => put_pinv(alloc, at, a.text.as_str(), x.text.as_str(), out),
         StatementKind::Inverse(a, x) => {
-            let source = source_name(quiver, a);
-            let target = target_name(quiver, a);
-            put_inverse(
-                alloc,
-                at,
-                a.text.as_str(),
-                x.text.as_str(),
-                source,
-                target,
-                out,
-            )
+            let ends = (source_name(quiver, a), target_name(quiver, a));
+            put_inverse(alloc, at, a.text.as_str(), x.text.as_str(), ends, out)
         }
         StatementKind::Inner(a, x) => put_inner(alloc, at, a.text.as_str(), x.text.as_str(), out),
         StatementKind::Projection(p) => put_projection(alloc, at, p.text.as_str(), out),
@@ -90,12 +81,12 @@ fn put_inverse(
     at: Spot,
     a: &str,
     x: &str,
-    source: &str,
-    target: &str,
+    ends: (&str, &str),
     out: &mut Listing<Equation>,
 ) -> Result<(), AllocError>
-    ensures { OnOk result (out.new ≡ out.old ++ inverse_equations at a.now x.now source.now target.now) }
+    ensures { OnOk result (out.new ≡ out.old ++ inverse_equations at a.now x.now ends.0.now ends.1.now) }
 {
+    let (source, target) = ends;
     put_identity(alloc, at, &[a, x], target, out)?;
     put_identity(alloc, at, &[x, a], source, out)
 }

@@ -13,7 +13,7 @@ use crate::case::{Case, Standing, follow, open_case};
 use crate::{Decided, Outcome};
 use adjoint_rules::Problem;
 use cofactor_trace::Format;
-use in_order_parallel::Gate;
+use in_order_parallel::{Crew, Gate};
 use lists::Listing;
 use nc_polynomial::Poly;
 use rule_reduce::Rule;
@@ -21,14 +21,6 @@ use std::alloc::{AllocError, Global};
 use std::mem;
 use std::thread::Threads;
 use traced_completion::{Budget, Completion, Step};
-
-// The threads of a run: at most this many work, and each item passes the gate.
-#[derive(Drop)]
-struct Crew<'a, R, G> {
-    rt: &'a R,
-    workers: u32,
-    gate: &'a G,
-}
 
 /// The outcome of each claim of the problem, in one run of the completion for all of them. A claim leaves when it has its
 /// outcome, and the run ends with the last one.

@@ -9,10 +9,9 @@ ghost use Rattle.command_runs.specs.CallFiles.{files_of, written_by};
 ghost use Rattle.command_runs.specs.Answers.{AnswersOver, Answers};
 
 use adjoint_rules::Problem;
-use command_shape::{Ending, Stop};
-use command_shape::Call;
+use command_shape::{Call, Ending, Stop};
 use evidence_commands::answer_evidence;
-use in_order_parallel::Gate;
+use in_order_parallel::{Crew, Gate};
 use lists::Listing;
 use prove_command::{ASKED_BY_BENCH, Extent, asked_by, report_claims};
 use refute_command::report_search;
@@ -93,19 +92,18 @@ fn answer_problem<R: Threads + Sync, G: Gate + Sync>(
         Call::Prove(call) => {
             let asked = asked_by(call);
             let workers = call.workers;
-            report_claims(rt, alloc, problem, asked, Extent::Report, workers, gate)
+            let crew = Crew { rt, workers, gate };
+            report_claims(&crew, alloc, problem, asked, Extent::Report)
         }
-        Call::Refute(call) => { report_search(rt, alloc, problem, call.seed, call.workers, gate) }
+        Call::Refute(call) => {
+            let workers = call.workers;
+            let crew = Crew { rt, workers, gate };
+            report_search(&crew, alloc, problem, call.seed)
+        }
         Call::Bench(call) => {
-            report_claims(
-                rt,
-                alloc,
-                problem,
-                ASKED_BY_BENCH,
-                Extent::Heads,
-                call.workers,
-                gate,
-            )
+            let workers = call.workers;
+            let crew = Crew { rt, workers, gate };
+            report_claims(&crew, alloc, problem, ASKED_BY_BENCH, Extent::Heads)
         }
         Call::Evidence(command, _) => answer_evidence(alloc, *command, problem, evidence),
     }

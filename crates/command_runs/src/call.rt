@@ -2,8 +2,7 @@
 ghost use Rattle.std.specs.Prelude.{◌≡◌, IfOk};
 ghost use Rattle.command_runs.specs.CallFiles.{files_of};
 
-use command_shape::{FileWord, pair_files, statement_file};
-use command_shape::Call;
+use command_shape::{Call, FileWord, pair_files, statement_file};
 use lists::Listing;
 use std::alloc::{AllocError, Global};
 

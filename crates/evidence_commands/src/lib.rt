@@ -23,8 +23,7 @@ use crate::explain::Chains;
 use crate::kind::answer_text;
 use crate::model::Models;
 use adjoint_rules::Problem;
-use command_shape::{Ending, Stop};
-use command_shape::EvidenceCommand;
+use command_shape::{Ending, EvidenceCommand, Stop};
 pub use laws::{
     a_faulty_statement_is_answered_by_3, passing_blocks_are_answered_by_0, read_bases_are_readable,
     status_0_means_what_blocks_mean,

@@ -13,7 +13,7 @@ ghost use Rattle.model_search.specs.Searches.{IsFlag, HasFlag, AreUnbroken, IsFi
 
 use crate::Found;
 use adjoint_rules::Problem;
-use in_order_parallel::{Gate, Job, map_in_order};
+use in_order_parallel::{Crew, Gate, Job, map_in_order};
 use lists::Listing;
 use model_candidates::{
     Plan, candidate_by, candidate_values, candidates, is_claim_zero, is_model, plan_of,
@@ -125,30 +125,28 @@ fn numbers_from(alloc: Global, first: u32, count: u32) -> Result<Vec<u32>, Alloc
 
 // The answers to the tests of `count` candidates, from `first` on.
 fn answers_of<R: Threads + Sync, G: Gate + Sync>(
-    rt: &R,
+    crew: &Crew<'_, R, G>,
     tester: &Tester,
     first: u32,
     count: u32,
-    workers: u32,
-    gate: &G,
 ) -> Result<Vec<Result<Broken, AllocError>>, AllocError>
     requires fits { first + count < 2 ^ 32 }
     requires inside { (k : ℕ) → k < first + count
         → CanBeTested tester.now.pass.problem.now tester.now.pass.claims.now tester.now.pass.plan.now k }
     requires one_each { length tester.now.found.now ≡ length tester.now.pass.claims.now }
-    requires some_worker { 0 < workers }
-    requires few_workers { workers ≤ worker_limit }
+    requires some_worker { 0 < crew.now.workers }
+    requires few_workers { crew.now.workers ≤ worker_limit }
     ensures { IfOk result (λ answers. AreTested tester.now.pass.problem.now tester.now.pass.seed tester.now.pass.plan.now.number
         tester.now.pass.claims.now tester.now.found.now first count answers.items) }
 {
     let numbers = numbers_from(tester.pass.alloc, first, count)?;
     map_in_order(
-        rt,
+        crew.rt,
         tester.pass.alloc,
         numbers.as_slice(),
         tester,
-        workers,
-        gate,
+        crew.workers,
+        crew.gate,
     )
 }
 
@@ -255,17 +253,15 @@ fn is_open(found: &[Option<Found>]) -> bool
 
 // Stores the first candidates of the shape that break claims that had none.
 fn search_shape<R: Threads + Sync, G: Gate + Sync>(
-    rt: &R,
+    crew: &Crew<'_, R, G>,
     pass: &Pass,
     found: &mut Vec<Option<Found>>,
-    workers: u32,
-    gate: &G,
 ) -> Result<(), AllocError>
     requires claims { All (IsClaimNumber pass.now.problem.now) pass.now.claims.now }
     requires plan { IsPlan pass.now.problem.now pass.now.plan.now }
     requires before { AreSearchedTo pass.now.problem.now pass.now.seed pass.now.plan.now.number 0 pass.now.claims.now found.old.items }
-    requires some_worker { 0 < workers }
-    requires few_workers { workers ≤ worker_limit }
+    requires some_worker { 0 < crew.now.workers }
+    requires few_workers { crew.now.workers ≤ worker_limit }
     ensures { OnOk result (AreSearchedTo pass.now.problem.now pass.now.seed (pass.now.plan.now.number + 1) 0 pass.now.claims.now
         found.new.items) }
 {
@@ -277,7 +273,7 @@ fn search_shape<R: Threads + Sync, G: Gate + Sync>(
         }
         let size = BLOCK.min(count - first);
         let tester = Tester { pass: *pass, found };
-        let answers = answers_of(rt, &tester, first, size, workers, gate)?;
+        let answers = answers_of(crew, &tester, first, size)?;
         note(pass, &answers, first, found)?;
         first += size;
     }
@@ -304,7 +300,8 @@ pub fn search<R: Threads + Sync, G: Gate + Sync>(
     ensures found { IfOk result (λ found. IfSome found (λ f. IsLeastBreaking problem.now claim seed f.shape f.candidate f.model)) }
     ensures none { IfOk result (λ found. IfNone found (NoneBreaks problem.now claim seed)) }
 {
-    let found = search_each(rt, alloc, problem, &[claim], seed, workers, gate)?;
+    let crew = Crew { rt, workers, gate };
+    let found = search_each(&crew, alloc, problem, &[claim], seed)?;
     match found.into_vec().pop() {
         Some(found) => Ok(found),
         None => unreachable!(),
@@ -316,17 +313,15 @@ pub fn search<R: Threads + Sync, G: Gate + Sync>(
 ///
 /// It fails only where memory is short.
 pub fn search_each<R: Threads + Sync, G: Gate + Sync>(
-    rt: &R,
+    crew: &Crew<'_, R, G>,
     alloc: Global,
     problem: &Problem,
     claims: &[u32],
     seed: u64,
-    workers: u32,
-    gate: &G,
 ) -> Result<Listing<Option<Found>>, AllocError>
     requires claims { All (IsClaimNumber problem.now) claims.now }
-    requires some_worker { 0 < workers }
-    requires few_workers { workers ≤ worker_limit }
+    requires some_worker { 0 < crew.now.workers }
+    requires few_workers { crew.now.workers ≤ worker_limit }
     ensures found { IfOk result (AllZip (λ claim found.
         IfSome found (λ f. IsLeastBreaking problem.now claim seed f.shape f.candidate f.model)) claims.now) }
     ensures none { IfOk result (AllZip (λ claim found. IfNone found (NoneBreaks problem.now claim seed)) claims.now) }
@@ -341,7 +336,7 @@ pub fn search_each<R: Threads + Sync, G: Gate + Sync>(
             seed,
             claims,
         };
-        search_shape(rt, &pass, &mut found, workers, gate)?;
+        search_shape(crew, &pass, &mut found)?;
     }
     Ok(Listing::from_vec(found))
 }

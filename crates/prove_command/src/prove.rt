@@ -17,9 +17,8 @@ ghost use Rattle.command_shape.specs.Stop.{EndsAs};
 use adjoint_rules::Problem;
 use claim_decider::{Outcome, decide_all};
 use cofactor_trace::{Format, Halt};
-use command_shape::{Ending, Stop};
-use command_shape::{DEFAULT_PAIRS, DEFAULT_SEED, DEFAULT_STEPS, ProveCall};
-use in_order_parallel::Gate;
+use command_shape::{DEFAULT_PAIRS, DEFAULT_SEED, DEFAULT_STEPS, Ending, ProveCall, Stop};
+use in_order_parallel::{Crew, Gate};
 use lists::Listing;
 use model_search::{Found, search_each};
 use nc_polynomial::Poly;
@@ -118,17 +117,15 @@ fn searched_claims(
 // For each claim for which a model is searched the least candidate that breaks it, or None where none does. All of them are
 // tested in one pass over the candidates, and where there are none no candidate is made.
 fn found_for<R: Threads + Sync, G: Gate + Sync>(
-    rt: &R,
+    crew: &Crew<'_, R, G>,
     alloc: Global,
     problem: &Problem,
     asked: Asked,
     outcomes: &[Outcome],
-    workers: u32,
-    gate: &G,
 ) -> Result<Listing<Option<Found>>, AllocError>
     requires one_each { length outcomes.now ≡ length problem.now.parts.claims }
-    requires some_worker { 0 < workers }
-    requires few_workers { workers ≤ worker_limit }
+    requires some_worker { 0 < crew.now.workers }
+    requires few_workers { crew.now.workers ≤ worker_limit }
     ensures found { IfOk result (AllZip (λ claim found.
         IfSome found (λ f. IsLeastBreaking problem.now claim asked.seed f.shape f.candidate f.model))
         (searched_from asked.models 1 outcomes.now)) }
@@ -139,15 +136,7 @@ fn found_for<R: Threads + Sync, G: Gate + Sync>(
     if claims.is_empty() {
         return Ok(Listing::new(alloc));
     }
-    search_each(
-        rt,
-        alloc,
-        problem,
-        claims.as_slice(),
-        asked.seed,
-        workers,
-        gate,
-    )
+    search_each(crew, alloc, problem, claims.as_slice(), asked.seed)
 }
 
 // The verdict on a claim that halted, by what was found for it.
@@ -163,28 +152,18 @@ fn verdict_on_halted(halt: Halt, found: Option<Found>) -> Verdict
 
 // The verdict on each claim by its outcome.
 fn verdicts_of<R: Threads + Sync, G: Gate + Sync>(
-    rt: &R,
+    crew: &Crew<'_, R, G>,
     alloc: Global,
     problem: &Problem,
     asked: Asked,
     outcomes: Listing<Outcome>,
-    workers: u32,
-    gate: &G,
 ) -> Result<Listing<Verdict>, AllocError>
     requires one_each { length outcomes ≡ length problem.now.parts.claims }
-    requires some_worker { 0 < workers }
-    requires few_workers { workers ≤ worker_limit }
+    requires some_worker { 0 < crew.now.workers }
+    requires few_workers { crew.now.workers ≤ worker_limit }
     ensures { IfOk result (AreVerdictsOn problem.now asked (claim_numbers problem.now) outcomes) }
 {
-    let found = found_for(
-        rt,
-        alloc,
-        problem,
-        asked,
-        outcomes.as_slice(),
-        workers,
-        gate,
-    )?;
+    let found = found_for(crew, alloc, problem, asked, outcomes.as_slice())?;
     let mut found = found.into_vec().into_iter();
     let mut verdicts = Listing::with_room(alloc, outcomes.len())?;
     for outcome in outcomes.into_vec() {
@@ -200,22 +179,21 @@ fn verdicts_of<R: Threads + Sync, G: Gate + Sync>(
 
 // Decides the claims of the problem.
 fn decide<R: Threads + Sync, G: Gate + Sync>(
-    rt: &R,
+    crew: &Crew<'_, R, G>,
     alloc: Global,
     problem: &Problem,
     asked: Asked,
-    workers: u32,
-    gate: &G,
 ) -> Result<Said, AllocError>
     requires budget { IsBudget asked.budget }
-    requires some_worker { 0 < workers }
-    requires few_workers { workers ≤ worker_limit }
+    requires some_worker { 0 < crew.now.workers }
+    requires few_workers { crew.now.workers ≤ worker_limit }
     ensures decides { IfOk result (λ said. Decides problem.now asked said.verdicts said.rules) }
     ensures verdicts { IfOk result (λ said. All (IsVerdictOver problem.now.parts.quiver) said.verdicts) }
     ensures rules { IfOk result (λ said. All (IsPolyOver problem.now.parts.quiver) said.rules) }
 {
+    let (rt, workers, gate) = (crew.rt, crew.workers, crew.gate);
     let decided = decide_all(rt, alloc, problem, asked.budget, asked.form, workers, gate)?;
-    let verdicts = verdicts_of(rt, alloc, problem, asked, decided.outcomes, workers, gate)?;
+    let verdicts = verdicts_of(crew, alloc, problem, asked, decided.outcomes)?;
     Ok(Said {
         verdicts,
         rules: decided.rules,
@@ -242,20 +220,18 @@ fn printed(
 
 /// How a run of `prove` or `bench` ends over a problem: all verdicts are printed.
 pub fn report_claims<R: Threads + Sync, G: Gate + Sync>(
-    rt: &R,
+    crew: &Crew<'_, R, G>,
     alloc: Global,
     problem: &Problem,
     asked: Asked,
     extent: Extent,
-    workers: u32,
-    gate: &G,
 ) -> Result<Ending, Stop>
     requires budget { IsBudget asked.budget }
-    requires some_worker { 0 < workers }
-    requires few_workers { workers ≤ worker_limit }
+    requires some_worker { 0 < crew.now.workers }
+    requires few_workers { crew.now.workers ≤ worker_limit }
     ensures { EndsAs (AnswersClaims (print_of extent) asked problem.now) result }
 {
-    let said = decide(rt, alloc, problem, asked, workers, gate)?;
+    let said = decide(crew, alloc, problem, asked)?;
     let verdicts = said.verdicts.as_slice();
     let rules = said.rules.as_slice();
     let text = printed(alloc, extent, &problem.parts.quiver, verdicts, rules)?;

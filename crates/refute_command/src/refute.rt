@@ -10,7 +10,7 @@ ghost use Rattle.command_shape.specs.Stop.{EndsAs};
 
 use adjoint_rules::Problem;
 use command_shape::{Ending, Stop};
-use in_order_parallel::Gate;
+use in_order_parallel::{Crew, Gate};
 use lists::Listing;
 use model_candidates::all_candidates;
 use model_search::{Found, search_each};
@@ -20,18 +20,16 @@ use std::thread::Threads;
 
 /// How a run of `refute` ends over a problem: with the report of all verdicts.
 pub fn report_search<R: Threads + Sync, G: Gate + Sync>(
-    rt: &R,
+    crew: &Crew<'_, R, G>,
     alloc: Global,
     problem: &Problem,
     seed: u64,
-    workers: u32,
-    gate: &G,
 ) -> Result<Ending, Stop>
-    requires some_worker { 0 < workers }
-    requires few_workers { workers ≤ worker_limit }
+    requires some_worker { 0 < crew.now.workers }
+    requires few_workers { crew.now.workers ≤ worker_limit }
     ensures { EndsAs (AnswersSearch seed problem.now) result }
 {
-    let verdicts = search_all(rt, alloc, problem, seed, workers, gate)?;
+    let verdicts = search_all(crew, alloc, problem, seed)?;
     let verdicts = verdicts.as_slice();
     let report = report(alloc, &problem.parts.quiver, verdicts, &[])?;
     Ok(Ending::decided(status_of(verdicts), report))
@@ -39,20 +37,18 @@ pub fn report_search<R: Threads + Sync, G: Gate + Sync>(
 
 // The verdict on each claim of the problem.
 fn search_all<R: Threads + Sync, G: Gate + Sync>(
-    rt: &R,
+    crew: &Crew<'_, R, G>,
     alloc: Global,
     problem: &Problem,
     seed: u64,
-    workers: u32,
-    gate: &G,
 ) -> Result<Listing<Verdict>, AllocError>
-    requires some_worker { 0 < workers }
-    requires few_workers { workers ≤ worker_limit }
+    requires some_worker { 0 < crew.now.workers }
+    requires few_workers { crew.now.workers ≤ worker_limit }
     ensures each { IfOk result (AllZip (IsSearchedOn problem.now seed) (claim_numbers problem.now)) }
     ensures over { IfOk result (All (IsVerdictOver problem.now.parts.quiver)) }
 {
     let claims = claim_numbers(alloc, problem)?;
-    let found = search_each(rt, alloc, problem, claims.as_slice(), seed, workers, gate)?;
+    let found = search_each(crew, alloc, problem, claims.as_slice(), seed)?;
     let mut verdicts = Listing::with_room(alloc, found.len())?;
     for one in found.into_vec() {
         verdicts.push(verdict_by(problem, one))?;
