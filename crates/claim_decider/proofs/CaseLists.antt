@@ -1,12 +1,8 @@
 -- Lists of claims, of which one takes a step.
 use Rattle.std.proofs.Common.{◌≡◌, ◌<◌, ℕ, zero, suc, ◌+◌, List, [], ◌∷◌, ◌++◌, length, map, take, drop, set, get_or, refl, sym, ap, subst, ◌∙◌, arith}
-use Rattle.std.specs.List.{All, AllByRecursion, AllZip, range_with_len}
+use Rattle.std.specs.List.{All, AllZip, range_with_len}
 use Rattle.std.proofs.lemmas.List.{take_more, take_more_set, drop_more, drop-set-lt}
-use Rattle.std.proofs.lemmas.List.Elements.{AllZip-push, All-push}
-
--- what holds of each item
-pub all_push : {X : Type 0} (P : X → Type 0) (xs ys : List X) (x : X) → All P xs → P x → ys ≡ xs ++ x ∷ [] → All P ys
-all_push P xs ys x each last same = subst (All P) (sym same) (All-push P xs x each last)
+use Rattle.std.proofs.lemmas.List.Elements.{AllZip-push, All-nil, All-cons, All-tail}
 
 -- an item of a list whose rest is that of another
 same_heads : {X : Type 0} (x y : X) (xs ys : List X) → x ∷ xs ≡ y ∷ ys → x ≡ y
@@ -46,17 +42,17 @@ range_with_len-more a (suc n) =
 
 -- what holds of pairs of items holds of a list and its last items
 pub AllZip-mapped : {X Y Z : Type 0} (f : X → Z) (R : X → Y → Type 0) (S : Z → Y → Type 0) (P : X → Type 0) (xs : List X) (ys : List Y)
-    → ((x : X) (y : Y) → P x → R x y → S (f x) y) → AllByRecursion P xs → AllZip R xs ys → AllZip S (map f xs) ys
+    → ((x : X) (y : Y) → P x → R x y → S (f x) y) → All P xs → AllZip R xs ys → AllZip S (map f xs) ys
 AllZip-mapped f R S P [] [] each all zipped = tt
 AllZip-mapped f R S P [] (y ∷ ys) each all zipped = absurd zipped
 AllZip-mapped f R S P (x ∷ xs) [] each all zipped = absurd zipped
-AllZip-mapped f R S P (x ∷ xs) (y ∷ ys) each all zipped = (each x y all.0 zipped.0, AllZip-mapped f R S P xs ys each all.1 zipped.1)
+AllZip-mapped f R S P (x ∷ xs) (y ∷ ys) each all zipped = (each x y (all 0 x (omega arith)) zipped.0, AllZip-mapped f R S P xs ys each (All-tail P x xs all) zipped.1)
 
-pub AllZip-kept : {X : Type 0} (P Q : X → Type 0) (R : X → X → Type 0) (xs ys : List X) → ((x y : X) → P x → R x y → Q y) → AllByRecursion P xs → AllZip R xs ys → AllByRecursion Q ys
-AllZip-kept P Q R [] [] each all zipped = tt
+pub AllZip-kept : {X : Type 0} (P Q : X → Type 0) (R : X → X → Type 0) (xs ys : List X) → ((x y : X) → P x → R x y → Q y) → All P xs → AllZip R xs ys → All Q ys
+AllZip-kept P Q R [] [] each all zipped = All-nil Q
 AllZip-kept P Q R [] (y ∷ ys) each all zipped = absurd zipped
 AllZip-kept P Q R (x ∷ xs) [] each all zipped = absurd zipped
-AllZip-kept P Q R (x ∷ xs) (y ∷ ys) each all zipped = (each x y all.0 zipped.0, AllZip-kept P Q R xs ys each all.1 zipped.1)
+AllZip-kept P Q R (x ∷ xs) (y ∷ ys) each all zipped = All-cons Q y ys (each x y (all 0 x (omega arith)) zipped.0) (AllZip-kept P Q R xs ys each (All-tail P x xs all) zipped.1)
 
 pub AllZip-same_map : {X Y : Type 0} (f : X → Y) (R : X → X → Type 0) (xs ys : List X) → ((x y : X) → R x y → f y ≡ f x) → AllZip R xs ys → map f ys ≡ map f xs
 AllZip-same_map f R [] [] each zipped = refl

@@ -1,7 +1,7 @@
 -- What the rules say of a claim.
 use Rattle.std.proofs.Common.{◌≡◌, ◌<◌, ◌≤◌, ℕ, zero, suc, List, [], ◌∷◌, length, None, Result, Ok, refl, sym, subst, ap, ◌∙◌, arith}
-use Rattle.std.specs.List.{All, AllByRecursion}
-use Rattle.std.proofs.lemmas.List.Elements.{All-from_recursion, recursion_from_All}
+use Rattle.std.specs.List.{All}
+use Rattle.std.proofs.lemmas.List.Elements.{All-weaker}
 use Rattle.coef_int.specs.Range.{IsCoefficient}
 use Rattle.definitions.specs.Poly.{Term}
 use Rattle.word_orders.specs.Admissible.{Compare}
@@ -78,16 +78,11 @@ among_first : (count : ℕ) (from : Origin) → IsByRule count from → IsAmongF
 among_first count (origin.Generator n) is = absurd is
 among_first count (origin.Rule n) is = let least : 1 ≤ n = omega (arith, is) in (least, is.1)
 
-all_among : (count : ℕ) (rows : List Row) → AllByRecursion (λ row. IsByRule count row.from) rows → AllByRecursion (λ row. IsAmongFirst count row.from) rows
-all_among count [] each = tt
-all_among count (row ∷ rows) each = (among_first count row.from each.0, all_among count rows each.1)
-
 pub claim_record : (letters : ℕ) (compare : Compare) (rules : List Rule) (p : List Term) (steps : ℕ) (s : State) → All (IsRule letters compare) rules
     → normal_form_of compare rules p steps ≡ Ok s → IsCoefficient s.multiplier → All (λ row. IsCoefficient row.coef) s.rows → IsRecord (length rules) (record_of s)
 claim_record letters compare rules p steps s are_rules ends multiplier rows = record {
   positive = multipliers_are_positive letters compare rules p steps s are_rules ends;
   scale_in = multiplier;
   coefficients_in = rows;
-  earlier = All-from_recursion (λ (row : Row). IsAmongFirst (length rules) row.from) s.rows
-      (all_among (length rules) s.rows (recursion_from_All (λ (row : Row). IsByRule (length rules) row.from) s.rows (rows_are_by_rules compare rules p steps s ends)));
+  earlier = All-weaker (λ (row : Row). IsByRule (length rules) row.from) (λ (row : Row). IsAmongFirst (length rules) row.from) (λ row. among_first (length rules) row.from) s.rows (rows_are_by_rules compare rules p steps s ends);
 }

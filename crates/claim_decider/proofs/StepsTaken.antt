@@ -1,8 +1,8 @@
 -- What a step of the completion makes of a claim.
 use Rattle.std.proofs.Common.{◌≡◌, ◌<◌, ◌≤◌, ◌⊎◌, inl, inr, ℕ, zero, suc, ◌+◌, ◌-◌, List, [], ◌∷◌, length, get_or, Bool, true, false, ◌||◌, refl, sym, ap, subst, arith}
 use Rattle.std.specs.Prelude.{⊤}
-use Rattle.std.specs.List.{All, AllByRecursion, AllZip, list_any}
-use Rattle.std.proofs.lemmas.List.Elements.{AllZip-get_or, All-from_recursion, recursion_from_All, length_all_zip}
+use Rattle.std.specs.List.{All, AllZip, list_any}
+use Rattle.std.proofs.lemmas.List.Elements.{AllZip-get_or, length_all_zip, All-nil, All-cons, All-map}
 use Rattle.std.proofs.lemmas.List.{get_or-map, length-map}
 use Rattle.definitions.specs.Poly.{Term}
 use Rattle.nc_polynomial.specs.declared.poly.Poly.{Poly}
@@ -46,15 +46,15 @@ pub record OpenOne (cases : List Case) : Type 0 where
   pub within : place < length cases
   pub yet : (d : Case) → HasOutcome (get_or cases place d).standing → ⊥
 
-open_first : (x : Case) (cases : List Case) (standing : Standing) → x.standing ≡ standing → ((HasOutcome x.standing × AllByRecursion IsSettled cases) → ⊥)
-    → ((AllByRecursion IsSettled cases → ⊥) → OpenOne cases) → OpenOne (x ∷ cases)
+open_first : (x : Case) (cases : List Case) (standing : Standing) → x.standing ≡ standing → (All IsSettled (x ∷ cases) → ⊥)
+    → ((All IsSettled cases → ⊥) → OpenOne cases) → OpenOne (x ∷ cases)
 open_first x cases (Open rest) is yet later = record { place = 0; within = omega arith; yet = λ d has. subst HasOutcome is has }
 open_first x cases (Settled o) is yet later =
-    let one = later (λ each. yet (subst HasOutcome (sym is) tt, each)) in
+    let one = later (λ each. yet (All-cons IsSettled x cases (subst HasOutcome (sym is) tt) each)) in
     record { place = suc one.place; within = omega (arith, one.within); yet = one.yet }
 
-pub find_open : (cases : List Case) → (AllByRecursion IsSettled cases → ⊥) → OpenOne cases
-find_open [] yet = absurd (yet tt)
+pub find_open : (cases : List Case) → (All IsSettled cases → ⊥) → OpenOne cases
+find_open [] yet = absurd (yet (All-nil IsSettled))
 find_open (x ∷ cases) yet = open_first x cases x.standing refl yet (find_open cases)
 
 -- how many rounds there can still be, where a claim is open
@@ -156,9 +156,7 @@ module _ (setting : Setting) (form : Format) (problem : Problem) (c : Completion
   pub cases_next : (n : ℕ) (before : RunState) → Steps setting st n c.rounds before (state_of c) → (olds news : List Case) → All (IsCase setting form problem n before) olds
       → AllZip (Follows form problem c st) olds news → All (IsCase setting form problem c.rounds (state_of c)) news
   cases_next n before steps olds news are zipped =
-      All-from_recursion (IsCase setting form problem c.rounds (state_of c)) news
-      (AllZip-kept (IsCase setting form problem n before) (IsCase setting form problem c.rounds (state_of c)) (Follows form problem c st) olds news (case_next n before steps)
-      (recursion_from_All (IsCase setting form problem n before) olds are) zipped)
+      AllZip-kept (IsCase setting form problem n before) (IsCase setting form problem c.rounds (state_of c)) (Follows form problem c st) olds news (case_next n before steps) are zipped
 
   -- where a claim was open, one has just got its outcome or is open
   pub late_next : (n : ℕ) (before : RunState) → Steps setting st n c.rounds before (state_of c) → (olds news : List Case) → All (IsCase setting form problem n before) olds
@@ -220,7 +218,7 @@ smaller_after form problem c (step.Stopped halt) n pairs olds news zipped few ro
 
 some_open : (olds : List Case) → (All IsSettled olds → ⊥) → list_any (λ x. is_open x.standing) olds ≡ true
 some_open olds yet =
-    let one = find_open olds (λ each. yet (All-from_recursion IsSettled olds each)) in
+    let one = find_open olds yet in
     any_at olds one.place one.within one.yet
   where
     is_open_yet : (s : Standing) → (HasOutcome s → ⊥) → is_open s ≡ true
@@ -245,8 +243,7 @@ smaller form problem c st n pairs olds news zipped yet few rounds_are =
 pub outcomes_of_all : (setting : Setting) (form : Format) (problem : Problem) (rounds : ℕ) (s : RunState) (cases : List Case) (outcomes : List Outcome) → All (IsCase setting form problem rounds s) cases
     → AllZip Gives cases outcomes → AreOutcomesOf setting form problem (case_numbers cases) outcomes
 outcomes_of_all setting form problem rounds s cases outcomes are zipped =
-    AllZip-mapped (λ (x : Case). x.number) Gives (λ n o. IsOutcomeOf setting form n (claim_at problem n) o) (IsCase setting form problem rounds s) cases outcomes given
-    (recursion_from_All (IsCase setting form problem rounds s) cases are) zipped
+    AllZip-mapped (λ (x : Case). x.number) Gives (λ n o. IsOutcomeOf setting form n (claim_at problem n) o) (IsCase setting form problem rounds s) cases outcomes given are zipped
   where
     given : (x : Case) (o : Outcome) → IsCase setting form problem rounds s x → Gives x o → IsOutcomeOf setting form x.number (claim_at problem x.number) o
     given x o is gives =
@@ -258,11 +255,6 @@ got_by : (setting : Setting) (form : Format) (problem : Problem) (rounds : ℕ) 
 got_by setting form problem rounds s number (Open rest) stands has = absurd has
 got_by setting form problem rounds s number (Settled o) stands has =
     record { rounds = stands.rounds; gets = record { state = stands.state; outcome = o; gets = stands.gets }; early = stands.early }
-
-all_got : (setting : Setting) (form : Format) (problem : Problem) (rounds : ℕ) (s : RunState) (cases : List Case) → AllByRecursion (IsCase setting form problem rounds s) cases → AllByRecursion IsSettled cases
-    → AllByRecursion (GetsOutcomeBy setting form problem rounds) (case_numbers cases)
-all_got setting form problem rounds s [] are settled = tt
-all_got setting form problem rounds s (x ∷ cases) are settled = (got_by setting form problem rounds s x.number x.standing are.0 settled.0, all_got setting form problem rounds s cases are.1 settled.1)
 
 late_got : (setting : Setting) (form : Format) (problem : Problem) (rounds : ℕ) (s : RunState) (number : ℕ) (standing : Standing) → IsLate setting form number (claim_at problem number) rounds s standing → HasOutcome standing
     → GetsOutcomeAt setting form problem rounds number
@@ -285,7 +277,7 @@ one_got setting form problem rounds s (x ∷ cases) settled (inr one) =
 pub last_round : (setting : Setting) (form : Format) (problem : Problem) (rounds : ℕ) (s : RunState) (cases : List Case) → All (IsCase setting form problem rounds s) cases → All IsSettled cases
     → (rounds ≡ 0) ⊎ LateOne setting form problem cases rounds s → IsLastRound setting form problem (case_numbers cases) rounds
 last_round setting form problem rounds s cases are settled needed = record {
-  enough = All-from_recursion (GetsOutcomeBy setting form problem rounds) (case_numbers cases)
-      (all_got setting form problem rounds s cases (recursion_from_All (IsCase setting form problem rounds s) cases are) (recursion_from_All IsSettled cases settled));
+  enough = All-map (GetsOutcomeBy setting form problem rounds) (λ (x : Case). x.number) cases
+      (λ i x below. got_by setting form problem rounds s (get_or cases i x).number (get_or cases i x).standing (are i x below) (settled i x below));
   needed = one_got setting form problem rounds s cases settled needed;
 }

@@ -1,7 +1,7 @@
 use Rattle.std.proofs.Common.{rules, ◌≡◌, ◌+◌, [], ◌∷◌, ◌++◌, ap, sym, ◌∙◌, arith}
 use Rattle.std.specs.List.{range_with_len}
 use Rattle.std.proofs.lemmas.List.{map-append}
-use Rattle.claim_decider.proofs.CaseLists.{all_push}
+use Rattle.traced_rows.proofs.Lists.{all_push}
 use Rattle.traced_completion.specs.PlainRun.{start, setting_of}
 use Rattle.claim_decider.specs.declared.case.Case.{Case}
 use Rattle.claim_decider.specs.Cases.{IsNumber, IsOfProblem, IsCase, case_numbers}

@@ -1,6 +1,5 @@
 use Rattle.std.proofs.Common.{rules, ◌≡◌, ◌≤◌, inr, suc, sym, ap, subst, ◌∙◌, arith}
 use Rattle.std.specs.List.{All, AllZip}
-use Rattle.std.proofs.lemmas.List.Elements.{All-from_recursion, recursion_from_All}
 use Rattle.traced_completion.specs.declared.budget.Budget.{Budget}
 use Rattle.traced_completion.specs.PlainRun.{Setting, setting_of, IsRound}
 use Rattle.traced_completion.specs.Completions.{IsUnchangedAfter, state_of, outcome_of, rounds_after}
@@ -48,14 +47,13 @@ loop-alloc-preserved g c =
     let steps : Steps setting step old.rounds new.rounds (state_of old) (state_of new) = step_taken setting step old new round rounds_are unchanged in
     let yet : All IsSettled olds → ⊥ = search rules in
     let zipped : AllZip (Follows form problem new step) olds news = search rules in
-    let one = find_open olds (λ each. yet (All-from_recursion IsSettled olds each)) in
+    let one = find_open olds yet in
     record {
       of_problem = search rules;
       budget = new_budget;
       numbers = AllZip-same_map (λ (x : Case). x.number) (Follows form problem new step) olds news (λ x y follows. follows.same) zipped ∙ c.loop-alloc.invariant.numbers;
-      named = All-from_recursion (IsOfProblem problem) news
-          (AllZip-kept (IsOfProblem problem) (IsOfProblem problem) (Follows form problem new step) olds news (λ x y is follows. subst (IsNumber problem) (sym follows.same) is)
-          (recursion_from_All (IsOfProblem problem) olds c.loop-alloc.invariant.named) zipped);
+      named = AllZip-kept (IsOfProblem problem) (IsOfProblem problem) (Follows form problem new step) olds news (λ x y is follows. subst (IsNumber problem) (sym follows.same) is)
+          c.loop-alloc.invariant.named zipped;
       cases = cases_next setting form problem new step same old.rounds (state_of old) steps olds news c.loop-alloc.invariant.cases zipped;
       needed = inr (late_next setting form problem new step same old.rounds (state_of old) steps olds news c.loop-alloc.invariant.cases zipped one);
     }
