@@ -1,7 +1,7 @@
 //! Texts of blocks: what is written back of them, or their first fault.
 ghost use Rattle.std.specs.Prelude.{◌<◌, length};
 
-use crate::comparing::same;
+use crate::comparing::equal;
 use crate::evidence_rows::Row;
 use crate::shifts::{put_shift, read_shifts};
 use crate::{
@@ -130,7 +130,7 @@ fn tell_all(rt: &impl Abort, alloc: Global, kind: Kind, front: &str, rows: &[Row
     for (row, want) in rows {
         let text = format!(in alloc; "{front}{row}{back}").expect(rt, "memory");
         let got = told(rt, alloc, kind, text.as_bytes());
-        same(rt, got.as_str(), want, row);
+        equal(rt, &got.as_str(), want, row);
     }
 }
 

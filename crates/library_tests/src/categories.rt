@@ -1,47 +1,50 @@
 //! Each call of a category through its bounds, in categories of each kind.
 use category_laws::{Involutive, Opposite, Pair, Parity};
 use matrix_models::{Matrices, Matrix};
-use std::alloc::{AllocError, Global};
+use std::alloc::Global;
 use std::process::Abort;
 
 // Whether a - a is zero, and a is not.
 fn has_negative<C: Involutive>(
-    category: &C,
+    rt: &impl Abort,
     alloc: Global,
+    category: &C,
     arrow: &C::Arrow,
-) -> Result<bool, AllocError>
+) -> bool
     requires { (C.structure category.now).is_arrow arrow.now }
 {
-    let source = category.source(alloc, arrow)?;
-    let target = category.target(alloc, arrow)?;
-    let zero = category.zero(alloc, &source, &target)?;
-    let negative = category.negate(alloc, arrow)?;
-    let sum = category.add(alloc, arrow, &negative)?;
-    Ok(category.same(&sum, &zero) && !category.same(arrow, &zero))
+    let source = category.source(alloc, arrow).expect(rt, "memory");
+    let target = category.target(alloc, arrow).expect(rt, "memory");
+    let zero = category.zero(alloc, &source, &target).expect(rt, "memory");
+    let negative = category.negate(alloc, arrow).expect(rt, "memory");
+    let sum = category.add(alloc, arrow, &negative).expect(rt, "memory");
+    category.same(&sum, &zero) && !category.same(arrow, &zero)
 }
 
 // Whether the adjoint of the composite of the identity after a is that of a.
 fn has_adjoint<C: Involutive>(
-    category: &C,
+    rt: &impl Abort,
     alloc: Global,
+    category: &C,
     arrow: &C::Arrow,
-) -> Result<bool, AllocError>
+) -> bool
     requires { (C.structure category.now).is_arrow arrow.now }
 {
-    let target = category.target(alloc, arrow)?;
-    let identity = category.identity(alloc, &target)?;
-    let composite = category.compose(alloc, &identity, arrow)?;
-    let adjoint = category.adjoint(alloc, &composite)?;
-    let want = category.adjoint(alloc, arrow)?;
-    Ok(category.same(&adjoint, &want))
+    let target = category.target(alloc, arrow).expect(rt, "memory");
+    let identity = category.identity(alloc, &target).expect(rt, "memory");
+    let composite = category.compose(alloc, &identity, arrow);
+    let composite = composite.expect(rt, "memory");
+    let adjoint = category.adjoint(alloc, &composite).expect(rt, "memory");
+    let want = category.adjoint(alloc, arrow).expect(rt, "memory");
+    category.same(&adjoint, &want)
 }
 
 // Asserts both.
 fn tell<C: Involutive>(rt: &impl Abort, alloc: Global, category: &C, arrow: &C::Arrow, name: &str)
     requires { (C.structure category.now).is_arrow arrow.now }
 {
-    let negative = has_negative(category, alloc, arrow).expect(rt, "memory");
-    let adjoint = has_adjoint(category, alloc, arrow).expect(rt, "memory");
+    let negative = has_negative(rt, alloc, category, arrow);
+    let adjoint = has_adjoint(rt, alloc, category, arrow);
     assert!(rt; negative && adjoint, "{name}");
 }
 

@@ -1,11 +1,7 @@
-//! Shelves and sinks, in memory and of the machine.
+//! Shelves and sinks of the machine.
 use crate::comparing::equal;
-use flow_io::{
-    MemoryShelf, MemorySink, PutFault, RealShelf, RealSink, Shelf, ShelfFault, Sink, SinkFault,
-    put_all,
-};
-use lists::{Listing, Text};
-use std::alloc::{AllocError, Allocator, Global};
+use flow_io::{RealShelf, RealSink, Shelf, ShelfFault, Sink, put_all};
+use std::alloc::{Allocator, Global};
 use std::fmt::Display;
 use std::fs::{self, Metadata, OpenFile, OpenOptions};
 use std::io::{self, ErrorKind, Read, Seek, SeekFrom, Write};
@@ -13,122 +9,46 @@ use std::process::Abort;
 use std::rt::Files;
 use std::sync::atomic::{AtomicU64, Ordering};
 
-enum Want {
-    Bytes(&'static [u8]),
-    Failed,
-    TooLong(usize),
-}
-
-struct Load {
-    name: &'static str,
+// Asserts that the file, of which so many bytes are read at most, gives these bytes or this fault.
+fn tell_load<S: Shelf>(
+    rt: &impl Abort,
+    shelf: &mut S,
+    alloc: Global,
+    name: &str,
     most: usize,
-    want: Want,
-}
-
-// In the order in which they are made; the second is to fail.
-const LOADS: &[Load] = &[
-    Load {
-        name: "f",
-        most: 3,
-        want: Want::Bytes(b"abc"),
-    },
-    Load {
-        name: "f",
-        most: 3,
-        want: Want::Failed,
-    },
-    Load {
-        name: "f",
-        most: 2,
-        want: Want::TooLong(3),
-    },
-    Load {
-        name: "g",
-        most: 3,
-        want: Want::Failed,
-    },
-    Load {
-        name: "empty",
-        most: 0,
-        want: Want::Bytes(b""),
-    },
-    Load {
-        name: "f",
-        most: 0,
-        want: Want::TooLong(1),
-    },
-    Load {
-        name: "f",
-        most: 100,
-        want: Want::Bytes(b"abc"),
-    },
-];
-
-// A shelf with the files `f`, which holds `abc`, and `empty`.
-fn two_files(alloc: Global, failing: &[u64]) -> Result<MemoryShelf, AllocError> {
-    let mut files = Listing::new(alloc);
-    let first = Listing::from_vec(b"abc".to_vec(alloc)?);
-    files.push((Text::from_str(alloc, "f")?, first))?;
-    files.push((Text::from_str(alloc, "empty")?, Listing::new(alloc)))?;
-    MemoryShelf::new(alloc, files, Listing::from_vec(failing.to_vec(alloc)?))
-}
-
-fn is_wanted(got: &Result<Vec<u8>, ShelfFault>, want: &Want) -> bool {
-    match (got, want) {
-        (Ok(bytes), Want::Bytes(wanted)) => bytes.as_slice() == *wanted,
-        (Err(ShelfFault::Failed), Want::Failed) => true,
-        (Err(ShelfFault::TooLong { got }), Want::TooLong(wanted)) => got == wanted,
-        _ => false,
+    want: (&[u8], &str),
+)
+    requires { most < usize.MAX }
+{
+    match shelf.load(alloc, name, most) {
+        Ok(bytes) => equal(rt, &(bytes.as_slice(), ""), &want, name),
+        Err(ShelfFault::Failed) => equal(rt, &(b"".as_slice(), "failed"), &want, name),
+        Err(ShelfFault::TooLong { got }) => {
+            let fault = if got == most + 1 {
+                "too long"
+            } else {
+                "longer"
+            };
+            equal(rt, &(b"".as_slice(), fault), &want, name);
+        }
+        Err(ShelfFault::Memory(_)) => equal(rt, &(b"".as_slice(), "memory"), &want, name),
     }
 }
 
-#[test]
-fn a_shelf_in_memory_gives_its_files(rt: HostRuntime) {
-    let mut shelf = two_files(rt.alloc(), &[2]).expect(&rt, "memory");
-    for load in LOADS {
-        let got = shelf.load(rt.alloc(), load.name, load.most);
-        assert!(rt; is_wanted(&got, &load.want), "{}", load.name);
-    }
-}
+const NAME: &str = "flow_io_test_file";
 
-#[test]
-fn a_sink_in_memory_fails_where_it_is_to(rt: HostRuntime) {
-    let alloc = rt.alloc();
-    let failing = Listing::from_vec([3, 5].to_vec(alloc).expect(&rt, "memory"));
-    let mut sink = MemorySink::new(alloc, 2, 9, failing).expect(&rt, "memory");
-    put_until_full(&rt, &mut sink);
-}
-
-fn put_until_full(rt: &impl Abort, sink: &mut MemorySink) {
-    equal(rt, &put_all(sink, b""), &Ok(()), "nothing");
-    let failed = Err(PutFault::Failed { written: 4 });
-    equal(rt, &put_all(sink, b"abcdef"), &failed, "abcdef");
-    equal(rt, &sink.bytes(), &b"abcd".as_slice(), "abcd");
-    equal(rt, &put_all(sink, b"xy"), &Ok(()), "xy");
-    equal(rt, &sink.finish(), &Err(SinkFault::Failed), "a finish");
-    equal(rt, &sink.finished(), &false, "not finished");
-    equal(rt, &sink.finish(), &Ok(()), "a second finish");
-    equal(rt, &sink.finished(), &true, "finished");
-    // Three bytes of room are left.
-    let failed = Err(PutFault::Failed { written: 2 });
-    equal(rt, &put_all(sink, b"1234"), &failed, "1234");
-    equal(rt, &sink.bytes(), &b"abcdxy12".as_slice(), "abcdxy12");
-    equal(rt, &sink.finished(), &false, "no longer finished");
-}
+// Twenty bytes.
+const BYTES: &[u8] = b"xxxxxxxxxxxxxxxxxxxx";
 
 #[test]
 fn files_of_the_machine_are_read_whole(rt: HostRuntime) {
-    let name = "flow_io_test_file";
-    let bytes = vec![in rt.alloc(); b'x'; 20_000].expect(&rt, "memory");
-    fs::write(&rt, name, bytes.as_slice()).expect(&rt, "a file");
-    let mut shelf = RealShelf::new(rt);
-    let whole = shelf.load(rt.alloc(), name, 20_000);
-    assert!(rt; matches!(&whole, Ok(read) if read == &bytes));
-    let long = shelf.load(rt.alloc(), name, 19_999);
-    assert!(rt; matches!(long, Err(ShelfFault::TooLong { got: 20_000 })));
-    fs::remove_file(&rt, name).expect(&rt, "no file");
-    let missing = shelf.load(rt.alloc(), name, 20_000);
-    assert!(rt; matches!(missing, Err(ShelfFault::Failed)));
+    fs::write(&rt, NAME, BYTES).expect(&rt, "a file");
+    let alloc = rt.alloc();
+    let mut shelf = RealShelf::new(&rt);
+    tell_load(&rt, &mut shelf, alloc, NAME, 20, (BYTES, ""));
+    tell_load(&rt, &mut shelf, alloc, NAME, 19, (b"", "too long"));
+    fs::remove_file(&rt, NAME).expect(&rt, "no file");
+    tell_load(&rt, &mut shelf, alloc, NAME, 20, (b"", "failed"));
 }
 
 #[test]
@@ -285,8 +205,6 @@ impl Files for BrokenFiles {
 #[test]
 fn a_read_that_fails_in_mid_stream_is_no_file(rt: HostRuntime) {
     let mut shelf = RealShelf::new(BrokenFiles);
-    let failed = shelf.load(rt.alloc(), "f", 9);
-    assert!(rt; matches!(failed, Err(ShelfFault::Failed)));
-    let past = shelf.load(rt.alloc(), "f", 2);
-    assert!(rt; matches!(past, Err(ShelfFault::TooLong { got: 3 })));
+    tell_load(&rt, &mut shelf, rt.alloc(), "f", 9, (b"", "failed"));
+    tell_load(&rt, &mut shelf, rt.alloc(), "f", 2, (b"", "too long"));
 }

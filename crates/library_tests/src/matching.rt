@@ -12,16 +12,6 @@ use std::alloc::Global;
 use std::process::Abort;
 use word_core::{Letter, Word};
 
-fn word(rt: &impl Abort, alloc: Global, letters: &[u16]) -> Word
-    ensures { result ≡ letters.now }
-{
-    let mut word = Word::new(alloc);
-    for letter in letters {
-        word.push(Letter(*letter)).expect(rt, "memory");
-    }
-    word
-}
-
 // Inserts a word under a number above all others.
 fn insert(rt: &impl Abort, index: &mut Index, word: &Word, number: u32)
     requires above { All (λ e. e.1 < number) index.old }
@@ -29,17 +19,6 @@ fn insert(rt: &impl Abort, index: &mut Index, word: &Word, number: u32)
     ensures { index.new ≡ index.old ++ (word.now, number) ∷ [] }
 {
     index.insert(word, number).expect(rt, "memory");
-}
-
-#[test]
-fn prefixes_are_counted_once(rt: HostRuntime) {
-    let mut index = Index::new(rt.alloc()).expect(&rt, "memory");
-    equal(&rt, &index.nodes(), &1, "no words");
-    insert(&rt, &mut index, &word(&rt, rt.alloc(), &[1, 2]), 1);
-    insert(&rt, &mut index, &word(&rt, rt.alloc(), &[1, 3]), 2);
-    equal(&rt, &index.nodes(), &4, "two words");
-    index.truncate(1);
-    equal(&rt, &index.nodes(), &3, "one word");
 }
 
 // The word of so many letters 0 and two more letters.
@@ -66,17 +45,23 @@ fn words_with_one_beginning(rt: &impl Abort, alloc: Global) -> Index {
     index
 }
 
+// Looks the word up so many times.
+fn look_up(rt: &impl Abort, index: &Index, word: &Word, times: u32, want: Option<(u32, usize)>) {
+    for _ in 0..times {
+        equal(rt, &index.first_match(word), &want, "a look-up");
+    }
+}
+
 #[test]
 fn many_words_with_one_beginning(rt: HostRuntime) {
-    let index = words_with_one_beginning(&rt, rt.alloc());
+    let mut index = words_with_one_beginning(&rt, rt.alloc());
     equal(&rt, &index.nodes(), &1889, "words with one beginning");
     let none = zeros(&rt, rt.alloc(), 498, 0, 0);
+    look_up(&rt, &index, &none, 100_000, None);
     let last = zeros(&rt, rt.alloc(), 498, 40, 40);
-    for _ in 0..100_000 {
-        equal(&rt, &index.first_match(&none), &None, "none");
-    }
-    let found = index.first_match(&last);
-    equal(&rt, &found, &Some((1600, 250)), "the last one");
+    look_up(&rt, &index, &last, 1, Some((1600, 250)));
+    index.truncate(1);
+    equal(&rt, &index.nodes(), &251, "one word");
 }
 
 // A word of 1 to 8 letters from 0 to 3.
@@ -108,38 +93,33 @@ fn compare(rt: &impl Abort, index: &Index, words: &Listing<(Word, u32)>, text: &
     equal(rt, &index.first_match(text), &listed(words, text), "a word");
 }
 
-#[test]
-fn the_same_as_a_search_of_the_list(rt: HostRuntime) {
-    let mut index = Index::new(rt.alloc()).expect(&rt, "memory");
-    let mut words = Listing::new(rt.alloc());
+// How many words are kept before one more: of each fifty the last comes when half of them are taken away.
+fn kept_before(number: u32, halved: bool) -> usize {
+    if halved && number % 50 == 49 {
+        number as usize / 2
+    } else {
+        usize::MAX
+    }
+}
+
+// Compares after each of 2000 words, some of which are taken away again.
+fn compare_all(rt: &impl Abort, alloc: Global, halved: bool) {
+    let mut index = Index::new(alloc).expect(rt, "memory");
+    let mut words = Listing::new(alloc);
     let mut stream = Lcg64Xsh32::new(1, 1);
     for number in 0..2000u32 {
-        let word = random(&rt, rt.alloc(), &mut stream);
-        insert(&rt, &mut index, &word, number);
-        words.push((word, number)).expect(&rt, "memory");
-    }
-    for _ in 0..2000u32 {
-        let text = random(&rt, rt.alloc(), &mut stream);
-        compare(&rt, &index, &words, &text);
+        let kept = kept_before(number, halved);
+        index.truncate(kept);
+        words.truncate(kept);
+        let word = random(rt, alloc, &mut stream);
+        insert(rt, &mut index, &word, number);
+        words.push((word, number)).expect(rt, "memory");
+        compare(rt, &index, &words, &random(rt, alloc, &mut stream));
     }
 }
 
 #[test]
-fn after_truncation_the_same_as_a_search_of_the_list(rt: HostRuntime) {
-    let mut index = Index::new(rt.alloc()).expect(&rt, "memory");
-    let mut words = Listing::new(rt.alloc());
-    let mut stream = Lcg64Xsh32::new(1, 1);
-    for number in 0..2000u32 {
-        let kept = match number % 50 {
-            49 => number as usize / 2,
-            _ => usize::MAX,
-        };
-        index.truncate(kept);
-        words.truncate(kept);
-        let word = random(&rt, rt.alloc(), &mut stream);
-        insert(&rt, &mut index, &word, number);
-        words.push((word, number)).expect(&rt, "memory");
-        let text = random(&rt, rt.alloc(), &mut stream);
-        compare(&rt, &index, &words, &text);
-    }
+fn the_same_as_a_search_of_the_list(rt: HostRuntime) {
+    compare_all(&rt, rt.alloc(), false);
+    compare_all(&rt, rt.alloc(), true);
 }

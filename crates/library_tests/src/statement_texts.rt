@@ -3,7 +3,7 @@ ghost use Rattle.std.specs.Prelude.{IsTrue};
 ghost use Rattle.std.specs.List.{All};
 ghost use Rattle.word_core.specs.Letters.{IsOver};
 
-use crate::comparing::{halves, same};
+use crate::comparing::{equal, halves};
 use crate::name_rows::{NAMES, NUMBERS};
 use crate::problem_rows::{ARITHMETIC, LATE, PROBLEMS, SIGNATURES};
 use crate::statement_rows::{
@@ -11,6 +11,7 @@ use crate::statement_rows::{
 };
 use adjoint_rules::Problem;
 use block_text::write_poly;
+use lists::Text;
 use nc_polynomial::Poly;
 use quiver::Quiver;
 use signature_typing::{TypeFault, elaborate};
@@ -31,25 +32,32 @@ fn written(rt: &impl Abort, alloc: Global, text: &[u8]) -> String {
     }
 }
 
+// Asserts that this is written of the text.
+fn tell_text(rt: &impl Abort, alloc: Global, text: &[u8], want: &str) {
+    let got = written(rt, alloc, text);
+    equal(rt, &got.as_str(), &want, want);
+}
+
 // Asserts that what is written of each text is as its row says.
 fn tell_written(rt: &impl Abort, alloc: Global, rows: &str) {
     for row in rows.split("%\n") {
         let (text, want) = halves(rt, row);
-        same(rt, written(rt, alloc, text.as_bytes()).as_str(), want, row);
+        tell_text(rt, alloc, text.as_bytes(), want);
     }
 }
 
 #[test]
 fn a_text_is_written_back_or_its_first_fault_told(rt: HostRuntime) {
-    tell_written(&rt, rt.alloc(), STATEMENTS);
-    tell_written(&rt, rt.alloc(), SECOND_LANGUAGE);
-    tell_written(&rt, rt.alloc(), LINES);
-    tell_written(&rt, rt.alloc(), NAMED);
-    tell_written(&rt, rt.alloc(), LITERALS);
-    tell_written(&rt, rt.alloc(), FAULTS);
-    tell_written(&rt, rt.alloc(), MISFITS);
+    let alloc = rt.alloc();
+    tell_written(&rt, alloc, STATEMENTS);
+    tell_written(&rt, alloc, SECOND_LANGUAGE);
+    tell_written(&rt, alloc, LINES);
+    tell_written(&rt, alloc, NAMED);
+    tell_written(&rt, alloc, LITERALS);
+    tell_written(&rt, alloc, FAULTS);
+    tell_written(&rt, alloc, MISFITS);
     for (text, want) in NOT_UTF8 {
-        same(&rt, written(&rt, rt.alloc(), text).as_str(), want, want);
+        tell_text(&rt, alloc, text, want);
     }
 }
 
@@ -100,72 +108,66 @@ fn write_problem(rt: &impl Abort, alloc: Global, text: &mut String, problem: &Pr
     }
 }
 
-// Writes both signatures of a fault where there are two.
-fn write_signatures(rt: &impl Abort, text: &mut String, fault: &TypeFault) {
-    if let TypeFault::Fault {
-        left: Some((a, b)),
-        right: Some((c, d)),
-        ..
-    } = fault
-    {
-        let (a, b, c, d) = (a.as_str(), b.as_str(), c.as_str(), d.as_str());
-        write!(text, " left {a} -> {b} right {c} -> {d}").expect(rt, "memory");
-    }
-}
-
 // Writes the code of a fault, its place, and both signatures where there are two.
 fn write_fault(rt: &impl Abort, text: &mut String, fault: &TypeFault) {
     if let TypeFault::Fault {
         code,
         line,
         column,
+        left,
+        right,
         ..
     } = fault
     {
         write!(text, "S{code} line {line} column {column}").expect(rt, "memory");
-        write_signatures(rt, text, fault);
+        write_signature(rt, text, " left ", left);
+        write_signature(rt, text, " right ", right);
     }
     text.push('\n').expect(rt, "memory");
 }
 
-// Writes the fault; or the problem, or no more than that there is one where a row says no more.
-fn write_made(
-    rt: &impl Abort,
-    alloc: Global,
-    told: &mut String,
-    made: &Result<Problem, TypeFault>,
-    want: &str,
-) {
-    match made {
-        Ok(problem) if want != "read\n" => write_problem(rt, alloc, told, problem),
-        Ok(_) => told.push_str("read\n").expect(rt, "memory"),
-        Err(fault) => write_fault(rt, told, fault),
+// Writes the signature where there is one.
+fn write_signature(rt: &impl Abort, text: &mut String, side: &str, sig: &Option<(Text, Text)>) {
+    if let Some((source, target)) = sig {
+        let (source, target) = (source.as_str(), target.as_str());
+        write!(text, "{side}{source} -> {target}").expect(rt, "memory");
     }
 }
 
-// Writes what is made of a text, in the detail of what is wanted.
-fn write_outcome(rt: &impl Abort, alloc: Global, told: &mut String, text: &str, want: &str) {
+// The problem of the text, or its first fault.
+fn made(rt: &impl Abort, alloc: Global, text: &[u8]) -> Result<Problem, TypeFault> {
     assert!(rt; text.len() < 100_000, "the text is too long for a test");
-    let tree = read_tree(alloc, text.as_bytes()).expect(rt, "the text is read");
-    write_made(rt, alloc, told, &elaborate(alloc, &tree), want);
+    let tree = read_tree(alloc, text).expect(rt, "the text is read");
+    elaborate(alloc, &tree)
+}
+
+// The fault of the text; or its problem, or no more than that there is one where a row says no more.
+fn outcome(rt: &impl Abort, alloc: Global, text: &[u8], want: &str) -> String {
+    let mut told = String::new(alloc);
+    match &made(rt, alloc, text) {
+        Ok(problem) if want != "read\n" => write_problem(rt, alloc, &mut told, problem),
+        Ok(_) => told.push_str("read\n").expect(rt, "memory"),
+        Err(fault) => write_fault(rt, &mut told, fault),
+    }
+    told
 }
 
 // Asserts that the outcome of each text is as its row says.
 fn tell_outcomes(rt: &impl Abort, alloc: Global, rows: &str) {
     for row in rows.split("%\n") {
         let (text, want) = halves(rt, row);
-        let mut told = String::new(alloc);
-        write_outcome(rt, alloc, &mut told, text, want);
-        same(rt, told.as_str(), want, row);
+        let told = outcome(rt, alloc, text.as_bytes(), want);
+        equal(rt, &told.as_str(), &want, row);
     }
 }
 
 #[test]
 fn a_text_has_its_first_fault_or_its_generators_and_claims(rt: HostRuntime) {
-    tell_outcomes(&rt, rt.alloc(), NAMES);
-    tell_outcomes(&rt, rt.alloc(), NUMBERS);
-    tell_outcomes(&rt, rt.alloc(), SIGNATURES);
-    tell_outcomes(&rt, rt.alloc(), ARITHMETIC);
-    tell_outcomes(&rt, rt.alloc(), LATE);
-    tell_outcomes(&rt, rt.alloc(), PROBLEMS);
+    let alloc = rt.alloc();
+    tell_outcomes(&rt, alloc, NAMES);
+    tell_outcomes(&rt, alloc, NUMBERS);
+    tell_outcomes(&rt, alloc, SIGNATURES);
+    tell_outcomes(&rt, alloc, ARITHMETIC);
+    tell_outcomes(&rt, alloc, LATE);
+    tell_outcomes(&rt, alloc, PROBLEMS);
 }

@@ -1,6 +1,6 @@
 //! Library calls that no run makes: what becomes of one claim, one candidate of a shape, and one model as text.
 use crate::comparing::equal;
-use crate::rounds::{budget_of, write_halt};
+use crate::rounds::{budget_of, problem_of, write_halt};
 use adjoint_rules::Problem;
 use claim_decider::{Decided, Outcome, decide, decide_all};
 use cofactor_trace::{Format, Place};
@@ -9,17 +9,15 @@ use matrix_models::Model;
 use model_candidates::candidate;
 use model_text::{read_models, write_model};
 use quiver::Quiver;
-use signature_typing::{TypeFault, elaborate};
-use statement_syntax::read_tree;
-use std::alloc::{AllocError, Global};
-use std::test::Fail;
+use std::alloc::Global;
+use std::process::Abort;
 use std::thread::Threads;
 
-// A claim or all of them, with 1 pair and 100 steps; or a candidate of the first shape, by the seed and its number.
+// A claim, or all of them for the number 0, with 1 pair and 100 steps; or a candidate of the first shape, by the seed and its
+// number.
 #[derive(Clone, Copy)]
 enum Call {
     Decide(u32),
-    DecideAll,
     Candidate(u64, u32),
 }
 
@@ -43,7 +41,7 @@ const ROWS: &[(&[u8], Call, &str)] = &[
     ),
     (
         BRAID,
-        Call::DecideAll,
+        Call::Decide(0),
         "derived, halted between rounds by pairs 1 least b a a b a b, rules 2",
     ),
     (
@@ -71,136 +69,128 @@ const ROWS: &[(&[u8], Call, &str)] = &[
     ),
 ];
 
-fn write_outcome(text: &mut String, quiver: &Quiver, outcome: &Outcome) -> Result<(), AllocError> {
-    match outcome {
-        Outcome::Derived(_) => text.push_str("derived, "),
-        Outcome::Closed { .. } => text.push_str("closed, "),
-        Outcome::Halted(halt) => {
-            let place = if let Place::Run = halt.place {
-                "halted between rounds by "
-            } else {
-                "halted by "
-            };
-            text.push_str(place)?;
-            write_halt(text, quiver, halt)?;
-            text.push_str(", ")
-        }
+fn write_outcome(rt: &impl Abort, text: &mut String, quiver: &Quiver, outcome: &Outcome) {
+    let name = match outcome {
+        Outcome::Derived(_) => "derived, ",
+        Outcome::Closed { .. } => "closed, ",
+        Outcome::Halted(_) => "halted ",
+    };
+    text.push_str(name).expect(rt, "memory");
+    if let Outcome::Halted(halt) = outcome {
+        let between = matches!(halt.place, Place::Run);
+        let place = if between { "between rounds by " } else { "by " };
+        text.push_str(place).expect(rt, "memory");
+        write_halt(rt, text, quiver, halt);
+        text.push_str(", ").expect(rt, "memory");
     }
 }
 
 // The outcomes and the number of rules.
-fn decided_text(alloc: Global, quiver: &Quiver, decided: &Decided) -> Result<String, AllocError> {
+fn decided_text(rt: &impl Abort, alloc: Global, quiver: &Quiver, decided: &Decided) -> String {
     let mut text = String::new(alloc);
     for outcome in decided.outcomes.as_slice() {
-        write_outcome(&mut text, quiver, outcome)?;
+        write_outcome(rt, &mut text, quiver, outcome);
     }
-    let rules = decided.rules.len();
-    write!(text, "rules {rules}")?;
-    Ok(text)
+    write!(text, "rules {}", decided.rules.len()).expect(rt, "memory");
+    text
 }
 
-fn outcome_of<R: Threads + Sync>(
+// The claim's outcome, and all outcomes for the number 0.
+fn decided<R: Threads + Sync + Abort>(
     rt: &R,
     alloc: Global,
     problem: &Problem,
     claim: u32,
-) -> Result<String, Fail> {
-    if claim < 1 || claim as usize > problem.parts.claims.len() {
-        return Err(Fail::new("there is no such claim"));
-    }
-    let budget = budget_of(1, 100)?;
-    let decided = decide(
-        rt,
-        alloc,
-        problem,
-        claim,
-        budget,
-        Format::Plain,
-        1,
-        &OpenGate,
-    )?;
-    Ok(decided_text(alloc, &problem.parts.quiver, &decided)?)
-}
-
-fn outcomes_of<R: Threads + Sync>(
-    rt: &R,
-    alloc: Global,
-    problem: &Problem,
-) -> Result<String, Fail> {
-    let budget = budget_of(1, 100)?;
-    let decided = decide_all(rt, alloc, problem, budget, Format::Plain, 1, &OpenGate)?;
-    Ok(decided_text(alloc, &problem.parts.quiver, &decided)?)
+) -> Decided {
+    let budget = budget_of(rt, 1, 100);
+    let plain = Format::Plain;
+    let decided = if claim == 0 {
+        decide_all(rt, alloc, problem, budget, plain, 1, &OpenGate)
+    } else {
+        assert!(rt;
+            claim as usize <= problem.parts.claims.len(),
+            "there is no such claim"
+        );
+        decide(rt, alloc, problem, claim, budget, plain, 1, &OpenGate)
+    };
+    decided.expect(rt, "memory")
 }
 
 // The model as text.
-fn model_text(alloc: Global, quiver: &Quiver, model: &Model) -> Result<String, Fail> {
+fn model_text(rt: &impl Abort, alloc: Global, quiver: &Quiver, model: &Model) -> String {
     let (sides, maps) = (model.sides.len(), model.maps.len());
-    if sides != quiver.objects() as usize || maps != quiver.letters() as usize {
-        return Err(Fail::new("the model has other objects or maps"));
-    }
-    Ok(String::from_utf8(write_model(alloc, quiver, model)?)?)
+    assert!(rt;
+        sides == quiver.objects() as usize && maps == quiver.letters() as usize,
+        "the model has other objects or maps"
+    );
+    let bytes = write_model(alloc, quiver, model).expect(rt, "memory");
+    String::from_utf8(bytes).expect(rt, "what is written")
 }
 
-// The text of the one model that is read from the text.
-fn read_back(alloc: Global, quiver: &Quiver, text: &str) -> Result<String, Fail> {
-    if text.len() > 1000 {
-        return Err(Fail::new("the text is too long for a test"));
-    }
-    let models = read_models(alloc, text.as_bytes(), quiver)?;
-    if models.len() != 1 {
-        return Err(Fail::new("there is another number of models"));
-    }
-    model_text(alloc, quiver, models.at(0))
+// The text of the first of the models that are read from the text.
+fn read_back(rt: &impl Abort, alloc: Global, quiver: &Quiver, text: &str) -> String {
+    assert!(rt; text.len() <= 1000, "the text is too long for a test");
+    let models = read_models(alloc, text.as_bytes(), quiver).expect(rt, "models");
+    assert!(rt; models.len() == 1, "there is another number of models");
+    model_text(rt, alloc, quiver, models.at(0))
 }
 
 // The candidate of the first shape as text that is read and written again.
-fn candidate_of(alloc: Global, problem: &Problem, seed: u64, number: u32) -> Result<String, Fail> {
-    if problem.parts.shapes.len() < 1 {
-        return Err(Fail::new("there is no shape"));
-    }
-    match candidate(alloc, problem, 1, seed, number)? {
-        Some(model) => {
-            let text = model_text(alloc, &problem.parts.quiver, &model)?;
-            read_back(alloc, &problem.parts.quiver, text.as_str())
-        }
-        None => Ok(String::from_str(alloc, "none")?),
+fn candidate_of(
+    rt: &impl Abort,
+    alloc: Global,
+    problem: &Problem,
+    seed: u64,
+    number: u32,
+) -> String {
+    assert!(rt; problem.parts.shapes.len() > 0, "there is no shape");
+    match candidate(alloc, problem, 1, seed, number).expect(rt, "memory") {
+        Some(model) => model_text(rt, alloc, &problem.parts.quiver, &model),
+        None => String::from_str(alloc, "none").expect(rt, "memory"),
     }
 }
 
-// What a call answers over the problem that a statement stands for.
-fn answer_of<R: Threads + Sync>(
+// What a call answers over the problem.
+fn answer_of<R: Threads + Sync + Abort>(
     rt: &R,
     alloc: Global,
-    made: &Result<Problem, TypeFault>,
+    problem: &Problem,
     call: Call,
-) -> Result<String, Fail> {
-    match (made, call) {
-        (Ok(problem), Call::Decide(claim)) => outcome_of(rt, alloc, problem, claim),
-        (Ok(problem), Call::DecideAll) => outcomes_of(rt, alloc, problem),
-        (Ok(problem), Call::Candidate(seed, number)) => candidate_of(alloc, problem, seed, number),
-        (Err(fault), _) => Err(Fail::new(fault)),
+) -> String {
+    match call {
+        Call::Decide(claim) => {
+            let decided = decided(rt, alloc, problem, claim);
+            decided_text(rt, alloc, &problem.parts.quiver, &decided)
+        }
+        Call::Candidate(seed, number) => candidate_of(rt, alloc, problem, seed, number),
     }
 }
 
-// The same of its text.
-fn told<R: Threads + Sync>(
+// Ends the test where a model is not written back as it is read.
+fn tell_back(rt: &impl Abort, alloc: Global, quiver: &Quiver, text: &str) {
+    if text.starts_with("model ") {
+        let again = read_back(rt, alloc, quiver, text);
+        equal(rt, &again.as_str(), &text, text);
+    }
+}
+
+// Asserts that the call over the statement answers so.
+fn tell_call<R: Threads + Sync + Abort>(
     rt: &R,
     alloc: Global,
     statement: &[u8],
     call: Call,
-) -> Result<String, Fail> {
-    if statement.len() > 1000 {
-        return Err(Fail::new("the statement is too long for a test"));
-    }
-    let tree = read_tree(alloc, statement)?;
-    answer_of(rt, alloc, &elaborate(alloc, &tree), call)
+    want: &str,
+) {
+    let problem = problem_of(rt, alloc, statement);
+    let got = answer_of(rt, alloc, &problem, call);
+    equal(rt, &got.as_str(), &want, want);
+    tell_back(rt, alloc, &problem.parts.quiver, want);
 }
 
 #[test]
-fn calls_that_no_run_makes_answer(rt: HostRuntime) -> Result<(), Fail> {
+fn calls_that_no_run_makes_answer(rt: HostRuntime) {
     for (statement, call, want) in ROWS {
-        let got = told(&rt, rt.alloc(), statement, *call)?;
-        equal(&rt, &got.as_str(), want, want);
+        tell_call(&rt, rt.alloc(), statement, *call, want);
     }
-    Ok(())
 }

@@ -1,18 +1,19 @@
 //! Rounds of completions, told call by call, and the rules that they make: worked out by hand.
-ghost use Rattle.std.specs.Prelude.{◌<◌, ◌≤◌, IfOk};
+ghost use Rattle.std.specs.Prelude.{◌<◌, ◌≤◌};
 ghost use Rattle.in_order_parallel.specs.Limits.{worker_limit};
 ghost use Rattle.traced_completion.specs.Completions.{IsBudget, IsCompletionOf};
 
+use crate::comparing::equal;
 use adjoint_rules::Problem;
-use ambiguities::Kind;
+use ambiguities::{Ambiguity, Kind};
 use cofactor_trace::{Cause, Halt, Made, Place};
 use in_order_parallel::OpenGate;
 use nc_polynomial::Poly;
 use quiver::Quiver;
-use signature_typing::{TypeFault, elaborate};
+use signature_typing::elaborate;
 use statement_syntax::read_tree;
 use std::alloc::{AllocError, Global};
-use std::test::Fail;
+use std::process::Abort;
 use std::thread::Threads;
 use traced_completion::{Budget, Completion, Step};
 use word_core::{Letter, Word};
@@ -159,28 +160,23 @@ fn name_of(quiver: &Quiver, letter: Letter) -> &str {
 }
 
 // Writes a blank and a name for each letter.
-fn write_word(text: &mut String, quiver: &Quiver, word: &Word) -> Result<(), AllocError> {
+fn write_word(rt: &impl Abort, text: &mut String, quiver: &Quiver, word: &Word) {
     for place in 0..word.len() {
-        text.push_str(" ")?;
-        text.push_str(name_of(quiver, word.letter(place)))?;
+        text.push_str(" ").expect(rt, "memory");
+        text.push_str(name_of(quiver, word.letter(place)))
+            .expect(rt, "memory");
     }
-    Ok(())
 }
 
 // Writes the line of a rule.
-fn write_rule(
-    text: &mut String,
-    quiver: &Quiver,
-    poly: &Poly,
-    made: &Made,
-) -> Result<(), AllocError> {
-    text.push_str("rule")?;
+fn write_rule(rt: &impl Abort, text: &mut String, quiver: &Quiver, poly: &Poly, made: &Made) {
+    text.push_str("rule").expect(rt, "memory");
     for (coefficient, word) in poly.terms.as_slice() {
-        write!(text, " {coefficient}")?;
-        write_word(text, quiver, word)?;
-        text.push_str(",")?;
+        write!(text, " {coefficient}").expect(rt, "memory");
+        write_word(rt, text, quiver, word);
+        text.push_str(",").expect(rt, "memory");
     }
-    write!(text, " scale {}\n", made.scale)
+    write!(text, " scale {}\n", made.scale).expect(rt, "memory");
 }
 
 fn write_cause(text: &mut String, cause: Cause) -> Result<(), AllocError> {
@@ -197,193 +193,165 @@ fn write_cause(text: &mut String, cause: Cause) -> Result<(), AllocError> {
 }
 
 /// Writes why and where a run halted.
-pub fn write_halt(text: &mut String, quiver: &Quiver, halt: &Halt) -> Result<(), AllocError> {
-    write_cause(text, halt.cause)?;
+pub fn write_halt(rt: &impl Abort, text: &mut String, quiver: &Quiver, halt: &Halt) {
+    write_cause(text, halt.cause).expect(rt, "memory");
     if let Place::Round(number) = halt.place {
-        write!(text, " at round {number}")?;
+        write!(text, " at round {number}").expect(rt, "memory");
     }
     if let Some(word) = &halt.least {
-        text.push_str(" least")?;
-        write_word(text, quiver, word)?;
-    }
-    Ok(())
-}
-
-fn write_step(text: &mut String, quiver: &Quiver, step: &Step) -> Result<(), AllocError> {
-    match step {
-        Step::Went => text.push_str("went"),
-        Step::Closed => text.push_str("closed"),
-        Step::Stopped(halt) => {
-            text.push_str("stopped ")?;
-            write_halt(text, quiver, halt)
-        }
+        text.push_str(" least").expect(rt, "memory");
+        write_word(rt, text, quiver, word);
     }
 }
 
-fn kind_name(kind: Kind) -> &'static str {
-    match kind {
-        Kind::Overlap => "Overlap",
-        Kind::Inclusion => "Inclusion",
+fn write_step(rt: &impl Abort, text: &mut String, quiver: &Quiver, step: &Step) {
+    let name = match step {
+        Step::Went => "went ",
+        Step::Closed => "closed ",
+        Step::Stopped(_) => "stopped ",
+    };
+    text.push_str(name).expect(rt, "memory");
+    if let Step::Stopped(halt) = step {
+        write_halt(rt, text, quiver, halt);
+        text.push_str(" ").expect(rt, "memory");
     }
 }
 
-// Writes the numbers of rules and of pending ambiguities, and the first of these with its word.
-fn write_state(
+// Writes the first of the pending ambiguities with its word.
+fn write_first(
+    rt: &impl Abort,
     text: &mut String,
     quiver: &Quiver,
+    which: &Ambiguity,
+    word: &Word,
+) {
+    let kind = match which.kind {
+        Kind::Overlap => "Overlap",
+        Kind::Inclusion => "Inclusion",
+    };
+    let Ambiguity { i, j, place, .. } = *which;
+    write!(text, " first {i} {j} {kind} {place}").expect(rt, "memory");
+    write_word(rt, text, quiver, word);
+}
+
+// Writes a line with the step, the numbers of rules and of pending ambiguities, and the first of these.
+fn write_state(
+    rt: &impl Abort,
+    text: &mut String,
+    quiver: &Quiver,
+    step: &Step,
     completion: &Completion,
-) -> Result<(), AllocError> {
+) {
+    write_step(rt, text, quiver, step);
     let rules = completion.rules().len();
     let pending = completion.pending();
-    write!(text, "rules {rules} pending {pending}")?;
-    if pending == 0 {
-        return Ok(());
+    write!(text, "rules {rules} pending {pending}").expect(rt, "memory");
+    if pending > 0 {
+        let (which, word) = completion.pending_at(0);
+        write_first(rt, text, quiver, which, word);
     }
-    let (which, word) = completion.pending_at(0);
-    write!(
-        text,
-        " first {} {} {} {}",
-        which.i,
-        which.j,
-        kind_name(which.kind),
-        which.place
-    )?;
-    write_word(text, quiver, word)
+    text.push('\n').expect(rt, "memory");
 }
 
 // So many calls of `round`: a line on each.
-fn rounds_text<R: Threads + Sync>(
+fn write_rounds<R: Threads + Sync + Abort>(
     rt: &R,
     alloc: Global,
+    text: &mut String,
     problem: &Problem,
     completion: &mut Completion,
     workers: u32,
     calls: u32,
-) -> Result<String, Fail>
+)
     requires started { IsCompletionOf problem.now completion.old }
     requires some_worker { 0 < workers }
     requires few_workers { workers ≤ worker_limit }
 {
-    let quiver = &problem.parts.quiver;
-    let mut text = String::new(alloc);
     for _ in 0..calls {
-        let step = completion.round(rt, alloc, problem, workers, &OpenGate)?;
-        write_step(&mut text, quiver, &step)?;
-        text.push_str(" ")?;
-        write_state(&mut text, quiver, completion)?;
-        text.push_str("\n")?;
+        let step = completion.round(rt, alloc, problem, workers, &OpenGate);
+        let step = step.expect(rt, "memory");
+        write_state(rt, text, &problem.parts.quiver, &step, completion);
     }
-    Ok(text)
 }
 
 // Writes a line on each rule.
-fn write_rules(
-    text: &mut String,
-    quiver: &Quiver,
-    completion: &Completion,
-) -> Result<(), AllocError> {
+fn write_rules(rt: &impl Abort, text: &mut String, quiver: &Quiver, completion: &Completion) {
     let rules = completion.rules().rules.as_slice();
     for (rule, made) in rules.iter().zip(completion.made()) {
-        write_rule(text, quiver, &rule.poly, made)?;
+        write_rule(rt, text, quiver, &rule.poly, made);
     }
-    Ok(())
 }
 
-// The story of so many calls of `round`, and of the rules after them.
-fn story_from<R: Threads + Sync>(
+// Writes the story of a completion from its start.
+fn write_story<R: Threads + Sync + Abort>(
     rt: &R,
     alloc: Global,
-    problem: &Problem,
-    completion: &mut Completion,
-    workers: u32,
-    calls: u32,
-) -> Result<String, Fail>
-    requires started { IsCompletionOf problem.now completion.old }
-    requires some_worker { 0 < workers }
-    requires few_workers { workers ≤ worker_limit }
-{
-    let mut text = rounds_text(rt, alloc, problem, completion, workers, calls)?;
-    write_rules(&mut text, &problem.parts.quiver, completion)?;
-    Ok(text)
-}
-
-// The story of a completion from its start.
-fn story<R: Threads + Sync>(
-    rt: &R,
-    alloc: Global,
+    text: &mut String,
     problem: &Problem,
     budget: Budget,
     workers: u32,
     calls: u32,
-) -> Result<String, Fail>
+)
     requires budget { IsBudget budget }
     requires some_worker { 0 < workers }
     requires few_workers { workers ≤ worker_limit }
 {
-    let mut completion = Completion::start(alloc, problem, budget)?;
-    story_from(rt, alloc, problem, &mut completion, workers, calls)
+    let mut completion = Completion::start(alloc, problem, budget).expect(rt, "memory");
+    write_rounds(rt, alloc, text, problem, &mut completion, workers, calls);
+    write_rules(rt, text, &problem.parts.quiver, &completion);
 }
 
 /// A budget, which must be one.
-pub fn budget_of(pairs: u32, steps: u32) -> Result<Budget, Fail>
-    ensures { IfOk result IsBudget }
+pub fn budget_of(rt: &impl Abort, pairs: u32, steps: u32) -> Budget
+    ensures { IsBudget result }
 {
     let is_budget = 1 <= pairs && pairs <= 1_000_000 && 1 <= steps && steps <= 1_000_000;
-    if is_budget {
-        Ok(Budget { pairs, steps })
-    } else {
-        Err(Fail::new("this is no budget"))
-    }
+    assert!(rt; is_budget, "this is no budget");
+    Budget { pairs, steps }
 }
 
-// The story of the problem that a statement stands for.
-fn story_of<R: Threads + Sync>(
+/// The problem that a statement stands for.
+pub fn problem_of(rt: &impl Abort, alloc: Global, statement: &[u8]) -> Problem {
+    assert!(rt;
+        statement.len() <= 1000,
+        "the statement is too long for a test"
+    );
+    let tree = read_tree(alloc, statement).expect(rt, "a statement");
+    elaborate(alloc, &tree).expect(rt, "a problem")
+}
+
+// Asserts that the story of the problem is this.
+fn tell_story<R: Threads + Sync + Abort>(
     rt: &R,
     alloc: Global,
-    made: &Result<Problem, TypeFault>,
+    problem: &Problem,
     budget: Budget,
     workers: u32,
     calls: u32,
-) -> Result<String, Fail>
+    want: &str,
+)
     requires budget { IsBudget budget }
     requires some_worker { 0 < workers }
     requires few_workers { workers ≤ worker_limit }
 {
-    match made {
-        Ok(problem) => story(rt, alloc, problem, budget, workers, calls),
-        Err(fault) => Err(Fail::new(fault)),
-    }
+    let mut text = String::new(alloc);
+    write_story(rt, alloc, &mut text, problem, budget, workers, calls);
+    equal(rt, &text.as_str(), &want, want);
 }
 
-// The same of its text.
-fn told<R: Threads + Sync>(
-    rt: &R,
-    alloc: Global,
-    statement: &[u8],
-    budget: Budget,
-    workers: u32,
-    calls: u32,
-) -> Result<String, Fail>
-    requires budget { IsBudget budget }
-    requires some_worker { 0 < workers }
-    requires few_workers { workers ≤ worker_limit }
-{
-    if statement.len() > 1000 {
-        return Err(Fail::new("the statement is too long for a test"));
+// Asserts that the story of a statement is as its row says, by one worker and by two.
+fn tell_row<R: Threads + Sync + Abort>(rt: &R, alloc: Global, row: &Row) {
+    let (statement, (pairs, steps), calls, want) = row;
+    let budget = budget_of(rt, *pairs, *steps);
+    let problem = problem_of(rt, alloc, statement);
+    for workers in 1..3 {
+        tell_story(rt, alloc, &problem, budget, workers, *calls, want);
     }
-    let tree = read_tree(alloc, statement)?;
-    story_of(rt, alloc, &elaborate(alloc, &tree), budget, workers, calls)
 }
 
 #[test]
-fn rounds_go_as_worked_out(rt: HostRuntime) -> Result<(), Fail> {
-    let alloc = rt.alloc();
-    for (statement, (pairs, steps), calls, want) in ROWS {
-        let budget = budget_of(*pairs, *steps)?;
-        for workers in 1..3 {
-            let got = told(&rt, alloc, statement, budget, workers, *calls)?;
-            assert_eq!(rt; got.as_str(), *want, "{statement:?}");
-        }
+fn rounds_go_as_worked_out(rt: HostRuntime) {
+    for row in ROWS {
+        tell_row(&rt, rt.alloc(), row);
     }
-    Ok(())
 }

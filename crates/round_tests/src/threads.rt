@@ -7,7 +7,6 @@ use in_order_parallel::{Gate, Job, OpenGate, map_in_order};
 use std::alloc::{AllocError, Global};
 use std::process::Abort;
 use std::sync::atomic::{AtomicU64, Ordering};
-use std::test::Fail;
 use std::thread::Threads;
 
 struct Doubling;
@@ -93,54 +92,72 @@ impl Job for Passes {
     }
 }
 
-fn no_passes(alloc: Global, places: usize) -> Result<Passes, AllocError> {
-    let mut counts = Vec::with_capacity(alloc, places)?;
-    for _place in 0..places {
-        counts.push(AtomicU64::new(0))?;
+// Ends the test where the answers aren't twice the numbers.
+fn tell_doubled<R: Threads + Sync + Abort, G: Gate + Sync>(
+    rt: &R,
+    alloc: Global,
+    numbers: &[u32],
+    workers: u32,
+    gate: &G,
+)
+    requires some_worker { 0 < workers }
+    requires few_workers { workers ≤ worker_limit }
+{
+    let answers = doubled(rt, alloc, numbers, workers, gate).expect(rt, "memory");
+    equal(rt, &answers.len(), &numbers.len(), "answers");
+    for (number, answer) in numbers.iter().zip(&answers) {
+        equal(rt, answer, &(2 * u64::from(*number)), "twice a number");
     }
-    Ok(Passes {
-        counts,
-        strays: AtomicU64::new(0),
-    })
 }
 
 #[test]
-fn two_items_meet_on_two_threads(rt: HostRuntime) -> Result<(), Fail> {
+fn two_items_meet_on_two_threads(rt: HostRuntime) {
     let gate = Meeting {
         flags: [AtomicU64::new(0), AtomicU64::new(0)],
         met: AtomicU64::new(0),
     };
-    let answers = doubled(&rt, rt.alloc(), &[5, 7], 2, &gate)?;
-    assert_eq!(rt; answers.as_slice(), [10, 14].as_slice());
+    tell_doubled(&rt, rt.alloc(), &[5, 7], 2, &gate);
     equal(&rt, &gate.met.load(Ordering::SeqCst), &2, "meetings");
-    Ok(())
 }
 
 #[test]
-fn answers_are_those_of_one_worker(rt: HostRuntime) -> Result<(), Fail> {
-    let alloc = rt.alloc();
-    let numbers = Vec::from_iter(alloc, 0..1000u32)?;
-    let of_one = doubled(&rt, alloc, &numbers, 1, &OpenGate)?;
-    assert_eq!(rt; of_one.last(), Some(&1998));
-    for workers in [3, 64] {
-        let answers = doubled(&rt, alloc, &numbers, workers, &OpenGate)?;
-        equal(&rt, &answers, &of_one, "as one worker");
+fn answers_are_the_same_on_any_threads(rt: HostRuntime) {
+    let numbers = Vec::from_iter(rt.alloc(), 0..1000u32).expect(&rt, "memory");
+    for workers in WORKERS {
+        tell_doubled(&rt, rt.alloc(), &numbers, *workers, &OpenGate);
     }
-    Ok(())
+}
+
+fn no_passes(rt: &impl Abort, alloc: Global, places: usize) -> Passes {
+    let mut counts = Vec::new(alloc);
+    for _place in 0..places {
+        counts.push(AtomicU64::new(0)).expect(rt, "memory");
+    }
+    Passes {
+        counts,
+        strays: AtomicU64::new(0),
+    }
+}
+
+// Ends the test where a place isn't passed once and first.
+fn pass_on<R: Threads + Sync + Abort>(rt: &R, alloc: Global, items: usize, workers: u32)
+    requires some_worker { 0 < workers }
+    requires few_workers { workers ≤ worker_limit }
+{
+    let log = no_passes(rt, alloc, items);
+    let places = Vec::from_iter(alloc, 0..items).expect(rt, "memory");
+    let answers = map_in_order(rt, alloc, &places, &log, workers, &log);
+    let answers = answers.expect(rt, "memory");
+    pass_once(rt, &log, &answers, items);
 }
 
 #[test]
-fn each_place_passes_the_gate_once_and_first(rt: HostRuntime) -> Result<(), Fail> {
-    let alloc = rt.alloc();
+fn each_place_passes_the_gate_once_and_first(rt: HostRuntime) {
     for items in ITEMS {
         for workers in WORKERS {
-            let log = no_passes(alloc, *items)?;
-            let places = Vec::from_iter(alloc, 0..*items)?;
-            let answers = map_in_order(&rt, alloc, &places, &log, *workers, &log)?;
-            pass_once(&rt, &log, &answers, *items);
+            pass_on(&rt, rt.alloc(), *items, *workers);
         }
     }
-    Ok(())
 }
 
 const ITEMS: &[usize] = &[0, 1, 2, 7, 1000];

@@ -5,7 +5,8 @@ use command_shape::usage_text;
 use flow_io::{MemoryShelf, MemorySink};
 use in_order_parallel::OpenGate;
 use lists::{Listing, Text};
-use std::alloc::{AllocError, Global};
+use std::alloc::Global;
+use std::process::Abort;
 use std::thread::Threads;
 
 /// What is told of words that are no call: their status and their report, the usage line of the command set.
@@ -15,66 +16,70 @@ pub const USAGE: &str = "2 usage line";
 pub type Row = (&'static [u8], &'static [u8], &'static str);
 
 /// The words as texts of their own.
-pub fn owned(alloc: Global, words: &[&str]) -> Result<Vec<String>, AllocError> {
+pub fn owned(rt: &impl Abort, alloc: Global, words: &[&str]) -> Vec<String> {
     let mut all = Vec::new(alloc);
     for word in words {
-        all.push(String::from_str(alloc, word)?)?;
+        let word = String::from_str(alloc, word).expect(rt, "memory");
+        all.push(word).expect(rt, "memory");
     }
-    Ok(all)
+    all
+}
+
+/// The bytes as a listing.
+pub fn listing(rt: &impl Abort, alloc: Global, bytes: &[u8]) -> Listing<u8> {
+    Listing::from_vec(bytes.to_vec(alloc).expect(rt, "memory"))
 }
 
 /// A shelf with the files `s` and `c`, of which the loads with these numbers fail.
 pub fn shelf_of(
+    rt: &impl Abort,
     alloc: Global,
     statement: &[u8],
     evidence: &[u8],
     failing: &[u64],
-) -> Result<MemoryShelf, AllocError> {
+) -> MemoryShelf {
     let mut files = Listing::new(alloc);
-    let first = Text::from_str(alloc, "s")?;
-    files.push((first, Listing::from_vec(statement.to_vec(alloc)?)))?;
-    let second = Text::from_str(alloc, "c")?;
-    files.push((second, Listing::from_vec(evidence.to_vec(alloc)?)))?;
-    MemoryShelf::new(alloc, files, Listing::from_vec(failing.to_vec(alloc)?))
+    let first = Text::from_str(alloc, "s").expect(rt, "memory");
+    let file = (first, listing(rt, alloc, statement));
+    files.push(file).expect(rt, "memory");
+    let second = Text::from_str(alloc, "c").expect(rt, "memory");
+    let file = (second, listing(rt, alloc, evidence));
+    files.push(file).expect(rt, "memory");
+    let failing = Listing::from_vec(failing.to_vec(alloc).expect(rt, "memory"));
+    MemoryShelf::new(alloc, files, failing).expect(rt, "memory")
+}
+
+// Whether the bytes are the usage line.
+fn is_usage(rt: &impl Abort, alloc: Global, bytes: &[u8]) -> bool {
+    let usage = usage_text(alloc).expect(rt, "memory");
+    bytes.strip_suffix(b"\n") == Some(usage.as_slice())
 }
 
 // The status and what was put, where the usage line is told as `USAGE`.
-fn told(alloc: Global, status: u8, sink: &MemorySink) -> Result<String, AllocError> {
-    let mut usage = usage_text(alloc)?;
-    usage.push(b'\n')?;
-    if status == 2 && sink.finished() && sink.bytes() == usage.as_slice() {
-        return String::from_str(alloc, USAGE);
+fn told(rt: &impl Abort, alloc: Global, status: u8, sink: &MemorySink) -> String {
+    let mut put = std::str::from_utf8(sink.bytes()).unwrap_or("bytes that are no text");
+    if status == 2 && is_usage(rt, alloc, sink.bytes()) {
+        put = "usage line";
     }
     let end = if sink.finished() { "" } else { " not finished" };
-    match std::str::from_utf8(sink.bytes()) {
-        Ok(put) => format!(in alloc; "{status} {put}{end}"),
-        Err(_) => String::from_str(alloc, "bytes that are no text"),
-    }
+    format!(in alloc; "{status} {put}{end}").expect(rt, "memory")
 }
 
-/// The status of a run over a statement and a text of evidence, and what it puts into the sink.
-pub fn answer_into<R: Threads + Sync>(
+// Room for a long report, of which no more is touched than is put.
+const ROOM: usize = 50_000_000;
+
+/// The status of a run over a statement and a text of evidence, and what it puts into a sink that takes eight bytes a put.
+pub fn answer<R: Threads + Sync + Abort>(
     rt: &R,
     alloc: Global,
     words: &[&str],
     statement: &[u8],
     evidence: &[u8],
-    sink: &mut MemorySink,
-) -> Result<String, AllocError> {
-    let words = owned(alloc, words)?;
-    let mut shelf = shelf_of(alloc, statement, evidence, &[])?;
-    let status = run(rt, alloc, &Parity, &words, &mut shelf, sink, &OpenGate);
-    told(alloc, status, sink)
-}
-
-/// The same into a sink with room for a short report, which takes eight bytes a put.
-pub fn answer<R: Threads + Sync>(
-    rt: &R,
-    alloc: Global,
-    words: &[&str],
-    statement: &[u8],
-    evidence: &[u8],
-) -> Result<String, AllocError> {
-    let mut sink = MemorySink::new(alloc, 8, 100_000, Listing::new(alloc))?;
-    answer_into(rt, alloc, words, statement, evidence, &mut sink)
+) -> String {
+    let words = owned(rt, alloc, words);
+    let mut shelf = shelf_of(rt, alloc, statement, evidence, &[]);
+    let sink = MemorySink::new(alloc, 8, ROOM, Listing::new(alloc));
+    let mut sink = sink.expect(rt, "memory");
+    let status = run(rt, alloc, &Parity, &words, &mut shelf, &mut sink, &OpenGate);
+    told(rt, alloc, status, &sink)
 }

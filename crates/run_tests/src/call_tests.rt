@@ -4,10 +4,10 @@ use crate::comparing::equal;
 use crate::telling::tell;
 use category_laws::Parity;
 use command_runs::run;
-use flow_io::{MemoryShelf, MemorySink};
+use flow_io::MemorySink;
 use in_order_parallel::OpenGate;
 use lists::Listing;
-use std::alloc::{AllocError, Global};
+use std::alloc::Global;
 use std::process::Abort;
 use std::thread::Threads;
 
@@ -38,6 +38,8 @@ const NO_BLOCK: &str = "7 # refused K7\n";
 
 const CUT_OFF: &str = "7 # refused K6\n";
 
+const WHOLE: &str = "0 # block 1 accepted claim 1 denominator 1\n";
+
 // The numbers of the loads and of the calls of the sink that fail, the status, the bytes that are put, and the numbers of loads and of
 // calls of the sink.
 type Row = (&'static [u64], &'static [u64], u8, &'static str, (u64, u64));
@@ -61,36 +63,12 @@ const CALLS: &[Row] = &[
     (&[1], &[1], 5, "", (1, 1)),
 ];
 
-fn sink(alloc: Global, failing: &[u64]) -> Result<MemorySink, AllocError> {
-    MemorySink::new(alloc, 8, 1000, Listing::from_vec(failing.to_vec(alloc)?))
-}
-
-// What a run did: its status, what is put, and the numbers of loads and of calls of the sink.
+// What a run did: its status, what is put, the numbers of loads and of calls of the sink, and whether the output was finished.
 #[derive(Drop)]
 struct Done {
     status: u8,
-    put: Vec<u8>,
+    sink: MemorySink,
     loads: u64,
-    calls: u64,
-    finished: bool,
-}
-
-fn done_with<R: Threads + Sync>(
-    rt: &R,
-    alloc: Global,
-    words: &[&str],
-    shelf: &mut MemoryShelf,
-    sink: &mut MemorySink,
-) -> Result<Done, AllocError> {
-    let words = owned(alloc, words)?;
-    let status = run(rt, alloc, &Parity, &words, shelf, sink, &OpenGate);
-    Ok(Done {
-        status,
-        put: sink.bytes().to_vec(alloc)?,
-        loads: shelf.loads(),
-        calls: sink.calls(),
-        finished: sink.finished(),
-    })
 }
 
 // What a run does over the statement, where these loads and these calls of the sink fail.
@@ -102,37 +80,41 @@ fn done_over<R: Threads + Sync + Abort>(
     loads: &[u64],
     puts: &[u64],
 ) -> Done {
-    let shelf = shelf_of(alloc, statement, EVIDENCE.as_bytes(), loads);
-    let mut shelf = shelf.expect(rt, "memory");
-    let mut sink = sink(alloc, puts).expect(rt, "memory");
-    done_with(rt, alloc, words, &mut shelf, &mut sink).expect(rt, "memory")
+    let words = owned(rt, alloc, words);
+    let mut shelf = shelf_of(rt, alloc, statement, EVIDENCE.as_bytes(), loads);
+    let failing = Listing::from_vec(puts.to_vec(alloc).expect(rt, "memory"));
+    let sink = MemorySink::new(alloc, 8, 1000, failing);
+    let mut sink = sink.expect(rt, "memory");
+    let status = run(rt, alloc, &Parity, &words, &mut shelf, &mut sink, &OpenGate);
+    let loads = shelf.loads();
+    Done {
+        status,
+        sink,
+        loads,
+    }
+}
+
+// Asserts that a run does no more: its status, the bytes that are put, and the numbers of loads and of calls of the sink.
+fn tell_done(rt: &impl Abort, done: &Done, status: u8, put: &[u8], calls: (u64, u64)) {
+    let sink = &done.sink;
+    let got = (done.status, sink.bytes(), (done.loads, sink.calls()));
+    equal(rt, &got, &(status, put, calls), "what is done");
+    equal(rt, &sink.finished(), &(status != 5), "whether it is whole");
 }
 
 #[test]
 fn no_call_comes_after_one_that_failed(rt: HostRuntime) {
     for (loads, puts, status, put, calls) in CALLS {
         let done = done_over(&rt, rt.alloc(), CHECK, INVERSES, loads, puts);
-        equal(&rt, &(done.loads, done.calls), calls, put);
-        equal(&rt, &done.put.as_slice(), &put.as_bytes(), put);
-        let is_whole = done.status != 5;
-        equal(
-            &rt,
-            &(done.status, done.finished),
-            &(*status, is_whole),
-            put,
-        );
+        tell_done(&rt, &done, *status, put.as_bytes(), *calls);
     }
 }
 
 #[test]
 fn both_files_are_loaded_before_the_statement_is_read(rt: HostRuntime) {
     let done = done_over(&rt, rt.alloc(), CHECK, FAULTY, &[], &[]);
-    equal(
-        &rt,
-        &(done.status, done.loads),
-        &(3, 2),
-        "a faulty statement",
-    );
+    let got = (done.status, done.loads);
+    equal(&rt, &got, &(3, 2), "a faulty statement");
 }
 
 // Ends the test where a report is not cut, at each of so many calls of the sink, to the bytes that were put before it.
@@ -148,9 +130,7 @@ fn cut_at_each<R: Threads + Sync + Abort>(
         let number = u64::from(before) + 1;
         let done = done_over(rt, alloc, words, DOUBLED, &[], &[number]);
         let put = &bytes[..bytes.len().min(8 * usize::from(before))];
-        equal(rt, &done.put.as_slice(), &put, report);
-        equal(rt, &(done.status, done.calls), &(5, number), report);
-        equal(rt, &done.finished, &false, report);
+        tell_done(rt, &done, 5, put, (1, number));
     }
 }
 
@@ -163,12 +143,13 @@ fn a_report_is_cut_at_each_call_that_fails(rt: HostRuntime) {
 
 #[test]
 fn a_certificate_is_refused_up_to_its_last_line(rt: HostRuntime) {
-    let mut first = String::new(rt.alloc());
-    for line in EVIDENCE.lines() {
-        let want = if first.is_empty() { NO_BLOCK } else { CUT_OFF };
-        tell(&rt, rt.alloc(), CHECK, INVERSES, first.as_bytes(), want);
-        write!(first, "{line}\n").expect(&rt, "memory");
+    let bytes = EVIDENCE.as_bytes();
+    tell(&rt, rt.alloc(), CHECK, INVERSES, b"", NO_BLOCK);
+    for (place, byte) in bytes.iter().enumerate() {
+        if *byte == b'\n' {
+            let is_whole = place + 1 == bytes.len();
+            let want = if is_whole { WHOLE } else { CUT_OFF };
+            tell(&rt, rt.alloc(), CHECK, INVERSES, &bytes[..=place], want);
+        }
     }
-    let want = "0 # block 1 accepted claim 1 denominator 1\n";
-    tell(&rt, rt.alloc(), CHECK, INVERSES, first.as_bytes(), want);
 }

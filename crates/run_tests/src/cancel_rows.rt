@@ -21,12 +21,15 @@ pub const SOUND: Row = (
 );
 
 /// Proofs that are accepted.
-pub const ACCEPTED: &[Row] = &[(
-    FRONT,
-    b"cancellation 1\nclaim 1\ndenominator 1\nmonic a\nlemma 1 scale 1\nrow 1 () 1 ()\ncancel 2 a left 1\ngoal scale 1\n\
+pub const ACCEPTED: &[Row] = &[
+    SOUND,
+    (
+        FRONT,
+        b"cancellation 1\nclaim 1\ndenominator 1\nmonic a\nlemma 1 scale 1\nrow 1 () 1 ()\ncancel 2 a left 1\ngoal scale 1\n\
           row 1 () lemma 2 ()\nend\n",
-    "0 # block 1 accepted claim 1 denominator 1 monic a\n",
-)];
+        "0 # block 1 accepted claim 1 denominator 1 monic a\n",
+    ),
+];
 
 /// Items that take off what does not come off.
 pub const LETTERS: &[Row] = &[

@@ -2,18 +2,16 @@
 use crate::cancel_rows::{
     ACCEPTED, BLOCKS, CALLS, CANCELLATIONS, ITEMS, KEPT, LETTERS, ROWS, SOUND,
 };
-use crate::telling::{tell, tell_all, tell_limits, tell_words};
+use crate::telling::{tell_all, tell_limits, tell_words};
 
 const CANCEL: &[&str] = &["cancel", "s", "c"];
 
 #[test]
 fn letters_come_off_that_are_declared(rt: HostRuntime) {
-    let alloc = rt.alloc();
-    tell(&rt, alloc, CANCEL, SOUND.0, SOUND.1, SOUND.2);
-    tell_all(&rt, alloc, CANCEL, ACCEPTED);
-    tell_all(&rt, alloc, CANCEL, CANCELLATIONS);
-    tell_all(&rt, alloc, CANCEL, LETTERS);
-    tell_words(&rt, alloc, CALLS, SOUND.0, SOUND.1);
+    tell_all(&rt, rt.alloc(), CANCEL, ACCEPTED);
+    tell_all(&rt, rt.alloc(), CANCEL, CANCELLATIONS);
+    tell_all(&rt, rt.alloc(), CANCEL, LETTERS);
+    tell_words(&rt, rt.alloc(), CALLS, SOUND.0, SOUND.1);
 }
 
 #[test]

@@ -1,19 +1,17 @@
 //! Runs of `confirm`.
-use crate::answers::answer;
 use crate::confirm_rows::{
     BLOCKS, CALLS, COUNTED, GROWN, REPORTS, RULES, SHARP, SOUND, STEPS, TERMS, TEXTS, WORDS,
 };
-use crate::telling::{tell, tell_all, tell_limits, tell_words};
+use crate::telling::{tell_all, tell_limits, tell_report, tell_words};
 
 const CONFIRM: &[&str] = &["confirm", "s", "c"];
 
 #[test]
 fn bases_are_closed_or_refused(rt: HostRuntime) {
-    let alloc = rt.alloc();
-    tell_all(&rt, alloc, CONFIRM, BLOCKS);
-    tell_all(&rt, alloc, CONFIRM, SHARP);
-    tell_all(&rt, alloc, CONFIRM, TEXTS);
-    tell_words(&rt, alloc, CALLS, SOUND.0, SOUND.1);
+    tell_all(&rt, rt.alloc(), CONFIRM, BLOCKS);
+    tell_all(&rt, rt.alloc(), CONFIRM, SHARP);
+    tell_all(&rt, rt.alloc(), CONFIRM, TEXTS);
+    tell_words(&rt, rt.alloc(), CALLS, SOUND.0, SOUND.1);
 }
 
 #[test]
@@ -28,10 +26,8 @@ fn words_rules_steps_and_blocks_of_bases_are_limited(rt: HostRuntime) {
 
 #[test]
 fn bases_of_reports_are_closed(rt: HostRuntime) {
-    let alloc = rt.alloc();
+    let words: (&[&str], &[&str]) = (&["prove", "s"], CONFIRM);
     for (statement, status, want) in REPORTS {
-        let told = answer(&rt, alloc, &["prove", "s"], statement, b"").expect(&rt, "memory");
-        let report = told.as_str().strip_prefix(status).unwrap_or("");
-        tell(&rt, alloc, CONFIRM, statement, report.as_bytes(), want);
+        tell_report(&rt, rt.alloc(), words, statement, status, want);
     }
 }

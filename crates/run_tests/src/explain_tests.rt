@@ -1,20 +1,14 @@
 //! Runs of `explain`.
-use crate::answers::{answer, answer_into};
 use crate::explain_rows::{
-    BLOCKS, CALLS, CHECKED, GROWN, LENGTHS, LONG_WORDS, REPORTS, SIZES, STEPS, TEXTS,
+    BLOCKS, CALLS, CHECKED, GROWN, LENGTHS, LONG_WORDS, REPORTS, ReportRow, SIZES, STEPS, TEXTS,
 };
-use crate::parts::{LimitRow, text_of};
-use crate::telling::{tell, tell_limits};
-use flow_io::MemorySink;
-use lists::Listing;
-use std::alloc::{AllocError, Global};
+use crate::parts::text_of;
+use crate::telling::{tell_limits, tell_report};
+use std::alloc::Global;
 use std::process::Abort;
 use std::thread::Threads;
 
-// How many bytes a put takes at most, and all of them.
-const MOST_PER_PUT: usize = 65_536;
-
-const ROOM: usize = 50_000_000;
+const EXPLAIN: &[&str] = &["explain", "s", "c"];
 
 #[test]
 fn certificates_are_explained_or_refused(rt: HostRuntime) {
@@ -32,60 +26,23 @@ fn words_and_numbers_of_steps_are_limited(rt: HostRuntime) {
 }
 
 #[test]
-fn reports_are_explained(rt: HostRuntime) {
-    let alloc = rt.alloc();
-    for (statement, words, want) in REPORTS {
-        let statement = text_of(alloc, statement).expect(&rt, "memory");
-        let statement = statement.as_bytes();
-        let told = answer(&rt, alloc, words, statement, b"").expect(&rt, "memory");
-        let report = told.as_str().strip_prefix("0 ").unwrap_or("").as_bytes();
-        let want = text_of(alloc, want).expect(&rt, "memory");
-        tell(
-            &rt,
-            alloc,
-            &["explain", "s", "c"],
-            statement,
-            report,
-            want.as_str(),
-        );
-    }
+fn lines_and_chains_are_limited(rt: HostRuntime) {
+    tell_limits(&rt, rt.alloc(), SIZES);
+    tell_limits(&rt, rt.alloc(), LENGTHS);
 }
 
-// The status of a run and what is put, into a sink with room for a long report.
-fn long_answer<R: Threads + Sync>(
-    rt: &R,
-    alloc: Global,
-    words: &[&str],
-    statement: &str,
-    evidence: &str,
-) -> Result<String, AllocError> {
-    let mut sink = MemorySink::new(alloc, MOST_PER_PUT, ROOM, Listing::new(alloc))?;
-    answer_into(
-        rt,
-        alloc,
-        words,
-        statement.as_bytes(),
-        evidence.as_bytes(),
-        &mut sink,
-    )
-}
-
-// Asserts that the words of each row are answered so over its files, by a long report.
-fn tell_long<R: Threads + Sync + Abort>(rt: &R, alloc: Global, rows: &[LimitRow]) {
-    for (place, (words, statement, evidence, want)) in rows.iter().enumerate() {
-        let statement = text_of(alloc, statement).expect(rt, "memory");
-        let evidence = text_of(alloc, evidence).expect(rt, "memory");
-        let got = long_answer(rt, alloc, words, statement.as_str(), evidence.as_str());
-        let want = text_of(alloc, want).expect(rt, "memory");
-        assert!(rt;
-            got.expect(rt, "memory").as_str() == want.as_str(),
-            "row {place}"
-        );
-    }
+// Asserts that the report of the words over the statement is explained so.
+fn tell_explained<R: Threads + Sync + Abort>(rt: &R, alloc: Global, row: &ReportRow) {
+    let (statement, words, want) = row;
+    let statement = text_of(rt, alloc, statement);
+    let want = text_of(rt, alloc, want);
+    let words = (*words, EXPLAIN);
+    tell_report(rt, alloc, words, statement.as_bytes(), "0 ", want.as_str());
 }
 
 #[test]
-fn lines_and_chains_are_limited(rt: HostRuntime) {
-    tell_long(&rt, rt.alloc(), SIZES);
-    tell_long(&rt, rt.alloc(), LENGTHS);
+fn reports_are_explained(rt: HostRuntime) {
+    for row in REPORTS {
+        tell_explained(&rt, rt.alloc(), row);
+    }
 }

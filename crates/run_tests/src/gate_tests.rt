@@ -7,7 +7,8 @@ use command_runs::run;
 use flow_io::MemorySink;
 use in_order_parallel::Gate;
 use lists::Listing;
-use std::alloc::{AllocError, Global};
+use std::alloc::Global;
+use std::process::Abort;
 use std::sync::atomic::{AtomicU64, Ordering};
 use std::thread::Threads;
 
@@ -22,47 +23,27 @@ const WORDS: &[&str] = &[
 ];
 
 // A letter 34 times, which overlaps itself at 33 places: a statement with one claim, and the same with two.
-const POWERS: &[&[u8]] = &[
-    b"object U\nmap a : U -> U\nassume a a a a a a a a a a a a a a a a a a a a a a a a a a a a a a a a a a = 0\nclaim a = 0\n",
-    b"object U\nmap a : U -> U\nassume a a a a a a a a a a a a a a a a a a a a a a a a a a a a a a a a a a = 0\nclaim a = 0\nclaim a = 0\n",
-];
+const ONE_CLAIM: &[u8] =
+    b"object U\nmap a : U -> U\nassume a a a a a a a a a a a a a a a a a a a a a a a a a a a a a a a a a a = 0\nclaim a = 0\n";
+
+const TWO_CLAIMS: &[u8] =
+    b"object U\nmap a : U -> U\nassume a a a a a a a a a a a a a a a a a a a a a a a a a a a a a a a a a a = 0\nclaim a = 0\nclaim a = 0\n";
 
 // A true claim with one shape of side 1 modulo 2.
 const TWO_CANDIDATES: &[u8] = b"object U\nmap a : U -> U\nclaim a = a\nmodel 2 U 1\n";
 
-// How many reductions passed.
-#[derive(Drop)]
-struct Counting {
-    passed: AtomicU64,
-}
-
-impl Gate for Counting {
-    fn pass(&self, _item: usize) {
-        self.passed.fetch_add(1, Ordering::SeqCst);
-    }
-}
-
-// Each item sets its flag, and then waits for another item's.
+// Each item is counted, and then waits for another one.
 #[derive(Drop)]
 struct Meeting {
-    flags: Vec<AtomicU64>,
+    passed: AtomicU64,
     met: AtomicU64,
 }
 
-impl Meeting {
-    fn sees_another(&self, item: usize) -> bool {
-        self.flags.iter().enumerate().any(|(place, flag)| place != item
-            && flag.load(Ordering::SeqCst) == 1)
-    }
-}
-
 impl Gate for Meeting {
-    fn pass(&self, item: usize) {
-        if let Some(flag) = self.flags.get(item) {
-            flag.store(1, Ordering::SeqCst);
-        }
+    fn pass(&self, _item: usize) {
+        self.passed.fetch_add(1, Ordering::SeqCst);
         for _ in 0..50_000_000u32 {
-            if self.sees_another(item) {
+            if self.passed.load(Ordering::SeqCst) > 1 {
                 self.met.fetch_add(1, Ordering::SeqCst);
                 return;
             }
@@ -70,57 +51,40 @@ impl Gate for Meeting {
     }
 }
 
-// The status of a run over the statement.
-fn status<R: Threads + Sync, G: Gate + Sync>(
+// Asserts that a run over the statement has this status, and that so many items pass the gate and meet another.
+fn tell_meetings<R: Threads + Sync + Abort>(
     rt: &R,
     alloc: Global,
-    call: &[&str],
+    words: &[&str],
     statement: &[u8],
-    gate: &G,
-) -> Result<u8, AllocError> {
-    let words = owned(alloc, call)?;
-    let mut shelf = shelf_of(alloc, statement, b"", &[])?;
-    let mut sink = MemorySink::new(alloc, 8, 1000, Listing::new(alloc))?;
-    Ok(run(rt, alloc, &Parity, &words, &mut shelf, &mut sink, gate))
+    want: (u8, u64),
+) {
+    let gate = Meeting {
+        passed: AtomicU64::new(0),
+        met: AtomicU64::new(0),
+    };
+    let words = owned(rt, alloc, words);
+    let mut shelf = shelf_of(rt, alloc, statement, b"", &[]);
+    let sink = MemorySink::new(alloc, 8, 1000, Listing::new(alloc));
+    let mut sink = sink.expect(rt, "memory");
+    let status = run(rt, alloc, &Parity, &words, &mut shelf, &mut sink, &gate);
+    let passed = gate.passed.load(Ordering::SeqCst);
+    equal(rt, &(status, passed), &want, "the status, and what passes");
+    equal(rt, &gate.met.load(Ordering::SeqCst), &want.1, "meetings");
 }
 
 #[test]
 fn claims_share_one_run(rt: HostRuntime) {
-    for statement in POWERS {
-        let gate = Counting {
-            passed: AtomicU64::new(0),
-        };
-        let ended = status(&rt, rt.alloc(), WORDS, statement, &gate);
-        equal(&rt, &ended.expect(&rt, "memory"), &10, "the status");
-        equal(&rt, &gate.passed.load(Ordering::SeqCst), &33, "reductions");
-    }
-}
-
-// So many flags, none of which is set.
-fn meeting_of(alloc: Global, items: u32) -> Result<Meeting, AllocError> {
-    let mut flags = Vec::new(alloc);
-    for _ in 0..items {
-        flags.push(AtomicU64::new(0))?;
-    }
-    Ok(Meeting {
-        flags,
-        met: AtomicU64::new(0),
-    })
+    tell_meetings(&rt, rt.alloc(), WORDS, TWO_CLAIMS, (10, 33));
 }
 
 #[test]
 fn reductions_of_a_round_meet(rt: HostRuntime) {
-    let gate = meeting_of(rt.alloc(), 32).expect(&rt, "memory");
-    let ended = status(&rt, rt.alloc(), WORDS, POWERS[0], &gate);
-    equal(&rt, &ended.expect(&rt, "memory"), &10, "the status");
-    equal(&rt, &gate.met.load(Ordering::SeqCst), &33, "meetings");
+    tell_meetings(&rt, rt.alloc(), WORDS, ONE_CLAIM, (10, 33));
 }
 
 #[test]
 fn candidates_of_a_block_meet(rt: HostRuntime) {
-    let gate = meeting_of(rt.alloc(), 2).expect(&rt, "memory");
     let words = &["refute", "s", "--workers", "2"];
-    let ended = status(&rt, rt.alloc(), words, TWO_CANDIDATES, &gate);
-    equal(&rt, &ended.expect(&rt, "memory"), &13, "the status");
-    equal(&rt, &gate.met.load(Ordering::SeqCst), &2, "meetings");
+    tell_meetings(&rt, rt.alloc(), words, TWO_CANDIDATES, (13, 2));
 }

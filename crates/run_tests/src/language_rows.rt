@@ -1,13 +1,12 @@
 //! Statements of both languages: powers, elimination, a thousand maps; worked out by hand.
+use crate::answers::Row;
 use crate::decided_rows::CallRow;
+use crate::gallery_rows::MOORE_PENROSE_UNIQUE;
 use crate::parts::LimitRow;
 use crate::parts::Part::{Numbers, Plain};
 
 /// A statement, and the status with the report of `prove`.
 pub type Told = (&'static [u8], &'static str);
-
-/// The word of `check` or `model`, a statement, a text of evidence, and the status with the report.
-pub type JudgedRow = (&'static str, &'static [u8], &'static [u8], &'static str);
 
 const PROVE: &[&str] = &["prove", "s"];
 
@@ -420,28 +419,28 @@ pub const ORDERS: &[CallRow] = &[
     ),
 ];
 
-/// Evidence that is judged over files of the second language.
-pub const EVIDENCE: &[JudgedRow] = &[
+/// Certificates that are judged over files of the second language.
+pub const CERTIFICATES: &[Row] = &[
     (
-        "check",
         b"language 2\nobject U\nmap a b : U -> U\nassume a^2 = b\nclaim b = a^2\n",
         b"certificate 1\nclaim 1\ndenominator 1\nrow 1 () 2 ()\nend\n",
         "7 # block 1 refused C2 row 1\n",
     ),
     (
-        "check",
         b"language 2\nobject U\nmap a b : U -> U\nassume a^2 = b\nclaim b' = a'^2\n",
         b"certificate 1\nclaim 1\ndenominator 1\nrow -1 () 2 ()\nend\n",
         "0 # block 1 accepted claim 1 denominator 1\n",
     ),
+];
+
+/// Models that are judged over files of the second language.
+pub const MODELS: &[Row] = &[
     (
-        "model",
         b"language 2\nobject U\nmap a b : U -> U\nassume (a b)^2 = 0\nclaim a^2 = 0\nmodel 2 U 2\n",
         b"model 1\nclaim 1\nmodulus 5\nside U 2\nmap a = 0 1 ; 0 1\nmap b = 1 0 ; 0 0\nend\n",
         "0 # block 1 confirmed claim 1\n",
     ),
     (
-        "model",
         b"language 2\nobject U\nmap a b : U -> U\nassume (a b)^2 = 0\nclaim a^2 = 0\n",
         b"model 1\nclaim 1\nmodulus 5\nside U 2\nmap a = 1 1 ; 0 0\nmap b = 1 0 ; 0 0\nend\n",
         "7 # block 1 refused M4 assumption 1\n",
@@ -504,7 +503,7 @@ pub const MAP_LIMITS: &[LimitRow] = &[
     ),
 ];
 
-/// The words, a statement with powers, and the same with its powers written out.
+/// The words, a statement with powers, and the same with its powers written out: a power is what it stands for.
 pub const WRITTEN_OUT: &[(&[&str], &[u8], &[u8])] = &[
     (
         &["prove", "s"],
@@ -530,5 +529,11 @@ pub const WRITTEN_OUT: &[(&[&str], &[u8], &[u8])] = &[
         &["prove", "s"],
         b"language 2\nobject U\nmap a b : U -> U\nassume [U]^3 a - (a + b)^2 = 0\nclaim a = b\n",
         b"object U\nmap a b : U -> U\nassume [U] [U] [U] a - (a + b) (a + b) = 0\nclaim a = b\n",
+    ),
+    // where a lone order of elimination leaves each comparison as it was, so does it leave the report
+    (
+        &["prove", "s"],
+        b"language 2\nobject U V\nmap a : U -> V\nmap x y : V -> U\npinv a x\npinv a y\nclaim x = y\neliminate a x y\n",
+        MOORE_PENROSE_UNIQUE,
     ),
 ];

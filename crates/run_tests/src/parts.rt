@@ -1,5 +1,6 @@
 //! Texts that are put together from parts, and rows of such files with the answer over them.
-use std::alloc::{AllocError, Global};
+use std::alloc::Global;
+use std::process::Abort;
 
 /// A part of a text.
 pub enum Part {
@@ -40,156 +41,121 @@ const MASKS: &[u32] = &[
 ];
 
 // Appends a text so many times.
-fn push_times(text: &mut String, piece: &str, count: u32) -> Result<(), AllocError> {
+fn push_times(rt: &impl Abort, text: &mut String, piece: &str, count: u32) {
     for _ in 0..count {
-        text.push_str(piece)?;
+        text.push_str(piece).expect(rt, "memory");
     }
-    Ok(())
 }
 
 // Appends the numbers from one to another.
 fn push_numbers(
+    rt: &impl Abort,
     text: &mut String,
     (first, last): (u32, u32),
     (before, after, sign): (&str, &str, &str),
-) -> Result<(), AllocError> {
+) {
     for number in first..=last {
         let sign = if number > first { sign } else { "" };
-        write!(text, "{sign}{before}{number}{after}")?;
+        write!(text, "{sign}{before}{number}{after}").expect(rt, "memory");
     }
-    Ok(())
 }
 
-// Appends the terms m100 m200 to m1 m1, the greatest first, each with a text behind it.
-fn push_products(text: &mut String, sign: &str, behind: &str) -> Result<(), AllocError> {
+// Appends the terms m100 m200 to m1 m1, the greatest first, each with a text so many times behind it.
+fn push_products(rt: &impl Abort, text: &mut String, sign: &str, behind: &str, count: u32) {
     for left in 0..100u32 {
         for right in 0..200u32 {
-            if left + right > 0 {
-                text.push_str(sign)?;
-            }
-            write!(text, "m{} m{}", 100 - left, 200 - right)?;
-            text.push_str(behind)?;
+            push_times(rt, text, sign, (left + right).min(1));
+            write!(text, "m{} m{}", 100 - left, 200 - right).expect(rt, "memory");
+            push_times(rt, text, behind, count);
         }
     }
-    Ok(())
 }
 
 // Appends terms by falling numbers.
 fn push_falling(
+    rt: &impl Abort,
     text: &mut String,
     before: &str,
     count: u32,
     behind: &[(&str, u32)],
     sign: &str,
-) -> Result<(), AllocError> {
+) {
     for place in 0..count {
-        if place > 0 {
-            text.push_str(sign)?;
-        }
-        write!(text, "{before}{}", count - 1 - place)?;
+        let sign = if place > 0 { sign } else { "" };
+        write!(text, "{sign}{before}{}", count - 1 - place).expect(rt, "memory");
         for (piece, times) in behind {
-            push_times(text, piece, *times)?;
+            push_times(rt, text, piece, *times);
         }
     }
-    Ok(())
 }
 
 // Appends the greatest words of 15 letters.
-fn push_words(text: &mut String, count: u32) -> Result<(), AllocError> {
+fn push_words(rt: &impl Abort, text: &mut String, count: u32) {
     for number in 0..count {
-        if number > 0 {
-            text.push_str(" + ")?;
-        }
+        push_times(rt, text, " + ", number.min(1));
         for mask in MASKS {
-            text.push_str(if number & mask > 0 { "s " } else { "t " })?;
+            let letter = if number & mask > 0 { "s " } else { "t " };
+            push_times(rt, text, letter, 1);
         }
     }
-    Ok(())
-}
-
-// The text so many times.
-fn repeated(alloc: Global, piece: &str, count: u32) -> Result<String, AllocError> {
-    let mut text = String::new(alloc);
-    push_times(&mut text, piece, count)?;
-    Ok(text)
 }
 
 // Appends rows of a certificate with 500 letters on either side.
-fn push_long_rows(
-    text: &mut String,
-    left: &str,
-    right: &str,
-    count: u32,
-) -> Result<(), AllocError> {
+fn push_long_rows(rt: &impl Abort, text: &mut String, left: &str, right: &str, count: u32) {
     for _ in 0..count {
-        text.push_str("row 0 (")?;
-        push_times(text, left, 500)?;
-        text.push_str(") 1 (")?;
-        push_times(text, right, 500)?;
-        text.push_str(")\n")?;
+        push_times(rt, text, "row 0 (", 1);
+        push_times(rt, text, left, 500);
+        push_times(rt, text, ") 1 (", 1);
+        push_times(rt, text, right, 500);
+        push_times(rt, text, ")\n", 1);
     }
-    Ok(())
 }
 
 // Appends items that take the letter off one after another.
-fn push_cancels(
-    text: &mut String,
-    letter: &str,
-    (first, last): (u32, u32),
-) -> Result<(), AllocError> {
+fn push_cancels(rt: &impl Abort, text: &mut String, letter: &str, (first, last): (u32, u32)) {
     for number in first..=last {
         let before = number.saturating_sub(1);
-        write!(text, "cancel {number} {letter} left {before}\n")?;
+        write!(text, "cancel {number} {letter} left {before}\n").expect(rt, "memory");
     }
-    Ok(())
 }
 
 // Appends the identity matrix.
-fn push_identity(text: &mut String, side: u32) -> Result<(), AllocError> {
+fn push_identity(rt: &impl Abort, text: &mut String, side: u32) {
     for row in 0..side {
-        text.push_str(if row > 0 { " ; " } else { "" })?;
-        push_times(text, "0 ", row)?;
-        text.push('1')?;
-        push_times(text, " 0", side - 1 - row)?;
+        push_times(rt, text, " ; ", row.min(1));
+        push_times(rt, text, "0 ", row);
+        push_times(rt, text, "1", 1);
+        push_times(rt, text, " 0", side - 1 - row);
     }
-    Ok(())
 }
 
-// Appends a last line up to so many bytes.
-fn pad(text: &mut String, bytes: usize) -> Result<(), AllocError> {
-    for _ in text.len()..bytes {
-        text.push('#')?;
-    }
-    Ok(())
-}
-
-fn push_part(alloc: Global, text: &mut String, part: &Part) -> Result<(), AllocError> {
+fn push_part(rt: &impl Abort, text: &mut String, part: &Part) {
     match part {
-        Part::Plain(piece) => text.push_str(piece),
-        Part::Times(piece, count) => push_times(text, piece, *count),
+        Part::Plain(piece) => push_times(rt, text, piece, 1),
+        Part::Times(piece, count) => push_times(rt, text, piece, *count),
         Part::Numbers(before, first, last, after, sign) => {
-            push_numbers(text, (*first, *last), (before, after, sign))
+            push_numbers(rt, text, (*first, *last), (before, after, sign));
         }
-        Part::Products(sign, behind, count) => {
-            let behind = repeated(alloc, behind, *count)?;
-            push_products(text, sign, behind.as_str())
-        }
+        Part::Products(sign, behind, count) => push_products(rt, text, sign, behind, *count),
         Part::Falling(before, count, behind, sign) => {
-            push_falling(text, before, *count, behind, sign)
+            push_falling(rt, text, before, *count, behind, sign);
         }
-        Part::Words(count) => push_words(text, *count),
-        Part::LongRows(left, right, count) => push_long_rows(text, left, right, *count),
-        Part::Cancels(letter, first, last) => push_cancels(text, letter, (*first, *last)),
-        Part::Identity(side) => push_identity(text, *side),
-        Part::Padding(bytes) => pad(text, *bytes),
+        Part::Words(count) => push_words(rt, text, *count),
+        Part::LongRows(left, right, count) => push_long_rows(rt, text, left, right, *count),
+        Part::Cancels(letter, first, last) => push_cancels(rt, text, letter, (*first, *last)),
+        Part::Identity(side) => push_identity(rt, text, *side),
+        Part::Padding(bytes) => {
+            let missing = bytes.saturating_sub(text.len()) as u32;
+            push_times(rt, text, "#", missing);
+        }
     }
 }
 
 /// The text that is put together from the parts.
-pub fn text_of(alloc: Global, parts: &[Part]) -> Result<String, AllocError> {
+pub fn text_of(rt: &impl Abort, alloc: Global, parts: &[Part]) -> String {
     let mut text = String::new(alloc);
     for part in parts {
-        push_part(alloc, &mut text, part)?;
+        push_part(rt, &mut text, part);
     }
-    Ok(text)
+    text
 }

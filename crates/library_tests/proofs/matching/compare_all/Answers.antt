@@ -2,19 +2,19 @@ use Rattle.std.proofs.Common.{ℕ, ◌<◌, ◌+◌, List, subst, sym, arith}
 use Rattle.std.specs.List.{All}
 use Rattle.std.proofs.lemmas.List.Elements.{All-take}
 use Rattle.library_tests.proofs.Below.{below-push}
-use Rattle.library_tests.proofs.matching.after_truncation_the_same_as_a_search_of_the_list.Goals as goal
+use Rattle.library_tests.proofs.matching.compare_all.Goals as goal
 
 pub insert-requires-clause-above : goal.insert-requires-clause-above
 insert-requires-clause-above g c =
     let number = c.loop-number.number in
     subst (λ (entries : List (List ℕ × ℕ)). All (λ e. e.1 < number) entries) (sym c.truncate.ensures)
-    (All-take (λ e. e.1 < number) c.match-number-rem50.kept c.loop-number.index c.loop-number.invariant)
+    (All-take (λ e. e.1 < number) _ c.loop-number.index c.loop-number.invariant)
 
 pub loop-number-preserved : goal.loop-number-preserved
 loop-number-preserved g c =
     let number = c.loop-number.number in
     let cut : All (λ e. e.1 < number) c.truncate.new.self =
     subst (λ (entries : List (List ℕ × ℕ)). All (λ e. e.1 < number) entries) (sym c.truncate.ensures)
-    (All-take (λ e. e.1 < number) c.match-number-rem50.kept c.loop-number.index c.loop-number.invariant) in
+    (All-take (λ e. e.1 < number) _ c.loop-number.index c.loop-number.invariant) in
     subst (λ (entries : List (List ℕ × ℕ)). All (λ e. e.1 < number + 1) entries) (sym c.insert.ensures)
     (below-push c.truncate.new.self _ number (number + 1) cut (omega arith))
