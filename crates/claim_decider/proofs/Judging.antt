@@ -1,5 +1,5 @@
 -- What the rules say of a claim.
-use Rattle.std.proofs.Common.{◌≡◌, ◌<◌, ◌≤◌, ℕ, zero, suc, List, [], ◌∷◌, length, None, Result, Ok, refl, sym, subst, ap, ◌∙◌, arith}
+use Rattle.std.proofs.Common.{◌≡◌, ◌<◌, ℕ, zero, suc, List, [], ◌∷◌, length, None, Result, Ok, refl, sym, subst, ap, ◌∙◌}
 use Rattle.std.specs.List.{All}
 use Rattle.std.proofs.lemmas.List.Elements.{All-weaker}
 use Rattle.coef_int.specs.Range.{IsCoefficient}
@@ -8,8 +8,6 @@ use Rattle.word_orders.specs.Admissible.{Compare}
 use Rattle.word_orders.specs.declared.any.AnyOrder.{AnyOrder}
 use Rattle.word_orders.specs.declared.any.OrderSpec.{OrderSpec}
 use Rattle.word_orders.specs.Specified.{made_cmp, asked_cmp}
-use Rattle.traced_rows.specs.declared.Origin.{Origin}
-use Rattle.traced_rows.specs.declared.Origin.TheVariants as origin
 use Rattle.traced_rows.specs.declared.Row.{Row}
 use Rattle.traced_rows.specs.declared.Made.{Made}
 use Rattle.traced_rows.specs.declared.evidence.Format.{Format}
@@ -27,6 +25,7 @@ use Rattle.rule_reduce.specs.Laws.{IsByRule}
 use Rattle.rule_reduce.proofs.RowsByRules.{rows_are_by_rules}
 use Rattle.rule_reduce.proofs.Multipliers.{multipliers_are_positive}
 use Rattle.traced_completion.specs.PlainRun.{Setting, IsCauseOf}
+use Rattle.traced_completion.proofs.KeptReductions.{among_first}
 use Rattle.claim_decider.specs.declared.outcome.Outcome.{Outcome}
 use Rattle.claim_decider.specs.Outcomes.{halted_at, record_of, IsProved, IsLeft, IsDoneWith, IsDoneBy}
 
@@ -74,10 +73,6 @@ done_by_zero form number round made r s o ends zero_rest proved =
     (subst (λ rest. IsDoneWith form number round made s rest o) (sym zero_rest) proved)
 
 -- the record of a claim
-among_first : (count : ℕ) (from : Origin) → IsByRule count from → IsAmongFirst count from
-among_first count (origin.Generator n) is = absurd is
-among_first count (origin.Rule n) is = let least : 1 ≤ n = omega (arith, is) in (least, is.1)
-
 pub claim_record : (letters : ℕ) (compare : Compare) (rules : List Rule) (p : List Term) (steps : ℕ) (s : State) → All (IsRule letters compare) rules
     → normal_form_of compare rules p steps ≡ Ok s → IsCoefficient s.multiplier → All (λ row. IsCoefficient row.coef) s.rows → IsRecord (length rules) (record_of s)
 claim_record letters compare rules p steps s are_rules ends multiplier rows = record {

@@ -1,10 +1,7 @@
 -- A claim has one outcome.
 use Rattle.std.proofs.Common.{◌≡◌, ◌<◌, ◌≤◌, ◌⊎◌, inl, inr, ℕ, zero, suc, List, [], ◌∷◌, length, Result, Ok, Err, refl, sym, ap, subst, ◌∙◌, arith}
-use Rattle.std.proofs.Props as std
 use Rattle.definitions.specs.Poly.{Term}
 use Rattle.word_orders.specs.Admissible.{IsAdmissible}
-use Rattle.nc_polynomial.specs.Shape.{IsCanonical}
-use Rattle.nc_polynomial.specs.declared.poly.Poly.{Poly}
 use Rattle.traced_rows.specs.declared.Made.{Made}
 use Rattle.traced_rows.specs.declared.certificate.Cofactors.{Cofactors}
 use Rattle.traced_rows.specs.declared.evidence.Format.{Format}
@@ -22,24 +19,15 @@ use Rattle.cofactor_trace.specs.Lemmas.{gathered_of}
 use Rattle.rule_reduce.specs.declared.rule.Rule.{Rule}
 use Rattle.rule_reduce.specs.declared.state.State.{State}
 use Rattle.rule_reduce.specs.declared.fault.ReduceFault.{ReduceFault}
-use Rattle.rule_reduce.specs.declared.fault.ReduceFault.TheVariants as fault
 use Rattle.rule_reduce.specs.NormalForms.{normal_form_of}
 use Rattle.traced_completion.specs.PlainRun.{Setting, RunState, Outcome as Result_of_round, start, went, closed, stopped, IsCauseOf, IsRound, IsRunState}
-use Rattle.traced_completion.proofs.UniqueRuns.{rounds_unique, states_unique}
+use Rattle.traced_completion.proofs.UniqueRuns.{same_poly, cause_one, rounds_unique, states_unique}
 use Rattle.claim_decider.specs.declared.outcome.Outcome.{Outcome}
 use Rattle.claim_decider.specs.declared.outcome.Outcome.TheVariants as outcome
 use Rattle.claim_decider.specs.Outcomes.{IsCauseOfExpansion, IsCauseOfGathering, halted_at, IsHalted, record_of, Expands, Gathers, IsProved, IsLeft, IsDoneWith, IsDoneBy, IsDone, IsOpen, IsClosedWith, evidence_of_zero, GetsOutcome, at_once, after_round, by_closing, by_stop}
 use Rattle.claim_decider.specs.OutcomeLaws.{OutcomesAreUnique}
 
 -- after one round
-canonical-prop : (p : List Term) → IsProp (IsCanonical p)
-canonical-prop p = Prim.hlevel std.props
-
-same_poly : (a b : Poly) → a.terms ≡ b.terms → a ≡ b
-same_poly a b same =
-    subst (λ (p : List Term). (c : IsCanonical p) → ◌≡◌ {A = Poly} a (record { terms = p; canonical = c })) same
-    (λ c. λ i. record { terms = a.terms; canonical = canonical-prop a.terms a.canonical c i }) b.canonical
-
 halted_once : (IsCause : Cause → Type 0) (at : Place) (one other : Outcome) → ((c d : Cause) → IsCause c → IsCause d → c ≡ d) → IsHalted IsCause at one → IsHalted IsCause at other → one ≡ other
 halted_once IsCause at one other each first second =
     first.halts ∙ ap (halted_at at) (each first.reason second.reason first.reason_of second.reason_of) ∙ sym second.halts
@@ -54,12 +42,6 @@ gathering_cause_once : (e : GatherFault) (c d : Cause) → IsCauseOfGathering e 
 gathering_cause_once (gather.Overflow o) c d first second = first ∙ sym second
 gathering_cause_once (gather.Rows letters) c d first second = first ∙ sym second
 gathering_cause_once (gather.Memory e) c d first second = absurd first
-
-reduction_cause_once : (e : ReduceFault) (c d : Cause) → IsCauseOf e c → IsCauseOf e d → c ≡ d
-reduction_cause_once (fault.Steps limit) c d first second = first ∙ sym second
-reduction_cause_once (fault.Overflow o) c d first second = first ∙ sym second
-reduction_cause_once (fault.Size s) c d first second = first ∙ sym second
-reduction_cause_once (fault.Memory e) c d first second = absurd first
 
 expands_once : (number : ℕ) (at : Place) (r : Result Cofactors ExpandFault) (one other : Outcome) → Expands number at r one → Expands number at r other → one ≡ other
 expands_once number at (Ok c) one other first second = first ∙ sym second
@@ -80,7 +62,7 @@ module _ (form : Format) (number round : ℕ) (made : List Made) where
 
   done_once : (r : Result State ReduceFault) (one other : Outcome) → IsDoneBy form number round made r one → IsDoneBy form number round made r other → one ≡ other
   done_once (Ok reduced) one other first second = done_with_once reduced reduced.rest one other first second
-  done_once (Err e) one other first second = halted_once (IsCauseOf e) (place.Claim round) one other (reduction_cause_once e) first second
+  done_once (Err e) one other first second = halted_once (IsCauseOf e) (place.Claim round) one other (cause_one e) first second
 
   not_left : (reduced : State) (rest : List Term) (o : Outcome) → 0 < length rest → IsDoneWith form number round made reduced rest o → ⊥
   not_left reduced [] o some done = omega (arith, some)

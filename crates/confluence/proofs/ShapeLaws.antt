@@ -1,7 +1,6 @@
 -- Sums, multiples and moves that go well keep polynomials sorted and in range.
-use Rattle.std.proofs.Common.{◌≡◌, ◌≢◌, ◌⊎◌, inl, inr, ℕ, zero, suc, ℤ, pos, List, [], ◌∷◌, ◌++◌, get_or, Option, Some, None, Result, Ok, Err, refl, sym, ap, ap₂, ◌∙◌, subst}
+use Rattle.std.proofs.Common.{◌≡◌, ◌≢◌, ◌⊎◌, inl, inr, ℕ, zero, suc, ℤ, pos, List, [], ◌∷◌, ◌++◌, get_or, Option, Some, None, Result, Ok, Err, refl, sym, ap, ◌∙◌, subst}
 use Rattle.std.specs.List.{All}
-use Rattle.std.proofs.Math.IntN.{*ℤ_comm}
 use Rattle.coef_int.specs.declared.Overflow.{Overflow}
 use Rattle.coef_int.specs.Operations.{product_of, first_overflow}
 use Rattle.definitions.specs.Poly.{Word, Term, poly_between}
@@ -11,7 +10,7 @@ use Rattle.word_orders.specs.Admissible.{Compare}
 use Rattle.word_orders.specs.Orders.{IsBelow}
 use Rattle.nc_polynomial.specs.declared.fault.PolyFault.{PolyFault}
 use Rattle.nc_polynomial.specs.declared.fault.PolyFault.TheVariants as fault
-use Rattle.nc_polynomial.specs.Terms.{IsDescending, keep, scaled, multiplied, multiplications, negated, shifted, products, added, sums}
+use Rattle.nc_polynomial.specs.Terms.{IsDescending, scaled, multiplied, multiplications, negated, shifted, products, added, sums}
 use Rattle.nc_polynomial.specs.Faults.{checked, unless_overflow, sized}
 use Rattle.nc_polynomial.specs.Shape.{IsShaped}
 use Rattle.nc_polynomial.specs.Arithmetic.{combined}
@@ -31,6 +30,7 @@ use Rattle.rule_reduce.specs.Choices.{choice_of}
 use Rattle.rule_reduce.specs.Steps.{Move, moved, move_of, move_result, move_operations, row_operations, state_operations, less_operations, if_sized, step_by, step_result}
 use Rattle.rule_reduce.specs.NormalForms.{halt_of, then_next, at_limit, one_step, reduction, start_of}
 use Rattle.rule_reduce.specs.KeptWords.{IsAtMostOf}
+use Rattle.rule_reduce.proofs.Exits.{multiplied-scaled}
 use Rattle.rule_reduce.proofs.Runs.{move_result-value}
 use Rattle.ambiguities.specs.SPolynomials.{first_row, second_row, row_multiple}
 use Rattle.ambiguities.proofs.Multiples.{passed}
@@ -103,10 +103,6 @@ s_polynomials_are_shaped rules a p ends =
     right.rest
 
 -- normal forms
-multiplied-scaled : (p : List Term) (k : ℤ) → multiplied p k ≡ scaled k p
-multiplied-scaled [] k = refl
-multiplied-scaled (t ∷ p) k = ap₂ (λ z rest. keep z t.1 rest) (*ℤ_comm t.0 k) (multiplied-scaled p k)
-
 shaped_multiply : (p : List Term) (k : ℤ) → IsShaped p → first_overflow (multiplications p k) ≡ None → IsShaped (multiplied p k)
 shaped_multiply p k shaped none = record {
   descending = subst IsDescending (sym (multiplied-scaled p k)) (IsDescending-from_recursion (scaled k p) (descending-scaled k p (recursion_from_IsDescending p shaped.descending)));

@@ -16,7 +16,7 @@ use Rattle.nc_polynomial.specs.Shape.{IsShaped, IsCanonical}
 use Rattle.nc_polynomial.proofs.Checked.{checked-fits}
 use Rattle.nc_polynomial.proofs.Shapes.{IsDescending-from_recursion, recursion_from_IsDescending, descending-scaled, nonzero-scaled, in_range-neg_ℤ, shaped-negated}
 use Rattle.nc_polynomial.proofs.Products.{shaped_shift}
-use Rattle.nc_polynomial.proofs.Chains.{shaped_add, ranged_multiply, first-fits, first-append, or_first, passes, explains-first, explains-last, none_overflows, value_is, ends, sized-value, no_error}
+use Rattle.nc_polynomial.proofs.Chains.{shaped_add, ranged_multiply, first-fits, first-append, or_first, passes, explains-first, explains-last, none_overflows, value_is, ends, finished-value}
 use Rattle.traced_rows.specs.declared.Row.{Row}
 use Rattle.rule_reduce.specs.declared.state.State.{State}
 use Rattle.rule_reduce.specs.Steps.{Move, moved, move_row, move_result, row_operations, multiplied_row, multiplied_state, state_operations, less_multiple, less_operations, if_sized, IsInRange}
@@ -39,7 +39,7 @@ memory-explains (Err e) is P whole = go e is.1
     go (fault.Memory m) is = tt
 
 -- multiplied from the right is multiplied from the left
-multiplied-scaled : (p : List Term) (k : ℤ) → multiplied p k ≡ scaled k p
+pub multiplied-scaled : (p : List Term) (k : ℤ) → multiplied p k ≡ scaled k p
 multiplied-scaled [] k = refl
 multiplied-scaled (t ∷ p) k = ap₂ (λ z rest. keep z t.1 rest) (*ℤ_comm t.0 k) (multiplied-scaled p k)
 
@@ -161,13 +161,6 @@ module _ (k : ℤ) (l : List ℕ) (g : List Term) (r : List ℕ) (p : List Term)
     pub shaped_less : (v : List Term) → IsShaped p → IsShaped g → checked (sums p (negated q)) (added p (negated q)) ≡ Ok v → IsShaped v
     shaped_less v p_shaped g_shaped merged_is = shaped_add p (negated q) v p_shaped (shaped-negated q (shaped_shift k l g r q g_shaped shifted_is)) merged_is
 
-finished_is : (os : List Overflow) (x v : List Term) → finished os x ≡ Ok v → x ≡ v
-finished_is os x v h = go (first_overflow os) h
-  where
-    go : (o : Option Overflow) → unless_overflow o (sized x) ≡ Ok v → x ≡ v
-    go None k = sized-value x v k
-    go (Some o) k = absurd (no_error v (fault.Overflow o) (sym k))
-
 -- both
 if_sized-after : {A : Type 0} (o : Option Overflow) (r : Result (List Term) PolyFault) (x : A) → unless_overflow o (if_sized r x) ≡ if_sized (unless_overflow o r) x
 if_sized-after None r x = refl
@@ -200,6 +193,6 @@ module _ (m : Move) (s : State) where
     step_ends p less_is =
         let state = value_is (state_operations m.by s) (multiplied_state m.by s) t multiplied_is in
         let rest : (moved m s).rest ≡ p =
-        ap (λ (u : State). less_multiple m.times m.left m.rule m.right u.rest) state ∙ finished_is (less_operations m.times m.left m.rule m.right t.rest) (less_multiple m.times m.left m.rule m.right t.rest) p less_is in
+        ap (λ (u : State). less_multiple m.times m.left m.rule m.right u.rest) state ∙ finished-value (less_operations m.times m.left m.rule m.right t.rest) (less_multiple m.times m.left m.rule m.right t.rest) p less_is in
         after_multiplied ∙ ap (λ r. if_sized r (moved m s)) less_is
         ∙ ap Ok (λ i. record { multiplier = (state i).multiplier; rest = rest i; rows = (state i).rows ++ move_row m ∷ []; used = (state i).used + 1 })

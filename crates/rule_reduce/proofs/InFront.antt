@@ -10,7 +10,6 @@ use Rattle.coef_int.specs.Operations.{sum_of}
 use Rattle.definitions.specs.Poly.{Term}
 use Rattle.word_core.specs.Canonical.{word_cmp}
 use Rattle.nc_polynomial.specs.declared.fault.PolyFault.{PolyFault}
-use Rattle.nc_polynomial.specs.declared.fault.PolyFault.TheVariants as fault
 use Rattle.nc_polynomial.specs.Shape.{IsShaped}
 use Rattle.nc_polynomial.specs.Terms.{aligned, aligned_at, by_order, keep, totals, total_operations}
 use Rattle.nc_polynomial.proofs.Shapes.{IsInRange, IsNonzero}

@@ -25,9 +25,9 @@ use Rattle.traced_rows.proofs.Lists.{all_two}
 use Rattle.traced_completion.specs.Reductions.{plain, IsKept}
 use Rattle.traced_completion.proofs.NonemptyWords.{nonempty_rest}
 
-named : (count : ℕ) (from : Origin) → IsByRule count from → IsAmongFirst count from
-named count (origin.Generator n) by = absurd by
-named count (origin.Rule n) by = (omega (arith, by.0), by.1)
+pub among_first : (count : ℕ) (from : Origin) → IsByRule count from → IsAmongFirst count from
+among_first count (origin.Generator n) by = absurd by
+among_first count (origin.Rule n) by = (omega (arith, by.0), by.1)
 
 module _ (letters : ℕ) (compare : Compare) (rules : List Rule) (are_rules : All (IsRule letters compare) rules) (p : List Term) (steps : ℕ) (nonempty : All (λ t. 0 < length t.1) p) where
   kept : (r : Reduced) → normal_form_of compare rules p steps ≡ Ok (plain r) → All (λ t. IsOver letters t.1) r.rest.terms → IsCoefficient r.multiplier → All (λ row. IsCoefficient row.coef) r.rows → IsKept letters (length rules) (plain r)
@@ -35,7 +35,7 @@ module _ (letters : ℕ) (compare : Compare) (rules : List Rule) (are_rules : Al
     multiplier = multiplier;
     rows = record {
       in_range = rows;
-      named = All-weaker (λ (row : Row). IsByRule (length rules) row.from) (λ (row : Row). IsAmongFirst (length rules) row.from) (λ row by. named (length rules) row.from by) r.rows (rows_are_by_rules compare rules p steps (plain r) ends);
+      named = All-weaker (λ (row : Row). IsByRule (length rules) row.from) (λ (row : Row). IsAmongFirst (length rules) row.from) (λ row. among_first (length rules) row.from) r.rows (rows_are_by_rules compare rules p steps (plain r) ends);
     };
     nonempty = nonempty_rest letters compare rules are_rules p steps (plain r) nonempty r.rest.canonical.shaped ends;
     over = over;

@@ -33,7 +33,7 @@ use Rattle.traced_completion.proofs.StoreLemmas.{stores-unique}
 IsCanonical-prop : (p : List Term) → IsProp (IsCanonical p)
 IsCanonical-prop p = Prim.hlevel std.props
 
-same_poly : (a b : Poly) → a.terms ≡ b.terms → a ≡ b
+pub same_poly : (a b : Poly) → a.terms ≡ b.terms → a ≡ b
 same_poly a b same =
     subst (λ (p : List Term). (c : IsCanonical p) → ◌≡◌ {A = Poly} a (record { terms = p; canonical = c })) same (λ c. λ i. record { terms = a.terms; canonical = IsCanonical-prop a.terms a.canonical c i }) b.canonical
 
@@ -105,7 +105,7 @@ passes_one compare steps (Err e) before one other first second = first ∙ sym s
 passes_one compare steps (Ok firsts) before one other first second = turns_one compare (map (second_work compare steps) firsts) before one other first second
 
 -- outcomes
-cause_one : (e : ReduceFault) (c d : Cause) → IsCauseOf e c → IsCauseOf e d → c ≡ d
+pub cause_one : (e : ReduceFault) (c d : Cause) → IsCauseOf e c → IsCauseOf e d → c ≡ d
 cause_one (fault.Steps limit) c d first second = first ∙ sym second
 cause_one (fault.Overflow o) c d first second = first ∙ sym second
 cause_one (fault.Size s) c d first second = first ∙ sym second
