@@ -3,7 +3,7 @@ use Rattle.std.proofs.Common.{◌≡◌, ◌≢◌, ◌⊎◌, inl, inr, ◌≤�
 use Rattle.std.specs.List.{All}
 use Rattle.std.proofs.lemmas.Int.{ints}
 use Rattle.std.proofs.lemmas.List.{length-append}
-use Rattle.std.proofs.lemmas.List.Elements.{All-append, All-cons, All-nil, All-weaker, recursion_from_All}
+use Rattle.std.proofs.lemmas.List.Elements.{All-append, All-cons, All-nil, All-weaker}
 use Rattle.definitions.specs.Poly.{Word, Term, coefficient_of, poly_multiple}
 use Rattle.definitions.specs.Combination.{generator_at}
 use Rattle.definitions.proofs.Coefficients.{coefficient_of-multiple}
@@ -96,7 +96,7 @@ module _ (letters : ℕ) (compare : Compare) (rank : List ℕ → List ℕ) (law
   new_apart : (i : ℕ) (f : Rule) → rule_at rules i ≡ Some f → OccursNowhere g.lead f.lead
   new_apart i f numbered =
       rule_at-all (λ (r : Rule). OccursNowhere g.lead r.lead) rules i f numbered
-      (words_with_coefficients (λ w. All (λ (r : Rule). OccursNowhere w r.lead) rules) rest (recursion_from_All (λ (t : Term). All (λ (r : Rule). OccursNowhere t.1 r.lead) rules) rest irreducible) g.lead lead_occurs)
+      (words_with_coefficients (λ w. All (λ (r : Rule). OccursNowhere w r.lead) rules) rest irreducible g.lead lead_occurs)
 
   apart : AreApart (rules ++ (g ∷ []))
   apart = record { each = λ i n f h f_numbered h_numbered less. go i n f h less (rule_at-which rules g f i f_numbered) (rule_at-which rules g h n h_numbered) }

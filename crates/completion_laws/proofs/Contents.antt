@@ -1,6 +1,6 @@
 -- Each polynomial has a content, and can be divided by it.
 use Rattle.std.proofs.Common.{◌≡◌, ◌≢◌, ◌<◌, ◌<ℤ◌, ℕ, zero, suc, ℤ, pos, negsuc, List, [], ◌∷◌, length, map, refl, ap, ap₂, arith}
-use Rattle.std.specs.List.{AllByRecursion}
+use Rattle.std.specs.List.{All}
 use Rattle.std.specs.Int.{◌∣◌}
 use Rattle.std.specs.Int.RustNames.{unsigned_abs, int_div}
 use Rattle.std.proofs.lemmas.Int.{ints}
@@ -45,7 +45,7 @@ no_terms : (p : List Term) → 0 < length p → p ≡ [] → ⊥
 no_terms p some none = omega (arith, some, ap length none)
 
 -- that of a polynomial other than zero is positive
-pub positive_content : (p : List Term) (g : ℤ) → 0 < length p → AllByRecursion (λ t. t.0 ≢ pos 0) p → IsContent p g → pos 0 <ℤ g
+pub positive_content : (p : List Term) (g : ℤ) → 0 < length p → All (λ t. t.0 ≢ pos 0) p → IsContent p g → pos 0 <ℤ g
 positive_content p (pos zero) some nonzero content = absurd (no_terms p some ((content-zero p (pos 0) nonzero content).0 refl))
 positive_content p (pos (suc n)) some nonzero content = omega (arith, ints)
 positive_content p (negsuc n) some nonzero content = absurd (omega (arith, ints, content.nonnegative))
@@ -55,6 +55,6 @@ abbrev pub quotient : ℤ → List Term → List Term
 quotient k p = map (λ t. (int_div t.0 k, t.1)) p
 
 -- Where the number divides each coefficient, its multiple is the polynomial.
-pub multiple_of_quotient : (k : ℤ) (p : List Term) → AllByRecursion (λ t. unsigned_abs k ∣ unsigned_abs t.0) p → poly_multiple k (quotient k p) ≡ p
+pub multiple_of_quotient : (k : ℤ) (p : List Term) → All (λ t. unsigned_abs k ∣ unsigned_abs t.0) p → poly_multiple k (quotient k p) ≡ p
 multiple_of_quotient k [] each = refl
-multiple_of_quotient k (t ∷ p) each = ap₂ (λ (z : ℤ) rest. (z, t.1) ∷ rest) (quotient_times t.0 k each.0) (multiple_of_quotient k p each.1)
+multiple_of_quotient k (t ∷ p) each = ap₂ (λ (z : ℤ) rest. (z, t.1) ∷ rest) (quotient_times t.0 k (each 0 t (omega arith))) (multiple_of_quotient k p (All-tail (λ (u : Term). unsigned_abs k ∣ unsigned_abs u.0) t p each))

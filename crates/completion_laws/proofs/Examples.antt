@@ -3,7 +3,7 @@ use Rattle.std.proofs.Common.{◌≡◌, ◌<◌, ◌≤◌, ◌+◌, ℕ, zero,
 use Rattle.std.proofs.lemmas.Int.{ints}
 use Rattle.std.specs.List.{All}
 use Rattle.std.proofs.lemmas.List.{length-append}
-use Rattle.std.proofs.lemmas.List.Elements.{All-from_recursion}
+use Rattle.std.proofs.lemmas.List.Elements.{All-nil}
 use Rattle.definitions.specs.Poly.{Term, coefficient_of}
 use Rattle.definitions.specs.Combination.{generator_at, InRationalIdeal}
 use Rattle.word_core.specs.Canonical.{word_cmp}
@@ -37,6 +37,7 @@ use Rattle.completion_laws.specs.Conclusions.{AreAllDone, NothingPending}
 use Rattle.completion_laws.proofs.Steps.{start_is_kept, generators_are_kept}
 use Rattle.completion_laws.proofs.Treating.{resolved_at_once_is_kept}
 use Rattle.completion_laws.proofs.Outside.{nonzero_is_outside}
+use Rattle.traced_rows.proofs.Lists.{all_one, all_two}
 
 -- x x - x
 abbrev terms : List Term
@@ -52,13 +53,13 @@ laws : IsAdmissible 1 word_cmp (rank_of 1)
 laws = word_cmp-admissible 1
 
 one_letter : IsOver 1 (0 ∷ [])
-one_letter = All-from_recursion (λ a. a < 1) (0 ∷ []) (omega arith, tt)
+one_letter = all_one (λ a. a < 1) 0 (omega arith)
 
 two_letters : IsOver 1 (0 ∷ 0 ∷ [])
-two_letters = All-from_recursion (λ a. a < 1) (0 ∷ 0 ∷ []) (omega arith, (omega arith, tt))
+two_letters = all_two (λ a. a < 1) 0 0 (omega arith) (omega arith)
 
 over : All (λ t. IsOver 1 t.1) terms
-over = All-from_recursion (λ (t : Term). IsOver 1 t.1) terms (two_letters, (one_letter, tt))
+over = all_two (λ (t : Term). IsOver 1 t.1) (pos 1, 0 ∷ 0 ∷ []) (negsuc 0, 0 ∷ []) two_letters one_letter
 
 abbrev rule : Rule
 rule = record { leading = pos 1; lead = 0 ∷ 0 ∷ []; poly = record { terms = terms; canonical = canonical } }
@@ -68,7 +69,7 @@ is_rule = record {
   leading = refl;
   positive = omega (arith, ints);
   in_range = omega arith;
-  nonempty = All-from_recursion (λ (t : Term). 0 < length t.1) terms (omega arith, (omega arith, tt));
+  nonempty = all_two (λ (t : Term). 0 < length t.1) (pos 1, 0 ∷ 0 ∷ []) (negsuc 0, 0 ∷ []) (omega arith) (omega arith);
   over = over;
 }
 
@@ -77,7 +78,7 @@ generators = terms ∷ []
 
 -- round 0: no rule reduces the generator, and it is made the rule
 reduced : IsReduced 1 word_cmp [] terms (start_of terms)
-reduced = normal_forms_are_reduced 1 word_cmp (rank_of 1) [] terms 0 (start_of terms) laws (All-from_recursion (IsRule 1 word_cmp) [] tt) canonical.shaped over refl
+reduced = normal_forms_are_reduced 1 word_cmp (rank_of 1) [] terms 0 (start_of terms) laws (All-nil (IsRule 1 word_cmp)) canonical.shaped over refl
 
 abbrev made : Made
 made = record { scale = pos 1; rows = generator_rows 1 (start_of terms) }
@@ -87,7 +88,7 @@ appended = rule_made rule made (record { is_rule = is_rule; positive = omega (ar
 
 letters_below : HaveLettersBelow 1 generators
 letters_below zero = record { at = λ w some. absurd (some refl) }
-letters_below (suc zero) = record { at = words_with_coefficients (IsOver 1) terms (two_letters, (one_letter, tt)) }
+letters_below (suc zero) = record { at = words_with_coefficients (IsOver 1) terms over }
 letters_below (suc (suc n)) = record { at = λ w some. absurd (some (past n w)) }
   where
     past : (n : ℕ) (w : List ℕ) → coefficient_of (generator_at generators (suc (suc n))) w ≡ pos 0
@@ -120,10 +121,10 @@ zero_shaped : IsShaped []
 zero_shaped = shaped_as_written [] tt tt tt
 
 rules_are : All (IsRule 1 word_cmp) (rule ∷ [])
-rules_are = All-from_recursion (IsRule 1 word_cmp) (rule ∷ []) (is_rule, tt)
+rules_are = all_one (IsRule 1 word_cmp) rule is_rule
 
 zero_reduced : IsReduced 1 word_cmp (rule ∷ []) [] (start_of [])
-zero_reduced = normal_forms_are_reduced 1 word_cmp (rank_of 1) (rule ∷ []) [] 0 (start_of []) laws rules_are zero_shaped (All-from_recursion (λ (t : Term). IsOver 1 t.1) [] tt) refl
+zero_reduced = normal_forms_are_reduced 1 word_cmp (rank_of 1) (rule ∷ []) [] 0 (start_of []) laws rules_are zero_shaped (All-nil (λ (t : Term). IsOver 1 t.1)) refl
 
 closed : Kept 1 word_cmp generators (rule ∷ []) (made ∷ []) (1 ∷ []) (itself ∷ [])
 closed = resolved_at_once_is_kept 1 word_cmp (rank_of 1) generators (rule ∷ []) [] (made ∷ []) (1 ∷ []) [] itself [] (start_of []) laws after_round_zero is_one
@@ -173,29 +174,30 @@ x = (pos 1, 0 ∷ []) ∷ []
 x_shaped : IsShaped x
 x_shaped = shaped_as_written x (tt, tt) ((λ e. cc), tt) (omega arith, tt)
 
+x_over : All (λ t. IsOver 1 t.1) x
+x_over = all_one (λ (t : Term). IsOver 1 t.1) (pos 1, 0 ∷ []) one_letter
+
 x_reduced : IsReduced 1 word_cmp (rule ∷ []) x (start_of x)
-x_reduced = normal_forms_are_reduced 1 word_cmp (rank_of 1) (rule ∷ []) x 0 (start_of x) laws rules_are x_shaped (All-from_recursion (λ (t : Term). IsOver 1 t.1) x (one_letter, tt)) refl
+x_reduced = normal_forms_are_reduced 1 word_cmp (rank_of 1) (rule ∷ []) x 0 (start_of x) laws rules_are x_shaped x_over refl
 
 x_is_outside : InRationalIdeal generators x → ⊥
 x_is_outside = nonzero_is_outside 1 word_cmp (rank_of 1) generators (rule ∷ []) (made ∷ []) (1 ∷ []) (itself ∷ []) x (start_of x) laws closed all_done nothing_pending
-    (record { at = words_with_coefficients (IsOver 1) x (one_letter, tt) }) x_reduced (record { word = 0 ∷ []; occurs = λ e. cc })
+    (record { at = words_with_coefficients (IsOver 1) x x_over }) x_reduced (record { word = 0 ∷ []; occurs = λ e. cc })
 
 -- so it is by the rule alone, whatever made it: the generator and the S-polynomial are reduced to zero
 abbrev generator_reduced : State
 generator_reduced = record { multiplier = pos 1; rest = []; rows = record { coef = pos 1; left = []; from = origin.Rule 1; right = [] } ∷ []; used = 1 }
 
 generators_inside : All (InRationalIdeal (polynomials_of (rule ∷ []))) generators
-generators_inside = All-from_recursion (InRationalIdeal (polynomials_of (rule ∷ []))) generators (
-  zero_rests_are_inside 1 word_cmp (rule ∷ []) terms generator_reduced (normal_forms_are_reduced 1 word_cmp (rank_of 1) (rule ∷ []) terms 1 generator_reduced laws rules_are canonical.shaped over refl) (record { at = λ w. refl }),
-  tt,
-)
+generators_inside = all_one (InRationalIdeal (polynomials_of (rule ∷ []))) terms
+    (zero_rests_are_inside 1 word_cmp (rule ∷ []) terms generator_reduced (normal_forms_are_reduced 1 word_cmp (rank_of 1) (rule ∷ []) terms 1 generator_reduced laws rules_are canonical.shaped over refl) (record { at = λ w. refl }))
 
 resolved_alone : Resolved 1 word_cmp (rule ∷ [])
 resolved_alone = record { each = λ a is. subst (IsResolved 1 word_cmp (rule ∷ [])) (sym (only_itself a is)) (zero_rests_are_resolved 1 word_cmp (rank_of 1) (rule ∷ []) itself [] (start_of []) laws rules_are is_one (s_polynomials_balance (rule ∷ []) itself [] difference) zero_reduced (record { at = λ w. refl })) }
 
 x_is_outside_alone : InRationalIdeal generators x → ⊥
 x_is_outside_alone inside = clash (rests_of_ideal_are_zero 1 word_cmp (rank_of 1) (rule ∷ []) x (start_of x) laws rules_are resolved_alone (ideals_stay_inside (polynomials_of (rule ∷ [])) generators x generators_inside inside)
-    (record { at = words_with_coefficients (IsOver 1) x (one_letter, tt) }) x_reduced)
+    (record { at = words_with_coefficients (IsOver 1) x x_over }) x_reduced)
   where
     clash : IsZero x → ⊥
     clash none = differ (none.at (0 ∷ []))

@@ -1,7 +1,7 @@
 -- What is in the rational ideal of the generators.
 use Rattle.std.proofs.Common.{◌≡◌, ◌≤◌, ◌<◌, ℕ, zero, suc, pos, ◌+ℤ◌, ◌*ℤ◌, List, [], ◌∷◌, length, slice_get, Some, refl, ap, ◌∙◌, subst, arith}
-use Rattle.std.specs.List.{All, AllByRecursion}
-use Rattle.std.proofs.lemmas.List.Elements.{All-contains, recursion_from_All}
+use Rattle.std.specs.List.{All}
+use Rattle.std.proofs.lemmas.List.Elements.{All-contains, All-tail}
 use Rattle.definitions.specs.Poly.{Term, coefficient_of, poly_between}
 use Rattle.definitions.specs.Combination.{generator_at, InRationalIdeal}
 use Rattle.definitions.proofs.Coefficients.{coefficient_of-append, coefficient_of-multiple}
@@ -46,12 +46,12 @@ module _ (generators : List (List Term)) where
   FromGenerators p = Span (Numbered generators Free) (coefficient_of p)
 
   -- rows over generators and over rules that come from generators
-  from_rows : (rules : List (List Term)) (bound : ℕ) → ((n : ℕ) → 1 ≤ n → n ≤ bound → FromGenerators (generator_at rules n)) → (rows : List Row) → AllByRecursion (λ row. IsEarlier (length generators) bound row.from) rows → FromGenerators (traced_sum generators rules rows)
+  from_rows : (rules : List (List Term)) (bound : ℕ) → ((n : ℕ) → 1 ≤ n → n ≤ bound → FromGenerators (generator_at rules n)) → (rows : List Row) → All (λ row. IsEarlier (length generators) bound row.from) rows → FromGenerators (traced_sum generators rules rows)
   from_rows rules bound each [] earlier = nothing _ (λ w. refl)
   from_rows rules bound each (row ∷ rows) earlier =
       span_same (Numbered generators Free) _ _
       (span_add (Numbered generators Free) (λ w. row.coef *ℤ coefficient_of (poly_between row.left (origin_poly generators rules row.from) row.right) w) (coefficient_of (traced_sum generators rules rows))
-      (span_scale (Numbered generators Free) row.coef (coefficient_of (poly_between row.left (origin_poly generators rules row.from) row.right)) (of_origin row.from earlier.0)) (from_rows rules bound each rows earlier.1))
+      (span_scale (Numbered generators Free) row.coef (coefficient_of (poly_between row.left (origin_poly generators rules row.from) row.right)) (of_origin row.from (earlier 0 row (omega arith)))) (from_rows rules bound each rows (All-tail (λ (r : Row). IsEarlier (length generators) bound r.from) row rows earlier)))
       (λ w. coefficient_of-append (traced_poly generators rules row) (traced_sum generators rules rows) w ∙ ap (λ z. z +ℤ coefficient_of (traced_sum generators rules rows) w) (coefficient_of-multiple row.coef (poly_between row.left (origin_poly generators rules row.from) row.right) w))
     where
       of_origin : (x : Origin) → IsEarlier (length generators) bound x → Span (Numbered generators Free) (coefficient_of (poly_between row.left (origin_poly generators rules x) row.right))
@@ -71,7 +71,7 @@ module _ (generators : List (List Term)) where
             of_record (m, found) = go (positive_nat m.scale (recorded.each place m found).positive)
               where
                 rows : FromGenerators (traced_sum generators (polynomials_of rules) m.rows)
-                rows = from_rows (polynomials_of rules) place (λ j above within. before j (omega (arith, within)) above (omega (arith, within, last))) m.rows (recursion_from_All (λ (row : Row). IsEarlier (length generators) place row.from) m.rows (recorded.each place m found).earlier)
+                rows = from_rows (polynomials_of rules) place (λ j above within. before j (omega (arith, within)) above (omega (arith, within, last))) m.rows (recorded.each place m found).earlier
 
                 go : ((k : ℕ) × (0 < k) × (m.scale ≡ pos k)) → FromGenerators (generator_at (polynomials_of rules) (suc place))
                 go (k, above, scale) = part (coefficient_of (generator_at (polynomials_of rules) (suc place))) (coefficient_of (traced_sum generators (polynomials_of rules) m.rows)) k above rows

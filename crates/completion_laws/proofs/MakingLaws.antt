@@ -4,7 +4,6 @@ use Rattle.std.specs.List.{All}
 use Rattle.std.specs.Int.{IsNonNegative}
 use Rattle.std.specs.Option.{option_map}
 use Rattle.std.proofs.lemmas.Int.{ints}
-use Rattle.std.proofs.lemmas.List.Elements.{recursion_from_All}
 use Rattle.std.proofs.Math.IntN.{zero-*ℤ}
 use Rattle.coef_int.specs.Range.{IsCoefficient}
 use Rattle.definitions.specs.Poly.{Term, coefficient_of, poly_multiple}
@@ -38,7 +37,7 @@ rule_from_pushed letters compare g from positive nonempty over = go (leading_ter
         record {
           leading = leading;
           positive = subst (λ k. pos 0 <ℤ k) (ap (λ (f : Rule). f.leading) same) some;
-          in_range = leading-all (λ u. IsCoefficient u.0) compare g.poly.terms (g.leading, g.lead) leading (recursion_from_All (λ (u : Term). IsCoefficient u.0) g.poly.terms g.poly.canonical.shaped.in_range);
+          in_range = leading-all (λ u. IsCoefficient u.0) compare g.poly.terms (g.leading, g.lead) leading g.poly.canonical.shaped.in_range;
           nonempty = nonempty;
           over = over;
         }

@@ -1,9 +1,7 @@
 -- What comes from rules comes from more rules.
-use Rattle.std.proofs.Common.{◌≡◌, ◌≢◌, ◌⊎◌, inl, inr, ℕ, zero, suc, ℤ, pos, List, [], ◌∷◌, ◌++◌, slice_get, Some, sym, ap, ◌∙◌, subst}
-use Rattle.std.specs.List.{All, AllByRecursion}
-use Rattle.std.proofs.lemmas.List.Elements.{All-from_recursion, recursion_from_All}
+use Rattle.std.proofs.Common.{◌≡◌, ◌⊎◌, inl, inr, ℕ, zero, suc, ℤ, List, [], ◌∷◌, ◌++◌, slice_get, Some, sym, ap, ◌∙◌, subst, get_or}
+use Rattle.std.specs.List.{All}
 use Rattle.definitions.specs.Poly.{Word, Term, coefficient_of}
-use Rattle.definitions.specs.Combination.{Row as Multiple, generator_at}
 use Rattle.word_orders.specs.Admissible.{Compare, IsAdmissible}
 use Rattle.word_orders.specs.Orders.{Order, IsBelow}
 use Rattle.word_orders.proofs.Orders.{order_from_laws, over_range, less_below}
@@ -52,22 +50,12 @@ module _ (letters : ℕ) (compare : Compare) (rank : List ℕ → List ℕ) (law
 
   -- spans of rows over rules, and what comes from them
   module _ (rules : List Rule) (are : All (IsRule letters compare) rules) where
-    reached_rows : (p : List Term) (rows : List Multiple) → AllByRecursion (λ r. (w : Word) → coefficient_of (generator_at (polynomials_of rules) r.generator) w ≢ pos 0 → IsAtMostOf letters compare p (r.left ++ (w ++ r.right))) rows
-        → AllByRecursion (λ r. (w : Word) → coefficient_of (generator_at (polynomials_of rules) r.generator) w ≢ pos 0 → IsAtMostIn order p (r.left ++ (w ++ r.right))) rows
-    reached_rows p [] each = tt
-    reached_rows p (r ∷ rows) each = ((λ w some. at_most_in letters compare rank laws p (r.left ++ (w ++ r.right)) (each.0 w some)), reached_rows p rows each.1)
-
-    found_rows : (p : List Term) (rows : List Multiple) → AllByRecursion (λ r. (w : Word) → coefficient_of (generator_at (polynomials_of rules) r.generator) w ≢ pos 0 → IsAtMostIn order p (r.left ++ (w ++ r.right))) rows
-        → AllByRecursion (λ r. (w : Word) → coefficient_of (generator_at (polynomials_of rules) r.generator) w ≢ pos 0 → IsAtMostOf letters compare p (r.left ++ (w ++ r.right))) rows
-    found_rows p [] each = tt
-    found_rows p (r ∷ rows) each = ((λ w some. at_most_from p (r.left ++ (w ++ r.right)) (each.0 w some)), found_rows p rows each.1)
-
     pub comes_reached : (p : List Term) → IsReached letters compare rules p → Comes (polynomials_of rules) (IsAtMostIn order p) p
     comes_reached p reached = record {
       multiplier = reached.denominator;
       rows = reached.rows;
       combination = reached.combination;
-      within = reached_rows p reached.rows (recursion_from_All (λ (r : Multiple). (w : Word) → coefficient_of (generator_at (polynomials_of rules) r.generator) w ≢ pos 0 → IsAtMostOf letters compare p (r.left ++ (w ++ r.right))) reached.rows reached.at_most);
+      within = λ i r below w some. at_most_in letters compare rank laws p ((get_or reached.rows i r).left ++ (w ++ (get_or reached.rows i r).right)) (reached.at_most i r below w some);
     }
 
     pub reached_span : (p : List Term) → HasLettersBelow letters p → IsReached letters compare rules p → Span (AnyRow order (ordered letters compare rank laws rules are) (at_most_of order p)) (coefficient_of p)
@@ -84,7 +72,7 @@ module _ (letters : ℕ) (compare : Compare) (rank : List ℕ → List ℕ) (law
           denominator = c.multiplier;
           rows = c.rows;
           combination = c.combination;
-          at_most = All-from_recursion (λ (r : Multiple). (w : Word) → coefficient_of (generator_at (polynomials_of rules) r.generator) w ≢ pos 0 → IsAtMostOf letters compare p (r.left ++ (w ++ r.right))) c.rows (found_rows p c.rows c.within);
+          at_most = λ i r below w some. at_most_from p ((get_or c.rows i r).left ++ (w ++ (get_or c.rows i r).right)) (c.within i r below w some);
         }
 
   -- with more rules

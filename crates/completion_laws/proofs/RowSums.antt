@@ -1,9 +1,9 @@
 -- Sums of rows over generators and rules.
 use Rattle.std.proofs.Common.{◌≡◌, ◌≤◌, ℕ, zero, suc, ℤ, ◌+ℤ◌, ◌*ℤ◌, neg_ℤ, List, [], ◌∷◌, ◌++◌, map, length, get_or, refl, sym, ap, ap₂, ◌∙◌, arith}
-use Rattle.std.specs.List.{All, AllByRecursion}
+use Rattle.std.specs.List.{All}
 use Rattle.std.proofs.lemmas.Int.{ints}
 use Rattle.std.proofs.lemmas.List.{length-append, get_or_append_left}
-use Rattle.std.proofs.lemmas.List.Elements.{All-from_recursion, recursion_from_All, All-append, All-weaker, All-cons}
+use Rattle.std.proofs.lemmas.List.Elements.{All-append, All-weaker, All-cons, All-tail, All-map}
 use Rattle.std.proofs.Math.IntN.{*ℤ_comm, *ℤ-zero, +ℤ_idl, +ℤ_assoc}
 use Rattle.definitions.specs.Poly.{Word, Term, coefficient_of, poly_multiple, poly_between}
 use Rattle.definitions.specs.Combination.{generator_at}
@@ -42,24 +42,22 @@ module _ (generators : List (List Term)) (rules more : List Rule) where
   origin-more (origin.Generator n) earlier = refl
   origin-more (origin.Rule n) earlier = polynomial-more rules more n earlier.1
 
-  sum_by_recursion : (rows : List Row) → AllByRecursion (λ row. IsEarlier (length generators) (length rules) row.from) rows → traced_sum generators (polynomials_of (rules ++ more)) rows ≡ traced_sum generators (polynomials_of rules) rows
-  sum_by_recursion [] earlier = refl
-  sum_by_recursion (row ∷ rows) earlier = ap₂ (λ p q. poly_multiple row.coef (poly_between row.left p row.right) ++ q) (origin-more row.from earlier.0) (sum_by_recursion rows earlier.1)
-
   pub traced_sum-more : (rows : List Row) → All (λ row. IsEarlier (length generators) (length rules) row.from) rows → traced_sum generators (polynomials_of (rules ++ more)) rows ≡ traced_sum generators (polynomials_of rules) rows
-  traced_sum-more rows earlier = sum_by_recursion rows (recursion_from_All (λ (row : Row). IsEarlier (length generators) (length rules) row.from) rows earlier)
+  traced_sum-more [] earlier = refl
+  traced_sum-more (row ∷ rows) earlier =
+      ap₂ (λ p q. poly_multiple row.coef (poly_between row.left p row.right) ++ q) (origin-more row.from (earlier 0 row (omega arith)))
+      (traced_sum-more rows (All-tail (λ (r : Row). IsEarlier (length generators) (length rules) r.from) row rows earlier))
 
   -- rows by rules need no generators
   origin-by_rule : (x : Origin) → IsByRule (length rules) x → origin_poly generators (polynomials_of (rules ++ more)) x ≡ origin_poly [] (polynomials_of rules) x
   origin-by_rule (origin.Generator n) by_rule = absurd by_rule
   origin-by_rule (origin.Rule n) by_rule = polynomial-more rules more n by_rule.1
 
-  by_rules_recursion : (rows : List Row) → AllByRecursion (λ row. IsByRule (length rules) row.from) rows → traced_sum generators (polynomials_of (rules ++ more)) rows ≡ traced_sum [] (polynomials_of rules) rows
-  by_rules_recursion [] by_rules = refl
-  by_rules_recursion (row ∷ rows) by_rules = ap₂ (λ p q. poly_multiple row.coef (poly_between row.left p row.right) ++ q) (origin-by_rule row.from by_rules.0) (by_rules_recursion rows by_rules.1)
-
   pub traced_sum-by_rules : (rows : List Row) → All (λ row. IsByRule (length rules) row.from) rows → traced_sum generators (polynomials_of (rules ++ more)) rows ≡ traced_sum [] (polynomials_of rules) rows
-  traced_sum-by_rules rows by_rules = by_rules_recursion rows (recursion_from_All (λ (row : Row). IsByRule (length rules) row.from) rows by_rules)
+  traced_sum-by_rules [] by_rules = refl
+  traced_sum-by_rules (row ∷ rows) by_rules =
+      ap₂ (λ p q. poly_multiple row.coef (poly_between row.left p row.right) ++ q) (origin-by_rule row.from (by_rules 0 row (omega arith)))
+      (traced_sum-by_rules rows (All-tail (λ (r : Row). IsByRule (length rules) r.from) row rows by_rules))
 
   pub earlier_by_rule : (row : Row) → IsByRule (length rules) row.from → IsEarlier (length generators) (length (rules ++ more)) row.from
   earlier_by_rule row by_rule = go row.from by_rule
@@ -106,19 +104,11 @@ module _ (generators polys : List (List Term)) where
 
 -- which rows they are over
 module _ (P : Origin → Type 0) where
-  pub over_multiplied : (by : ℤ) (rows : List Row) → AllByRecursion (λ row. P row.from) rows → AllByRecursion (λ row. P row.from) (map (multiplied_row by) rows)
-  over_multiplied by [] over = tt
-  over_multiplied by (row ∷ rows) over = (over.0, over_multiplied by rows over.1)
-
-  pub over_negated : (rows : List Row) → AllByRecursion (λ row. P row.from) rows → AllByRecursion (λ row. P row.from) (negated_rows rows)
-  over_negated [] over = tt
-  over_negated (row ∷ rows) over = (over.0, over_negated rows over.1)
-
   pub all_multiplied : (by : ℤ) (rows : List Row) → All (λ row. P row.from) rows → All (λ row. P row.from) (map (multiplied_row by) rows)
-  all_multiplied by rows over = All-from_recursion (λ row. P row.from) (map (multiplied_row by) rows) (over_multiplied by rows (recursion_from_All (λ (row : Row). P row.from) rows over))
+  all_multiplied by rows over = All-map (λ (row : Row). P row.from) (multiplied_row by) rows over
 
   pub all_negated : (rows : List Row) → All (λ row. P row.from) rows → All (λ row. P row.from) (negated_rows rows)
-  all_negated rows over = All-from_recursion (λ row. P row.from) (negated_rows rows) (over_negated rows (recursion_from_All (λ (row : Row). P row.from) rows over))
+  all_negated rows over = All-map (λ (row : Row). P row.from) negated_row rows over
 
 -- rows that add up to a polynomial are made rows that add up to what a reduction leaves of it
 pub less_adds_up : (letters : ℕ) (compare : Compare) (generators : List (List Term)) (start more : List Rule) (p : List Term) (rows : List Row) (s : State)

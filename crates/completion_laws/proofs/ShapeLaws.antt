@@ -1,7 +1,6 @@
 -- Sums, multiples and moves that go well keep polynomials sorted and in range.
 use Rattle.std.proofs.Common.{◌≡◌, ◌≢◌, ◌⊎◌, inl, inr, ℕ, zero, suc, ℤ, pos, List, [], ◌∷◌, ◌++◌, get_or, Option, Some, None, Result, Ok, Err, refl, sym, ap, ap₂, ◌∙◌, subst}
 use Rattle.std.specs.List.{All}
-use Rattle.std.proofs.lemmas.List.Elements.{All-from_recursion, recursion_from_All}
 use Rattle.std.proofs.Math.IntN.{*ℤ_comm}
 use Rattle.coef_int.specs.declared.Overflow.{Overflow}
 use Rattle.coef_int.specs.Operations.{product_of, first_overflow}
@@ -111,7 +110,7 @@ multiplied-scaled (t ∷ p) k = ap₂ (λ z rest. keep z t.1 rest) (*ℤ_comm t.
 shaped_multiply : (p : List Term) (k : ℤ) → IsShaped p → first_overflow (multiplications p k) ≡ None → IsShaped (multiplied p k)
 shaped_multiply p k shaped none = record {
   descending = subst IsDescending (sym (multiplied-scaled p k)) (IsDescending-from_recursion (scaled k p) (descending-scaled k p (recursion_from_IsDescending p shaped.descending)));
-  nonzero = subst (All (λ t. t.0 ≢ pos 0)) (sym (multiplied-scaled p k)) (All-from_recursion (λ t. t.0 ≢ pos 0) (scaled k p) (nonzero-scaled k p));
+  nonzero = subst (All (λ t. t.0 ≢ pos 0)) (sym (multiplied-scaled p k)) (nonzero-scaled k p);
   in_range = ranged_multiply p k (multiplied p k) (fits (multiplications p k) (multiplied p k) none);
 }
 
@@ -165,8 +164,7 @@ normal_forms_are_shaped compare rules p steps s shaped ends = reduction_shaped c
 
 pub rests_have_letters_below : RestsHaveLettersBelow
 rests_have_letters_below letters compare rules p s over reduced shaped =
-    All-from_recursion (λ (t : Term). IsOver letters t.1) s.rest
-    (words_listed (IsOver letters) s.rest (distinct-descending s.rest (recursion_from_IsDescending s.rest shaped.descending)) (recursion_from_All (λ (t : Term). t.0 ≢ pos 0) s.rest shaped.nonzero) (λ w some. of_word w (reduced.words.rest w some)))
+    words_listed (IsOver letters) s.rest (distinct-descending s.rest (recursion_from_IsDescending s.rest shaped.descending)) shaped.nonzero (λ w some. of_word w (reduced.words.rest w some))
   where
     of_word : (w : Word) → IsAtMostOf letters compare p w → IsOver letters w
     of_word w most = go most.at_most

@@ -1,7 +1,8 @@
 -- The invariant stays when one ambiguity is treated.
-use Rattle.std.proofs.Common.{◌≡◌, ℕ, List, [], ◌∷◌, ◌++◌, length, sym, ap, ◌∙◌, subst, append_assoc}
-use Rattle.std.specs.List.{All, AllByRecursion}
-use Rattle.std.proofs.lemmas.List.Elements.{All-append, All-cons, All-nil, All-weaker, All-from_recursion, recursion_from_All}
+use Rattle.std.proofs.Common.{◌≡◌, ℕ, List, [], ◌∷◌, ◌++◌, length, refl, sym, ap, ◌∙◌, subst, append_assoc}
+use Rattle.std.specs.List.{All}
+use Rattle.std.proofs.lemmas.List.{take_at}
+use Rattle.std.proofs.lemmas.List.Elements.{All-append, All-cons, All-nil, All-weaker, All-take}
 use Rattle.definitions.specs.Poly.{Word, Term, SamePolynomial, coefficient_of}
 use Rattle.word_orders.specs.Admissible.{Compare, IsAdmissible}
 use Rattle.word_orders.specs.Orders.{Order}
@@ -14,7 +15,7 @@ use Rattle.rule_reduce.specs.RuleLists.{IsRule}
 use Rattle.rule_reduce.specs.Laws.{IsByRule}
 use Rattle.ambiguities.specs.declared.ambiguity.Ambiguity.{Ambiguity}
 use Rattle.ambiguities.specs.Ambiguities.{IsAmbiguity, overlap_word_of}
-use Rattle.ambiguities.specs.SPolynomials.{s_rows_of}
+use Rattle.ambiguities.specs.SPolynomials.{first_row, second_row, s_rows_of}
 use Rattle.ambiguities.specs.Resolved.{s_sum, IsResolved}
 use Rattle.ambiguities.proofs.Numbers.{rule_at-first, rule_at-last}
 use Rattle.confluence.specs.Reductions.{IsZero, IsReduced}
@@ -33,14 +34,11 @@ use Rattle.completion_laws.proofs.ReducedSpans.{rest_bounded, reduced_in}
 use Rattle.completion_laws.proofs.RowSums.{traced_sum-by_rules, earlier_by_rule, less_adds_up}
 use Rattle.completion_laws.proofs.Appending.{appended_kept}
 use Rattle.completion_laws.proofs.Steps.{made_accounts, less_adds, reduced_later}
+use Rattle.traced_rows.proofs.Lists.{all_two}
 
 -- the first rules
 all_front : (P : Rule → Type 0) (rules more : List Rule) → All P (rules ++ more) → All P rules
-all_front P rules more all = All-from_recursion P rules (front rules (recursion_from_All P (rules ++ more) all))
-  where
-    front : (rules : List Rule) → AllByRecursion P (rules ++ more) → AllByRecursion P rules
-    front [] each = tt
-    front (g ∷ rules) each = (each.0, front rules each.1)
+all_front P rules more all = subst (All P) (take_at rules more (length rules) refl) (All-take P (length rules) (rules ++ more) all)
 
 -- the rows of an S-polynomial
 s_rows_add : (generators : List (List Term)) (start later : List Rule) (a : Ambiguity) → IsAmbiguity start a → (p : List Term) → SamePolynomial p (s_sum start a) → AddsUpTo generators (start ++ later) p (s_rows_of start a)
@@ -50,10 +48,8 @@ s_rows_add generators start later a is p same = record {
 }
   where
     by_rules : All (λ row. IsByRule (length start) row.from) (s_rows_of start a)
-    by_rules = All-from_recursion (λ row. IsByRule (length start) row.from) (s_rows_of start a) (
-      (rule_at-first start a.i is.first is.first_numbered, rule_at-last start a.i is.first is.first_numbered),
-      ((rule_at-first start a.j is.second is.second_numbered, rule_at-last start a.j is.second is.second_numbered), tt),
-    )
+    by_rules = all_two (λ (row : Row). IsByRule (length start) row.from) (first_row start a) (second_row start a)
+        (rule_at-first start a.i is.first is.first_numbered, rule_at-last start a.i is.first is.first_numbered) (rule_at-first start a.j is.second is.second_numbered, rule_at-last start a.j is.second is.second_numbered)
 
 module _ (letters : ℕ) (compare : Compare) (rank : List ℕ → List ℕ) (laws : IsAdmissible letters compare rank) where
   abbrev order : Order

@@ -2,9 +2,8 @@
 use Rattle.std.proofs.Common.{◌≡◌, ◌≢◌, ℕ, ◌⊎◌, inl, inr, refl, arith, subst, sym, ap, ◌∙◌, List, [], ◌∷◌, ◌++◌, ℤ, pos, ◌+ℤ◌, ◌*ℤ◌}
 use Rattle.std.proofs.lemmas.Int.{ints}
 use Rattle.std.proofs.Math.IntN.{*ℤ-zero, +ℤ_idr}
-use Rattle.std.specs.List.{AllByRecursion}
 use Rattle.definitions.specs.Poly.{coefficient_of, poly_between, Word, Term}
-use Rattle.definitions.specs.Combination.{generator_at, Row as SumRow, InRationalIdeal}
+use Rattle.definitions.specs.Combination.{generator_at, InRationalIdeal}
 use Rattle.word_orders.specs.Orders.{Order}
 use Rattle.confluence.proofs.Led.{polys_of, no_led, Led, led_at, HasLed, IsLed, Comes}
 use Rattle.confluence.proofs.Integers.{nonzero_or}
@@ -50,12 +49,8 @@ in_ideal gs p sp = go (combination_from gs Free p (listed gs Free (coefficient_o
     go : Comes gs Free p → InRationalIdeal gs p
     go c = record { denominator = c.multiplier; rows = c.rows; combination = c.combination }
 
-free_rows : (gs : List (List Term)) (rows : List SumRow) → AllByRecursion (λ r. (w : Word) → coefficient_of (generator_at gs r.generator) w ≢ pos 0 → Free (r.left ++ (w ++ r.right))) rows
-free_rows gs [] = tt
-free_rows gs (r ∷ rows) = ((λ w n. tt), free_rows gs rows)
-
 pub ideal_span : (gs : List (List Term)) (p : List Term) → InRationalIdeal gs p → Span (Numbered gs Free) (coefficient_of p)
-ideal_span gs p inside = combination_span gs Free inside.rows inside.denominator p inside.combination (free_rows gs inside.rows)
+ideal_span gs p inside = combination_span gs Free inside.rows inside.denominator p inside.combination (λ i r below w some. tt)
 
 -- cutting to words in range
 abbrev keep_if : {A B : Type 0} → A ⊎ B → ℤ → ℤ

@@ -1,6 +1,6 @@
 -- Rules as the proofs about an order take them, and sums of rows over them.
 use Rattle.std.specs.Prelude.{◌≡◌, ◌≢◌, ◌⊎◌, ◌<◌, ◌≤◌, ℕ, zero, suc, ℤ, pos, List, [], ◌++◌, map, length, get_or}
-use Rattle.std.specs.List.{AllByRecursion}
+use Rattle.std.specs.List.{All}
 use Rattle.definitions.specs.Poly.{coefficient_of}
 use Rattle.definitions.specs.Combination.{Row, generator_at, IsCombination}
 use Rattle.word_orders.specs.Orders.{Order}
@@ -38,9 +38,13 @@ pub record IsAtMostOf (o : Order) (p : List (ℤ × List ℕ)) (w : List ℕ) : 
   pub occurs : coefficient_of p word ≢ pos 0
   pub at_most : (w ≡ word) ⊎ o.Less w word
 
+-- each word to which the row multiplies its polynomial is as asked
+abbrev pub IsAskedRow : List (List (ℤ × List ℕ)) → (List ℕ → Type 0) → Row → Type 0
+IsAskedRow polys Asked r = (w : List ℕ) → coefficient_of (generator_at polys r.generator) w ≢ pos 0 → Asked (r.left ++ (w ++ r.right))
+
 -- Some positive multiple of p is a sum of rows over the polynomials, and each word of each row is as asked.
 pub record Comes (polys : List (List (ℤ × List ℕ))) (Asked : List ℕ → Type 0) (p : List (ℤ × List ℕ)) : Type 0 where
   pub multiplier : ℤ
   pub rows : List Row
   pub combination : IsCombination polys rows multiplier p
-  pub within : AllByRecursion (λ r. (w : List ℕ) → coefficient_of (generator_at polys r.generator) w ≢ pos 0 → Asked (r.left ++ (w ++ r.right))) rows
+  pub within : All (IsAskedRow polys Asked) rows

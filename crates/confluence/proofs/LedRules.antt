@@ -1,10 +1,9 @@
 -- Rules of an admissible order as the proofs about an order take them.
 use Rattle.std.proofs.Common.{◌≡◌, ◌⊎◌, inl, inr, ◌<◌, ℕ, zero, suc, ℤ, pos, negsuc, ◌<ℤ◌, List, [], ◌∷◌, map, length, get_or, slice_get, Option, Some, refl, sym, ap, ◌∙◌, subst, arith}
-use Rattle.std.specs.List.{All, AllByRecursion}
+use Rattle.std.specs.List.{All}
 use Rattle.std.specs.Int.RustNames.{unsigned_abs}
 use Rattle.std.proofs.lemmas.Int.{ints}
-use Rattle.std.proofs.lemmas.List.Elements.{recursion_from_All}
-use Rattle.definitions.specs.Poly.{Word, Term}
+use Rattle.definitions.specs.Poly.{Word}
 use Rattle.word_core.specs.Letters.{IsOver}
 use Rattle.word_orders.specs.Admissible.{Compare, IsAdmissible}
 use Rattle.word_orders.specs.Orders.{Order}
@@ -71,7 +70,7 @@ module _ (letters : ℕ) (compare : Compare) (rank : List ℕ → List ℕ) (law
   led_is g is_rule = record {
     positive = above g.leading is_rule.positive;
     at_lead = leading_coefficient compare g.poly.terms (g.leading, g.lead) g.poly.canonical.shaped is_rule.leading ∙ as_nat g.leading is_rule.positive;
-    words = words_with_coefficients (λ w. (w ≡ g.lead) ⊎ order.Less w g.lead) g.poly.terms (each g.poly.terms (leading-greatest letters compare rank laws g.poly.terms (g.leading, g.lead) is_rule.leading) (recursion_from_All (λ (t : Term). IsOver letters t.1) g.poly.terms is_rule.over));
+    words = words_with_coefficients (λ w. (w ≡ g.lead) ⊎ order.Less w g.lead) g.poly.terms (λ i t below. one (get_or g.poly.terms i t).1 (leading-greatest letters compare rank laws g.poly.terms (g.leading, g.lead) is_rule.leading i t below) (is_rule.over i t below));
     range = over_range letters compare rank laws g.lead lead_over;
   }
     where
@@ -84,15 +83,11 @@ module _ (letters : ℕ) (compare : Compare) (rank : List ℕ → List ℕ) (law
       as_nat (negsuc n) h = absurd (omega (arith, ints, h))
 
       lead_over : IsOver letters g.lead
-      lead_over = leading-all (λ t. IsOver letters t.1) compare g.poly.terms (g.leading, g.lead) is_rule.leading (recursion_from_All (λ (t : Term). IsOver letters t.1) g.poly.terms is_rule.over)
+      lead_over = leading-all (λ t. IsOver letters t.1) compare g.poly.terms (g.leading, g.lead) is_rule.leading is_rule.over
 
       one : (w : Word) → IsAtMost compare w g.lead → IsOver letters w → (w ≡ g.lead) ⊎ order.Less w g.lead
       one w (inl same) over = inl same
       one w (inr less) over = inr (below_less letters compare rank laws w g.lead (record { left = over; right = lead_over; less = less }))
-
-      each : (p : List Term) → AllByRecursion (λ t. IsAtMost compare t.1 g.lead) p → AllByRecursion (λ t. IsOver letters t.1) p → AllByRecursion (λ t. (t.1 ≡ g.lead) ⊎ order.Less t.1 g.lead) p
-      each [] most over = tt
-      each (t ∷ p) most over = (one t.1 most.0 over.0, each p most.1 over.1)
 
   pub leds_are : (rules : List Rule) → All (IsRule letters compare) rules → (n : ℕ) → HasLed (leds_of rules) n → IsLed order (led_at (leds_of rules) n)
   leds_are rules are n has =

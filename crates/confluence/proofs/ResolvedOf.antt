@@ -1,8 +1,9 @@
 -- Resolved ambiguities of rules as the proofs about an order take them, and back.
-use Rattle.std.proofs.Common.{◌≡◌, ◌≢◌, ℕ, pos, List, [], ◌∷◌, ◌++◌, sym, subst}
-use Rattle.std.specs.List.{All, AllByRecursion}
-use Rattle.definitions.specs.Poly.{Word, Term, coefficient_of}
-use Rattle.definitions.specs.Combination.{Row, generator_at, RowsAreBelow}
+use Rattle.std.proofs.Common.{◌≡◌, ℕ, List, [], ◌∷◌, ◌++◌, sym, subst, arith}
+use Rattle.std.specs.List.{All}
+use Rattle.std.proofs.lemmas.List.Elements.{All-nil, All-cons, All-tail}
+use Rattle.definitions.specs.Poly.{Word, Term}
+use Rattle.definitions.specs.Combination.{Row, RowsAreBelow}
 use Rattle.word_orders.specs.Admissible.{Compare, IsAdmissible}
 use Rattle.word_orders.specs.Orders.{Order}
 use Rattle.word_orders.proofs.Orders.{order_from_laws, below_less, less_below}
@@ -12,7 +13,7 @@ use Rattle.ambiguities.specs.declared.ambiguity.Ambiguity.{Ambiguity}
 use Rattle.ambiguities.specs.Ambiguities.{overlap_word_of}
 use Rattle.ambiguities.specs.SPolynomials.{first_row, second_row}
 use Rattle.ambiguities.specs.Resolved.{is_below, s_sum, ComesBelow, IsResolved, ResolvedBelow, Resolved}
-use Rattle.confluence.proofs.Led.{Comes}
+use Rattle.confluence.proofs.Led.{IsAskedRow, Comes}
 use Rattle.confluence.proofs.Meetings.{IsMeeting, IsResolvedMeeting}
 use Rattle.confluence.proofs.Resolved.{same_place}
 use Rattle.confluence.proofs.Tests.{below_from_test, test_from_below}
@@ -25,17 +26,19 @@ module _ (letters : ℕ) (compare : Compare) (rank : List ℕ → List ℕ) (law
 
   -- rows below a word, by the test and in the order
   abbrev Within : List (List Term) → Word → List Row → Type 0
-  Within polys bound = AllByRecursion (λ r. (w : Word) → coefficient_of (generator_at polys r.generator) w ≢ pos 0 → order.Less (r.left ++ (w ++ r.right)) bound)
+  Within polys bound = All (IsAskedRow polys (λ w. order.Less w bound))
 
   within : (polys : List (List Term)) (bound : Word) (rows : List Row) → RowsAreBelow (is_below letters compare) polys bound rows → Within polys bound rows
-  within polys bound [] each = tt
-  within polys bound (r ∷ rows) each =
-      (λ w some. below_less letters compare rank laws (r.left ++ (w ++ r.right)) bound (below_from_test letters compare (r.left ++ (w ++ r.right)) bound (each.0 w some)), within polys bound rows each.1)
+  within polys bound [] each = All-nil (IsAskedRow polys (λ w. order.Less w bound))
+  within polys bound (r ∷ rows) each = All-cons (IsAskedRow polys (λ w. order.Less w bound)) r rows
+      (λ w some. below_less letters compare rank laws (r.left ++ (w ++ r.right)) bound (below_from_test letters compare (r.left ++ (w ++ r.right)) bound (each.0 w some))) (within polys bound rows each.1)
 
   tested : (polys : List (List Term)) (bound : Word) (rows : List Row) → Within polys bound rows → RowsAreBelow (is_below letters compare) polys bound rows
   tested polys bound [] each = tt
-  tested polys bound (r ∷ rows) each =
-      (λ w some. test_from_below letters compare (r.left ++ (w ++ r.right)) bound (less_below letters compare rank laws (r.left ++ (w ++ r.right)) bound (each.0 w some)), tested polys bound rows each.1)
+  tested polys bound (r ∷ rows) each = (
+    λ w some. test_from_below letters compare (r.left ++ (w ++ r.right)) bound (less_below letters compare rank laws (r.left ++ (w ++ r.right)) bound (each 0 r (omega arith) w some)),
+    tested polys bound rows (All-tail (IsAskedRow polys (λ w. order.Less w bound)) r rows each),
+  )
 
   pub comes_from_below : (polys : List (List Term)) (bound : Word) (p : List Term) → ComesBelow letters compare polys bound p → Comes polys (λ w. order.Less w bound) p
   comes_from_below polys bound p below = record { multiplier = below.denominator; rows = below.rows; combination = below.combination.combination; within = within polys bound below.rows below.combination.rows_below }

@@ -2,7 +2,6 @@
 use Rattle.std.proofs.Common.{◌≡◌, ◌≢◌, ◌⊎◌, inl, inr, ℕ, ℤ, pos, negsuc, neg_ℤ, ◌+ℤ◌, ◌*ℤ◌, List, sym, subst, arith}
 use Rattle.std.specs.List.{All}
 use Rattle.std.proofs.lemmas.Int.{ints}
-use Rattle.std.proofs.lemmas.List.Elements.{recursion_from_All}
 use Rattle.definitions.specs.Poly.{Word, Term, coefficient_of}
 use Rattle.word_core.specs.Letters.{IsOver}
 use Rattle.word_core.specs.Occurrence.{OccursNowhere}
@@ -45,7 +44,7 @@ normal_forms_are_reduced letters compare rank rules p steps s laws are shaped ov
 -- no word of an irreducible polynomial is reducible
 pub not_reducible : (rules : List Rule) (p : List Term) → IsIrreducible rules p → (w : Word) → coefficient_of p w ≢ pos 0 → IsReducible rules w → ⊥
 not_reducible rules p irreducible w some reducible =
-    let nowhere = words_with_coefficients (λ v. All (λ g. OccursNowhere v g.lead) rules) p (recursion_from_All (λ (t : Term). All (λ g. OccursNowhere t.1 g.lead) rules) p irreducible) w some in
+    let nowhere = words_with_coefficients (λ v. All (λ g. OccursNowhere v g.lead) rules) p irreducible w some in
     rule_at-all (λ g. OccursNowhere w g.lead) rules reducible.number reducible.rule reducible.numbered nowhere reducible.place reducible.occurs
 
 module _ (letters : ℕ) (compare : Compare) (rules : List Rule) (p : List Term) (s : State) (reduced : IsReduced letters compare rules p s) where

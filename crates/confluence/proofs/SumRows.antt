@@ -1,12 +1,13 @@
 -- Between rows with a multiplier and spans.
 use Rattle.std.proofs.Common.{◌≡◌, ◌≢◌, ℕ, ◌*◌, ◌<◌, ◌⊎◌, inl, inr, refl, arith, sym, ap, ◌∙◌, List, [], ◌∷◌, ◌++◌, ℤ, pos, ◌+ℤ◌, ◌*ℤ◌, ◌<ℤ◌}
 use Rattle.std.proofs.lemmas.Int.{ints}
-use Rattle.std.specs.List.{AllByRecursion}
+use Rattle.std.specs.List.{All}
+use Rattle.std.proofs.lemmas.List.Elements.{All-nil, All-cons, All-tail}
 use Rattle.definitions.specs.Poly.{coefficient_of, poly_between, poly_multiple, Word, Term}
 use Rattle.definitions.specs.Combination.{Row as SumRow, generator_at, row_poly, row_sum, IsCombination}
 use Rattle.definitions.proofs.Coefficients.{coefficient_of-append, coefficient_of-multiple}
 use Rattle.word_orders.specs.Orders.{Order}
-use Rattle.confluence.proofs.Led.{Led, no_led, led_at, HasLed, polys_of, IsLed, Comes}
+use Rattle.confluence.proofs.Led.{Led, no_led, led_at, HasLed, polys_of, IsLed, IsAskedRow, Comes}
 use Rattle.definitions.proofs.Integers.{*ℤ_assoc, *ℤ-+ℤ}
 use Rattle.confluence.proofs.Spans.{Coefs, Span, span_bind, nothing, more, part}
 use Rattle.confluence.proofs.Meets.{poly, Allowed}
@@ -22,7 +23,7 @@ pub record Listed (polys : List (List Term)) (Asked : Word → Type 0) (f : Coef
   pub positive : 0 < multiplier
   pub rows : List SumRow
   pub sum : (w : Word) → coefficient_of (row_sum polys rows) w ≡ pos multiplier *ℤ f w
-  pub within : AllByRecursion (λ r. (w : Word) → coefficient_of (generator_at polys r.generator) w ≢ pos 0 → Asked (r.left ++ (w ++ r.right))) rows
+  pub within : All (IsAskedRow polys Asked) rows
 
 -- a span of rows over the polynomials is a list of rows
 pub record Numbered (polys : List (List Term)) (Asked : Word → Type 0) (b : Coefs) : Type 0 where
@@ -33,7 +34,7 @@ pub record Numbered (polys : List (List Term)) (Asked : Word → Type 0) (b : Co
   pub asked : (w : Word) → coefficient_of (generator_at polys number) w ≢ pos 0 → Asked (left ++ (w ++ right))
 
 pub listed : (polys : List (List Term)) (Asked : Word → Type 0) (f : Coefs) → Span (Numbered polys Asked) f → Listed polys Asked f
-listed polys Asked _ (nothing f h) = record { multiplier = 1; positive = omega arith; rows = []; sum = λ w. sym (ap (λ z. pos 1 *ℤ z) (h w)); within = tt }
+listed polys Asked _ (nothing f h) = record { multiplier = 1; positive = omega arith; rows = []; sum = λ w. sym (ap (λ z. pos 1 *ℤ z) (h w)); within = All-nil (IsAskedRow polys Asked) }
 listed polys Asked _ (more f g b c hb hg h) = go (listed polys Asked g hg)
   where
     go : Listed polys Asked g → Listed polys Asked f
@@ -44,7 +45,7 @@ listed polys Asked _ (more f g b c hb hg h) = go (listed polys Asked g hg)
       sum = λ w. coefficient_of-append (poly_multiple (pos k.multiplier *ℤ c) (poly_between hb.left (generator_at polys hb.number) hb.right)) (row_sum polys k.rows) w
           ∙ ap (λ z. z +ℤ coefficient_of (row_sum polys k.rows) w) (coefficient_of-multiple (pos k.multiplier *ℤ c) (poly_between hb.left (generator_at polys hb.number) hb.right) w ∙ ap (λ z. (pos k.multiplier *ℤ c) *ℤ z) (sym (hb.is w)) ∙ *ℤ_assoc (pos k.multiplier) c (b w))
           ∙ ap (λ z. pos k.multiplier *ℤ (c *ℤ b w) +ℤ z) (k.sum w) ∙ sym (*ℤ-+ℤ (pos k.multiplier) (c *ℤ b w) (g w)) ∙ ap (λ z. pos k.multiplier *ℤ z) (sym (h w));
-      within = (hb.asked, k.within);
+      within = All-cons (IsAskedRow polys Asked) (record { coefficient = pos k.multiplier *ℤ c; left = hb.left; generator = hb.number; right = hb.right }) k.rows hb.asked k.within;
     }
 listed polys Asked _ (part f g e pe hg h) = go (listed polys Asked g hg)
   where
@@ -60,13 +61,13 @@ listed polys Asked _ (part f g e pe hg h) = go (listed polys Asked g hg)
       within = k.within;
     }
 
-pub numbered : (polys : List (List Term)) (Asked : Word → Type 0) (rows : List SumRow) → AllByRecursion (λ r. (w : Word) → coefficient_of (generator_at polys r.generator) w ≢ pos 0 → Asked (r.left ++ (w ++ r.right))) rows → Span (Numbered polys Asked) (coefficient_of (row_sum polys rows))
+pub numbered : (polys : List (List Term)) (Asked : Word → Type 0) (rows : List SumRow) → All (IsAskedRow polys Asked) rows → Span (Numbered polys Asked) (coefficient_of (row_sum polys rows))
 numbered polys Asked [] a = nothing _ (λ w. refl)
 numbered polys Asked (r ∷ rows) a = more _ (coefficient_of (row_sum polys rows)) (coefficient_of (poly_between r.left (generator_at polys r.generator) r.right)) r.coefficient
-    (record { number = r.generator; left = r.left; right = r.right; is = λ w. refl; asked = a.0 }) (numbered polys Asked rows a.1)
+    (record { number = r.generator; left = r.left; right = r.right; is = λ w. refl; asked = a 0 r (omega arith) }) (numbered polys Asked rows (All-tail (IsAskedRow polys Asked) r rows a))
     (λ w. coefficient_of-append (row_poly polys r) (row_sum polys rows) w ∙ ap (λ z. z +ℤ coefficient_of (row_sum polys rows) w) (coefficient_of-multiple r.coefficient (poly_between r.left (generator_at polys r.generator) r.right) w))
 
-pub combination_span : (polys : List (List Term)) (Asked : Word → Type 0) (rows : List SumRow) (d : ℤ) (p : List Term) → IsCombination polys rows d p → AllByRecursion (λ r. (w : Word) → coefficient_of (generator_at polys r.generator) w ≢ pos 0 → Asked (r.left ++ (w ++ r.right))) rows → Span (Numbered polys Asked) (coefficient_of p)
+pub combination_span : (polys : List (List Term)) (Asked : Word → Type 0) (rows : List SumRow) (d : ℤ) (p : List Term) → IsCombination polys rows d p → All (IsAskedRow polys Asked) rows → Span (Numbered polys Asked) (coefficient_of p)
 combination_span polys Asked rows d p c a = go (positive_nat d c.positive)
   where
     go : ((n : ℕ) × (0 < n) × (d ≡ pos n)) → Span (Numbered polys Asked) (coefficient_of p)

@@ -1,15 +1,26 @@
 -- A polynomial that is written out term by term is canonical, and the limits of its terms are shown one after another.
-use Rattle.std.proofs.Common.{◌≤◌, ◌≢◌, List, length, pos}
+use Rattle.std.proofs.Common.{◌≡◌, ◌≤◌, ◌≢◌, List, [], ◌∷◌, length, pos}
 use Rattle.std.specs.List.{AllByRecursion}
 use Rattle.std.proofs.lemmas.List.Elements.{All-from_recursion}
 use Rattle.coef_int.specs.Range.{IsCoefficient}
 use Rattle.definitions.specs.Poly.{Term}
 use Rattle.nc_polynomial.specs.Shape.{IsShaped, IsCanonical}
-use Rattle.nc_polynomial.proofs.Shapes.{Descends, IsDescending-from_recursion}
+use Rattle.word_core.specs.Canonical.{word_cmp}
+use Rattle.std.specs.declared.cmp.Ordering.TheVariants.{Greater}
+use Rattle.nc_polynomial.proofs.Shapes.{Descends, IsBelow, IsDescending-from_recursion}
 
-pub shaped_as_written : (p : List Term) → Descends p → AllByRecursion (λ t. t.0 ≢ pos 0) p → AllByRecursion (λ t. IsCoefficient t.0) p → IsShaped p
+-- each word is above all later words, with one comparison after another
+abbrev pub AreWrittenDown : List Term → Type 0
+AreWrittenDown [] = Unit {0}
+AreWrittenDown (t ∷ p) = AllByRecursion (λ u. word_cmp t.1 u.1 ≡ Greater) p × AreWrittenDown p
+
+descends_written : (p : List Term) → AreWrittenDown p → Descends p
+descends_written [] d = tt
+descends_written (t ∷ p) d = (All-from_recursion (IsBelow t.1) p d.0, descends_written p d.1)
+
+pub shaped_as_written : (p : List Term) → AreWrittenDown p → AllByRecursion (λ t. t.0 ≢ pos 0) p → AllByRecursion (λ t. IsCoefficient t.0) p → IsShaped p
 shaped_as_written p descending nonzero in_range = record {
-  descending = IsDescending-from_recursion p descending;
+  descending = IsDescending-from_recursion p (descends_written p descending);
   nonzero = All-from_recursion (λ (t : Term). t.0 ≢ pos 0) p nonzero;
   in_range = All-from_recursion (λ (t : Term). IsCoefficient t.0) p in_range;
 }
