@@ -2,7 +2,6 @@
 use Rattle.std.proofs.Common.{◌≡◌, ℕ, suc, List, [], ◌∷◌, length, map, Result, Ok, Err, MatchResult, IfOk, refl, sym, ap, ◌∙◌, subst}
 use Rattle.std.specs.List.{All, AllZip}
 use Rattle.std.proofs.lemmas.List.{length-map}
-use Rattle.std.proofs.lemmas.List.Elements.{All-from_recursion}
 use Rattle.word_orders.specs.Admissible.{Compare}
 use Rattle.rule_reduce.specs.declared.rule.Rule.{Rule}
 use Rattle.rule_reduce.specs.declared.fault.ReduceFault.{ReduceFault}
@@ -35,7 +34,7 @@ module _ (letters : ℕ) (compare : Compare) (steps : ℕ) (rules : List Rule) (
   firsts_exact (Err (fault.Memory e)) is = tt
 
   pub firsts_kept : (result : Result (List Kept) ReduceFault) → MatchResult result (λ fs. values answers ≡ Ok fs) (Explains (values answers)) → IfOk result (All (λ f. IsKeptFirst letters (length rules) (plain_first f)))
-  firsts_kept (Ok fs) is = All-from_recursion (λ f. IsKeptFirst letters (length rules) (plain_first f)) fs (subst Answered is all_answer).kept
+  firsts_kept (Ok fs) is = (subst Answered is all_answer).kept
   firsts_kept (Err e) why = tt
 
 pub each_length : {A B : Type 0} (f : A → Result B ReduceFault) (xs : List A) (ys : List B) → each_in_turn f xs ≡ Ok ys → length ys ≡ length xs

@@ -1,6 +1,7 @@
 -- Answers in their order, and the first fault of them.
 use Rattle.std.proofs.Common.{◌≡◌, List, [], ◌∷◌, ◌++◌, map, Result, Ok, Err, MatchResult, IfOk, refl, sym, ap, ◌∙◌, append_assoc}
-use Rattle.std.specs.List.{AllByRecursion, AllZip}
+use Rattle.std.specs.List.{AllZip, All}
+use Rattle.std.proofs.lemmas.List.Elements.{All-nil, All-cons}
 use Rattle.rule_reduce.specs.declared.fault.ReduceFault.{ReduceFault}
 use Rattle.rule_reduce.specs.declared.fault.ReduceFault.TheVariants as fault
 use Rattle.traced_completion.specs.Results.{and_then, each_in_turn, Explains}
@@ -55,17 +56,17 @@ module _ {A B C : Type 0} (f : A → Result B ReduceFault) (view : C → B) (Kep
   -- what all answers say
   pub record AreAnswers (xs : List A) (r : Result (List C) ReduceFault) : Type 0 where
     pub exact : MatchResult r (λ ys. each_in_turn f xs ≡ Ok (map view ys)) (Explains (each_in_turn f xs))
-    pub kept : IfOk r (λ ys. AllByRecursion Kept ys)
+    pub kept : IfOk r (λ ys. All Kept ys)
 
   after_value : (x : A) (y : C) (xs : List A) (r : Result (List C) ReduceFault) → f x ≡ Ok (view y) → Kept y → AreAnswers xs r → AreAnswers (x ∷ xs) (and_then r (λ ys. Ok (y ∷ ys)))
   after_value x y xs (Ok ys) is kept answers = record {
     exact = ap (λ q. and_then q (λ z. and_then (each_in_turn f xs) (λ zs. Ok (z ∷ zs)))) is ∙ ap (λ q. and_then q (λ zs. Ok (view y ∷ zs))) answers.exact;
-    kept = (kept, answers.kept);
+    kept = All-cons Kept y ys kept answers.kept;
   }
   after_value x y xs (Err e) is kept answers = record { exact = explains-tail f x (view y) xs e is answers.exact; kept = tt }
 
   pub values_answer : (xs : List A) (answers : List (Result C ReduceFault)) → AllZip IsAnswerTo xs answers → AreAnswers xs (values answers)
-  values_answer [] [] each = record { exact = refl; kept = tt }
+  values_answer [] [] each = record { exact = refl; kept = All-nil Kept }
   values_answer [] (a ∷ answers) each = absurd each
   values_answer (x ∷ xs) [] each = absurd each
   values_answer (x ∷ xs) (Ok y ∷ answers) each = after_value x y xs (values answers) each.0.exact each.0.kept (values_answer xs answers each.1)

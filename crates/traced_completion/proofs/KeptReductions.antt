@@ -1,7 +1,7 @@
 -- What the code keeps of reductions holds.
 use Rattle.std.proofs.Common.{◌≡◌, ◌<◌, ℕ, List, length, Ok, Err, Result, IfOk, MatchResult, arith}
 use Rattle.std.specs.List.{All}
-use Rattle.std.proofs.lemmas.List.Elements.{All-from_recursion, All-weaker}
+use Rattle.std.proofs.lemmas.List.Elements.{All-weaker}
 use Rattle.coef_int.specs.Range.{IsCoefficient}
 use Rattle.definitions.specs.Poly.{Term}
 use Rattle.word_core.specs.Letters.{IsOver}
@@ -19,8 +19,9 @@ use Rattle.rule_reduce.specs.Laws.{IsByRule}
 use Rattle.rule_reduce.proofs.RowsByRules.{rows_are_by_rules}
 use Rattle.ambiguities.specs.declared.ambiguity.Ambiguity.{Ambiguity}
 use Rattle.ambiguities.specs.Ambiguities.{IsAmbiguity}
-use Rattle.ambiguities.specs.SPolynomials.{s_rows_of}
+use Rattle.ambiguities.specs.SPolynomials.{first_row, second_row, s_rows_of}
 use Rattle.ambiguities.proofs.Numbers.{rule_at-first, rule_at-last}
+use Rattle.traced_rows.proofs.Lists.{all_two}
 use Rattle.traced_completion.specs.Reductions.{plain, IsKept}
 use Rattle.traced_completion.proofs.NonemptyWords.{nonempty_rest}
 
@@ -49,7 +50,6 @@ module _ (letters : ℕ) (compare : Compare) (rules : List Rule) (are_rules : Al
 -- the rows of an S-polynomial are over two of the rules
 pub s_rows_named : (rules : List Rule) (a : Ambiguity) → IsAmbiguity rules a → All (λ r. IsAmongFirst (length rules) r.from) (s_rows_of rules a)
 s_rows_named rules a is =
-    All-from_recursion (λ (r : Row). IsAmongFirst (length rules) r.from) (s_rows_of rules a) (
-      (omega (arith, rule_at-first rules a.i is.first is.first_numbered), omega (arith, rule_at-last rules a.i is.first is.first_numbered)),
-      ((omega (arith, rule_at-first rules a.j is.second is.second_numbered), omega (arith, rule_at-last rules a.j is.second is.second_numbered)), tt),
-    )
+    all_two (λ (r : Row). IsAmongFirst (length rules) r.from) (first_row rules a) (second_row rules a)
+    (omega (arith, rule_at-first rules a.i is.first is.first_numbered), omega (arith, rule_at-last rules a.i is.first is.first_numbered))
+    (omega (arith, rule_at-first rules a.j is.second is.second_numbered), omega (arith, rule_at-last rules a.j is.second is.second_numbered))

@@ -1,8 +1,8 @@
 -- No word of an S-polynomial is empty, nor one of what a reduction leaves.
-use Rattle.std.proofs.Common.{◌≡◌, ◌≢◌, ◌<◌, ℕ, pos, List, [], ◌∷◌, ◌++◌, length, Some, Ok, arith}
-use Rattle.std.specs.List.{All, AllByRecursion}
+use Rattle.std.proofs.Common.{◌≡◌, ◌≢◌, ◌<◌, ℕ, pos, List, ◌++◌, length, Some, Ok, arith, get_or}
+use Rattle.std.specs.List.{All}
 use Rattle.std.proofs.lemmas.List.{length-append}
-use Rattle.std.proofs.lemmas.List.Elements.{All-from_recursion, recursion_from_All}
+use Rattle.std.proofs.lemmas.List.Elements.{All-map}
 use Rattle.definitions.specs.Poly.{Term, coefficient_of, poly_between}
 use Rattle.word_orders.specs.Admissible.{Compare}
 use Rattle.nc_polynomial.specs.Shape.{IsShaped}
@@ -24,24 +24,20 @@ IsNonempty w = 0 < length w
 
 -- what holds of each word with a coefficient holds of each word in the list
 listed : (p : List Term) → IsShaped p → ((w : List ℕ) → coefficient_of p w ≢ pos 0 → IsNonempty w) → All (λ t. IsNonempty t.1) p
-listed p shaped each =
-    All-from_recursion (λ t. IsNonempty t.1) p
-    (words_listed IsNonempty p (distinct-descending p (recursion_from_IsDescending p shaped.descending)) (recursion_from_All (λ (t : Term). t.0 ≢ pos 0) p shaped.nonzero) each)
+listed p shaped each = words_listed IsNonempty p (distinct-descending p (recursion_from_IsDescending p shaped.descending)) shaped.nonzero each
 
 between_nonempty : (l w r : List ℕ) → IsNonempty w → IsNonempty (l ++ (w ++ r))
 between_nonempty l w r some = omega (arith, length-append l (w ++ r), length-append w r, some)
 
-each_between : (l r : List ℕ) (p : List Term) → AllByRecursion (λ t. IsNonempty t.1) p → AllByRecursion (λ t. IsNonempty (l ++ (t.1 ++ r))) p
-each_between l r [] each = tt
-each_between l r (t ∷ p) each = (between_nonempty l t.1 r each.0, each_between l r p each.1)
+each_between : (l r : List ℕ) (p : List Term) → All (λ t. IsNonempty t.1) p → All (λ t. IsNonempty (l ++ (t.1 ++ r))) p
+each_between l r p each i t below = between_nonempty l (get_or p i t).1 r (each i t below)
 
-poly_between_nonempty : (l r : List ℕ) (p : List Term) → AllByRecursion (λ t. IsNonempty t.1) p → AllByRecursion (λ t. IsNonempty t.1) (poly_between l p r)
-poly_between_nonempty l r [] each = tt
-poly_between_nonempty l r (t ∷ p) each = (between_nonempty l t.1 r each.0, poly_between_nonempty l r p each.1)
+poly_between_nonempty : (l r : List ℕ) (p : List Term) → All (λ t. IsNonempty t.1) p → All (λ t. IsNonempty t.1) (poly_between l p r)
+poly_between_nonempty l r p each = All-map (λ (t : Term). IsNonempty t.1) (λ (t : Term). (t.0, l ++ (t.1 ++ r))) p (each_between l r p each)
 
 module _ (letters : ℕ) (compare : Compare) (rules : List Rule) (are_rules : All (IsRule letters compare) rules) where
-  rule_words : (n : ℕ) (g : Rule) → rule_at rules n ≡ Some g → AllByRecursion (λ t. IsNonempty t.1) g.poly.terms
-  rule_words n g has = recursion_from_All (λ t. IsNonempty t.1) g.poly.terms (rule_at-all (IsRule letters compare) rules n g has are_rules).nonempty
+  rule_words : (n : ℕ) (g : Rule) → rule_at rules n ≡ Some g → All (λ t. IsNonempty t.1) g.poly.terms
+  rule_words n g has = (rule_at-all (IsRule letters compare) rules n g has are_rules).nonempty
 
   pub nonempty_s : (a : Ambiguity) → IsAmbiguity rules a → (p : List Term) → IsShaped p → s_polynomial_of rules a ≡ Ok p → All (λ t. IsNonempty t.1) p
   nonempty_s a is p shaped ends =
@@ -54,4 +50,4 @@ module _ (letters : ℕ) (compare : Compare) (rules : List Rule) (are_rules : Al
 
   pub nonempty_rest : (p : List Term) (steps : ℕ) (s : State) → All (λ t. IsNonempty t.1) p → IsShaped s.rest → normal_form_of compare rules p steps ≡ Ok s → All (λ t. IsNonempty t.1) s.rest
   nonempty_rest p steps s each shaped ends =
-      listed s.rest shaped (words_kept IsNonempty compare rules (λ n g has l r some. each_between l r g.poly.terms (rule_words n g has)) p steps s (recursion_from_All (λ t. IsNonempty t.1) p each) ends).rest
+      listed s.rest shaped (words_kept IsNonempty compare rules (λ n g has l r some. each_between l r g.poly.terms (rule_words n g has)) p steps s each ends).rest

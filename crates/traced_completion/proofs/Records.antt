@@ -1,6 +1,6 @@
 -- Rows of records name what is there before.
 use Rattle.std.proofs.Common.{◌≤◌, ℕ, ℤ, List, [], ◌∷◌, map, arith}
-use Rattle.std.proofs.lemmas.List.Elements.{All-weaker, All-map, All-append, All-from_recursion}
+use Rattle.std.proofs.lemmas.List.Elements.{All-weaker, All-map, All-append}
 use Rattle.traced_rows.specs.declared.Origin.{Origin}
 use Rattle.traced_rows.specs.declared.Origin.TheVariants as origin
 use Rattle.traced_rows.specs.declared.Row.{Row}
@@ -12,6 +12,7 @@ use Rattle.rule_making.specs.Records.{AreRows}
 use Rattle.rule_making.proofs.Records.{AreNamed, negated_named}
 use Rattle.traced_completion.specs.Works.{First, generator_rows, less_rows, first_rows, second_rows}
 use Rattle.traced_completion.specs.Reductions.{IsKept, IsKeptFirst}
+use Rattle.traced_rows.proofs.Lists.{all_one}
 
 less_named : (count : ℕ) (rows : List Row) (by : ℤ) (taken : List Row) → AreNamed count rows → AreNamed count taken → AreNamed count (less_rows rows by taken)
 less_named count rows by taken named also =
@@ -49,4 +50,4 @@ first_more letters count more most f kept = record {
 pub generator_named : (count number : ℕ) (multiplier : ℤ) (taken : List Row) → AreNamed count taken → AreNamed count (generator_rows number multiplier taken)
 generator_named count number multiplier taken named =
     All-append (λ (r : Row). IsAmongFirst count r.from) (record { coef = multiplier; left = []; from = origin.Generator number; right = [] } ∷ []) (negated_rows taken)
-    (All-from_recursion (λ (r : Row). IsAmongFirst count r.from) (record { coef = multiplier; left = []; from = origin.Generator number; right = [] } ∷ []) (tt, tt)) (negated_named count taken named)
+    (all_one (λ (r : Row). IsAmongFirst count r.from) (record { coef = multiplier; left = []; from = origin.Generator number; right = [] }) tt) (negated_named count taken named)

@@ -1,7 +1,6 @@
 -- Each state of a run has rules.
 use Rattle.std.proofs.Common.{◌≡◌, ◌≢◌, ◌<◌, ℕ, pos, ◌*ℤ◌, length, Option, Some, None, refl, sym, ap, ◌∙◌}
 use Rattle.std.specs.Option.{option_map}
-use Rattle.std.proofs.lemmas.List.Elements.{All-from_recursion, recursion_from_All}
 use Rattle.std.proofs.Math.IntN.{*ℤ-zero}
 use Rattle.definitions.specs.Poly.{Term}
 use Rattle.coef_int.specs.Range.{IsCoefficient}
@@ -28,16 +27,16 @@ pub made_is_rule : (letters : ℕ) (compare : Compare) (rest : Rest) (g : Rule) 
 made_is_rule letters compare rest g m made words =
     let k = signed (leads_negative compare rest.polynomial) m.scale in
     let leads = leads_at (leading_term compare g.poly.terms) refl in
-    let nonzero : g.leading ≢ pos 0 = leading-all (λ t. t.0 ≢ pos 0) compare g.poly.terms (g.leading, g.lead) leads (recursion_from_All (λ (t : Term). t.0 ≢ pos 0) g.poly.terms g.poly.canonical.shaped.nonzero) in
+    let nonzero : g.leading ≢ pos 0 = leading-all (λ t. t.0 ≢ pos 0) compare g.poly.terms (g.leading, g.lead) leads g.poly.canonical.shaped.nonzero in
     let k_nonzero = signed_nonzero (leads_negative compare rest.polynomial) m.scale made.positive in
     let top : leading_term compare rest.polynomial ≡ Some (k *ℤ g.leading, g.lead) = sym (ap (leading_term compare) made.divided) ∙ leading-multiple compare k g.poly.terms ∙ ap (option_map (multiple_term k)) leads in
     let sign : leads_negative compare rest.polynomial ≡ is_negative (k *ℤ g.leading) = ap is_term_negative top in
     record {
       leading = leads;
       positive = positive_quotient m.scale g.leading (k *ℤ g.leading) made.positive (ap (λ b. signed b m.scale *ℤ g.leading) (sym sign)) (λ none. nonzero (same_factor k g.leading (pos 0) k_nonzero (none ∙ sym (*ℤ-zero k))));
-      in_range = leading-all (λ t. IsCoefficient t.0) compare g.poly.terms (g.leading, g.lead) leads (recursion_from_All (λ (t : Term). IsCoefficient t.0) g.poly.terms g.poly.canonical.shaped.in_range);
-      nonempty = quotient_words (λ w. 0 < length w) k g.poly.terms rest.polynomial made.divided (All-from_recursion (λ t. 0 < length t.1) rest.polynomial (words_nonempty letters rest.polynomial words));
-      over = quotient_words (IsOver letters) k g.poly.terms rest.polynomial made.divided (All-from_recursion (λ t. IsOver letters t.1) rest.polynomial (words_over letters rest.polynomial words));
+      in_range = leading-all (λ t. IsCoefficient t.0) compare g.poly.terms (g.leading, g.lead) leads g.poly.canonical.shaped.in_range;
+      nonempty = quotient_words (λ w. 0 < length w) k g.poly.terms rest.polynomial made.divided (words_nonempty letters rest.polynomial words);
+      over = quotient_words (IsOver letters) k g.poly.terms rest.polynomial made.divided (words_over letters rest.polynomial words);
     }
   where
     leads_at : (o : Option Term) → leading_term compare g.poly.terms ≡ o → leading_term compare g.poly.terms ≡ Some (g.leading, g.lead)

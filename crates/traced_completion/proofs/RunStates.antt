@@ -1,9 +1,9 @@
 -- The states of a run: their rules, and how many there are.
-use Rattle.std.proofs.Common.{◌≡◌, ◌<◌, ◌≤◌, ◌+◌, ℕ, zero, suc, List, [], ◌∷◌, ◌++◌, length, map, take, Bool, true, false, leb, Option, Some, None, Result, Ok, Err, refl, sym, ap, ◌∙◌, subst, arith}
-use Rattle.std.specs.List.{All, AllByRecursion}
+use Rattle.std.proofs.Common.{◌≡◌, ◌<◌, ◌≤◌, ◌+◌, ℕ, zero, suc, List, [], ◌∷◌, ◌++◌, length, map, take, Bool, true, false, leb, Option, Some, None, Result, Ok, Err, refl, sym, ap, ◌∙◌, subst, arith, get_or}
+use Rattle.std.specs.List.{All}
 use Rattle.std.proofs.lemmas.Bool.{leb-false}
 use Rattle.std.proofs.lemmas.List.{length-append, length-map}
-use Rattle.std.proofs.lemmas.List.Elements.{All-from_recursion, recursion_from_All, All-append, All-map, All-take}
+use Rattle.std.proofs.lemmas.List.Elements.{All-append, All-map, All-take, All-nil, All-cons, All-tail}
 use Rattle.definitions.specs.Poly.{Term}
 use Rattle.definitions.specs.Combination.{generator_at}
 use Rattle.word_orders.specs.Admissible.{Compare}
@@ -19,7 +19,7 @@ use Rattle.rule_reduce.specs.NormalForms.{normal_form_of}
 use Rattle.ambiguities.specs.declared.ambiguity.Ambiguity.{Ambiguity}
 use Rattle.ambiguities.specs.Ambiguities.{IsAmbiguity}
 use Rattle.ambiguities.specs.SPolynomials.{s_rows_of, s_polynomial_of}
-use Rattle.ambiguities.proofs.Words.{AreWords, words_from, normal_words, s_words}
+use Rattle.ambiguities.proofs.Words.{IsWord, AreWords, words_from, normal_words, s_words}
 use Rattle.ambiguities.specs.declared.waiting.Waiting.{Waiting}
 use Rattle.traced_completion.specs.Results.{and_then, halted, each_in_turn, unless_overflow}
 use Rattle.rule_making.specs.Making.{Recorded, Rest, rest_with, Adds}
@@ -27,12 +27,12 @@ use Rattle.traced_completion.specs.Works.{Work, generator_rows, generator_work, 
 use Rattle.traced_completion.specs.Pending.{AreAllPending, ambiguities_of}
 use Rattle.traced_completion.specs.PlainRun.{Setting, RunState, went, closed, stopped, Ends, recorded, taken_count, IsTreated, TreatsFirst, TreatsPending, IsRoundZero, IsLaterRound}
 use Rattle.traced_completion.specs.RunLaws.{HasWords, StatesHaveRules, IsBounded, StatesAreBounded}
-use Rattle.word_core.specs.Letters.{IsOver}
 use Rattle.cofactor_trace.specs.declared.halt.Halt.{Halt}
 use Rattle.traced_completion.proofs.StoreLemmas.{pending-all}
 use Rattle.traced_completion.proofs.FirstReductions.{each_length}
 use Rattle.traced_completion.proofs.Transitions.{taken_length}
 use Rattle.traced_completion.proofs.RunRules.{made_is_rule}
+use Rattle.traced_rows.proofs.Lists.{all_one}
 
 ok_is : {A : Type 0} (x y : A) → ◌≡◌ {A = Result A ReduceFault} (Ok x) (Ok y) → x ≡ y
 ok_is x y same = cc
@@ -102,20 +102,23 @@ module _ (letters : ℕ) (compare : Compare) where
         go (Err e) ends k = absurd (ok_err f _ (sym k))
         go (Ok p) ends k = after p (s_words letters compare rules are_rules a is p ends) (normal_form_of compare rules p steps) refl k
 
-    firsts_words : (taken : List Ambiguity) (fs : List First) → AllByRecursion (IsAmbiguity rules) taken → each_in_turn (first_of compare steps rules) taken ≡ Ok fs → AllByRecursion (λ f. AreWords letters f.reduced.rest) fs
-    firsts_words [] fs each same = subst (AllByRecursion (λ (f : First). AreWords letters f.reduced.rest)) (ok_is [] fs same) tt
-    firsts_words (a ∷ taken) fs each same = go (first_of compare steps rules a) (each_in_turn (first_of compare steps rules) taken) refl refl (λ gs have. firsts_words taken gs each.1 have) same
+    abbrev FirstWords : First → Type 0
+    FirstWords f = AreWords letters f.reduced.rest
+
+    firsts_words : (taken : List Ambiguity) (fs : List First) → All (IsAmbiguity rules) taken → each_in_turn (first_of compare steps rules) taken ≡ Ok fs → All FirstWords fs
+    firsts_words [] fs each same = subst (All FirstWords) (ok_is [] fs same) (All-nil FirstWords)
+    firsts_words (a ∷ taken) fs each same =
+        go (first_of compare steps rules a) (each_in_turn (first_of compare steps rules) taken) refl refl (λ gs have. firsts_words taken gs (All-tail (IsAmbiguity rules) a taken each) have) same
       where
         go : (r : Result First ReduceFault) (q : Result (List First) ReduceFault) → first_of compare steps rules a ≡ r → each_in_turn (first_of compare steps rules) taken ≡ q
-            → ((gs : List First) → each_in_turn (first_of compare steps rules) taken ≡ Ok gs → AllByRecursion (λ f. AreWords letters f.reduced.rest) gs)
-            → and_then r (λ f. and_then q (λ gs. Ok (f ∷ gs))) ≡ Ok fs → AllByRecursion (λ f. AreWords letters f.reduced.rest) fs
+            → ((gs : List First) → each_in_turn (first_of compare steps rules) taken ≡ Ok gs → All FirstWords gs)
+            → and_then r (λ f. and_then q (λ gs. Ok (f ∷ gs))) ≡ Ok fs → All FirstWords fs
         go (Err e) q one others rest k = absurd (ok_err fs e (sym k))
         go (Ok f) (Err e) one others rest k = absurd (ok_err fs e (sym k))
-        go (Ok f) (Ok gs) one others rest k = subst (AllByRecursion (λ (g : First). AreWords letters g.reduced.rest)) (ok_is (f ∷ gs) fs k) (first_words a f each.0 one, rest gs others)
+        go (Ok f) (Ok gs) one others rest k = subst (All FirstWords) (ok_is (f ∷ gs) fs k) (All-cons FirstWords f gs (first_words a f (each 0 a (omega arith)) one) (rest gs others))
 
-    second_works : (fs : List First) → AllByRecursion (λ f. AreWords letters f.reduced.rest) fs → AllByRecursion KeepsWords (map (second_work compare steps) fs)
-    second_works [] each = tt
-    second_works (f ∷ fs) each = (second_keeps steps f each.0, second_works fs each.1)
+    second_works : (fs : List First) → All FirstWords fs → All KeepsWords (map (second_work compare steps) fs)
+    second_works fs each = All-map KeepsWords (second_work compare steps) fs (λ i f below. second_keeps steps (get_or fs i f) (each i f below))
 
   -- rules stay rules
   adds_rules : (rest : Option Rest) (before after : Recorded) → Adds compare rest before after → All (IsRule letters compare) before.rules → ((r : Rest) → rest ≡ Some r → AreWords letters r.polynomial) → All (IsRule letters compare) after.rules
@@ -123,17 +126,17 @@ module _ (letters : ℕ) (compare : Compare) where
   adds_rules (Some rest) before after more are words =
       subst (λ (r : Recorded). All (IsRule letters compare) r.rules) (sym more.appended)
       (All-append (IsRule letters compare) before.rules (more.rule ∷ []) are
-      (All-from_recursion (IsRule letters compare) (more.rule ∷ []) (made_is_rule letters compare rest more.rule more.made more.made_from (words rest refl), tt)))
+      (all_one (IsRule letters compare) more.rule (made_is_rule letters compare rest more.rule more.made more.made_from (words rest refl))))
 
-  pub turns_rules : (works : List Work) (before t : Recorded) → InTurn compare works before (Ok t) → All (IsRule letters compare) before.rules → AllByRecursion KeepsWords works → All (IsRule letters compare) t.rules
+  pub turns_rules : (works : List Work) (before t : Recorded) → InTurn compare works before (Ok t) → All (IsRule letters compare) before.rules → All KeepsWords works → All (IsRule letters compare) t.rules
   turns_rules [] before t turn are each = subst (λ (r : Recorded). All (IsRule letters compare) r.rules) (ok_is before t (sym turn)) are
-  turns_rules (work ∷ works) before t turn are each = go (work before.rules) refl (λ s next still. turns_rules works s t next still each.1) turn
+  turns_rules (work ∷ works) before t turn are each = go (work before.rules) refl (λ s next still. turns_rules works s t next still (All-tail KeepsWords work works each)) turn
     where
       go : (r : Result (Option Rest) ReduceFault) → work before.rules ≡ r
           → ((s : Recorded) → InTurn compare works s (Ok t) → All (IsRule letters compare) s.rules → All (IsRule letters compare) t.rules)
           → Goes compare r before (λ s. InTurn compare works s (Ok t)) (Ok t) → All (IsRule letters compare) t.rules
       go (Err e) has rest k = absurd (ok_err t e k)
-      go (Ok o) has rest k = rest k.between k.next (adds_rules o before k.between k.added are (λ r same. each.0 before.rules are r (has ∙ ap Ok same)))
+      go (Ok o) has rest k = rest k.between k.next (adds_rules o before k.between k.added are (λ r same. each 0 work (omega arith) before.rules are r (has ∙ ap Ok same)))
 
   pub passes_rules : (steps : ℕ) (before t : Recorded) (taken : List Ambiguity) → All (IsAmbiguity before.rules) taken → All (IsRule letters compare) before.rules
       → InTwoPasses compare steps (each_in_turn (first_of compare steps before.rules) taken) before (Ok t) → All (IsRule letters compare) t.rules
@@ -143,17 +146,16 @@ module _ (letters : ℕ) (compare : Compare) where
       go (Err e) has k = absurd (ok_err t e k)
       go (Ok fs) has k =
           turns_rules (map (second_work compare steps) fs) before t k are
-          (second_works steps before.rules are fs (firsts_words steps before.rules are taken fs (recursion_from_All (IsAmbiguity before.rules) taken each) has))
+          (second_works steps before.rules are fs (firsts_words steps before.rules are taken fs each has))
 
-  generator_words : (generators : List (List Term)) → AllByRecursion (HasWords letters) generators → (number : ℕ) → AreWords letters (generator_at generators number)
-  generator_words generators each zero = tt
-  generator_words [] each (suc n) = tt
-  generator_words (p ∷ generators) each (suc zero) = words_from letters p (recursion_from_All (λ t. 0 < length t.1) p each.0.nonempty) (recursion_from_All (λ t. IsOver letters t.1) p each.0.over)
-  generator_words (p ∷ generators) each (suc (suc n)) = generator_words generators each.1 (suc n)
+  generator_words : (generators : List (List Term)) → All (HasWords letters) generators → (number : ℕ) → AreWords letters (generator_at generators number)
+  generator_words generators each zero = All-nil (λ (t : Term). IsWord letters t.1)
+  generator_words [] each (suc n) = All-nil (λ (t : Term). IsWord letters t.1)
+  generator_words (p ∷ generators) each (suc zero) = let words = each 0 p (omega arith) in words_from letters p words.nonempty words.over
+  generator_words (p ∷ generators) each (suc (suc n)) = generator_words generators (All-tail (HasWords letters) p generators each) (suc n)
 
-  generator_works : (steps : ℕ) (generators : List (List Term)) → AllByRecursion (HasWords letters) generators → (numbers : List ℕ) → AllByRecursion KeepsWords (map (generator_work compare steps generators) numbers)
-  generator_works steps generators each [] = tt
-  generator_works steps generators each (n ∷ numbers) = (generator_keeps steps generators n (generator_words generators each n), generator_works steps generators each numbers)
+  generator_works : (steps : ℕ) (generators : List (List Term)) → All (HasWords letters) generators → (numbers : List ℕ) → All KeepsWords (map (generator_work compare steps generators) numbers)
+  generator_works steps generators each numbers = All-map KeepsWords (generator_work compare steps generators) numbers (λ i n below. generator_keeps steps generators (get_or numbers i n) (generator_words generators each (get_or numbers i n)))
 
 -- how many rules works add
 module _ (compare : Compare) where
@@ -250,7 +252,7 @@ states_rules letters setting (suc zero) s words is =
     let before = states_rules letters setting zero is.before words is.is_before in
     let turn = zero_turn setting 0 is.before s is.round in
     turns_rules letters setting.compare (map (generator_work setting.compare setting.budget.steps setting.generators) setting.in_turn) (recorded is.before) (recorded s) turn.0 before
-    (generator_works letters setting.compare setting.budget.steps setting.generators (recursion_from_All (HasWords letters) setting.generators words) setting.in_turn)
+    (generator_works letters setting.compare setting.budget.steps setting.generators words setting.in_turn)
 states_rules letters setting (suc (suc n)) s words is =
     let before = states_rules letters setting (suc n) is.before words is.is_before in
     let whole = later_whole setting (suc n) is.before s is.round in
