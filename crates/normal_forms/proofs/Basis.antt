@@ -4,8 +4,8 @@ use Rattle.std.proofs.lemmas.Bool.{and_parts}
 use Rattle.std.proofs.lemmas.Bool.Decides.{Decides-int_eq}
 use Rattle.std.proofs.lemmas.Int.{ints}
 use Rattle.std.specs.Ordering.{int_eq}
-use Rattle.std.proofs.lemmas.List.Elements.{All-cons, All-nil, recursion_from_All}
-use Rattle.std.specs.List.{AllByRecursion, list_all}
+use Rattle.std.proofs.lemmas.List.Elements.{All-cons, All-nil, All-head, All-tail}
+use Rattle.std.specs.List.{All, AllByRecursion, list_all}
 use Rattle.definitions.specs.Poly.{Word, Term, word_eq, coefficient_of}
 use Rattle.definitions.specs.Category.{PreadditiveLaws}
 use Rattle.definitions.specs.Quiver.{Quiver, IsQuiver, letters, leads, is_path, source}
@@ -140,21 +140,21 @@ module _ (p : Parts) (rules : List Rule) (b : IsBasis p rules) where
       from_comes : Comes (polys_of (leds_of rules)) Free f → InRationalIdeal (polys_of (leds_of rules)) f
       from_comes c = record { denominator = c.multiplier; rows = c.rows; combination = c.combination }
 
-  generators_rows : (fs : List (List Term)) → AllByRecursion (HasSignature q) fs → AllByRecursion (InRationalIdeal (polynomials_of rules)) fs
+  abbrev Inside : List Term → Type 0
+  Inside = InRationalIdeal (polynomials_of rules)
+
+  generators_rows : (fs : List (List Term)) → AllByRecursion (HasSignature q) fs → All Inside fs
       → AllByRecursion (λ f. Span (AnyRow (word_order p rules b.are_rules) (word_rules p rules b.are_rules)) (coefficient_of f)) fs
   generators_rows [] typed inside = tt
-  generators_rows (f ∷ fs) typed inside = (ideal_rows f typed.0 inside.0, generators_rows fs typed.1 inside.1)
+  generators_rows (f ∷ fs) typed inside = (ideal_rows f typed.0 (All-head Inside f fs inside), generators_rows fs typed.1 (All-tail Inside f fs inside))
 
   generators_have_signatures : AllByRecursion (HasSignature q) (generators_in p)
   generators_have_signatures = generators_typed q quiver p.starred (numbers p.marked) (polynomials p.assumptions) (marked_are_objects p b.posed)
       (assumptions_have_signatures p b.posed)
 
-  generators_are_inside : AllByRecursion (InRationalIdeal (polynomials_of rules)) (generators_in p)
-  generators_are_inside = recursion_from_All (InRationalIdeal (polynomials_of rules)) (generators_in p) b.generated
-
   generators_are_rows : AllByRecursion (λ f. Span (AnyRow (word_order p rules b.are_rules) (word_rules p rules b.are_rules)) (coefficient_of f))
       (generators_in p)
-  generators_are_rows = generators_rows (generators_in p) generators_have_signatures generators_are_inside
+  generators_are_rows = generators_rows (generators_in p) generators_have_signatures b.generated
 
   facts : Facts rationals (exact_ground p rules b.are_rules)
   facts = facts_of rationals (word_order p rules b.are_rules) (word_rules p rules b.are_rules) _ _ (letter_count p.quiver) q p.starred (numbers p.marked)
@@ -191,10 +191,10 @@ module _ (p : Parts) (rules : List Rule) (b : IsBasis p rules) where
       (λ v. refl) (letter_plain p rules b.are_rules) q f
       (ideal_zero rationals (exact_ground p rules b.are_rules) facts f plays (ideal_rows f typed inside))
 
-  zeros : (fs : List (List Term)) → AllByRecursion Plays fs → AllByRecursion (HasSignature q) fs → AllByRecursion (InRationalIdeal (polynomials_of rules)) fs
+  zeros : (fs : List (List Term)) → AllByRecursion Plays fs → AllByRecursion (HasSignature q) fs → All Inside fs
       → AllByRecursion (HasValueZero (normal_forms p rules) q (forms_representation p rules)) fs
   zeros [] plays typed inside = tt
-  zeros (f ∷ fs) plays typed inside = (inside_is_zero f plays.0 typed.0 inside.0, zeros fs plays.1 typed.1 inside.1)
+  zeros (f ∷ fs) plays typed inside = (inside_is_zero f plays.0 typed.0 (All-head Inside f fs inside), zeros fs plays.1 typed.1 (All-tail Inside f fs inside))
 
   -- Where the letters of the generators and the claim are in play, the normal forms tell a claim outside the rational ideal of the rules from zero.
   pub sharp_means : AllByRecursion Plays (generators_in p) → (claim : List Term) → Plays claim → HasSignature q claim
@@ -207,7 +207,7 @@ module _ (p : Parts) (rules : List Rule) (b : IsBasis p rules) where
       represents = image_represents (exact_forms p rules b.are_rules) (normal_forms p rules) plain exact (is_image p rules b.are_rules b)
           (normal_representation rationals (exact_ground p rules b.are_rules)) (forms_representation p rules)
           (λ v. refl) (letter_plain p rules b.are_rules) q (normal_represents rationals (exact_ground p rules b.are_rules) facts);
-      zeros = zeros (generators_in p) generators generators_have_signatures generators_are_inside;
+      zeros = zeros (generators_in p) generators generators_have_signatures b.generated;
       claim = record {
         source = typed.source;
         target = typed.target;

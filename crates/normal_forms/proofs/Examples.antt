@@ -3,7 +3,7 @@ use Rattle.std.proofs.Common.{◌≡◌, ◌≢◌, ◌<◌, ◌+◌, ℕ, zero,
 use Rattle.std.proofs.lemmas.Int.{ints}
 use Rattle.std.proofs.Math.Nat.{eq-one_of_dvd-one}
 use Rattle.std.proofs.lemmas.List.{length-append}
-use Rattle.std.proofs.lemmas.List.Elements.{All-from_recursion}
+use Rattle.std.proofs.lemmas.List.Elements.{All-nil, All-cons}
 use Rattle.std.proofs.lemmas.List.Kept.{AllPairs-cons}
 use Rattle.std.specs.List.{All, AllPairs}
 use Rattle.definitions.specs.Poly.{Term}
@@ -90,6 +90,13 @@ parts = record {
 pub all_pairs_one : {A : Type 0} (R : A → A → Type 0) (x : A) → AllPairs R (x ∷ [])
 all_pairs_one R x = λ i j d less inside. absurd (omega (arith, less, inside))
 
+-- what holds of each of one, and of each of two
+pub alone : {A : Type 0} (P : A → Type 0) (x : A) → P x → All P (x ∷ [])
+alone P x one = All-cons P x [] one (All-nil P)
+
+both : {A : Type 0} (P : A → Type 0) (x y : A) → P x → P y → All P (x ∷ y ∷ [])
+both P x y one other = All-cons P x (y ∷ []) one (alone P y other)
+
 -- the names of U, V and x
 abbrev u_name : List ℕ
 u_name = 85 ∷ []
@@ -111,62 +118,53 @@ names_differ a b other e = other (first a b e)
 
 distinct : AllPairs Differs (u_name ∷ v_name ∷ x_name ∷ [])
 distinct = AllPairs-cons Differs u_name (v_name ∷ x_name ∷ [])
-    (All-from_recursion (Differs u_name) (v_name ∷ x_name ∷ [])
-    (names_differ 85 86 (λ e. omega (arith, e)), (names_differ 85 120 (λ e. omega (arith, e)), tt)))
-    (AllPairs-cons Differs v_name (x_name ∷ []) (All-from_recursion (Differs v_name) (x_name ∷ []) (names_differ 86 120 (λ e. omega (arith, e)), tt))
+    (both (Differs u_name) v_name x_name (names_differ 85 86 (λ e. omega (arith, e))) (names_differ 85 120 (λ e. omega (arith, e))))
+    (AllPairs-cons Differs v_name (x_name ∷ []) (alone (Differs v_name) x_name (names_differ 86 120 (λ e. omega (arith, e))))
     (all_pairs_one Differs x_name))
 
 typed_zero : IsTypedOf declared (record { terms = zero_terms; canonical = one_term 0 }) (at_object 0)
 typed_zero = typed_from_paths (quiver_of declared) 0 0 zero_terms
-    (All-from_recursion (λ (t : Term). IsPath (quiver_of declared) 0 0 t.1) zero_terms (refl, tt))
+    (alone (λ (t : Term). IsPath (quiver_of declared) 0 0 t.1) (pos 1, 0 ∷ []) refl)
 
 typed_square : IsTypedOf declared (record { terms = square_terms; canonical = square_canonical }) (at_object 1)
 typed_square = typed_from_paths (quiver_of declared) 1 1 square_terms
-    (All-from_recursion (λ (t : Term). IsPath (quiver_of declared) 1 1 t.1) square_terms (refl, (refl, tt)))
+    (both (λ (t : Term). IsPath (quiver_of declared) 1 1 t.1) (pos 1, 2 ∷ 2 ∷ []) (negsuc 0, 2 ∷ []) refl refl)
 
 typed_claim : IsTypedOf declared (record { terms = claim_terms; canonical = one_term 2 }) (at_object 1)
 typed_claim = typed_from_paths (quiver_of declared) 1 1 claim_terms
-    (All-from_recursion (λ (t : Term). IsPath (quiver_of declared) 1 1 t.1) claim_terms (refl, tt))
+    (alone (λ (t : Term). IsPath (quiver_of declared) 1 1 t.1) (pos 1, 2 ∷ []) refl)
 
 letter_plays : (a : ℕ) → is_in_play declared false (0 ∷ []) a ≡ true → All (IsInPlay declared false (0 ∷ [])) (a ∷ [])
-letter_plays a is = All-from_recursion (IsInPlay declared false (0 ∷ [])) (a ∷ []) (is, tt)
+letter_plays a is = alone (IsInPlay declared false (0 ∷ [])) a is
 
 posed : IsPosed parts
 posed = record {
   declared = record { distinct = distinct; few_objects = omega arith; few_maps = omega arith; ends = refl };
   objects_first = refl;
   order = tt;
-  marked_objects = All-from_recursion (λ (v : Object). v.0 < 2) (record { 0 = 0 } ∷ []) (omega arith, tt);
+  marked_objects = alone (λ (v : Object). v.0 < 2) (record { 0 = 0 }) (omega arith);
   marked_ascending = all_pairs_one (λ (v w : Object). v.0 < w.0) (record { 0 = 0 });
   few_assumptions = omega arith;
   assumptions_typed = (typed_zero, (typed_square, tt));
-  assumption_ends = All-from_recursion (HasObjects declared) parts.sigs
-      (record { source = omega arith; target = omega arith }, (record { source = omega arith; target = omega arith }, tt));
-  assumption_letters = All-from_recursion (HasLettersInPlay declared false (0 ∷ [])) parts.assumptions (
-    All-from_recursion (λ (t : Term). All (IsInPlay declared false (0 ∷ [])) t.1) zero_terms (letter_plays 0 refl, tt),
-    (
-      All-from_recursion (λ (t : Term). All (IsInPlay declared false (0 ∷ [])) t.1) square_terms
-          (All-from_recursion (IsInPlay declared false (0 ∷ [])) (2 ∷ 2 ∷ []) (refl, (refl, tt)), (letter_plays 2 refl, tt)),
-      tt,
-    ),
-  );
+  assumption_ends = both (HasObjects declared) (at_object 0) (at_object 1)
+      (record { source = omega arith; target = omega arith }) (record { source = omega arith; target = omega arith });
+  assumption_letters = both (HasLettersInPlay declared false (0 ∷ [])) (record { terms = zero_terms; canonical = one_term 0 }) (record { terms = square_terms; canonical = square_canonical })
+      (alone (λ (t : Term). All (IsInPlay declared false (0 ∷ [])) t.1) (pos 1, 0 ∷ []) (letter_plays 0 refl))
+      (both (λ (t : Term). All (IsInPlay declared false (0 ∷ [])) t.1) (pos 1, 2 ∷ 2 ∷ []) (negsuc 0, 2 ∷ [])
+      (both (IsInPlay declared false (0 ∷ [])) 2 2 refl refl) (letter_plays 2 refl));
   few_claims = omega arith;
   claims_typed = (typed_claim, tt);
-  claim_ends = All-from_recursion (HasObjects declared) parts.claim_sigs (record { source = omega arith; target = omega arith }, tt);
-  claim_letters = All-from_recursion (HasLettersInPlay declared false (0 ∷ [])) parts.claims
-      (All-from_recursion (λ (t : Term). All (IsInPlay declared false (0 ∷ [])) t.1) claim_terms (letter_plays 2 refl, tt), tt);
+  claim_ends = alone (HasObjects declared) (at_object 1) (record { source = omega arith; target = omega arith });
+  claim_letters = alone (HasLettersInPlay declared false (0 ∷ [])) (record { terms = claim_terms; canonical = one_term 2 })
+      (alone (λ (t : Term). All (IsInPlay declared false (0 ∷ [])) t.1) (pos 1, 2 ∷ []) (letter_plays 2 refl));
   some_shape = omega arith;
   few_shapes = omega arith;
-  shapes = All-from_recursion (IsShape 2) parts.shapes (
-    record {
-      modulus = refl;
-      side_of_each = refl;
-      sides = All-from_recursion IsSide (1 ∷ 1 ∷ [])
-          (record { least = omega arith; most = omega arith }, (record { least = omega arith; most = omega arith }, tt));
-    },
-    tt,
-  );
-  solved_maps = All-from_recursion (IsDeclaredMap declared) [] tt;
+  shapes = alone (IsShape 2) (record { modulus = 2; sides = 1 ∷ 1 ∷ [] }) (record {
+    modulus = refl;
+    side_of_each = refl;
+    sides = both IsSide 1 1 (record { least = omega arith; most = omega arith }) (record { least = omega arith; most = omega arith });
+  });
+  solved_maps = All-nil (IsDeclaredMap declared);
   solved_ascending = λ i j d less inside. absurd (omega (arith, less, inside));
 }
 
@@ -184,31 +182,27 @@ laws : IsAdmissible 4 word_cmp (rank_of 4)
 laws = word_cmp-admissible 4
 
 over_letter : (a : ℕ) → a < 4 → IsOver 4 (a ∷ [])
-over_letter a inside = All-from_recursion (λ b. b < 4) (a ∷ []) (inside, tt)
+over_letter a inside = alone (λ b. b < 4) a inside
 
 square_over : IsOver 4 (2 ∷ 2 ∷ [])
-square_over = All-from_recursion (λ b. b < 4) (2 ∷ 2 ∷ []) (omega arith, (omega arith, tt))
+square_over = both (λ b. b < 4) 2 2 (omega arith) (omega arith)
 
 are_rules : All (IsRule 4 word_cmp) rules
-are_rules = All-from_recursion (IsRule 4 word_cmp) rules (
-  record {
-    leading = refl;
-    positive = omega (arith, ints);
-    in_range = omega arith;
-    nonempty = All-from_recursion (λ (t : Term). 0 < length t.1) zero_terms (omega arith, tt);
-    over = All-from_recursion (λ (t : Term). IsOver 4 t.1) zero_terms (over_letter 0 (omega arith), tt);
-  },
-  (
-    record {
+are_rules = both (IsRule 4 word_cmp) zero_rule square_rule
+    (record {
       leading = refl;
       positive = omega (arith, ints);
       in_range = omega arith;
-      nonempty = All-from_recursion (λ (t : Term). 0 < length t.1) square_terms (omega arith, (omega arith, tt));
-      over = All-from_recursion (λ (t : Term). IsOver 4 t.1) square_terms (square_over, (over_letter 2 (omega arith), tt));
-    },
-    tt,
-  ),
-)
+      nonempty = alone (λ (t : Term). 0 < length t.1) (pos 1, 0 ∷ []) (omega arith);
+      over = alone (λ (t : Term). IsOver 4 t.1) (pos 1, 0 ∷ []) (over_letter 0 (omega arith));
+    })
+    (record {
+      leading = refl;
+      positive = omega (arith, ints);
+      in_range = omega arith;
+      nonempty = both (λ (t : Term). 0 < length t.1) (pos 1, 2 ∷ 2 ∷ []) (negsuc 0, 2 ∷ []) (omega arith) (omega arith);
+      over = both (λ (t : Term). IsOver 4 t.1) (pos 1, 2 ∷ 2 ∷ []) (negsuc 0, 2 ∷ []) square_over (over_letter 2 (omega arith));
+    })
 
 -- the one ambiguity, with the overlap word x x x
 abbrev itself : Ambiguity
@@ -239,7 +233,7 @@ difference = refl
 
 zero_reduced : IsReduced 4 word_cmp rules [] (start_of [])
 zero_reduced = normal_forms_are_reduced 4 word_cmp (rank_of 4) rules [] 0 (start_of []) laws are_rules (shaped_as_written [] tt tt tt)
-    (All-from_recursion (λ (t : Term). IsOver 4 t.1) [] tt) refl
+    (All-nil (λ (t : Term). IsOver 4 t.1)) refl
 
 -- there is no other
 -- a rule by its number
@@ -312,53 +306,31 @@ abbrev play : ℕ → Bool
 play = is_in_play declared false (0 ∷ [])
 
 typed : All (λ g. IsTypedInPlay (quiver_of declared) play g.poly.terms) rules
-typed = All-from_recursion (λ (g : Rule). IsTypedInPlay (quiver_of declared) play g.poly.terms) rules (
-  record { source = 0; target = 0; typed = typed_zero; in_play = record { at = words_with_coefficients (AreInPlay play) zero_terms (refl, tt) } },
-  (
-    record {
-      source = 1;
-      target = 1;
-      typed = typed_square;
-      in_play =
-          record { at = words_with_coefficients (AreInPlay play) square_terms (refl, (refl, tt)) };
-    },
-    tt,
-  ),
-)
+typed = both (λ (g : Rule). IsTypedInPlay (quiver_of declared) play g.poly.terms) zero_rule square_rule
+    (record { source = 0; target = 0; typed = typed_zero; in_play = record { at = words_with_coefficients (AreInPlay play) zero_terms (refl, tt) } })
+    (record { source = 1; target = 1; typed = typed_square; in_play = record { at = words_with_coefficients (AreInPlay play) square_terms (refl, (refl, tt)) } })
 
 generators_are : generators_in parts ≡ zero_terms ∷ square_terms ∷ ((pos 1, 0 ∷ 0 ∷ []) ∷ (negsuc 0, 0 ∷ []) ∷ []) ∷ []
 generators_are = refl
 
 generated : All (InRationalIdeal (polynomials_of rules)) (generators_in parts)
-generated = All-from_recursion (InRationalIdeal (polynomials_of rules)) (generators_in parts) (
-  record {
-    denominator = pos 1;
-    rows = record { coefficient = pos 1; left = []; generator = 1; right = [] } ∷ [];
-    combination = record { positive = omega (arith, ints); sum = record { at = λ w. refl } };
-  },
-  (
-    record {
+generated = All-cons (InRationalIdeal (polynomials_of rules)) zero_terms (square_terms ∷ ((pos 1, 0 ∷ 0 ∷ []) ∷ (negsuc 0, 0 ∷ []) ∷ []) ∷ [])
+    (record {
+      denominator = pos 1;
+      rows = record { coefficient = pos 1; left = []; generator = 1; right = [] } ∷ [];
+      combination = record { positive = omega (arith, ints); sum = record { at = λ w. refl } };
+    })
+    (both (InRationalIdeal (polynomials_of rules)) square_terms ((pos 1, 0 ∷ 0 ∷ []) ∷ (negsuc 0, 0 ∷ []) ∷ [])
+    (record {
       denominator = pos 1;
       rows = record { coefficient = pos 1; left = []; generator = 2; right = [] } ∷ [];
       combination = record { positive = omega (arith, ints); sum = record { at = λ w. refl } };
-    },
-    (
-      record {
-        denominator = pos 1;
-        rows =
-            record { coefficient = pos 1; left = []; generator = 1; right = 0 ∷ [] } ∷ record {
-              coefficient = negsuc 0;
-              left = [];
-              generator = 1;
-              right =
-                  [];
-            } ∷ [];
-        combination = record { positive = omega (arith, ints); sum = record { at = λ w. refl } };
-      },
-      tt,
-    ),
-  ),
-)
+    })
+    (record {
+      denominator = pos 1;
+      rows = record { coefficient = pos 1; left = []; generator = 1; right = 0 ∷ [] } ∷ record { coefficient = negsuc 0; left = []; generator = 1; right = [] } ∷ [];
+      combination = record { positive = omega (arith, ints); sum = record { at = λ w. refl } };
+    }))
 
 basis : IsBasis parts rules
 basis = record { posed = posed; are_rules = are_rules; resolved = resolved; typed = typed; generated = generated }
@@ -369,7 +341,7 @@ claim_shaped = shaped_as_written claim_terms (tt, tt) ((λ e. cc), tt) (omega ar
 
 claim_reduced : IsReduced 4 word_cmp rules claim_terms (start_of claim_terms)
 claim_reduced = normal_forms_are_reduced 4 word_cmp (rank_of 4) rules claim_terms 0 (start_of claim_terms) laws are_rules claim_shaped
-    (All-from_recursion (λ (t : Term). IsOver 4 t.1) claim_terms (over_letter 2 (omega arith), tt)) refl
+    (alone (λ (t : Term). IsOver 4 t.1) (pos 1, 2 ∷ []) (over_letter 2 (omega arith))) refl
 
 outside : InRationalIdeal (polynomials_of rules) claim_terms → ⊥
 outside inside = clash (rests_of_ideal_are_zero 4 word_cmp (rank_of 4) rules claim_terms (start_of claim_terms) laws are_rules resolved inside

@@ -2,7 +2,7 @@
 use Rattle.std.proofs.Common.{◌≡◌, ℕ, Bool, true, false, cond, List, [], ◌∷◌, ◌++◌, slice_get, Some, suc, refl, sym, ap, ap₂, ◌∙◌}
 use Rattle.std.specs.List.{All, AllByRecursion}
 use Rattle.std.specs.Prelude.{nat_lt}
-use Rattle.std.proofs.lemmas.List.Elements.{All-from_recursion, recursion_from_All}
+use Rattle.std.proofs.lemmas.List.Elements.{All-nil, All-cons}
 use Rattle.definitions.specs.Poly.{Word}
 use Rattle.definitions.specs.Category.{Structure}
 use Rattle.definitions.specs.Quiver.{Quiver, source, target}
@@ -79,9 +79,9 @@ ascending_raw [] form = tt
 ascending_raw (t ∷ p) form = (each_raw (λ w. comes_before t.1 w ≡ true) p form.1, ascending_raw p form.2)
 
 -- what holds of the rule of each number holds of all
-from_numbers : (P : Rule → Type 0) (rules : List Rule) → ((n : ℕ) (g : Rule) → slice_get rules n ≡ Some g → P g) → AllByRecursion P rules
-from_numbers P [] each = tt
-from_numbers P (g ∷ rules) each = (each 0 g refl, from_numbers P rules (λ n. each (suc n)))
+from_numbers : (P : Rule → Type 0) (rules : List Rule) → ((n : ℕ) (g : Rule) → slice_get rules n ≡ Some g → P g) → All P rules
+from_numbers P [] each = All-nil P
+from_numbers P (g ∷ rules) each = All-cons P g rules (each 0 g refl) (from_numbers P rules (λ n. each (suc n)))
 
 all_words_weaker : (P Q : Word → Type 0) → ((w : Word) → P w → Q w) → (p : Form Fraction) → AllByRecursion (λ t. P t.1) p → AllByRecursion (λ t. Q t.1) p
 all_words_weaker P Q weaker [] each = tt
@@ -112,13 +112,12 @@ module _ (p : Parts) (rules : List Rule) (are : All (IsRule (letter_count p.quiv
   exact_forms = normal_structure rationals exact_ground
 
   nowhere : (w : Word) → Irreducible rationals word_order word_rules w → All (λ g. OccursNowhere w g.lead) rules
-  nowhere w irreducible = All-from_recursion (λ g. OccursNowhere w g.lead) rules (from_numbers (λ g. OccursNowhere w g.lead) rules
+  nowhere w irreducible = from_numbers (λ g. OccursNowhere w g.lead) rules
       (λ n g numbered place at. irreducible.at (suc n) at.before at.after (has_led rules (suc n) g numbered)
-      (at.splits ∙ ap (λ x. at.before ++ (x.lead ++ at.after)) (sym (led_at-is rules (suc n) g numbered)))))
+      (at.splits ∙ ap (λ x. at.before ++ (x.lead ++ at.after)) (sym (led_at-is rules (suc n) g numbered))))
 
   irreducible_from : (w : Word) → All (λ g. OccursNowhere w g.lead) rules → Irreducible rationals word_order word_rules w
-  irreducible_from w none = no_lead rationals (letter_count p.quiver) (asked_cmp p.order) rank laws rules are w
-      (recursion_from_All (λ g. OccursNowhere w g.lead) rules none)
+  irreducible_from w none = no_lead rationals (letter_count p.quiver) (asked_cmp p.order) rank laws rules are w none
 
   map_read : (m : NormalMap Fraction) → IsNormalMap p rules m → IsMap rationals exact_ground (exact m) × (plain (exact m) ≡ m)
   map_read m is = (

@@ -3,7 +3,7 @@
 use Rattle.std.proofs.Common.{◌≡◌, ◌<◌, ℕ, zero, suc, pos, Bool, true, false, List, [], ◌∷◌, ◌++◌, length, Some, Option, refl, sym, ap, ◌∙◌, arith}
 use Rattle.std.proofs.lemmas.Int.{ints}
 use Rattle.std.proofs.lemmas.List.{length-append}
-use Rattle.std.proofs.lemmas.List.Elements.{All-from_recursion}
+use Rattle.std.proofs.lemmas.List.Elements.{All-nil}
 use Rattle.std.proofs.lemmas.List.Kept.{AllPairs-cons}
 use Rattle.std.specs.List.{All, AllByRecursion}
 use Rattle.std.specs.Prelude.{AllPairs}
@@ -34,7 +34,7 @@ use Rattle.ambiguities.specs.declared.ambiguity.Ambiguity.{Ambiguity}
 use Rattle.ambiguities.specs.Ambiguities.{MeetsAs, IsAmbiguity}
 use Rattle.ambiguities.specs.Resolved.{Resolved}
 use Rattle.adjoint_rules.specs.declared.parts.Parts.{Parts}
-use Rattle.adjoint_rules.specs.Problem.{IsPosed, IsShape, IsSide, IsDeclaredMap, IsTypedOf, HasObjects, HasLettersInPlay, IsInPlay, is_in_play, generators_in}
+use Rattle.adjoint_rules.specs.Problem.{IsPosed, IsShape, IsSide, IsDeclaredMap, IsTypedOf, HasObjects, HasLettersInPlay, IsInPlay, is_in_play}
 use Rattle.adjoint_rules.proofs.Generators.{posed_quiver}
 use Rattle.completion_laws.specs.Typed.{IsTypedInPlay}
 use Rattle.confluence.specs.Reductions.{IsZero, IsReduced}
@@ -46,7 +46,7 @@ use Rattle.normal_forms.specs.NormalForms.{IsBasis, normal_forms, forms_represen
 use Rattle.normal_forms.specs.SharpMeans.{SharpMeans, StarSharpMeans}
 use Rattle.normal_forms.proofs.Basis.{basis_laws, inside_is_zero, sharp_means}
 use Rattle.normal_forms.proofs.StarSharp.{star_sharp_means}
-use Rattle.normal_forms.proofs.Examples.{one_term, at_object, all_pairs_one, Differs, names_differ}
+use Rattle.normal_forms.proofs.Examples.{one_term, at_object, all_pairs_one, alone, Differs, names_differ}
 
 -- the letters are [U] = 0, a = 1, a' = 2
 abbrev declared : List Declaration
@@ -78,12 +78,12 @@ none_pair R = λ i j d less inside. absurd (omega (arith, less, inside))
 
 one_typed : (a : ℕ) → IsPath (quiver_of declared) 0 0 (a ∷ []) → IsTypedOf declared (record { terms = (pos 1, a ∷ []) ∷ []; canonical = one_term a }) (at_object 0)
 one_typed a path = typed_from_paths (quiver_of declared) 0 0 ((pos 1, a ∷ []) ∷ [])
-    (All-from_recursion (λ (t : Term). IsPath (quiver_of declared) 0 0 t.1) ((pos 1, a ∷ []) ∷ []) (path, tt))
+    (alone (λ (t : Term). IsPath (quiver_of declared) 0 0 t.1) (pos 1, a ∷ []) path)
 
 posed : IsPosed parts
 posed = record {
   declared = record {
-    distinct = AllPairs-cons Differs (85 ∷ []) ((97 ∷ []) ∷ []) (All-from_recursion (Differs (85 ∷ [])) ((97 ∷ []) ∷ []) (names_differ 85 97 (λ e. omega (arith, e)), tt))
+    distinct = AllPairs-cons Differs (85 ∷ []) ((97 ∷ []) ∷ []) (alone (Differs (85 ∷ [])) (97 ∷ []) (names_differ 85 97 (λ e. omega (arith, e))))
         (all_pairs_one Differs (97 ∷ []));
     few_objects = omega arith;
     few_maps = omega arith;
@@ -91,24 +91,22 @@ posed = record {
   };
   objects_first = refl;
   order = tt;
-  marked_objects = All-from_recursion (λ (v : Object). v.0 < 1) [] tt;
+  marked_objects = All-nil (λ (v : Object). v.0 < 1);
   marked_ascending = none_pair (λ (v w : Object). v.0 < w.0);
   few_assumptions = omega arith;
   assumptions_typed = tt;
-  assumption_ends = All-from_recursion (HasObjects declared) [] tt;
-  assumption_letters = All-from_recursion (HasLettersInPlay declared true []) [] tt;
+  assumption_ends = All-nil (HasObjects declared);
+  assumption_letters = All-nil (HasLettersInPlay declared true []);
   few_claims = omega arith;
   claims_typed = (one_typed 2 refl, tt);
-  claim_ends = All-from_recursion (HasObjects declared) parts.claim_sigs (record { source = omega arith; target = omega arith }, tt);
-  claim_letters = All-from_recursion (HasLettersInPlay declared true []) parts.claims
-      (All-from_recursion (λ (t : Term). All (IsInPlay declared true []) t.1) adjoint_terms (All-from_recursion (IsInPlay declared true []) (2 ∷ []) (refl, tt), tt), tt);
+  claim_ends = alone (HasObjects declared) (at_object 0) (record { source = omega arith; target = omega arith });
+  claim_letters = alone (HasLettersInPlay declared true []) (record { terms = adjoint_terms; canonical = one_term 2 })
+      (alone (λ (t : Term). All (IsInPlay declared true []) t.1) (pos 1, 2 ∷ []) (alone (IsInPlay declared true []) 2 refl));
   some_shape = omega arith;
   few_shapes = omega arith;
-  shapes = All-from_recursion (IsShape 1) parts.shapes (
-    record { modulus = refl; side_of_each = refl; sides = All-from_recursion IsSide (1 ∷ []) (record { least = omega arith; most = omega arith }, tt) },
-    tt,
-  );
-  solved_maps = All-from_recursion (IsDeclaredMap declared) [] tt;
+  shapes = alone (IsShape 1) (record { modulus = 2; sides = 1 ∷ [] })
+      (record { modulus = refl; side_of_each = refl; sides = alone IsSide 1 (record { least = omega arith; most = omega arith }) });
+  solved_maps = All-nil (IsDeclaredMap declared);
   solved_ascending = λ i j d less inside. absurd (omega (arith, less, inside));
 }
 
@@ -123,19 +121,16 @@ laws : IsAdmissible 3 word_cmp (rank_of 3)
 laws = word_cmp-admissible 3
 
 over_letter : (a : ℕ) → a < 3 → IsOver 3 (a ∷ [])
-over_letter a inside = All-from_recursion (λ b. b < 3) (a ∷ []) (inside, tt)
+over_letter a inside = alone (λ b. b < 3) a inside
 
 are_rules : All (IsRule 3 word_cmp) rules
-are_rules = All-from_recursion (IsRule 3 word_cmp) rules (
-  record {
-    leading = refl;
-    positive = omega (arith, ints);
-    in_range = omega arith;
-    nonempty = All-from_recursion (λ (t : Term). 0 < length t.1) map_terms (omega arith, tt);
-    over = All-from_recursion (λ (t : Term). IsOver 3 t.1) map_terms (over_letter 1 (omega arith), tt);
-  },
-  tt,
-)
+are_rules = alone (IsRule 3 word_cmp) map_rule (record {
+  leading = refl;
+  positive = omega (arith, ints);
+  in_range = omega arith;
+  nonempty = alone (λ (t : Term). 0 < length t.1) (pos 1, 1 ∷ []) (omega arith);
+  over = alone (λ (t : Term). IsOver 3 t.1) (pos 1, 1 ∷ []) (over_letter 1 (omega arith));
+})
 
 -- it meets no rule
 same_lead : (f g : Rule) → ◌≡◌ {A = Option Rule} (Some f) (Some g) → g.lead ≡ f.lead
@@ -164,10 +159,8 @@ abbrev play : ℕ → Bool
 play = is_in_play declared true []
 
 typed : All (λ g. IsTypedInPlay (quiver_of declared) play g.poly.terms) rules
-typed = All-from_recursion (λ (g : Rule). IsTypedInPlay (quiver_of declared) play g.poly.terms) rules (
-  record { source = 0; target = 0; typed = one_typed 1 refl; in_play = record { at = words_with_coefficients (AreInPlay play) map_terms (refl, tt) } },
-  tt,
-)
+typed = alone (λ (g : Rule). IsTypedInPlay (quiver_of declared) play g.poly.terms) map_rule
+    (record { source = 0; target = 0; typed = one_typed 1 refl; in_play = record { at = words_with_coefficients (AreInPlay play) map_terms (refl, tt) } })
 
 basis : IsBasis parts rules
 basis = record {
@@ -175,14 +168,14 @@ basis = record {
   are_rules = are_rules;
   resolved = resolved;
   typed = typed;
-  generated = All-from_recursion (InRationalIdeal (polynomials_of rules)) (generators_in parts) tt;
+  generated = All-nil (InRationalIdeal (polynomials_of rules));
 }
 
 -- a' is its own normal form, and so it is outside
 adjoint_reduced : IsReduced 3 word_cmp rules adjoint_terms (start_of adjoint_terms)
 adjoint_reduced = normal_forms_are_reduced 3 word_cmp (rank_of 3) rules adjoint_terms 0 (start_of adjoint_terms) laws are_rules
     (shaped_as_written adjoint_terms (tt, tt) ((λ e. cc), tt) (omega arith, tt))
-    (All-from_recursion (λ (t : Term). IsOver 3 t.1) adjoint_terms (over_letter 2 (omega arith), tt)) refl
+    (alone (λ (t : Term). IsOver 3 t.1) (pos 1, 2 ∷ []) (over_letter 2 (omega arith))) refl
 
 outside : InRationalIdeal (polynomials_of rules) adjoint_terms → ⊥
 outside inside = clash (rests_of_ideal_are_zero 3 word_cmp (rank_of 3) rules adjoint_terms (start_of adjoint_terms) laws are_rules resolved inside

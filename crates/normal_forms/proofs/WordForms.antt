@@ -2,7 +2,7 @@
 use Rattle.std.proofs.Common.{◌≡◌, ◌≢◌, ℕ, zero, ℤ, suc, ◌+◌, pos, Bool, true, false, not, ◌&&◌, cond, List, [], ◌∷◌, ◌++◌, length, take, drop, filter, Option, Some, None, MatchOption, refl, sym, ap, ap₂, ◌∙◌, subst, append-nil}
 use Rattle.std.proofs.lemmas.Bool.{false_from_ne_true}
 use Rattle.std.proofs.lemmas.Bool.Decides.{Decides-int_eq}
-use Rattle.std.proofs.lemmas.List.Elements.{All-from_recursion, recursion_from_All}
+use Rattle.std.proofs.lemmas.List.Elements.{All-nil, All-cons, recursion_from_All}
 use Rattle.std.specs.List.{All, AllByRecursion}
 use Rattle.std.specs.Int.RustNames.{unsigned_abs}
 use Rattle.std.specs.Ordering.{int_eq}
@@ -43,17 +43,17 @@ pub record IsFound (rules : List Rule) (word : Word) (found : Rule × ℕ) : Typ
 
 -- no leading word occurs in it
 abbrev pub HasNoLead : List Rule → Word → Type 0
-HasNoLead rules word = AllByRecursion (λ g. OccursNowhere word g.lead) rules
+HasNoLead rules word = All (λ g. OccursNowhere word g.lead) rules
 
 pub first_rule-tells : (rules : List Rule) (word : Word) → MatchOption (first_rule rules word) (HasNoLead rules word) (IsFound rules word)
-first_rule-tells [] word = tt
+first_rule-tells [] word = All-nil (λ g. OccursNowhere word g.lead)
 first_rule-tells (g ∷ rules) word = go (place_in word g.lead) (place_in-tells word g.lead) (first_rule rules word) (first_rule-tells rules word)
   where
     go : (p : Option ℕ) → MatchOption p (OccursNowhere word g.lead) (IsFirstPlace word g.lead) → (later : Option (Rule × ℕ))
         → MatchOption later (HasNoLead rules word) (IsFound rules word)
         → MatchOption (rule_or g p later) (HasNoLead (g ∷ rules) word) (IsFound (g ∷ rules) word)
     go (Some place) at later rest = record { number = 1; numbered = refl; splits = split_at word g.lead place at.occurs }
-    go None nowhere None rest = (nowhere, rest)
+    go None nowhere None rest = All-cons (λ f. OccursNowhere word f.lead) g rules nowhere rest
     go None nowhere (Some f) rest = record { number = suc rest.number; numbered = up rest.number rest.numbered; splits = rest.splits }
       where
         up : (n : ℕ) → rule_at rules n ≡ Some f.0 → rule_at (g ∷ rules) (suc n) ≡ Some f.0
@@ -101,8 +101,7 @@ module _ {K : Type 0} (k : Field K) (letters : ℕ) (compare : Compare) (rank : 
   no_lead word none = record { at = λ i l r has e. at i l r e (rule_of_number rules i has) }
     where
       at : (i : ℕ) (l r : Word) → word ≡ l ++ ((g.rule i).lead ++ r) → ((f : Rule) × (rule_at rules i ≡ Some f)) → ⊥
-      at i l r e (f, numbered) = rule_at-all (λ f. OccursNowhere word f.lead) rules i f numbered
-          (All-from_recursion (λ f. OccursNowhere word f.lead) rules none) (length l)
+      at i l r e (f, numbered) = rule_at-all (λ f. OccursNowhere word f.lead) rules i f numbered none (length l)
           (record { before = l; after = r; splits = e ∙ ap (λ x. l ++ (x.lead ++ r)) (led_at-is rules i f numbered); at_place = refl })
 
   -- what a term of a rule is replaced by, written both ways
