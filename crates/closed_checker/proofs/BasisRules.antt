@@ -1,8 +1,8 @@
 -- The rules of a basis whose polynomials may be rules: they are rules, of these polynomials.
 use Rattle.std.proofs.Common.{◌≡◌, ◌<ℤ◌, ℕ, pos, List, [], ◌∷◌, ◌++◌, option_to_list, Option, Some, None, IsSomeAnd, refl, ap, subst}
-use Rattle.std.specs.List.{All, AllByRecursion}
+use Rattle.std.specs.List.{All}
 use Rattle.std.specs.Option.{option_map}
-use Rattle.std.proofs.lemmas.List.Elements.{recursion_from_All}
+use Rattle.std.proofs.lemmas.List.Elements.{All-nil, All-cons, All-head, All-tail, recursion_from_All}
 use Rattle.coef_int.specs.Range.{IsCoefficient}
 use Rattle.definitions.specs.Poly.{Term}
 use Rattle.word_core.specs.Letters.{IsOver}
@@ -19,9 +19,9 @@ module _ (compare : Compare) where
   abbrev rule_with : Poly → Term → Rule
   rule_with p t = record { leading = t.0; lead = t.1; poly = p }
 
-  pub rules_from-same : (ps : List Poly) → AllByRecursion (MayBeRule compare) ps → polynomials_of (rules_from compare ps) ≡ polynomials ps
+  pub rules_from-same : (ps : List Poly) → All (MayBeRule compare) ps → polynomials_of (rules_from compare ps) ≡ polynomials ps
   rules_from-same [] may = refl
-  rules_from-same (p ∷ ps) may = go (leading_term compare p.terms) may.0.positive (rules_from-same ps may.1)
+  rules_from-same (p ∷ ps) may = go (leading_term compare p.terms) (All-head (MayBeRule compare) p ps may).positive (rules_from-same ps (All-tail (MayBeRule compare) p ps may))
     where
       go : (o : Option Term) → IsSomeAnd o (λ t. pos 0 <ℤ t.0) → polynomials_of (rules_from compare ps) ≡ polynomials ps
           → polynomials_of (option_to_list (option_map (rule_with p) o) ++ rules_from compare ps) ≡ polynomials (p ∷ ps)
@@ -29,6 +29,9 @@ module _ (compare : Compare) where
       go (Some t) positive rest = ap (λ (qs : List (List Term)). p.terms ∷ qs) rest
 
   module _ (letters : ℕ) where
+    abbrev Over : Poly → Type 0
+    Over p = All (λ t. IsOver letters t.1) p.terms
+
     leads_rule : (p : Poly) (t : Term) → MayBeRule compare p → All (λ u. IsOver letters u.1) p.terms → leading_term compare p.terms ≡ Some t
         → IsRule letters compare (rule_with p t)
     leads_rule p t may over leads = record {
@@ -41,13 +44,16 @@ module _ (compare : Compare) where
       over = over;
     }
 
-    pub rules_from-are : (ps : List Poly) → AllByRecursion (MayBeRule compare) ps → AllByRecursion (λ p. All (λ t. IsOver letters t.1) p.terms) ps
-        → AllByRecursion (IsRule letters compare) (rules_from compare ps)
-    rules_from-are [] may over = tt
-    rules_from-are (p ∷ ps) may over = go (leading_term compare p.terms) refl may.0.positive (rules_from-are ps may.1 over.1)
+    pub rules_from-are : (ps : List Poly) → All (MayBeRule compare) ps → All Over ps
+        → All (IsRule letters compare) (rules_from compare ps)
+    rules_from-are [] may over = All-nil (IsRule letters compare)
+    rules_from-are (p ∷ ps) may over = go (leading_term compare p.terms) refl is.positive (rules_from-are ps (All-tail (MayBeRule compare) p ps may) (All-tail Over p ps over))
       where
+        is : MayBeRule compare p
+        is = All-head (MayBeRule compare) p ps may
+
         go : (o : Option Term) → leading_term compare p.terms ≡ o → IsSomeAnd o (λ t. pos 0 <ℤ t.0)
-            → AllByRecursion (IsRule letters compare) (rules_from compare ps)
-            → AllByRecursion (IsRule letters compare) (option_to_list (option_map (rule_with p) o) ++ rules_from compare ps)
+            → All (IsRule letters compare) (rules_from compare ps)
+            → All (IsRule letters compare) (option_to_list (option_map (rule_with p) o) ++ rules_from compare ps)
         go None leads positive rest = absurd positive
-        go (Some t) leads positive rest = (leads_rule p t may.0 over.0 leads, rest)
+        go (Some t) leads positive rest = All-cons (IsRule letters compare) (rule_with p t) (rules_from compare ps) (leads_rule p t is (All-head Over p ps over) leads) rest

@@ -1,7 +1,7 @@
 -- The generators and the claims of a problem by their numbers: they are canonical, and their letters are letters of its quiver.
 use Rattle.std.proofs.Common.{◌≡◌, ◌≢◌, ◌≤◌, ℕ, zero, suc, pos, List, [], ◌∷◌, length, get_or, refl, sym, subst, arith}
-use Rattle.std.specs.List.{All, AllByRecursion}
-use Rattle.std.proofs.lemmas.List.Elements.{All-nil, recursion_from_All}
+use Rattle.std.specs.List.{All}
+use Rattle.std.proofs.lemmas.List.Elements.{All-nil, All-head, All-tail}
 use Rattle.coef_int.specs.Range.{IsCoefficient}
 use Rattle.definitions.specs.Poly.{Term}
 use Rattle.definitions.specs.Combination.{generator_at}
@@ -41,18 +41,16 @@ canonical_at (p ∷ ps) (suc (suc n)) = canonical_at ps (suc n)
 
 -- letters
 module _ (ds : List Declaration) where
-  over_at : (ps : List Poly) → AllByRecursion (IsPolyOver ds) ps → (number : ℕ) → All (λ t. IsOver (letter_count ds) t.1) (generator_at (polynomials ps) number)
+  over_at : (ps : List Poly) → All (IsPolyOver ds) ps → (number : ℕ) → All (λ t. IsOver (letter_count ds) t.1) (generator_at (polynomials ps) number)
   over_at ps each zero = All-nil (λ (t : Term). IsOver (letter_count ds) t.1)
   over_at [] each (suc k) = subst (All (λ (t : Term). IsOver (letter_count ds) t.1)) (sym (past k)) (All-nil (λ (t : Term). IsOver (letter_count ds) t.1))
-  over_at (p ∷ ps) each (suc zero) = each.0
-  over_at (p ∷ ps) each (suc (suc k)) = over_at ps each.1 (suc k)
+  over_at (p ∷ ps) each (suc zero) = All-head (IsPolyOver ds) p ps each
+  over_at (p ∷ ps) each (suc (suc k)) = over_at ps (All-tail (IsPolyOver ds) p ps each) (suc k)
 
 pub generator_over : (problem : Problem) (number : ℕ)
     → All (λ t. IsOver (letter_count problem.parts.quiver) t.1) (generator_at (polynomials problem.generators) number)
-generator_over problem =
-    over_at problem.parts.quiver problem.generators (recursion_from_All (IsPolyOver problem.parts.quiver) problem.generators (generators_over problem))
+generator_over problem = over_at problem.parts.quiver problem.generators (generators_over problem)
 
 pub claim_over : (problem : Problem) (number : ℕ)
     → All (λ t. IsOver (letter_count problem.parts.quiver) t.1) (generator_at (polynomials problem.parts.claims) number)
-claim_over problem =
-    over_at problem.parts.quiver problem.parts.claims (recursion_from_All (IsPolyOver problem.parts.quiver) problem.parts.claims (claims_over problem))
+claim_over problem = over_at problem.parts.quiver problem.parts.claims (claims_over problem)

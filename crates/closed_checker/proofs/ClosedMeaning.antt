@@ -2,7 +2,7 @@
 use Rattle.std.proofs.Common.{◌≡◌, ◌≢◌, ◌≤◌, ℕ, pos, List, [], ◌∷◌, length, Result, Ok, Err, refl, sym, ap, ◌∙◌, subst, arith}
 use Rattle.std.specs.List.{All}
 use Rattle.std.proofs.lemmas.List.{length-map}
-use Rattle.std.proofs.lemmas.List.Elements.{All-from_recursion, recursion_from_All}
+use Rattle.std.proofs.lemmas.List.Elements.{recursion_from_All}
 use Rattle.definitions.specs.Poly.{Term, coefficient_of}
 use Rattle.definitions.specs.Combination.{generator_at, InRationalIdeal}
 use Rattle.word_core.specs.Letters.{IsOver}
@@ -34,9 +34,8 @@ use Rattle.completion_laws.proofs.ShapeLaws.{s_polynomials_are_shaped}
 use Rattle.adjoint_rules.specs.declared.problem.Problem.{Problem}
 use Rattle.adjoint_rules.specs.Problem.{polynomials}
 use Rattle.basis_text.specs.declared.basis.Basis.{Basis}
-use Rattle.basis_text.specs.Written.{IsPolyOver}
 use Rattle.closed_checker.specs.Limits.{step_limit}
-use Rattle.closed_checker.specs.Rests.{order_of, rules_of, rest_in, rest_by, claim_of, MayBeRule}
+use Rattle.closed_checker.specs.Rests.{order_of, rules_of, rest_in, rest_by, claim_of}
 use Rattle.closed_checker.specs.Closed.{IsReadableBasis, IsClosedBasis}
 use Rattle.closed_checker.specs.Laws.{ClosedMeans, ClosedBasesMeanOutside}
 use Rattle.closed_checker.proofs.BasisRules.{rules_from-same, rules_from-are}
@@ -107,20 +106,15 @@ module _ (problem : Problem) (b : Basis) where
   abbrev rules : List Rule
   rules = rules_of problem b
 
-  abbrev May : Poly → Type 0
-  May = MayBeRule (order_of problem)
-
   laws : IsAdmissible letters (order_of problem) rank
   laws = order_laws problem letters
 
   module _ (readable : IsReadableBasis problem.parts.quiver b) (closed : IsClosedBasis problem b) where
     same : polynomials_of rules ≡ polynomials b.rules
-    same = rules_from-same (order_of problem) b.rules (recursion_from_All May b.rules closed.has_rules.rules)
+    same = rules_from-same (order_of problem) b.rules closed.has_rules.rules
 
     are_rules : All (IsRule letters (order_of problem)) rules
-    are_rules = All-from_recursion (IsRule letters (order_of problem)) rules
-        (rules_from-are (order_of problem) letters b.rules (recursion_from_All May b.rules closed.has_rules.rules)
-        (recursion_from_All (IsPolyOver problem.parts.quiver) b.rules readable.over.rules))
+    are_rules = rules_from-are (order_of problem) letters b.rules closed.has_rules.rules readable.over.rules
 
     generator_inside : (n : ℕ) → 1 ≤ n → n ≤ length (polynomials problem.generators)
         → InRationalIdeal (polynomials_of rules) (generator_at (polynomials problem.generators) n)

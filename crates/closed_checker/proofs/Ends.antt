@@ -7,9 +7,6 @@ use Rattle.closed_checker.specs.declared.table.Lead.{Lead}
 use Rattle.closed_checker.specs.Table.{IsRankPoint, rank_at}
 
 module _ (depth bound : ℕ) (leads : List Lead) where
-  pub empty-point : length leads ≡ 0 → IsRankPoint depth bound leads 0
-  empty-point none = ((λ k d low inside. absurd (omega arith)), (λ k d low inside. absurd (omega arith)))
-
   module _ (sorted : IsNonDecreasingBy (λ l. rank_at depth l.letters) leads) (l : Lead) where
     pub last-below : slice_get leads (length leads - 1) ≡ Some l → rank_at depth l.letters < bound → IsRankPoint depth bound leads (length leads)
     last-below there below =

@@ -8,7 +8,7 @@ use Rattle.nc_polynomial.specs.Shape.{IsCanonical}
 use Rattle.nc_polynomial.specs.declared.poly.Poly.{Poly}
 use Rattle.rule_reduce.specs.declared.rule.Rule.{Rule}
 use Rattle.rule_reduce.specs.Leading.{leading_term}
-use Rattle.ambiguities.specs.declared.ambiguity.Kind.TheVariants.{Overlap, Inclusion}
+use Rattle.ambiguities.specs.declared.ambiguity.Kind.TheVariants.{Overlap}
 use Rattle.ambiguities.specs.declared.ambiguity.Ambiguity.{Ambiguity}
 use Rattle.ambiguities.specs.SPolynomials.{s_polynomial_of}
 use Rattle.confluence.proofs.WrittenTerms.{shaped_as_written, canonical_as_written}

@@ -1,5 +1,5 @@
 -- What reductions leave, as what is left of a part of the check.
-use Rattle.std.proofs.Common.{◌≡◌, ◌≤◌, ℕ, zero, suc, ◌-◌, List, [], ◌∷◌, length, get_or, slice_get, Option, Some, Result, Ok, Err, ap, sym, subst, ◌∙◌, arith}
+use Rattle.std.proofs.Common.{◌≡◌, ◌≤◌, ℕ, zero, suc, ◌-◌, List, [], ◌∷◌, length, get_or, slice_get, Option, Some, Result, Ok, ap, sym, subst, ◌∙◌, arith}
 use Rattle.definitions.specs.Poly.{Term}
 use Rattle.definitions.specs.Combination.{generator_at}
 use Rattle.word_orders.specs.Admissible.{Compare}

@@ -1,5 +1,5 @@
 -- The parts of the check, one after another.
-use Rattle.std.proofs.Common.{◌≡◌, ◌≢◌, ◌⊎◌, inl, inr, ℕ, ◌+◌, ◌<◌, ◌≤◌, List, [], ◌∷◌, length, take, get_or, Ok, Err, refl, sym, ap, subst, ◌∙◌, arith}
+use Rattle.std.proofs.Common.{◌≡◌, ◌≢◌, ◌⊎◌, inl, inr, ℕ, ◌+◌, ◌<◌, ◌≤◌, List, [], ◌∷◌, length, take, get_or, Ok, refl, sym, ap, subst, ◌∙◌, arith}
 use Rattle.std.specs.Cmp.{IsTotalOrder}
 use Rattle.std.specs.List.{All, Contains}
 use Rattle.std.proofs.lemmas.Bool.{cases_lt}
@@ -15,7 +15,6 @@ use Rattle.rule_reduce.specs.declared.rule.Rule.{Rule}
 use Rattle.rule_reduce.specs.declared.fault.ReduceFault.{ReduceFault}
 use Rattle.rule_reduce.specs.declared.fault.ReduceFault.TheVariants as halt
 use Rattle.ambiguities.specs.declared.ambiguity.Ambiguity.{Ambiguity}
-use Rattle.ambiguities.specs.Ambiguities.{IsAmbiguity}
 use Rattle.ambiguities.specs.Order.{IsBeforeByWord, AreAllInOrder, waiting_of}
 use Rattle.ambiguities.proofs.Comparing.{not_before_itself, not_before_each_other}
 use Rattle.adjoint_rules.specs.declared.problem.Problem.{Problem}
@@ -23,7 +22,7 @@ use Rattle.basis_text.specs.declared.basis.Basis.{Basis}
 use Rattle.closed_checker.specs.declared.part.Part.{Part}
 use Rattle.closed_checker.specs.declared.part.Part.TheVariants as part
 use Rattle.closed_checker.specs.Rests.{order_of, rules_of, rest_of}
-use Rattle.closed_checker.specs.Closed.{HasRules, IsNumberUpTo, IsPart, ComesBefore, LeavesZero, LeavesNoClaim, Reaches, Refuses}
+use Rattle.closed_checker.specs.Closed.{HasRules, IsPart, ComesBefore, LeavesZero, LeavesNoClaim, Reaches, Refuses}
 use Rattle.closed_checker.specs.Working.{AreRulesOf, Explains, refusal_of, GeneratorsPass, AmbiguitiesPass}
 
 -- what is left

@@ -1,7 +1,7 @@
 -- The letters of a problem's generators and of its claims are letters of its quiver.
 use Rattle.std.proofs.Common.{◌≡◌, ◌≢◌, ◌≤◌, ◌<◌, ℕ, pos, true, List, [], ◌∷◌, slice_get, Some, subst, arith}
 use Rattle.std.specs.List.{All, AllByRecursion}
-use Rattle.std.proofs.lemmas.List.Elements.{All-from_recursion, recursion_from_All, All-weaker}
+use Rattle.std.proofs.lemmas.List.Elements.{All-nil, All-cons, All-from_recursion, recursion_from_All, All-weaker}
 use Rattle.std.proofs.lemmas.Option.{slice_get_within, get_or_from_slice_get}
 use Rattle.definitions.specs.Poly.{Term}
 use Rattle.definitions.specs.Quiver.{Quiver, letters, source, leads, is_path}
@@ -19,13 +19,13 @@ use Rattle.adjoint_rules.proofs.Generators.{claims_have_signatures, generators_h
 use Rattle.basis_text.specs.Written.{IsPolyOver}
 
 -- paths
-leads_over : (q : Quiver) (u v : ℕ) (w : List ℕ) → leads q u v w ≡ true → AllByRecursion (λ a. a < letters q) w
-leads_over q u v [] path = tt
-leads_over q u v (a ∷ w) path = let first = step q u v a w path in (first.letter, leads_over q u (source q a) w first.rest)
+leads_over : (q : Quiver) (u v : ℕ) (w : List ℕ) → leads q u v w ≡ true → IsOver (letters q) w
+leads_over q u v [] path = All-nil (λ a. a < letters q)
+leads_over q u v (a ∷ w) path = let first = step q u v a w path in All-cons (λ b. b < letters q) a w first.letter (leads_over q u (source q a) w first.rest)
 
 path_over : (q : Quiver) (u v : ℕ) (w : List ℕ) → is_path q u v w ≡ true → IsOver (letters q) w
-path_over q u v [] path = All-from_recursion (λ a. a < letters q) [] tt
-path_over q u v (a ∷ w) path = All-from_recursion (λ a. a < letters q) (a ∷ w) (leads_over q u v (a ∷ w) path)
+path_over q u v [] path = All-nil (λ a. a < letters q)
+path_over q u v (a ∷ w) path = leads_over q u v (a ∷ w) path
 
 -- polynomials with a signature
 module _ (ds : List Declaration) where
@@ -36,21 +36,17 @@ module _ (ds : List Declaration) where
       (recursion_from_All (λ (t : Term). t.0 ≢ pos 0) p.terms p.canonical.shaped.nonzero)
       (λ w some. subst (λ k. IsOver k w) (letters-quiver_of ds) (path_over (quiver_of ds) has.source has.target w (has.typed.at w some))))
 
-  all_over : (ps : List Poly) → AllByRecursion (HasSignature (quiver_of ds)) (polynomials ps) → AllByRecursion (IsPolyOver ds) ps
-  all_over [] each = tt
-  all_over (p ∷ ps) each = (typed_over p each.0, all_over ps each.1)
+  all_over : (ps : List Poly) → AllByRecursion (HasSignature (quiver_of ds)) (polynomials ps) → All (IsPolyOver ds) ps
+  all_over [] each = All-nil (IsPolyOver ds)
+  all_over (p ∷ ps) each = All-cons (IsPolyOver ds) p ps (typed_over p each.0) (all_over ps each.1)
 
 -- of a problem
 module _ (problem : Problem) where
   pub generators_over : All (IsPolyOver problem.parts.quiver) problem.generators
-  generators_over =
-      All-from_recursion (IsPolyOver problem.parts.quiver) problem.generators
-      (all_over problem.parts.quiver problem.generators (generators_have_signatures problem.parts problem.posed problem.generators problem.closed))
+  generators_over = all_over problem.parts.quiver problem.generators (generators_have_signatures problem.parts problem.posed problem.generators problem.closed)
 
   pub claims_over : All (IsPolyOver problem.parts.quiver) problem.parts.claims
-  claims_over =
-      All-from_recursion (IsPolyOver problem.parts.quiver) problem.parts.claims
-      (all_over problem.parts.quiver problem.parts.claims (claims_have_signatures problem.parts problem.posed))
+  claims_over = all_over problem.parts.quiver problem.parts.claims (claims_have_signatures problem.parts problem.posed)
 
 -- more letters
 pub over_more : (few many : ℕ) (p : List Term) → few ≤ many → All (λ t. IsOver few t.1) p → All (λ t. IsOver many t.1) p

@@ -11,7 +11,6 @@ use Rattle.nc_polynomial.specs.Content.{IsContent}
 use Rattle.nc_polynomial.specs.declared.poly.Poly.{Poly}
 use Rattle.rule_reduce.specs.Leading.{leading_term}
 use Rattle.rule_reduce.proofs.MadeRules.{one_content}
-use Rattle.ambiguities.proofs.Sorted.{Decided}
 use Rattle.completion_laws.proofs.Contents.{has_content}
 use Rattle.closed_checker.specs.Rests.{MayBeRule}
 

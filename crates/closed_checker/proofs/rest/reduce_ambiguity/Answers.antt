@@ -1,5 +1,4 @@
-use Rattle.std.proofs.Common.{rules, ◌≡◌, Ok, sym, ap, subst}
-use Rattle.nc_polynomial.specs.declared.fault.PolyFault.{PolyFault}
+use Rattle.std.proofs.Common.{◌≡◌, sym, ap, subst}
 use Rattle.rule_reduce.specs.NormalForms.{halt_of}
 use Rattle.word_orders.specs.Specified.{made_cmp}
 use Rattle.ambiguities.specs.SPolynomials.{s_polynomial_of}

@@ -1,5 +1,5 @@
 use Rattle.closed_checker.specs.Closed.{Refuses}
-use Rattle.std.proofs.Common.{rules, ◌≡◌, sym, subst}
+use Rattle.std.proofs.Common.{◌≡◌, sym, subst}
 use Rattle.closed_checker.specs.Working.{refusal_of}
 use Rattle.closed_checker.proofs.Passing.{fault_refuses}
 use Rattle.closed_checker.proofs.rest.rest_of.Goals as goal

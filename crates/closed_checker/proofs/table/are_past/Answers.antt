@@ -1,4 +1,4 @@
-use Rattle.std.proofs.Common.{rules, ◌≡◌, ◌≤◌, ◌-◌, length, slice_get, Some, arith}
+use Rattle.std.proofs.Common.{rules, ◌≡◌, slice_get, Some, arith}
 use Rattle.std.proofs.lemmas.Bool.{leb-true}
 use Rattle.closed_checker.specs.Table.{rank_at}
 use Rattle.closed_checker.proofs.Ends.{first-past}
