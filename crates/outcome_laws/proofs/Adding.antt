@@ -1,7 +1,7 @@
 -- What is added for a rest is appended, so that the invariant holds.
 use Rattle.std.proofs.Common.{◌≢◌, ◌<◌, ◌<ℤ◌, ℕ, pos, Bool, List, [], ◌∷◌, length, refl, sym, ap, ◌∙◌, arith}
 use Rattle.std.specs.List.{All}
-use Rattle.std.proofs.lemmas.List.Elements.{All-from_recursion, recursion_from_All}
+use Rattle.std.proofs.lemmas.List.Elements.{All-head, All-from_recursion, recursion_from_All}
 use Rattle.definitions.specs.Poly.{Term, coefficient_of}
 use Rattle.definitions.specs.Quiver.{Quiver}
 use Rattle.word_core.specs.Letters.{IsOver}
@@ -25,8 +25,8 @@ listed : (P : List ℕ → Type 0) (p : List Term) → IsShaped p → ((w : List
 listed P p shaped each = All-from_recursion (λ t. P t.1) p (words_listed P p (distinct-descending p (recursion_from_IsDescending p shaped.descending)) (recursion_from_All (λ (t : Term). t.0 ≢ pos 0) p shaped.nonzero) each)
 
 -- a sorted list with a term isn't zero
-nonzero : (t : Term) (p : List Term) → IsShaped (t ∷ p) → IsNonzero (t ∷ p)
-nonzero t p shaped = record { word = t.1; occurs = λ none. (recursion_from_All (λ (u : Term). u.0 ≢ pos 0) (t ∷ p) shaped.nonzero).0 (sym (first_coefficient t p (distinct-descending (t ∷ p) (recursion_from_IsDescending (t ∷ p) shaped.descending)).0) ∙ none) }
+pub nonzero : (t : Term) (p : List Term) → IsShaped (t ∷ p) → IsNonzero (t ∷ p)
+nonzero t p shaped = record { word = t.1; occurs = λ none. All-head (λ (u : Term). u.0 ≢ pos 0) t p shaped.nonzero (sym (first_coefficient t p (distinct-descending (t ∷ p) (recursion_from_IsDescending (t ∷ p) shaped.descending)).0) ∙ none) }
 
 module _ (q : Quiver) (play : ℕ → Bool) (letters : ℕ) (compare : Compare) where
   made_of : (t : Term) (p : List Term) (rows : List Row) (g : Rule) (m : Made) → IsShaped (t ∷ p) → All (λ u. IsOver letters u.1) (t ∷ p) → IsTypedInPlay q play (t ∷ p)

@@ -1,7 +1,6 @@
 -- S-polynomials are within the limits, and so are their rows.
-use Rattle.std.proofs.Common.{◌≡◌, ◌≤◌, ◌<ℤ◌, ℕ, ◌+◌, ℤ, pos, neg_ℤ, int_div, List, ◌++◌, length, take, drop, Option, Some, None, Ok, refl, sym, ap, subst, arith}
-use Rattle.std.specs.List.{All, AllByRecursion}
-use Rattle.std.proofs.lemmas.Int.{ints}
+use Rattle.std.proofs.Common.{◌≡◌, ◌≤◌, ◌<ℤ◌, ℕ, ◌+◌, ℤ, pos, int_div, List, ◌++◌, length, take, drop, Option, Some, None, Ok, refl, sym, ap, subst, arith}
+use Rattle.std.specs.List.{All}
 use Rattle.std.proofs.lemmas.List.{length-append, length-take, length-drop}
 use Rattle.std.proofs.lemmas.List.Elements.{recursion_from_All}
 use Rattle.coef_int.specs.declared.Overflow.{Overflow}
@@ -29,8 +28,8 @@ use Rattle.ambiguities.specs.SPolynomials.{leading_at, shared_divisor, first_row
 use Rattle.ambiguities.proofs.Joined.{lead_at-is, leading_at-is}
 use Rattle.ambiguities.proofs.Multiples.{passed}
 use Rattle.nc_polynomial.specs.Limits.{word_limit}
-use Rattle.outcome_laws.proofs.Results.{none_append}
-use Rattle.outcome_laws.proofs.EvidenceRanges.{quotient_in_range}
+use Rattle.outcome_laws.proofs.Results.{both, none_append}
+use Rattle.outcome_laws.proofs.EvidenceRanges.{quotient_in_range, negative_in_range}
 use Rattle.outcome_laws.proofs.ReducedWithin.{Fits, sized_short, IsShortRow}
 
 -- S-polynomials
@@ -48,7 +47,7 @@ combined_fits a p b q r ends =
     let rest = none_append (products a p) (products b q ++ sums (scaled a p) (scaled b q)) parts.0 in
     let last = none_append (products b q) (sums (scaled a p) (scaled b q)) rest.1 in
     subst Fits (sized-value whole r parts.1)
-    (record { short = sized_short whole r parts.1; in_range = recursion_from_All (λ (t : Term). IsCoefficient t.0) whole (in_range-added (scaled a p) (scaled b q) last.1) })
+    (record { short = sized_short whole r parts.1; in_range = in_range-added (scaled a p) (scaled b q) last.1 })
 
 pub s_polynomial_fits : (rules : List Rule) (a : Ambiguity) (p : List Term) → s_polynomial_of rules a ≡ Ok p → Fits p
 s_polynomial_fits rules a p ends =
@@ -78,9 +77,6 @@ short_parts Inclusion i j p q place meets p_short q_short = (
   omega (arith, length-drop (place + length q) p, p_short),
 )
 
-negative_in_range : (z : ℤ) → IsCoefficient z → IsCoefficient (neg_ℤ z)
-negative_in_range z fits = omega (arith, ints, fits)
-
 module _ (letters : ℕ) (compare : Compare) (rules : List Rule) (are : All (IsRule letters compare) rules) (a : Ambiguity) (is : IsAmbiguity rules a) where
   first_is : IsRule letters compare is.first
   first_is = rule_at-all (IsRule letters compare) rules a.i is.first is.first_numbered are
@@ -100,17 +96,14 @@ module _ (letters : ℕ) (compare : Compare) (rules : List Rule) (are : All (IsR
   divisor_positive : pos 0 <ℤ shared_divisor rules a
   divisor_positive = gcd_of-positive (leading_at rules a.i) (leading_at rules a.j) (subst (λ z. pos 0 <ℤ z) (sym (leading_at-is rules a.i is.first is.first_numbered)) first_is.positive)
 
-  pub s_rows_short : AllByRecursion IsShortRow (s_rows_of rules a)
+  pub s_rows_short : All IsShortRow (s_rows_of rules a)
   s_rows_short =
       let first_in : IsCoefficient (leading_at rules a.i) = subst IsCoefficient (sym (leading_at-is rules a.i is.first is.first_numbered)) first_is.in_range in
-      let second_in : IsCoefficient (leading_at rules a.j) = subst IsCoefficient (sym (leading_at-is rules a.j is.second is.second_numbered)) second_is.in_range in (
-        record { coefficient = quotient_in_range (leading_at rules a.j) (shared_divisor rules a) divisor_positive second_in; left = omega arith; right = parts_short.0 },
-        (
-          record {
-            coefficient = negative_in_range (int_div (leading_at rules a.i) (shared_divisor rules a)) (quotient_in_range (leading_at rules a.i) (shared_divisor rules a) divisor_positive first_in);
-            left = parts_short.1;
-            right = parts_short.2;
-          },
-          tt,
-        ),
-      )
+      let second_in : IsCoefficient (leading_at rules a.j) = subst IsCoefficient (sym (leading_at-is rules a.j is.second is.second_numbered)) second_is.in_range in
+      both IsShortRow (first_row rules a) (second_row rules a)
+      (record { coefficient = quotient_in_range (leading_at rules a.j) (shared_divisor rules a) divisor_positive second_in; left = omega arith; right = parts_short.0 })
+      (record {
+        coefficient = negative_in_range (int_div (leading_at rules a.i) (shared_divisor rules a)) (quotient_in_range (leading_at rules a.i) (shared_divisor rules a) divisor_positive first_in);
+        left = parts_short.1;
+        right = parts_short.2;
+      })

@@ -1,7 +1,6 @@
 -- What is made of a claim that a run reduces to zero: evidence that adds up, or a halt, and it follows in any case.
 use Rattle.std.proofs.Common.{◌≡◌, ℕ, List, [], length, Ok, sym, ap, ◌∙◌, subst, append-nil}
-use Rattle.std.proofs.lemmas.List.Elements.{All-weaker, All-from_recursion}
-use Rattle.coef_int.specs.Range.{IsCoefficient}
+use Rattle.std.proofs.lemmas.List.Elements.{All-weaker}
 use Rattle.definitions.specs.Poly.{Term, coefficient_of, poly_sum}
 use Rattle.definitions.specs.Combination.{IsCombination, InRationalIdeal}
 use Rattle.traced_rows.specs.declared.Origin.{Origin}
@@ -59,7 +58,7 @@ are_records generators rules made recorded each = record {
       record {
         positive = is.positive;
         scale_in = in_range.0;
-        coefficients_in = All-from_recursion (λ (r : Row). IsCoefficient r.coef) m.rows in_range.1;
+        coefficients_in = in_range.1;
         earlier = All-weaker (λ (r : Row). IsEarlier (length generators) place r.from) (λ (r : Row). IsAmongFirst place r.from) (λ r. among_first (length generators) place r.from) m.rows is.earlier;
       };
 }
@@ -105,7 +104,7 @@ module _ (problem : Problem) (budget : Budget) (number rounds : ℕ) (s : RunSta
       let kept = (run_kept problem budget rounds s run).kept in
       let ranged = normal_forms_are_ranged compare s.rules claim budget.steps left (claim_is problem number).shaped.in_range ends in
       subst (λ n. IsRecord n (record_of left)) (sym kept.recorded.one_each)
-      (claim_record letters compare s.rules claim budget.steps left kept.are_rules ends ranged.multiplier (All-from_recursion (λ (row : Row). IsCoefficient row.coef) left.rows ranged.rows))
+      (claim_record letters compare s.rules claim budget.steps left kept.are_rules ends ranged.multiplier ranged.rows)
 
   traced : Traces generators (polynomials_of s.rules) (record_of left) claim
   traced = zero_traces letters compare generators s.rules claim left reduced none

@@ -1,9 +1,9 @@
 -- The evidence of derived claims is within the limits.
-use Rattle.std.proofs.Common.{◌≡◌, ◌≤◌, ◌<ℤ◌, ℕ, pos, List, [], ◌∷◌, length, Ok, refl, sym, ap, subst, arith}
-use Rattle.std.specs.List.{All, AllByRecursion}
+use Rattle.std.proofs.Common.{◌≡◌, ◌≤◌, ◌<ℤ◌, ℕ, pos, List, length, get_or, Some, Ok, refl, sym, ap, subst, arith}
+use Rattle.std.specs.List.{All}
 use Rattle.std.proofs.lemmas.Int.{ints}
 use Rattle.std.proofs.lemmas.List.{length-map}
-use Rattle.std.proofs.lemmas.List.Elements.{All-nil, All-from_recursion, recursion_from_All}
+use Rattle.std.proofs.lemmas.List.Elements.{All-nil, All-pop}
 use Rattle.definitions.specs.Poly.{Term}
 use Rattle.nc_polynomial.specs.declared.poly.Poly.{Poly}
 use Rattle.traced_rows.specs.declared.Row.{Row}
@@ -44,22 +44,15 @@ use Rattle.outcome_laws.proofs.LimitedRuns.{IsLimitedRow, record_of_rows, named_
 use Rattle.outcome_laws.proofs.OutcomeLetters.{generators_have_words}
 use Rattle.outcome_laws.proofs.OutcomeWays.{Way, no_terms, expanded, gathered, left_over, given_up, with_run, way, IsProvedBy}
 use Rattle.outcome_laws.proofs.ReducedWithin.{Fits, IsShortRow, reduced_within}
-use Rattle.outcome_laws.proofs.Results.{split_last}
 
 abbrev IsShort : List ℕ → Type 0
 IsShort w = length w ≤ word_limit
 
-short_words : (rows : List Row) → AllByRecursion IsShortRow rows → AllByRecursion (λ r. IsShort r.left × IsShort r.right) rows
-short_words [] each = tt
-short_words (r ∷ rows) each = ((each.0.left, each.0.right), short_words rows each.1)
+short_words : (rows : List Row) → All IsShortRow rows → All (λ r. IsShort r.left × IsShort r.right) rows
+short_words rows each k r inside = ((each k r inside).left, (each k r inside).right)
 
-all_short_words : (made : List Made) → AllByRecursion (λ m. AllByRecursion IsShortRow m.rows) made → AllByRecursion (λ m. AllByRecursion (λ r. IsShort r.left × IsShort r.right) m.rows) made
-all_short_words [] each = tt
-all_short_words (m ∷ made) each = (short_words m.rows each.0, all_short_words made each.1)
-
-lemma_within : (l : Lemma) → IsRangedLemma l → pos 0 <ℤ l.scale → AllByRecursion (λ (r : LemmaRow). IsShort r.left × IsShort r.right) l.rows → IsLemmaWithin l
-lemma_within l ranged positive short =
-    let words = All-from_recursion (λ (r : LemmaRow). IsShort r.left × IsShort r.right) l.rows short in
+lemma_within : (l : Lemma) → IsRangedLemma l → pos 0 <ℤ l.scale → All (λ (r : LemmaRow). IsShort r.left × IsShort r.right) l.rows → IsLemmaWithin l
+lemma_within l ranged positive words =
     record { positive = positive; scale = ranged.0; rows = λ i r inside. record { coefficient = ranged.1 i r inside; short_left = (words i r inside).0; short_right = (words i r inside).1 } }
 
 module _ (problem : Problem) (budget : Budget) (number : ℕ) where
@@ -108,10 +101,10 @@ module _ (problem : Problem) (budget : Budget) (number : ℕ) where
     claim_fits : Fits claim
     claim_fits = numbered_fits problem.parts.claims number
 
-    target_rows : AllByRecursion (IsLimitedRow (length (polynomials problem.generators)) (length by.state.rules)) by.reduced.rows
+    target_rows : All (IsLimitedRow (length (polynomials problem.generators)) (length by.state.rules)) by.reduced.rows
     target_rows = reduced_limited letters_in setting_in (generators_have_words problem budget) (numbered_fits problem.generators) in_range by.state.rules claim by.reduced limited.rules claim_fits by.reduction
 
-    target_within : AllByRecursion IsShortRow by.reduced.rows
+    target_within : All IsShortRow by.reduced.rows
     target_within = (reduced_within letters_in setting_in.compare by.state.rules limited.rules claim setting_in.budget.steps by.reduced claim_fits by.reduction).rows
 
     target_positive : pos 0 <ℤ by.reduced.multiplier
@@ -154,16 +147,16 @@ module _ (problem : Problem) (budget : Budget) (number : ℕ) where
     gathered_within c ends =
         let ranged = gatherings_are_ranged number by.state.made target c limited.are_records target_is ends in
         let positive = gathered_positive number by.state.made target c limited.positive target_positive ends in
-        let words = gathered_words IsShort number by.state.made target c (all_short_words by.state.made limited.short) (short_words by.reduced.rows target_within) ends in
+        let words = gathered_words IsShort number by.state.made target c (λ k m inside. short_words (get_or by.state.made k m).rows (limited.short k m inside)) (short_words by.reduced.rows target_within) ends in
         let each : All IsLemmaWithin (parts_of c) = λ i l inside. lemma_within _ (ranged.1 i l inside) (positive.1 i l inside) (words i l inside) in
-        let both = split_last IsLemmaWithin c.lemmas c.goal (recursion_from_All IsLemmaWithin (parts_of c) each) in
+        let both = All-pop IsLemmaWithin (parts_of c) c.lemmas (Some c.goal) refl each in
         let names = lemmas_are_named count number by.state.made target c limited.are_records target_is named target_named ends in
         let sizes = gatherings_fit number by.state.made target c ends in
         record {
           claim = sym (ap (λ (x : LemmaCertificate). x.claim) (parts number by.state.made target c ends).is);
           positive = positive.0;
           denominator = ranged.0;
-          lemmas = All-from_recursion IsLemmaWithin c.lemmas both.0;
+          lemmas = both.0;
           goal = both.1;
           earlier = names.0;
           goal_names = names.1;

@@ -1,7 +1,7 @@
 -- The numbers of evidence are coefficients, and its denominator and scales are positive.
-use Rattle.std.proofs.Common.{rules, ◌≡◌, ℕ, zero, suc, ℤ, pos, negsuc, ◌+ℤ◌, ◌*ℤ◌, ◌<ℤ◌, int_div, Bool, true, false, cond, List, [], ◌∷◌, ◌++◌, map, Option, Some, None, Result, Ok, Err, unwrap_or, refl, subst, arith}
+use Rattle.std.proofs.Common.{rules, ◌≡◌, ℕ, zero, suc, ℤ, pos, negsuc, neg_ℤ, ◌+ℤ◌, ◌*ℤ◌, ◌<ℤ◌, int_div, Bool, true, false, cond, List, [], ◌∷◌, ◌++◌, map, get_or, Option, Some, None, Result, Ok, Err, unwrap_or, refl, subst, arith}
 use Rattle.std.proofs.lemmas.Int.{ints}
-use Rattle.std.proofs.lemmas.List.Elements.{All-map, All-from_recursion}
+use Rattle.std.proofs.lemmas.List.Elements.{All-nil, All-append, All-replicate, All-map}
 use Rattle.std.specs.List.{All, AllByRecursion, fold, flat_map}
 use Rattle.std.specs.Map.{lookup}
 use Rattle.std.specs.BTreeMap.{insert_entry, is_at}
@@ -9,7 +9,6 @@ use Rattle.std.specs.Ordering.{nat_cmp, is_eq}
 use Rattle.std.specs.Option.{option_map}
 use Rattle.coef_int.specs.declared.Overflow.{Overflow}
 use Rattle.coef_int.specs.Range.{IsCoefficient}
-use Rattle.definitions.proofs.UnitSound.{all-append}
 use Rattle.coef_int.specs.Operations.{product_of, sum_of, first_overflow}
 use Rattle.traced_rows.specs.declared.Origin.{Origin}
 use Rattle.traced_rows.specs.declared.Origin.TheVariants as origin
@@ -37,6 +36,9 @@ use Rattle.outcome_laws.proofs.EvidenceWords.{needed_each}
 pub quotient_in_range : (a d : ℤ) → pos 0 <ℤ d → IsCoefficient a → IsCoefficient (int_div a d)
 quotient_in_range a d positive fits = search rules
 
+pub negative_in_range : (z : ℤ) → IsCoefficient z → IsCoefficient (neg_ℤ z)
+negative_in_range z fits = omega (arith, ints, fits)
+
 -- sums
 sum_in_range : (so_far : ℤ) (cs : List ℤ) → IsCoefficient so_far → first_overflow (running_sums so_far cs) ≡ None → IsCoefficient (fold ◌+ℤ◌ so_far cs)
 sum_in_range so_far [] fits others = fits
@@ -44,14 +46,17 @@ sum_in_range so_far (c ∷ cs) fits others =
     let first = fits_first (sum_of so_far c) (running_sums (so_far +ℤ c) cs) others in
     sum_in_range (so_far +ℤ c) cs first.0 first.1
 
+abbrev HasNumber : CertRow → Type 0
+HasNumber r = IsCoefficient r.coef
+
 abbrev AreIn : List CertRow → Type 0
-AreIn rows = AllByRecursion (λ r. IsCoefficient r.coef) rows
+AreIn rows = All HasNumber rows
 
 each_in : {X : Type 0} (out : X → List CertRow) (operations : X → List Overflow) → ((x : X) → first_overflow (operations x) ≡ None → AreIn (out x)) → (xs : List X) → first_overflow (flat_map operations xs) ≡ None → AreIn (flat_map out xs)
-each_in out operations each [] fits = tt
+each_in out operations each [] fits = All-nil HasNumber
 each_in out operations each (x ∷ xs) fits =
     let both = none_append (operations x) (flat_map operations xs) fits in
-    all-append (λ (r : CertRow). IsCoefficient r.coef) (out x) (flat_map out xs) (each x both.0) (each_in out operations each xs both.1)
+    All-append HasNumber (out x) (flat_map out xs) (each x both.0) (each_in out operations each xs both.1)
 
 integer_cases : (P : ℤ → Type 0) → P (pos 0) → ((n : ℕ) → P (pos (suc n))) → ((n : ℕ) → P (negsuc n)) → (z : ℤ) → P z
 integer_cases P at_zero above below (pos zero) = at_zero
@@ -61,12 +66,13 @@ integer_cases P at_zero above below (negsuc n) = below n
 gathered_in : (rows : List CertRow) → first_overflow (sums_of_gathering rows) ≡ None → AreIn (gathered rows)
 gathered_in rows fits =
     each_in (λ m. kept_row (total_at m rows) m) (λ m. running_sums (pos 0) (coefficients_at m rows))
-    (λ m one. integer_cases (λ z. IsCoefficient z → AreIn (kept_row z m)) (λ h. tt) (λ n h. (h, tt)) (λ n h. (h, tt)) (total_at m rows) (sum_in_range (pos 0) (coefficients_at m rows) (omega (arith, ints)) one))
+    (λ m one. integer_cases (λ z. IsCoefficient z → AreIn (kept_row z m)) (λ h. All-nil HasNumber)
+    (λ n h. All-replicate HasNumber 1 (record { coef = pos (suc n); left = m.left; generator = m.generator; right = m.right }) h)
+    (λ n h. All-replicate HasNumber 1 (record { coef = negsuc n; left = m.left; generator = m.generator; right = m.right }) h) (total_at m rows) (sum_in_range (pos 0) (coefficients_at m rows) (omega (arith, ints)) one))
     (multiples_of rows) fits
 
 divided_in : (d : ℤ) → pos 0 <ℤ d → (rows : List CertRow) → AreIn rows → AreIn (map (divided_row d) rows)
-divided_in d positive [] each = tt
-divided_in d positive (r ∷ rows) each = (quotient_in_range r.coef d positive each.0, divided_in d positive rows each.1)
+divided_in d positive rows each = All-map HasNumber (divided_row d) rows (λ k r inside. quotient_in_range (get_or rows k r).coef d positive (each k r inside))
 
 -- one record
 unless_ok : {A : Type 0} (first : Option ExpandFault) (r : Result A ExpandFault) (x : A) → unless first r ≡ Ok x → (first ≡ None) × (r ≡ Ok x)
@@ -99,7 +105,7 @@ module _ (known : Known) (each_positive : (o : Origin) → pos 0 <ℤ (known o).
       (record {
         positive = quotient_positive d g d_in g_in (content-first d coefs);
         denominator_in = quotient_in_range d g g_in d_fits;
-        coefficients_in = All-from_recursion (λ (r : CertRow). IsCoefficient r.coef) (map (divided_row g) (gathered rows)) (divided_in g g_in (gathered rows) (gathered_in rows sums.1));
+        coefficients_in = divided_in g g_in (gathered rows) (gathered_in rows sums.1);
       })
 
 -- one expansion after another
@@ -132,14 +138,14 @@ ranged_from expansions (e ∷ rest) target c each rules scale_in ends =
     go (Err f) ranged ends next = absurd (cc)
 
 -- Where each scale is positive, an expansion has coefficients and a positive denominator.
-pub expansion_ranged : (made : List Made) (target : Made) (c : Cofactors) → AllByRecursion (λ m. pos 0 <ℤ m.scale) made → pos 0 <ℤ target.scale → expansion_of made target ≡ Ok c → IsRanged c
+pub expansion_ranged : (made : List Made) (target : Made) (c : Cofactors) → All (λ m. pos 0 <ℤ m.scale) made → pos 0 <ℤ target.scale → expansion_of made target ≡ Ok c → IsRanged c
 expansion_ranged made target c rules scale_in ends = ranged_from [] (needed_rules made target) target c tt (needed_each (λ m. pos 0 <ℤ m.scale) target 1 made rules) scale_in ends
 
 -- Where each scale of the records is positive, so are those of the lemmas and of the goal, and the denominator.
-pub gathered_positive : (claim : ℕ) (made : List Made) (target : Made) (c : LemmaCertificate) → AllByRecursion (λ m. pos 0 <ℤ m.scale) made → pos 0 <ℤ target.scale → gathered_of claim made target ≡ Ok c
+pub gathered_positive : (claim : ℕ) (made : List Made) (target : Made) (c : LemmaCertificate) → All (λ m. pos 0 <ℤ m.scale) made → pos 0 <ℤ target.scale → gathered_of claim made target ≡ Ok c
     → (pos 0 <ℤ c.denominator) × All (λ l. pos 0 <ℤ l.scale) (parts_of c)
 gathered_positive claim made target c rules scale_in ends =
     let p = parts claim made target c ends in
-    let each = each_part claim made target (λ m. pos 0 <ℤ m.scale) (λ (l : Lemma). pos 0 <ℤ l.scale) (λ m h. h) (lemma_record_each claim made target (λ m. pos 0 <ℤ m.scale) (All-from_recursion (λ (m : Made). pos 0 <ℤ m.scale) made rules)) scale_in in
+    let each = each_part claim made target (λ m. pos 0 <ℤ m.scale) (λ (l : Lemma). pos 0 <ℤ l.scale) (λ m h. h) (lemma_record_each claim made target (λ m. pos 0 <ℤ m.scale) rules) scale_in in
     subst (λ (x : LemmaCertificate). (pos 0 <ℤ x.denominator) × All (λ l. pos 0 <ℤ l.scale) (parts_of x)) p.is
     (common_multiple-positive (pos 1) _ (omega (arith, ints)) (All-map (λ z. pos 0 <ℤ z) (λ (l : Lemma). l.scale) _ each), each)

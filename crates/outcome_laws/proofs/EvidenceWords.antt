@@ -1,6 +1,6 @@
 -- What holds of the words of records, and of words put together of such, holds of the words of evidence.
 use Rattle.std.proofs.Common.{◌≡◌, ℕ, suc, ℤ, ◌*ℤ◌, Bool, true, false, cond, List, [], ◌∷◌, ◌++◌, map, Some, Result, Ok, Err, unwrap_or, subst}
-use Rattle.std.proofs.lemmas.List.Elements.{All-from_recursion}
+use Rattle.std.proofs.lemmas.List.Elements.{All-head, All-tail, All-map, All-from_recursion}
 use Rattle.std.specs.List.{All, AllByRecursion}
 use Rattle.std.specs.Map.{lookup}
 use Rattle.std.specs.BTreeMap.{insert_entry, is_at}
@@ -17,7 +17,7 @@ use Rattle.traced_rows.specs.declared.evidence.LemmaCertificate.{LemmaCertificat
 use Rattle.cofactor_trace.specs.declared.fault.ExpandFault.{ExpandFault}
 use Rattle.cofactor_trace.specs.Expansion.{Known, common_denominator, joined, joined_rows, joined_row, share, record_expansion}
 use Rattle.cofactor_trace.specs.Needed.{Numbered, Expansions, none, known_from, and_then, expansion_from, expansion_of, needed_from, needed_rules, is_named}
-use Rattle.cofactor_trace.specs.Lemmas.{Naming, naming_of, lemma_row, gathered_of}
+use Rattle.cofactor_trace.specs.Lemmas.{naming_of, lemma_row, gathered_of}
 use Rattle.cofactor_trace.specs.GatheringLaws.{parts_of}
 use Rattle.cofactor_trace.proofs.GatheredParts.{parts, each_part, lemma_record_each}
 use Rattle.cofactor_trace.proofs.Kept.{Each, each_append, each_primitive}
@@ -26,13 +26,13 @@ use Rattle.cofactor_trace.proofs.Passes.{each_with}
 use Rattle.cofactor_trace.proofs.RecordLaws.{primitive_is}
 
 -- what holds of each record holds of those that are needed
-pub needed_each : (P : Made → Type 0) (target : Made) (number : ℕ) (made : List Made) → AllByRecursion P made → AllByRecursion (λ e. P e.1) (needed_from target number made)
+pub needed_each : (P : Made → Type 0) (target : Made) (number : ℕ) (made : List Made) → All P made → AllByRecursion (λ e. P e.1) (needed_from target number made)
 needed_each P target number [] each = tt
-needed_each P target number (m ∷ made) each = go (is_named number (target ∷ records_of (needed_from target (suc number) made))) (needed_each P target (suc number) made each.1)
+needed_each P target number (m ∷ made) each = go (is_named number (target ∷ records_of (needed_from target (suc number) made))) (needed_each P target (suc number) made (All-tail P m made each))
   where
     go : (b : Bool) → AllByRecursion (λ e. P e.1) (needed_from target (suc number) made)
         → AllByRecursion (λ e. P e.1) (cond b ((number, m) ∷ needed_from target (suc number) made) (needed_from target (suc number) made))
-    go true later = (each.0, later)
+    go true later = (All-head P m made each, later)
     go false later = later
 
 module _ (P : List ℕ → Type 0) (empty : P []) (together : (u v : List ℕ) → P u → P v → P (u ++ v)) where
@@ -41,7 +41,7 @@ module _ (P : List ℕ → Type 0) (empty : P []) (together : (u v : List ℕ) �
   HasWords r = P r.left × P r.right
 
   abbrev pub RecordHasWords : Made → Type 0
-  RecordHasWords m = AllByRecursion HasWords m.rows
+  RecordHasWords m = All HasWords m.rows
 
   -- of a row of an expansion
   abbrev AreBetween : List CertRow → Type 0
@@ -51,11 +51,11 @@ module _ (P : List ℕ → Type 0) (empty : P []) (together : (u v : List ℕ) �
   joined_between k outer has [] each = tt
   joined_between k outer has (s ∷ inner) each = ((together outer.left s.left has.0 each.0.0, together s.right outer.right each.0.1 has.1), joined_between k outer has inner each.1)
 
-  all_between : (known : Known) (common : ℤ) (rows : List Row) → AllByRecursion HasWords rows → AllByRecursion (λ r. AreBetween (known r.from).rows) rows → AreBetween (joined known common rows)
+  all_between : (known : Known) (common : ℤ) (rows : List Row) → All HasWords rows → AllByRecursion (λ r. AreBetween (known r.from).rows) rows → AreBetween (joined known common rows)
   all_between known common [] has each = tt
   all_between known common (r ∷ rows) has each =
       each_append (λ m. P m.left × P m.right) (joined_rows known common r) (joined known common rows)
-      (joined_between (r.coef *ℤ share known common r) r has.0 (known r.from).rows each.0) (all_between known common rows has.1 each.1)
+      (joined_between (r.coef *ℤ share known common r) r (All-head HasWords r rows has) (known r.from).rows each.0) (all_between known common rows (All-tail HasWords r rows has) each.1)
 
   -- the list of expansions
   abbrev EachBetween : Expansions → Type 0
@@ -98,7 +98,7 @@ module _ (P : List ℕ → Type 0) (empty : P []) (together : (u v : List ℕ) �
       go (Ok x) between ends next = next x (between x each rules.0 (λ i. Ok x)) ends
       go (Err f) between ends next = absurd (cc)
 
-  pub expanded_words : (made : List Made) (target : Made) (c : Cofactors) → AllByRecursion RecordHasWords made → RecordHasWords target → expansion_of made target ≡ Ok c → All (λ (r : CertRow). P r.left × P r.right) c.rows
+  pub expanded_words : (made : List Made) (target : Made) (c : Cofactors) → All RecordHasWords made → RecordHasWords target → expansion_of made target ≡ Ok c → All (λ (r : CertRow). P r.left × P r.right) c.rows
   expanded_words made target c rules has ends =
       All-from_recursion (λ (r : CertRow). P r.left × P r.right) c.rows (between_from [] (needed_rules made target) target c tt (needed_each RecordHasWords target 1 made rules) has ends)
 
@@ -108,15 +108,11 @@ module _ (P : List ℕ → Type 0) where
   HasBoth r = P r.left × P r.right
 
   abbrev pub LemmaHasWords : Lemma → Type 0
-  LemmaHasWords l = AllByRecursion (λ r. P r.left × P r.right) l.rows
+  LemmaHasWords l = All (λ r. P r.left × P r.right) l.rows
 
-  lemma_rows_have : (naming : Naming) (rows : List Row) → AllByRecursion HasBoth rows → AllByRecursion (λ (r : LemmaRow). P r.left × P r.right) (map (lemma_row naming) rows)
-  lemma_rows_have naming [] each = tt
-  lemma_rows_have naming (r ∷ rows) each = (each.0, lemma_rows_have naming rows each.1)
-
-  pub gathered_words : (claim : ℕ) (made : List Made) (target : Made) (c : LemmaCertificate) → AllByRecursion (λ m. AllByRecursion HasBoth m.rows) made → AllByRecursion HasBoth target.rows
+  pub gathered_words : (claim : ℕ) (made : List Made) (target : Made) (c : LemmaCertificate) → All (λ m. All HasBoth m.rows) made → All HasBoth target.rows
       → gathered_of claim made target ≡ Ok c → All LemmaHasWords (parts_of c)
   gathered_words claim made target c rules has ends =
       subst (λ (x : LemmaCertificate). All LemmaHasWords (parts_of x)) (parts claim made target c ends).is
-      (each_part claim made target (λ m. AllByRecursion HasBoth m.rows) LemmaHasWords (λ m each. lemma_rows_have (naming_of made target) m.rows each)
-      (lemma_record_each claim made target (λ m. AllByRecursion HasBoth m.rows) (All-from_recursion (λ m. AllByRecursion HasBoth m.rows) made rules)) has)
+      (each_part claim made target (λ m. All HasBoth m.rows) LemmaHasWords (λ m. All-map (λ (r : LemmaRow). P r.left × P r.right) (lemma_row (naming_of made target)) m.rows)
+      (lemma_record_each claim made target (λ m. All HasBoth m.rows) rules) has)

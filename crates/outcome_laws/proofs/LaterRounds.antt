@@ -1,6 +1,7 @@
 -- The invariant holds after a later round.
 use Rattle.std.proofs.Common.{◌≡◌, ℕ, Bool, List, [], ◌∷◌, ◌++◌, map, Option, Some, None, Result, Ok, Err, refl, sym, ap, ◌∙◌, subst, append-nil, append_assoc}
-use Rattle.std.specs.List.{All, AllByRecursion}
+use Rattle.std.specs.List.{All}
+use Rattle.std.proofs.lemmas.List.Elements.{All-head, All-tail}
 use Rattle.coef_int.specs.declared.Overflow.{Overflow}
 use Rattle.coef_int.specs.Operations.{first_overflow}
 use Rattle.definitions.specs.Poly.{Term, coefficient_of}
@@ -117,7 +118,7 @@ module _ (q : Quiver) (play : ℕ → Bool) (letters : ℕ) (compare : Compare) 
             (subst (λ o. Adds compare o before after) (sym (second_value first went.value went.value.rest rest went.rest)) added)
 
   -- one after another
-  pub ambiguities_in_turn : (taken : List Ambiguity) → AllByRecursion (IsAmbiguity start) taken → (firsts : List First) → each_in_turn (first_of compare steps start) taken ≡ Ok firsts
+  pub ambiguities_in_turn : (taken : List Ambiguity) → All (IsAmbiguity start) taken → (firsts : List First) → each_in_turn (first_of compare steps start) taken ≡ Ok firsts
       → (before after : Recorded) (done : List ℕ) (treated : List Ambiguity) → BeginsWith start before.rules → Now before done treated
       → InTurn compare (map (second_work compare steps) firsts) before (Ok after) → Now after done (treated ++ taken)
   ambiguities_in_turn [] are firsts given before after done treated front now turn =
@@ -133,7 +134,7 @@ module _ (q : Quiver) (play : ℕ → Bool) (letters : ℕ) (compare : Compare) 
       let is_first : record { rows = s_rows_of start a; reduced = state.value } ≡ one.value = same_value (record { rows = s_rows_of start a; reduced = state.value }) one.value state.rest in
       go poly.value (halted_value (s_polynomial_of start a) poly.value poly.given) state.value state.given others.value
       (subst (λ f. InTurn compare (map (second_work compare steps) (f ∷ others.value)) before (Ok after)) (sym is_first) (subst (λ fs. InTurn compare (map (second_work compare steps) fs) before (Ok after)) (sym listed) turn))
-      (λ between begins here next. subst (λ d. Now after done d) (append_assoc treated (a ∷ []) taken) (ambiguities_in_turn taken are.1 others.value others.given between after done (treated ++ (a ∷ [])) begins here next))
+      (λ between begins here next. subst (λ d. Now after done d) (append_assoc treated (a ∷ []) taken) (ambiguities_in_turn taken (All-tail (IsAmbiguity start) a taken are) others.value others.given between after done (treated ++ (a ∷ [])) begins here next))
     where
       go : (p : List Term) → s_polynomial_of start a ≡ Ok p → (s : State) → normal_form_of compare start p steps ≡ Ok s → (fs : List First)
           → InTurn compare (map (second_work compare steps) (record { rows = s_rows_of start a; reduced = s } ∷ fs)) before (Ok after)
@@ -144,4 +145,4 @@ module _ (q : Quiver) (play : ℕ → Bool) (letters : ℕ) (compare : Compare) 
           by_work : (r : Result (Option Rest) ReduceFault) → second_work compare steps (record { rows = s_rows_of start a; reduced = s }) before.rules ≡ r
               → Goes compare r before (λ between. InTurn compare (map (second_work compare steps) fs) between (Ok after)) (Ok after) → Now after done (treated ++ (a ∷ taken))
           by_work (Err e) ends on = absurd (no_value e after (sym on))
-          by_work (Ok rest) ends on = later on.between (begins_with start compare rest before on.between front on.added) (one_ambiguity a are.0 p p_is s s_is before on.between done treated front now rest ends on.added) on.next
+          by_work (Ok rest) ends on = later on.between (begins_with start compare rest before on.between front on.added) (one_ambiguity a (All-head (IsAmbiguity start) a taken are) p p_is s s_is before on.between done treated front now rest ends on.added) on.next

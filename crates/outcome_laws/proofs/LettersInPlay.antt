@@ -2,7 +2,7 @@
 use Rattle.std.proofs.Common.{◌≡◌, ℕ, Bool, true, false, cond, List, [], ◌∷◌, ◌∙◌, arith, ltb, ltb-true}
 use Rattle.std.specs.List.{All, AllZip, AllByRecursion, filter, list_all, range_with_len}
 use Rattle.std.proofs.lemmas.Bool.{and_parts}
-use Rattle.std.proofs.lemmas.List.Elements.{All-from_recursion, recursion_from_All}
+use Rattle.std.proofs.lemmas.List.Elements.{All-nil, All-cons, All-head, All-tail}
 use Rattle.definitions.specs.Poly.{Term, SamePolynomial}
 use Rattle.quiver.specs.Declarations.{letter_count, quiver_of}
 use Rattle.rule_reduce.specs.KeptWords.{IsInPlay as AreInPlay}
@@ -50,16 +50,15 @@ module _ (problem : Problem) where
     };
   }
 
-  along : (fs gs : List (List Term)) → AllZip SamePolynomial fs gs → AllByRecursion (Words problem.parts problem.posed) gs → AllByRecursion (Generator any_letter) fs → AllByRecursion (Generator problem_play) fs
-  along [] [] same each are = tt
+  along : (fs gs : List (List Term)) → AllZip SamePolynomial fs gs → AllByRecursion (Words problem.parts problem.posed) gs → All (Generator any_letter) fs → All (Generator problem_play) fs
+  along [] [] same each are = All-nil (Generator problem_play)
   along [] (g ∷ gs) same each are = absurd same
   along (f ∷ fs) [] same each are = absurd same
-  along (f ∷ fs) (g ∷ gs) same each are = (generator_in_play f g same.0 each.0 are.0, along fs gs same.1 each.1 are.1)
+  along (f ∷ fs) (g ∷ gs) same each are =
+      All-cons (Generator problem_play) f fs (generator_in_play f g same.0 each.0 (All-head (Generator any_letter) f fs are)) (along fs gs same.1 each.1 (All-tail (Generator any_letter) f fs are))
 
   pub generators_in_play : All (Generator problem_play) (polynomials problem.generators)
-  generators_in_play =
-      All-from_recursion (Generator problem_play) (polynomials problem.generators)
-      (along (polynomials problem.generators) (generators_in problem.parts) problem.closed.same (generator_words problem.parts problem.posed) (recursion_from_All (Generator any_letter) (polynomials problem.generators) (generators_are problem)))
+  generators_in_play = along (polynomials problem.generators) (generators_in problem.parts) problem.closed.same (generator_words problem.parts problem.posed) (generators_are problem)
 
   -- words in play have their letters in the list
   pub all_in : (w : List ℕ) → AreInPlay problem_play w → AllIn (letters_in_play problem) w

@@ -1,11 +1,11 @@
 -- The records of a run are within the limits: their numbers are coefficients, their words are short, and they name what is there.
 use Rattle.std.proofs.Common.{◌≡◌, ◌≢◌, ◌<◌, ◌≤◌, ◌<ℤ◌, ℕ, zero, suc, ◌+◌, ◌-◌, ◌*◌, ◌^◌, ℤ, pos, neg_ℤ, ◌*ℤ◌, Bool, true, false, cond, List, [], ◌∷◌, length, get_or, slice_get, Option, Some, None, Ok, sym, subst, arith}
-use Rattle.std.specs.List.{All, AllByRecursion, range_with_len}
+use Rattle.std.specs.List.{All, range_with_len}
 use Rattle.std.specs.Option.{option_map}
 use Rattle.std.specs.Int.RustNames.{unsigned_abs}
 use Rattle.std.proofs.Math.Nat.{le-mul_of_pos_right}
 use Rattle.std.proofs.lemmas.Int.{ints, unsigned_abs-mul}
-use Rattle.std.proofs.lemmas.List.Elements.{All-append, All-from_get_or, All-from_recursion, recursion_from_All}
+use Rattle.std.proofs.lemmas.List.Elements.{All-nil, All-cons, All-head, All-weaker, All-append, All-map, All-from_get_or}
 use Rattle.std.proofs.lemmas.List.FromFn.{length-range_with_len, get_or-range_with_len}
 use Rattle.coef_int.specs.Range.{IsCoefficient}
 use Rattle.definitions.specs.Poly.{Term, poly_multiple}
@@ -29,7 +29,7 @@ use Rattle.rule_reduce.specs.NormalForms.{normal_form_of}
 use Rattle.rule_reduce.proofs.RowsByRules.{rows_are_by_rules}
 use Rattle.ambiguities.specs.declared.ambiguity.Ambiguity.{Ambiguity}
 use Rattle.ambiguities.specs.Ambiguities.{IsAmbiguity}
-use Rattle.ambiguities.specs.SPolynomials.{s_rows_of}
+use Rattle.ambiguities.specs.SPolynomials.{first_row, second_row, s_rows_of}
 use Rattle.ambiguities.proofs.Numbers.{rule_at-first, rule_at-last}
 use Rattle.ambiguities.proofs.Words.{AreWords, normal_words, s_words}
 use Rattle.adjoint_rules.specs.Problem.{polynomials}
@@ -39,7 +39,9 @@ use Rattle.traced_completion.specs.RunLaws.{HasWords}
 use Rattle.traced_completion.specs.PlainRun.{Setting, RunState, IsRunState}
 use Rattle.nc_polynomial.specs.Limits.{word_limit}
 use Rattle.outcome_laws.proofs.AmbiguitiesWithin.{s_polynomial_fits, s_rows_short}
+use Rattle.outcome_laws.proofs.EvidenceRanges.{negative_in_range}
 use Rattle.outcome_laws.proofs.ReducedWithin.{Fits, IsShortRow, reduced_within}
+use Rattle.outcome_laws.proofs.Results.{generator_all, both}
 use Rattle.outcome_laws.proofs.RowsOfRuns.{generator_words, IsKeptGenerator, IsKept, MadeFrom, states_held}
 
 -- a short row over the first rules and the first generators, by these counts
@@ -47,9 +49,6 @@ pub record IsLimitedRow (generators count : ℕ) (r : Row) : Type 0 where
   pub short : IsShortRow r
   pub among : IsAmongFirst count r.from
   pub up_to : IsUpTo generators r.from
-
-negative_fits : (z : ℤ) → IsCoefficient z → IsCoefficient (neg_ℤ z)
-negative_fits z fits = omega (arith, ints, fits)
 
 by_rule_among : (count : ℕ) (o : Origin) → IsByRule count o → IsAmongFirst count o
 by_rule_among count (origin.Generator n) by = absurd by
@@ -59,46 +58,27 @@ by_rule_up_to : (generators count : ℕ) (o : Origin) → IsByRule count o → I
 by_rule_up_to generators count (origin.Generator n) by = absurd by
 by_rule_up_to generators count (origin.Rule n) by = tt
 
-limited_rows : (generators count : ℕ) (rows : List Row) → AllByRecursion IsShortRow rows → AllByRecursion (λ r. IsByRule count r.from) rows → AllByRecursion (IsLimitedRow generators count) rows
-limited_rows generators count [] short by = tt
-limited_rows generators count (r ∷ rows) short by = (
-  record { short = short.0; among = by_rule_among count r.from by.0; up_to = by_rule_up_to generators count r.from by.0 },
-  limited_rows generators count rows short.1 by.1,
-)
-
-rows_are_short : (generators count : ℕ) (rows : List Row) → AllByRecursion (IsLimitedRow generators count) rows → AllByRecursion IsShortRow rows
-rows_are_short generators count [] each = tt
-rows_are_short generators count (r ∷ rows) each = (each.0.short, rows_are_short generators count rows each.1)
-
-rows_fit : (rows : List Row) → AllByRecursion IsShortRow rows → AllByRecursion (λ r. IsCoefficient r.coef) rows
-rows_fit [] each = tt
-rows_fit (r ∷ rows) each = (each.0.coefficient, rows_fit rows each.1)
-
-rows_among : (generators count : ℕ) (rows : List Row) → AllByRecursion (IsLimitedRow generators count) rows → AllByRecursion (λ r. IsAmongFirst count r.from) rows
-rows_among generators count [] each = tt
-rows_among generators count (r ∷ rows) each = (each.0.among, rows_among generators count rows each.1)
-
-rows_up_to : (generators count : ℕ) (rows : List Row) → AllByRecursion (IsLimitedRow generators count) rows → AllByRecursion (λ r. IsUpTo generators r.from) rows
-rows_up_to generators count [] each = tt
-rows_up_to generators count (r ∷ rows) each = (each.0.up_to, rows_up_to generators count rows each.1)
+limited_rows : (generators count : ℕ) (rows : List Row) → All IsShortRow rows → All (λ r. IsByRule count r.from) rows → All (IsLimitedRow generators count) rows
+limited_rows generators count rows short by k r inside =
+    record { short = short k r inside; among = by_rule_among count (get_or rows k r).from (by k r inside); up_to = by_rule_up_to generators count (get_or rows k r).from (by k r inside) }
 
 -- a record over the first rules and generators, by these counts, with a row
 pub record IsLimitedMade (generators count : ℕ) (m : Made) : Type 0 where
   pub is_record : IsRecord count m
-  pub short : AllByRecursion IsShortRow m.rows
+  pub short : All IsShortRow m.rows
   pub named : NamesUpTo generators m
   pub some : 1 ≤ length m.rows
 
-pub record_of_rows : (generators count : ℕ) (m : Made) → pos 0 <ℤ m.scale → IsCoefficient m.scale → AllByRecursion (IsLimitedRow generators count) m.rows → IsRecord count m
+pub record_of_rows : (generators count : ℕ) (m : Made) → pos 0 <ℤ m.scale → IsCoefficient m.scale → All (IsLimitedRow generators count) m.rows → IsRecord count m
 record_of_rows generators count m positive fits each = record {
   positive = positive;
   scale_in = fits;
-  coefficients_in = All-from_recursion (λ (r : Row). IsCoefficient r.coef) m.rows (rows_fit m.rows (rows_are_short generators count m.rows each));
-  earlier = All-from_recursion (λ (r : Row). IsAmongFirst count r.from) m.rows (rows_among generators count m.rows each);
+  coefficients_in = λ k r inside. (each k r inside).short.coefficient;
+  earlier = λ k r inside. (each k r inside).among;
 }
 
-pub named_of_rows : (generators count : ℕ) (m : Made) → AllByRecursion (IsLimitedRow generators count) m.rows → NamesUpTo generators m
-named_of_rows generators count m each = All-from_recursion (λ (r : Row). IsUpTo generators r.from) m.rows (rows_up_to generators count m.rows each)
+pub named_of_rows : (generators count : ℕ) (m : Made) → All (IsLimitedRow generators count) m.rows → NamesUpTo generators m
+named_of_rows generators count m each k r inside = (each k r inside).up_to
 
 -- the scale is no larger than a coefficient of what is left
 factor_fits : (k x : ℤ) → x ≢ pos 0 → IsCoefficient (k *ℤ x) → IsCoefficient k
@@ -112,7 +92,7 @@ factor_fits k x nonzero fits =
 scale_fits : (compare : Compare) (rest : Rest) (g : Rule) (m : Made) → IsMadeFrom compare rest g m → Fits rest.polynomial → IsCoefficient m.scale
 scale_fits compare rest g m made fits =
     unsigned (leads_negative compare rest.polynomial)
-    (go (cond (leads_negative compare rest.polynomial) (neg_ℤ m.scale) m.scale) g.poly.terms made.leading (recursion_from_All (λ (t : Term). t.0 ≢ pos 0) g.poly.terms g.poly.canonical.shaped.nonzero) (subst (AllByRecursion (λ (t : Term). IsCoefficient t.0)) (sym made.divided) fits.in_range))
+    (go (cond (leads_negative compare rest.polynomial) (neg_ℤ m.scale) m.scale) g.poly.terms made.leading g.poly.canonical.shaped.nonzero (subst (All (λ (t : Term). IsCoefficient t.0)) (sym made.divided) fits.in_range))
   where
     unsigned : (negative : Bool) → IsCoefficient (cond negative (neg_ℤ m.scale) m.scale) → IsCoefficient m.scale
     unsigned true fits = omega (arith, ints, fits)
@@ -122,9 +102,9 @@ scale_fits compare rest g m made fits =
     none_some same = cc
 
     go : (k : ℤ) (terms : List Term) → option_map (λ (t : Term). record { leading = t.0; lead = t.1; poly = g.poly }) (leading_term compare terms) ≡ Some g
-        → AllByRecursion (λ t. t.0 ≢ pos 0) terms → AllByRecursion (λ t. IsCoefficient t.0) (poly_multiple k terms) → IsCoefficient k
+        → All (λ t. t.0 ≢ pos 0) terms → All (λ t. IsCoefficient t.0) (poly_multiple k terms) → IsCoefficient k
     go k [] leading nonzero each = absurd (none_some leading)
-    go k (t ∷ terms) leading nonzero each = factor_fits k t.0 nonzero.0 each.0
+    go k (t ∷ terms) leading nonzero each = factor_fits k t.0 (All-head (λ (u : Term). u.0 ≢ pos 0) t terms nonzero) (All-head (λ (u : Term). IsCoefficient u.0) (k *ℤ t.0, t.1) (poly_multiple k terms) each)
 
 -- short words, and numbers that are coefficients
 abbrev AreFittingWords : ℕ → List Term → Type 0
@@ -136,34 +116,30 @@ module _ (letters : ℕ) (setting : Setting) (generators : All (HasWords letters
   count_of = length setting.generators
 
   pub reduced_limited : (rules : List Rule) (p : List Term) (s : State) → All (IsRule letters setting.compare) rules → Fits p → normal_form_of setting.compare rules p setting.budget.steps ≡ Ok s
-      → AllByRecursion (IsLimitedRow count_of (length rules)) s.rows
+      → All (IsLimitedRow count_of (length rules)) s.rows
   reduced_limited rules p s are fits ends =
       limited_rows count_of (length rules) s.rows (reduced_within letters setting.compare rules are p setting.budget.steps s fits ends).rows
-      (recursion_from_All (λ (r : Row). IsByRule (length rules) r.from) s.rows (rows_are_by_rules setting.compare rules p setting.budget.steps s ends))
+      (rows_are_by_rules setting.compare rules p setting.budget.steps s ends)
 
-  s_rows_limited : (rules : List Rule) (a : Ambiguity) → All (IsRule letters setting.compare) rules → IsAmbiguity rules a → AllByRecursion (IsLimitedRow count_of (length rules)) (s_rows_of rules a)
+  s_rows_limited : (rules : List Rule) (a : Ambiguity) → All (IsRule letters setting.compare) rules → IsAmbiguity rules a → All (IsLimitedRow count_of (length rules)) (s_rows_of rules a)
   s_rows_limited rules a are is =
-      limited_rows count_of (length rules) (s_rows_of rules a) (s_rows_short letters setting.compare rules are a is) (
-        (omega (arith, rule_at-first rules a.i is.first is.first_numbered), rule_at-last rules a.i is.first is.first_numbered),
-        ((omega (arith, rule_at-first rules a.j is.second is.second_numbered), rule_at-last rules a.j is.second is.second_numbered), tt),
-      )
+      limited_rows count_of (length rules) (s_rows_of rules a) (s_rows_short letters setting.compare rules are a is)
+      (both (λ (r : Row). IsByRule (length rules) r.from) (first_row rules a) (second_row rules a)
+      (omega (arith, rule_at-first rules a.i is.first is.first_numbered), rule_at-last rules a.i is.first is.first_numbered)
+      (omega (arith, rule_at-first rules a.j is.second is.second_numbered), rule_at-last rules a.j is.second is.second_numbered))
 
-  each_generator : (ns : List ℕ) → AllByRecursion (λ n. (1 ≤ n) × (n ≤ count_of)) ns → AllByRecursion (IsKeptGenerator letters setting (AreFittingWords letters) (IsLimitedRow count_of)) ns
-  each_generator [] each = tt
-  each_generator (n ∷ ns) each = (
-    record {
-      polynomial = (generator_words letters setting.generators (recursion_from_All (HasWords letters) setting.generators generators) n, fit n);
-      row = λ rules s are ends.
-          let within = reduced_within letters setting.compare rules are (generator_at setting.generators n) setting.budget.steps s (fit n) ends in
-          record { short = record { coefficient = within.multiplier; left = omega arith; right = omega arith }; among = tt; up_to = each.0 };
-    },
-    each_generator ns each.1,
-  )
+  each_generator : (n : ℕ) → (1 ≤ n) × (n ≤ count_of) → IsKeptGenerator letters setting (AreFittingWords letters) (IsLimitedRow count_of) n
+  each_generator n in_turn = record {
+    polynomial = (generator_words letters setting.generators generators n, fit n);
+    row = λ rules s are ends.
+        let within = reduced_within letters setting.compare rules are (generator_at setting.generators n) setting.budget.steps s (fit n) ends in
+        record { short = record { coefficient = within.multiplier; left = omega arith; right = omega arith }; among = tt; up_to = in_turn };
+  }
 
   limits_kept : IsKept letters setting (AreFittingWords letters) (IsLimitedRow count_of) (IsLimitedMade count_of)
   limits_kept = record {
     more = λ few many r most held. record { short = held.short; among = among_more few many r.from most held.among; up_to = held.up_to };
-    negative = λ count r held. record { short = record { coefficient = negative_fits r.coef held.short.coefficient; left = held.short.left; right = held.short.right }; among = held.among; up_to = held.up_to };
+    negative = λ count r held. record { short = record { coefficient = negative_in_range r.coef held.short.coefficient; left = held.short.left; right = held.short.right }; among = held.among; up_to = held.up_to };
     multiple = λ count by r held fits. record { short = record { coefficient = fits; left = held.short.left; right = held.short.right }; among = held.among; up_to = held.up_to };
     words = λ p held. held.0;
     reduced = λ rules p s are held ends. (
@@ -171,10 +147,10 @@ module _ (letters : ℕ) (setting : Setting) (generators : All (HasWords letters
       reduced_limited rules p s are held.1 ends,
     );
     ambiguous = λ rules a p are is ends. ((s_words letters setting.compare rules are a is p ends, s_polynomial_fits rules a p ends), s_rows_limited rules a are is);
-    generators = each_generator setting.in_turn (recursion_from_All (λ n. (1 ≤ n) × (n ≤ count_of)) setting.in_turn in_range);
+    generators = All-weaker (λ n. (1 ≤ n) × (n ≤ count_of)) (IsKeptGenerator letters setting (AreFittingWords letters) (IsLimitedRow count_of)) each_generator setting.in_turn in_range;
     makes = λ count rest g m made polynomial rows some. record {
       is_record = record_of_rows count_of count m made.positive (scale_fits setting.compare rest g m made polynomial.1) rows;
-      short = rows_are_short count_of count m.rows rows;
+      short = λ k r inside. (rows k r inside).short;
       named = named_of_rows count_of count m rows;
       some = some;
     };
@@ -201,15 +177,15 @@ module _ (letters : ℕ) (setting : Setting) (generators : All (HasWords letters
       plus_suc : (n k : ℕ) → suc n + k ≡ n + suc k
       plus_suc n k = omega arith
 
-  each_record : (Q : Made → Type 0) → ((place : ℕ) (m : Made) → IsLimitedMade count_of place m → Q m) → (place : ℕ) (made : List Made) → AreLimited place made → AllByRecursion Q made
-  each_record Q tells place [] each = tt
-  each_record Q tells place (m ∷ made) each = (tells place m each.0, each_record Q tells (suc place) made each.1)
+  each_record : (Q : Made → Type 0) → ((place : ℕ) (m : Made) → IsLimitedMade count_of place m → Q m) → (place : ℕ) (made : List Made) → AreLimited place made → All Q made
+  each_record Q tells place [] each = All-nil Q
+  each_record Q tells place (m ∷ made) each = All-cons Q m made (tells place m each.0) (each_record Q tells (suc place) made each.1)
 
   -- The records of a state, and as many as there are rules.
   pub record LimitedRecords (s : RunState) : Type 0 where
     pub are_records : AreRecords s.made
-    pub positive : AllByRecursion (λ m. pos 0 <ℤ m.scale) s.made
-    pub short : AllByRecursion (λ m. AllByRecursion IsShortRow m.rows) s.made
+    pub positive : All (λ m. pos 0 <ℤ m.scale) s.made
+    pub short : All (λ m. All IsShortRow m.rows) s.made
     pub named : All (NamesUpTo count_of) s.made
     pub some : All (λ m. 1 ≤ length m.rows) s.made
     pub one_each : length s.made ≡ length s.rules
@@ -221,9 +197,9 @@ module _ (letters : ℕ) (setting : Setting) (generators : All (HasWords letters
       record {
         are_records = record { at = λ place m at. subst (λ n. IsRecord n m) (zero_plus place) (record_at 0 s.made held.made place m at) };
         positive = each_record (λ m. pos 0 <ℤ m.scale) (λ place m one. one.is_record.positive) 0 s.made held.made;
-        short = each_record (λ m. AllByRecursion IsShortRow m.rows) (λ place m one. one.short) 0 s.made held.made;
-        named = All-from_recursion (NamesUpTo count_of) s.made (each_record (NamesUpTo count_of) (λ place m one. one.named) 0 s.made held.made);
-        some = All-from_recursion (λ (m : Made). 1 ≤ length m.rows) s.made (each_record (λ m. 1 ≤ length m.rows) (λ place m one. one.some) 0 s.made held.made);
+        short = each_record (λ m. All IsShortRow m.rows) (λ place m one. one.short) 0 s.made held.made;
+        named = each_record (NamesUpTo count_of) (λ place m one. one.named) 0 s.made held.made;
+        some = each_record (λ m. 1 ≤ length m.rows) (λ place m one. one.some) 0 s.made held.made;
         one_each = held.one_each;
         rules = held.rules;
       }
@@ -248,13 +224,9 @@ turns_in_range units count most =
 
 -- polynomials of the program
 pub poly_fits : (p : Poly) → Fits p.terms
-poly_fits p = record {
-  short = recursion_from_All (λ (t : Term). length t.1 ≤ word_limit) p.terms p.canonical.short;
-  in_range = recursion_from_All (λ (t : Term). IsCoefficient t.0) p.terms p.canonical.shaped.in_range;
-}
+poly_fits p = record { short = p.canonical.short; in_range = p.canonical.shaped.in_range }
 
 pub numbered_fits : (ps : List Poly) (number : ℕ) → Fits (generator_at (polynomials ps) number)
-numbered_fits ps zero = record { short = tt; in_range = tt }
-numbered_fits [] (suc n) = record { short = tt; in_range = tt }
-numbered_fits (p ∷ ps) (suc zero) = poly_fits p
-numbered_fits (p ∷ ps) (suc (suc n)) = numbered_fits ps (suc n)
+numbered_fits ps =
+    generator_all Fits (polynomials ps) (All-map Fits (λ (p : Poly). p.terms) ps (λ k p inside. poly_fits (get_or ps k p)))
+    (record { short = All-nil (λ (t : Term). length t.1 ≤ word_limit); in_range = All-nil (λ (t : Term). IsCoefficient t.0) })

@@ -2,7 +2,7 @@
 use Rattle.std.proofs.Common.{◌≡◌, ◌≤◌, ℕ, zero, suc, Bool, true, false, List, [], ◌∷◌, ◌++◌, map, length, take, nat_le, Option, Some, None, Result, Ok, Err, refl, sym, ap, subst, arith, append-nil}
 use Rattle.std.specs.List.{All, AllByRecursion}
 use Rattle.std.proofs.lemmas.List.{length-map}
-use Rattle.std.proofs.lemmas.List.Elements.{All-map, All-take, recursion_from_All}
+use Rattle.std.proofs.lemmas.List.Elements.{All-head, All-tail}
 use Rattle.definitions.specs.Poly.{Term}
 use Rattle.definitions.specs.Combination.{generator_at}
 use Rattle.word_orders.specs.Admissible.{Compare}
@@ -30,7 +30,6 @@ use Rattle.traced_completion.specs.Results.{each_in_turn}
 use Rattle.traced_completion.specs.Works.{First, first_of, generator_rows, generator_work, second_rows, second_rest, second_reduction, second_work, InTurn, InTwoPasses}
 use Rattle.traced_completion.specs.Pending.{AreAllPending, ambiguities_of}
 use Rattle.traced_completion.specs.PlainRun.{Setting, RunState, went, closed, stopped, recorded, taken_count, IsTreated, TreatsFirst, TreatsPending, IsRound, IsRunState, setting_of}
-use Rattle.traced_completion.proofs.StoreLemmas.{pending-all}
 use Rattle.outcome_laws.specs.ReductionSteps.{unreduced, Leaves}
 use Rattle.outcome_laws.specs.Causes.{IsFirstReduction, rows_less, from_generator, from_ambiguity, AreMade, no_rule, one_more}
 use Rattle.outcome_laws.proofs.LaterRounds.{second_value, BeginsWith, begins_with}
@@ -41,13 +40,7 @@ use Rattle.outcome_laws.proofs.ReductionFaults.{normal_form_leaves}
 use Rattle.outcome_laws.proofs.RoundFaults.{IsFirstOf, is_first, AreFirsts, are_firsts}
 use Rattle.outcome_laws.proofs.RunsKept.{no_value, same_value, went_on}
 use Rattle.outcome_laws.proofs.StepMade.{reduced_of}
-use Rattle.outcome_laws.proofs.WholeRuns.{ended}
-
--- of what is pending, the first ones are ambiguities
-pub taken_are : (compare : Compare) (rules : List Rule) (treated : List Ambiguity) (pending : List Waiting) (count : ℕ) → AreAllPending compare rules treated pending → All (IsAmbiguity rules) (ambiguities_of (take count pending))
-taken_are compare rules treated pending count all =
-    All-map (IsAmbiguity rules) (λ (w : Waiting). w.which) (take count pending)
-    (All-take (λ (w : Waiting). IsAmbiguity rules w.which) count pending (pending-all (λ (w : Waiting). IsAmbiguity rules w.which) compare rules treated pending all (λ w one. one.is)))
+use Rattle.outcome_laws.proofs.WholeRuns.{ended, taken_are}
 
 module _ (problem : Problem) (budget : Budget) where
   abbrev setting : Setting
@@ -83,9 +76,11 @@ module _ (problem : Problem) (budget : Budget) where
           subst Made (sym appended)
           (one_more before.rules before.made s.rest (generator_rows n s.multiplier s.rows) g m held (from_generator n (reduced_of s) least most leaves refl refl) is)
 
-  pub generators_grow : (numbers : List ℕ) → AllByRecursion (λ k. (1 ≤ k) × (k ≤ length generators)) numbers → AllByRecursion (Grows compare Made) (map (generator_work compare budget.steps generators) numbers)
+  pub generators_grow : (numbers : List ℕ) → All (λ k. (1 ≤ k) × (k ≤ length generators)) numbers → AllByRecursion (Grows compare Made) (map (generator_work compare budget.steps generators) numbers)
   generators_grow [] each = tt
-  generators_grow (n ∷ numbers) each = (generator_grows n each.0.0 (omega (arith, each.0.1, length-map problem.generators (λ p. p.terms))), generators_grow numbers each.1)
+  generators_grow (n ∷ numbers) each =
+      let first = All-head (λ k. (1 ≤ k) × (k ≤ length generators)) n numbers each in
+      (generator_grows n first.0 (omega (arith, first.1, length-map problem.generators (λ p. p.terms))), generators_grow numbers (All-tail (λ k. (1 ≤ k) × (k ≤ length generators)) n numbers each))
 
   -- the first reduction of an ambiguity
   module _ (start : List Rule) where
@@ -159,7 +154,7 @@ module _ (problem : Problem) (budget : Budget) where
         go (Ok firsts) ends two =
             (all_grow compare MadeFrom (map (second_work compare budget.steps) firsts) before after
             (seconds_grow taken firsts
-            (are_firsts (quiver_of problem.parts.quiver) any_letter letters compare rank (order_laws problem budget) generators (generators_are problem) budget.steps start taken firsts (recursion_from_All (IsAmbiguity start) taken are) ends))
+            (are_firsts (quiver_of problem.parts.quiver) any_letter letters compare rank (order_laws problem budget) generators (generators_are problem) budget.steps start taken firsts are ends))
             (subst (BeginsWith start) (sym same) (record { more = []; is = sym (append-nil start) }), held) two).1
 
   -- rounds
@@ -168,7 +163,7 @@ module _ (problem : Problem) (budget : Budget) where
       let end = ended 0 None before.treated round.result s round.ends in
       subst (λ (t : RunState). Made (recorded t)) (sym end.state)
       (all_grow compare Made (map (generator_work compare budget.steps generators) setting.in_turn) (recorded before) end.value
-      (generators_grow setting.in_turn (recursion_from_All (λ k. (1 ≤ k) × (k ≤ length generators)) setting.in_turn (turns_in_range problem))) held
+      (generators_grow setting.in_turn (turns_in_range problem)) held
       (subst (InTurn compare (map (generator_work compare budget.steps generators) setting.in_turn) (recorded before)) end.given round.generators))
 
   later_made : (n : ℕ) (before s : RunState) → IsRound setting (suc n) before (went s) → Made (recorded before) → Made (recorded s)

@@ -1,7 +1,7 @@
 -- Each outcome means what it says.
 use Rattle.std.proofs.Common.{◌≡◌, ℕ, suc, pos, List, [], ◌∷◌, Option, Some, None, Result, Ok, Err, refl, sym, subst, arith}
 use Rattle.std.proofs.lemmas.Int.{ints}
-use Rattle.std.proofs.lemmas.List.Elements.{All-from_recursion}
+use Rattle.std.proofs.lemmas.List.Elements.{All-replicate}
 use Rattle.std.proofs.lemmas.Nat.Gcd.{dvd_refl}
 use Rattle.definitions.specs.Poly.{Term}
 use Rattle.definitions.specs.Combination.{IsCombination}
@@ -69,7 +69,7 @@ module _ (problem : Problem) (budget : Budget) (number : ℕ) where
     lemmas = [];
     evidence = subst (IsEvidenceOf (polynomials problem.generators) [] (zero_certificate number)) (sym none) (record {
       positive = omega (arith, ints);
-      shares = All-from_recursion (IsShareOf (pos 1)) (zero_goal ∷ []) ((omega (arith, ints), dvd_refl 1), tt);
+      shares = All-replicate (IsShareOf (pos 1)) 1 zero_goal (omega (arith, ints), dvd_refl 1);
       lemmas_add_up = tt;
       goal_adds_up = record { at = λ w. refl };
     });

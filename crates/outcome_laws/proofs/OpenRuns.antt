@@ -1,11 +1,8 @@
 -- What holds of a run while a claim is open, where it closes, and where it stops.
-use Rattle.std.proofs.Common.{◌≡◌, ◌≢◌, ◌<◌, ℕ, zero, suc, pos, Bool, true, false, List, [], ◌∷◌, ◌++◌, length, nat_le, take, Option, Some, None, Result, Ok, Err, sym, ap, ◌∙◌, subst, arith}
-use Rattle.std.proofs.lemmas.List.Elements.{recursion_from_All}
+use Rattle.std.proofs.Common.{◌≡◌, ◌<◌, ℕ, zero, suc, Bool, true, false, List, [], ◌∷◌, ◌++◌, length, nat_le, take, Option, Some, None, Result, Ok, Err, sym, ap, ◌∙◌, subst, arith}
 use Rattle.definitions.specs.Poly.{Term}
 use Rattle.definitions.specs.Combination.{InRationalIdeal}
 use Rattle.nc_polynomial.specs.Shape.{IsShaped}
-use Rattle.nc_polynomial.proofs.Distinct.{distinct-descending, first_coefficient}
-use Rattle.nc_polynomial.proofs.Shapes.{recursion_from_IsDescending}
 use Rattle.cofactor_trace.specs.declared.halt.Halt.{Halt}
 use Rattle.cofactor_trace.specs.declared.halt.Place.{Place}
 use Rattle.cofactor_trace.specs.declared.halt.Place.TheVariants as place
@@ -33,6 +30,7 @@ use Rattle.traced_completion.specs.Pending.{AreAllPending, ambiguities_of}
 use Rattle.traced_completion.specs.PlainRun.{Setting, RunState, went, closed, stopped, Ends, taken_count, TreatsFirst, TreatsPending, IsRound, IsRunState, setting_of}
 use Rattle.claim_decider.specs.Outcomes.{IsLeft, IsOpen}
 use Rattle.outcome_laws.specs.KeptRuns.{done_after, IsKeptState}
+use Rattle.outcome_laws.proofs.Adding.{nonzero}
 use Rattle.outcome_laws.proofs.RunsKept.{letters_below}
 use Rattle.outcome_laws.proofs.WholeRuns.{runs_are_kept, closed_is_nothing_pending, first_is_least_pending}
 use Rattle.word_orders.proofs.AskedOrders.{asked_rank, asked_cmp-admissible}
@@ -50,12 +48,7 @@ opened_claim setting claim (suc n) s opened = opened_claim setting claim n opene
 -- a sorted list with a term isn't zero
 pub some_nonzero : (p : List Term) → IsShaped p → 0 < length p → IsNonzero p
 some_nonzero [] shaped some = absurd (omega (arith, some))
-some_nonzero (t ∷ p) shaped some = record {
-  word = t.1;
-  occurs = λ none.
-      (recursion_from_All (λ (u : Term). u.0 ≢ pos 0) (t ∷ p) shaped.nonzero).0
-      (sym (first_coefficient t p (distinct-descending (t ∷ p) (recursion_from_IsDescending (t ∷ p) shaped.descending)).0) ∙ none);
-}
+some_nonzero (t ∷ p) shaped some = nonzero t p shaped
 
 -- stops
 pub same_halt : (h k : Halt) → stopped h ≡ stopped k → h ≡ k
@@ -199,7 +192,7 @@ module _ (problem : Problem) (budget : Budget) where
     open_not_below n s opened word none_below comes =
         let run = open_run setting claim (suc n) s opened in
         nonzero_is_not_below letters compare rank generators s.rules s.made setting.in_turn s.treated word claim opened.left.reduced order_laws
-        (letters_below (quiver_of problem.parts.quiver) any_letter letters generators (recursion_from_All _ generators (generators_are problem)))
+        (letters_below (quiver_of problem.parts.quiver) any_letter letters generators (generators_are problem))
         (run_kept (suc n) s run).kept (all_have_turns problem) none_below (claim_reduced (suc n) s run opened.left.reduced opened.left.reduction)
         (left_nonzero s.rules opened.rest opened.left) comes
 

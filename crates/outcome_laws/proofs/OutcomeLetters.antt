@@ -1,11 +1,10 @@
 -- The letters of outcomes and of last rules are letters of the quiver.
-use Rattle.std.proofs.Common.{◌≡◌, ◌<◌, ℕ, zero, suc, List, [], ◌∷◌, true, nat_lt, Option, Some, None, Ok, refl, sym, subst, arith}
-use Rattle.std.specs.List.{All, AllByRecursion}
+use Rattle.std.proofs.Common.{◌≡◌, ◌<◌, ℕ, List, get_or, true, nat_lt, Option, Some, None, Ok, refl, sym, subst, arith}
+use Rattle.std.specs.List.{All}
 use Rattle.std.proofs.lemmas.Bool.{and_parts}
 use Rattle.std.proofs.lemmas.Bool.Decides.{nat_tests}
-use Rattle.std.proofs.lemmas.List.Elements.{All-nil, All-append, All-map, All-weaker, All-from_recursion, recursion_from_All}
+use Rattle.std.proofs.lemmas.List.Elements.{All-nil, All-append, All-map, All-pop, All-weaker, All-from_recursion, recursion_from_All}
 use Rattle.definitions.specs.Poly.{Term}
-use Rattle.definitions.specs.Combination.{generator_at}
 use Rattle.word_core.specs.Letters.{IsOver}
 use Rattle.nc_polynomial.specs.declared.poly.Poly.{Poly}
 use Rattle.traced_rows.specs.declared.certificate.Cofactors.{Cofactors}
@@ -42,7 +41,7 @@ use Rattle.outcome_laws.proofs.EvidenceWords.{expanded_words, gathered_words}
 use Rattle.outcome_laws.proofs.OutcomeWays.{Way, no_terms, expanded, gathered, left_over, given_up, with_run, way, IsProvedBy}
 use Rattle.ambiguities.proofs.OverLetters.{AreOver, IsOverRow, reduced_over}
 use Rattle.outcome_laws.proofs.OverRuns.{records_over, least_over}
-use Rattle.outcome_laws.proofs.Results.{split_last}
+use Rattle.outcome_laws.proofs.Results.{generator_all}
 
 -- the problem
 module _ (problem : Problem) (budget : Budget) where
@@ -55,14 +54,10 @@ module _ (problem : Problem) (budget : Budget) where
   abbrev setting_in : Setting
   setting_in = setting_of problem budget
 
-  with_words : (ps : List Poly) → AllByRecursion (IsReducible letters_in) ps → AllByRecursion (HasWords letters_in) (polynomials ps)
-  with_words [] each = tt
-  with_words (p ∷ ps) each = (record { nonempty = each.0.nonempty; over = each.0.over }, with_words ps each.1)
-
   pub generators_have_words : All (HasWords letters_in) (polynomials problem.generators)
   generators_have_words =
-      All-from_recursion (HasWords letters_in) (polynomials problem.generators)
-      (with_words problem.generators (recursion_from_All (IsReducible letters_in) problem.generators (generators_reducible problem letters_in (omega arith))))
+      All-map (HasWords letters_in) (λ (p : Poly). p.terms) problem.generators
+      (All-weaker (IsReducible letters_in) (λ p. HasWords letters_in p.terms) (λ p is. record { nonempty = is.nonempty; over = is.over }) problem.generators (generators_reducible problem letters_in (omega arith)))
 
   pub rules_of : (rounds : ℕ) (s : RunState) → IsRunState setting_in rounds s → All (IsRule letters_in setting_in.compare) s.rules
   rules_of rounds s is = states_rules letters_in setting_in rounds s generators_have_words is
@@ -80,15 +75,10 @@ module _ (problem : Problem) (budget : Budget) where
       (All-weaker (λ (t : Term). All (IsInPlay ds problem.parts.starred (numbers problem.parts.marked)) t.1) (λ (t : Term). IsOver letters_in t.1)
       (λ t word. All-weaker (IsInPlay ds problem.parts.starred (numbers problem.parts.marked)) (λ a. a < letters_in) letter_below t.1 word) p.terms each)
 
-  numbered_over : (ps : List Poly) → AllByRecursion (HasLettersInPlay ds problem.parts.starred (numbers problem.parts.marked)) ps → (number : ℕ) → AreOver letters_in (generator_at (polynomials ps) number)
-  numbered_over ps each zero = tt
-  numbered_over [] each (suc n) = tt
-  numbered_over (p ∷ ps) each (suc zero) = poly_over p each.0
-  numbered_over (p ∷ ps) each (suc (suc n)) = numbered_over ps each.1 (suc n)
-
   pub claim_over : (number : ℕ) → AreOver letters_in (claim_at problem number)
-  claim_over number =
-      numbered_over problem.parts.claims (recursion_from_All (HasLettersInPlay ds problem.parts.starred (numbers problem.parts.marked)) problem.parts.claims problem.posed.claim_letters) number
+  claim_over =
+      generator_all (AreOver letters_in) (polynomials problem.parts.claims)
+      (All-map (AreOver letters_in) (λ (p : Poly). p.terms) problem.parts.claims (λ k p inside. poly_over (get_or problem.parts.claims k p) (problem.posed.claim_letters k p inside))) tt
 
   -- outcomes
   module _ (form : Format) (number : ℕ) where
@@ -100,8 +90,10 @@ module _ (problem : Problem) (budget : Budget) where
     zero_over format.Lemmas = (All-nil (IsLemmaOver ds), All-nil (IsLemmaRowOver ds))
 
     -- the record of the claim
-    target_over : (by : IsProvedBy setting_in claim) → AllByRecursion (IsOverRow letters_in) by.reduced.rows
-    target_over by = (reduced_over letters_in setting_in.compare by.state.rules (rules_of by.rounds by.state by.run) claim setting_in.budget.steps by.reduced (claim_over number) by.reduction).1
+    target_over : (by : IsProvedBy setting_in claim) → All (IsOverRow letters_in) by.reduced.rows
+    target_over by =
+        All-from_recursion (IsOverRow letters_in) by.reduced.rows
+        (reduced_over letters_in setting_in.compare by.state.rules (rules_of by.rounds by.state by.run) claim setting_in.budget.steps by.reduced (claim_over number) by.reduction).1
 
     expanded_over : (by : IsProvedBy setting_in claim) (c : Cofactors) → expansion_of by.state.made (record_of by.reduced) ≡ Ok c → IsEvidenceOver ds (certificate_of number c)
     expanded_over by c ends =
@@ -109,17 +101,15 @@ module _ (problem : Problem) (budget : Budget) where
         (expanded_words (IsOver letters_in) (All-nil (λ a. a < letters_in)) (λ u v left right. All-append (λ a. a < letters_in) u v left right) by.state.made (record_of by.reduced) c
         (records_over letters_in setting_in generators_have_words by.rounds by.state by.run) (target_over by) ends)
 
-    lemma_over : (l : Lemma) → AllByRecursion (λ (r : LemmaRow). IsOver letters_in r.left × IsOver letters_in r.right) l.rows → IsLemmaOver ds l
+    lemma_over : (l : Lemma) → All (λ (r : LemmaRow). IsOver letters_in r.left × IsOver letters_in r.right) l.rows → IsLemmaOver ds l
     lemma_over l each =
-        All-weaker (λ (r : LemmaRow). IsOver letters_in r.left × IsOver letters_in r.right) (IsLemmaRowOver ds) (λ r both. record { left = both.0; right = both.1 }) l.rows
-        (All-from_recursion (λ (r : LemmaRow). IsOver letters_in r.left × IsOver letters_in r.right) l.rows each)
+        All-weaker (λ (r : LemmaRow). IsOver letters_in r.left × IsOver letters_in r.right) (IsLemmaRowOver ds) (λ r both. record { left = both.0; right = both.1 }) l.rows each
 
     gathered_over : (by : IsProvedBy setting_in claim) (c : LemmaCertificate) → gathered_of number by.state.made (record_of by.reduced) ≡ Ok c → IsEvidenceOver ds (evidence.Lemmas c)
     gathered_over by c ends =
         let words = gathered_words (IsOver letters_in) number by.state.made (record_of by.reduced) c (records_over letters_in setting_in generators_have_words by.rounds by.state by.run) (target_over by) ends in
-        let each = All-weaker (λ (l : Lemma). AllByRecursion (λ (r : LemmaRow). IsOver letters_in r.left × IsOver letters_in r.right) l.rows) (IsLemmaOver ds) lemma_over (parts_of c) words in
-        let both = split_last (IsLemmaOver ds) c.lemmas c.goal (recursion_from_All (IsLemmaOver ds) (parts_of c) each) in
-        (All-from_recursion (IsLemmaOver ds) c.lemmas both.0, both.1)
+        let each = All-weaker (λ (l : Lemma). All (λ (r : LemmaRow). IsOver letters_in r.left × IsOver letters_in r.right) l.rows) (IsLemmaOver ds) lemma_over (parts_of c) words in
+        All-pop (IsLemmaOver ds) (parts_of c) c.lemmas (Some c.goal) refl each
 
     least_is_over : (o : Option (List ℕ)) → ((word : List ℕ) → o ≡ Some word → IsOver letters_in word) → IsLeastOver ds o
     least_is_over None each = tt

@@ -1,7 +1,7 @@
 -- The letters of records are letters of the generators, and so are those of the least overlap word.
-use Rattle.std.proofs.Common.{◌≡◌, ◌<◌, ℕ, zero, suc, List, [], ◌∷◌, ◌++◌, length, take, Bool, true, false, nat_le, Option, Some, None, Result, Ok, Err, sym, ap, ◌∙◌, subst}
-use Rattle.std.specs.List.{All, AllByRecursion}
-use Rattle.std.proofs.lemmas.List.Elements.{All-nil, All-head, recursion_from_All}
+use Rattle.std.proofs.Common.{◌≡◌, ◌<◌, ℕ, zero, suc, List, [], ◌∷◌, ◌++◌, length, take, get_or, Bool, true, false, nat_le, Option, Some, None, Result, Ok, Err, sym, ap, ◌∙◌, subst}
+use Rattle.std.specs.List.{All}
+use Rattle.std.proofs.lemmas.List.Elements.{All-nil, All-cons, All-head, All-from_recursion}
 use Rattle.word_core.specs.Letters.{IsOver}
 use Rattle.traced_rows.specs.declared.Row.{Row}
 use Rattle.traced_rows.specs.declared.Made.{Made}
@@ -9,6 +9,7 @@ use Rattle.cofactor_trace.specs.declared.halt.Halt.{Halt}
 use Rattle.rule_reduce.specs.declared.fault.ReduceFault.{ReduceFault}
 use Rattle.rule_reduce.specs.RuleLists.{IsRule}
 use Rattle.ambiguities.specs.declared.ambiguity.Ambiguity.{Ambiguity}
+use Rattle.ambiguities.specs.SPolynomials.{s_rows_of}
 use Rattle.ambiguities.proofs.Bounds.{over_overlap_word}
 use Rattle.ambiguities.proofs.Words.{AreWords, words_over, normal_words, s_words}
 use Rattle.ambiguities.proofs.OverLetters.{IsOverRow, reduced_over, s_rows_over}
@@ -27,17 +28,13 @@ module _ (letters : ℕ) (setting : Setting) (generators : All (HasWords letters
   IsOverRowOf count r = IsOverRow letters r
 
   abbrev IsOverMade : ℕ → Made → Type 0
-  IsOverMade place m = AllByRecursion (IsOverRow letters) m.rows
+  IsOverMade place m = All (IsOverRow letters) m.rows
 
-  each_generator : (numbers : List ℕ) → AllByRecursion (IsKeptGenerator letters setting (AreWords letters) IsOverRowOf) numbers
-  each_generator [] = tt
-  each_generator (n ∷ ns) = (
-    record {
-      polynomial = generator_words letters setting.generators (recursion_from_All (HasWords letters) setting.generators generators) n;
-      row = λ rules s are ends. (All-nil (λ a. a < letters), All-nil (λ a. a < letters));
-    },
-    each_generator ns,
-  )
+  each_generator : (n : ℕ) → IsKeptGenerator letters setting (AreWords letters) IsOverRowOf n
+  each_generator n = record {
+    polynomial = generator_words letters setting.generators generators n;
+    row = λ rules s are ends. (All-nil (λ a. a < letters), All-nil (λ a. a < letters));
+  }
 
   letters_kept : IsKept letters setting (AreWords letters) IsOverRowOf IsOverMade
   letters_kept = record {
@@ -46,17 +43,17 @@ module _ (letters : ℕ) (setting : Setting) (generators : All (HasWords letters
     multiple = λ count by r held fits. held;
     words = λ p held. held;
     reduced = λ rules p s are words ends.
-        (normal_words letters setting.compare rules are p setting.budget.steps s words ends, (reduced_over letters setting.compare rules are p setting.budget.steps s (words_over letters p words) ends).1);
-    ambiguous = λ rules a p are is ends. (s_words letters setting.compare rules are a is p ends, s_rows_over letters setting.compare rules are a is);
-    generators = each_generator setting.in_turn;
+        (normal_words letters setting.compare rules are p setting.budget.steps s words ends, All-from_recursion (IsOverRow letters) s.rows (reduced_over letters setting.compare rules are p setting.budget.steps s (words_over letters p words) ends).1);
+    ambiguous = λ rules a p are is ends. (s_words letters setting.compare rules are a is p ends, All-from_recursion (IsOverRow letters) (s_rows_of rules a) (s_rows_over letters setting.compare rules are a is));
+    generators = λ k n inside. each_generator (get_or setting.in_turn k n);
     makes = λ count rest g m made polynomial rows some. rows;
   }
 
-  each_made : (place : ℕ) (made : List Made) → MadeFrom letters setting (AreWords letters) IsOverRowOf IsOverMade letters_kept place made → AllByRecursion (λ m. AllByRecursion (IsOverRow letters) m.rows) made
-  each_made place [] each = tt
-  each_made place (m ∷ made) each = (each.0, each_made (suc place) made each.1)
+  each_made : (place : ℕ) (made : List Made) → MadeFrom letters setting (AreWords letters) IsOverRowOf IsOverMade letters_kept place made → All (λ m. All (IsOverRow letters) m.rows) made
+  each_made place [] each = All-nil (IsOverMade place)
+  each_made place (m ∷ made) each = All-cons (IsOverMade place) m made each.0 (each_made (suc place) made each.1)
 
-  pub records_over : (rounds : ℕ) (s : RunState) → IsRunState setting rounds s → AllByRecursion (λ m. AllByRecursion (IsOverRow letters) m.rows) s.made
+  pub records_over : (rounds : ℕ) (s : RunState) → IsRunState setting rounds s → All (λ m. All (IsOverRow letters) m.rows) s.made
   records_over rounds s is = each_made 0 s.made (states_held letters setting (AreWords letters) IsOverRowOf IsOverMade letters_kept rounds s is).made
 
   -- the least overlap word

@@ -1,8 +1,8 @@
 -- The generators and the claims of a problem are sorted and typed, and their letters are its letters.
-use Rattle.std.proofs.Common.{◌≡◌, ◌≢◌, ◌≤◌, ◌<◌, ℕ, zero, suc, pos, Bool, true, IsTrue, List, [], ◌∷◌, length, get_or, refl, sym, subst, arith}
+use Rattle.std.proofs.Common.{◌≡◌, ◌≢◌, ◌≤◌, ◌<◌, ℕ, pos, Bool, true, IsTrue, List, [], ◌∷◌, length, refl, sym, subst, arith}
 use Rattle.std.specs.List.{All, AllByRecursion, list_all}
 use Rattle.std.proofs.lemmas.List.{length-map}
-use Rattle.std.proofs.lemmas.List.Elements.{All-from_recursion, recursion_from_All}
+use Rattle.std.proofs.lemmas.List.Elements.{All-nil, All-cons, All-from_recursion, recursion_from_All}
 use Rattle.coef_int.specs.Range.{IsCoefficient}
 use Rattle.definitions.specs.Poly.{Term}
 use Rattle.definitions.specs.Combination.{generator_at}
@@ -27,16 +27,17 @@ use Rattle.adjoint_rules.proofs.Counted.{few_units_closed}
 use Rattle.adjoint_rules.specs.Claims.{claim_at}
 use Rattle.rule_reduce.proofs.WordsKept.{words_with_coefficients}
 use Rattle.outcome_laws.specs.KeptRuns.{IsGenerator}
+use Rattle.outcome_laws.proofs.Results.{generator_all}
 use Rattle.outcome_laws.proofs.Turns.{each_generator_has_its_turn}
 
 -- paths
-leads_over : (q : Quiver) (u v : ℕ) (w : List ℕ) → leads q u v w ≡ true → AllByRecursion (λ a. a < letters q) w
-leads_over q u v [] path = tt
-leads_over q u v (a ∷ w) path = let first = step q u v a w path in (first.letter, leads_over q u (source q a) w first.rest)
+leads_over : (q : Quiver) (u v : ℕ) (w : List ℕ) → leads q u v w ≡ true → IsOver (letters q) w
+leads_over q u v [] path = All-nil (λ a. a < letters q)
+leads_over q u v (a ∷ w) path = let first = step q u v a w path in All-cons (λ b. b < letters q) a w first.letter (leads_over q u (source q a) w first.rest)
 
 path_over : (q : Quiver) (u v : ℕ) (w : List ℕ) → is_path q u v w ≡ true → IsOver (letters q) w
-path_over q u v [] path = All-from_recursion (λ a. a < letters q) [] tt
-path_over q u v (a ∷ w) path = All-from_recursion (λ a. a < letters q) (a ∷ w) (leads_over q u v (a ∷ w) path)
+path_over q u v [] path = All-nil (λ a. a < letters q)
+path_over q u v (a ∷ w) path = leads_over q u v (a ∷ w) path
 
 -- each letter counts as one in play
 abbrev pub any_letter : ℕ → Bool
@@ -57,44 +58,34 @@ module _ (q : Quiver) (n : ℕ) (same : letters q ≡ n) where
     typed = record { source = has.source; target = has.target; typed = has.typed; in_play = record { at = λ w some. all_letters w } };
   }
 
-  all_typed : (ps : List Poly) → AllByRecursion (HasSignature q) (polynomials ps) → AllByRecursion (IsGenerator q any_letter n) (polynomials ps)
-  all_typed [] has = tt
-  all_typed (p ∷ ps) has = (typed_is p has.0, all_typed ps has.1)
+  all_typed : (ps : List Poly) → AllByRecursion (HasSignature q) (polynomials ps) → All (IsGenerator q any_letter n) (polynomials ps)
+  all_typed [] has = All-nil (IsGenerator q any_letter n)
+  all_typed (p ∷ ps) has = All-cons (IsGenerator q any_letter n) p.terms (polynomials ps) (typed_is p has.0) (all_typed ps has.1)
 
   zero_is : IsGenerator q any_letter n []
   zero_is = record {
     shaped = record {
       descending = IsDescending-from_recursion [] tt;
-      nonzero = All-from_recursion (λ (t : Term). t.0 ≢ pos 0) [] tt;
-      in_range = All-from_recursion (λ (t : Term). IsCoefficient t.0) [] tt;
+      nonzero = All-nil (λ (t : Term). t.0 ≢ pos 0);
+      in_range = All-nil (λ (t : Term). IsCoefficient t.0);
     };
-    over = All-from_recursion (λ (t : Term). IsOver n t.1) [] tt;
+    over = All-nil (λ (t : Term). IsOver n t.1);
     typed = record { source = 0; target = 0; typed = record { at = λ w some. absurd (some refl) }; in_play = record { at = λ w some. absurd (some refl) } };
   }
 
   -- one of them, and zero where there is none with the number
-  one_typed : (ps : List (List Term)) → AllByRecursion (IsGenerator q any_letter n) ps → (number : ℕ) → IsGenerator q any_letter n (generator_at ps number)
-  one_typed ps each zero = zero_is
-  one_typed [] each (suc k) = subst (IsGenerator q any_letter n) (sym (past k)) zero_is
-    where
-      past : (i : ℕ) → get_or {A = List Term} [] i [] ≡ []
-      past zero = refl
-      past (suc i) = refl
-  one_typed (p ∷ ps) each (suc zero) = each.0
-  one_typed (p ∷ ps) each (suc (suc k)) = one_typed ps each.1 (suc k)
+  one_typed : (ps : List (List Term)) → All (IsGenerator q any_letter n) ps → (number : ℕ) → IsGenerator q any_letter n (generator_at ps number)
+  one_typed ps each = generator_all (IsGenerator q any_letter n) ps each zero_is
 
 -- of a problem
 module _ (problem : Problem) where
-  generators_by_recursion : AllByRecursion (IsGenerator (quiver_of problem.parts.quiver) any_letter (letter_count problem.parts.quiver)) (polynomials problem.generators)
-  generators_by_recursion =
+  pub generators_are : All (IsGenerator (quiver_of problem.parts.quiver) any_letter (letter_count problem.parts.quiver)) (polynomials problem.generators)
+  generators_are =
       all_typed (quiver_of problem.parts.quiver) (letter_count problem.parts.quiver) (letters-quiver_of problem.parts.quiver) problem.generators
       (generators_have_signatures problem.parts problem.posed problem.generators problem.closed)
 
-  pub generators_are : All (IsGenerator (quiver_of problem.parts.quiver) any_letter (letter_count problem.parts.quiver)) (polynomials problem.generators)
-  generators_are = All-from_recursion (IsGenerator (quiver_of problem.parts.quiver) any_letter (letter_count problem.parts.quiver)) (polynomials problem.generators) generators_by_recursion
-
   pub generators_shaped : (n : ℕ) → IsShaped (generator_at (polynomials problem.generators) n)
-  generators_shaped n = (one_typed (quiver_of problem.parts.quiver) (letter_count problem.parts.quiver) (letters-quiver_of problem.parts.quiver) (polynomials problem.generators) generators_by_recursion n).shaped
+  generators_shaped n = (one_typed (quiver_of problem.parts.quiver) (letter_count problem.parts.quiver) (letters-quiver_of problem.parts.quiver) (polynomials problem.generators) generators_are n).shaped
 
   pub claim_is : (number : ℕ) → IsGenerator (quiver_of problem.parts.quiver) any_letter (letter_count problem.parts.quiver) (claim_at problem number)
   claim_is number =

@@ -1,18 +1,16 @@
 -- What a reduction that ends leaves has coefficients in range: its multiplier, and those of its rest and of its rows.
-use Rattle.std.proofs.Common.{◌≡◌, ◌<◌, ◌/◌, ◌^◌, ℕ, zero, suc, ℤ, pos, negsuc, neg_ℤ, int_div, Bool, true, false, List, [], ◌∷◌, ◌++◌, map, Option, Some, None, Result, Ok, Err, refl, sym, ◌∙◌, subst, arith}
-use Rattle.std.specs.List.{All, AllByRecursion}
-use Rattle.std.proofs.lemmas.Bool.Decides.{nat_tests}
-use Rattle.std.proofs.lemmas.List.Elements.{All-contains}
+use Rattle.std.proofs.Common.{◌≡◌, ◌<◌, ◌/◌, ◌^◌, ℕ, zero, suc, ℤ, pos, negsuc, int_div, List, [], ◌∷◌, ◌++◌, map, Option, Some, None, Result, Ok, Err, refl, subst, arith}
+use Rattle.std.specs.List.{All}
+use Rattle.std.proofs.lemmas.List.Elements.{All-nil, All-cons, All-push, All-contains}
 use Rattle.std.proofs.Math.Nat.{div-le_self}
 use Rattle.coef_int.specs.declared.Overflow.{Overflow}
-use Rattle.coef_int.specs.Range.{IsCoefficient, is_coefficient}
-use Rattle.coef_int.specs.Operations.{product_of, exact_value, first_overflow}
+use Rattle.coef_int.specs.Range.{IsCoefficient}
+use Rattle.coef_int.specs.Operations.{product_of, first_overflow}
 use Rattle.definitions.specs.Poly.{Term}
 use Rattle.nc_polynomial.specs.declared.fault.PolyFault.{PolyFault}
 use Rattle.nc_polynomial.specs.declared.fault.PolyFault.TheVariants as fault
 use Rattle.nc_polynomial.specs.Terms.{multiplied, multiplications, negated, shifted, products, sums}
 use Rattle.nc_polynomial.specs.Faults.{unless_overflow, sized}
-use Rattle.nc_polynomial.proofs.Chains.{or_first, first-append}
 use Rattle.nc_polynomial.proofs.Shapes.{in_range-added}
 use Rattle.traced_rows.specs.declared.Row.{Row}
 use Rattle.word_orders.specs.Admissible.{Compare}
@@ -27,40 +25,16 @@ use Rattle.rule_reduce.specs.Steps.{Move, move_row, multiplied_row, row_operatio
 use Rattle.rule_reduce.specs.NormalForms.{halt_of, then_next, at_limit, one_step, reduction, start_of, normal_form_of}
 use Rattle.rule_reduce.proofs.Chosen.{found}
 use Rattle.rule_reduce.proofs.Runs.{move_result-value}
+use Rattle.outcome_laws.proofs.Results.{fits_first, none_append}
+use Rattle.outcome_laws.proofs.EvidenceRanges.{negative_in_range}
 
 -- integers
-pub negative_in_range : (z : ℤ) → IsCoefficient z → IsCoefficient (neg_ℤ z)
-negative_in_range (pos zero) h = h
-negative_in_range (pos (suc n)) h = h
-negative_in_range (negsuc n) h = h
-
 quotient_in_range : (z : ℤ) (d : ℕ) → IsCoefficient z → IsCoefficient (int_div z (pos d))
 quotient_in_range (pos a) d h = let less = div-le_self a d in omega (arith, h, less)
 quotient_in_range (negsuc a) d h =
     let less = div-le_self (suc a) d in
     let size : suc a / d < 2 ^ 127 = omega (arith, h, less) in
     negative_in_range (pos (suc a / d)) size
-
--- operations that did not overflow
-one_fits : (o : Overflow) (os : List Overflow) → first_overflow (o ∷ os) ≡ None → IsCoefficient (exact_value o) × (first_overflow os ≡ None)
-one_fits o os none = go (is_coefficient (exact_value o)) refl
-  where
-    clash : ◌≡◌ {A = Option Overflow} (Some o) None → ⊥
-    clash k = cc
-
-    go : (b : Bool) → is_coefficient (exact_value o) ≡ b → IsCoefficient (exact_value o) × (first_overflow os ≡ None)
-    go true h = (grind (arith, nat_tests), rw h at none)
-    go false h = absurd (clash (rw h at none))
-
-pub both_fit : (os more : List Overflow) → first_overflow (os ++ more) ≡ None → (first_overflow os ≡ None) × (first_overflow more ≡ None)
-both_fit os more none = go (first_overflow os) (sym (first-append os more) ∙ none)
-  where
-    go : (o : Option Overflow) → or_first o (first_overflow more) ≡ None → (o ≡ None) × (first_overflow more ≡ None)
-    go None e = (refl, e)
-    go (Some x) e = absurd (clash e)
-      where
-        clash : ◌≡◌ {A = Option Overflow} (Some x) None → ⊥
-        clash k = cc
 
 -- what a result that is no fault was made of did not overflow
 none_of : {A : Type 0} (o : Option Overflow) (r : Result A PolyFault) (v : A) → unless_overflow o r ≡ Ok v → o ≡ None
@@ -71,17 +45,18 @@ none_of {A} (Some x) r v ends = absurd (clash ends)
     clash k = cc
 
 -- rows
-abbrev pub AreInRange : List Row → Type 0
-AreInRange rows = AllByRecursion (λ (row : Row). IsCoefficient row.coef) rows
+abbrev pub HasNumber : Row → Type 0
+HasNumber row = IsCoefficient row.coef
 
-pub rows_and : (xs ys : List Row) → AreInRange xs → AreInRange ys → AreInRange (xs ++ ys)
-rows_and [] ys each more = more
-rows_and (x ∷ xs) ys each more = (each.0, rows_and xs ys each.1 more)
+abbrev pub AreInRange : List Row → Type 0
+AreInRange rows = All HasNumber rows
 
 -- rows times a number, where no product overflows
 pub rows_times : (rows : List Row) (by : ℤ) → first_overflow (row_operations rows by) ≡ None → AreInRange (map (multiplied_row by) rows)
-rows_times [] by none = tt
-rows_times (row ∷ rows) by none = let one = one_fits (product_of row.coef by) (row_operations rows by) none in (one.0, rows_times rows by one.1)
+rows_times [] by none = All-nil HasNumber
+rows_times (row ∷ rows) by none =
+    let one = fits_first (product_of row.coef by) (row_operations rows by) none in
+    All-cons HasNumber (multiplied_row by row) (map (multiplied_row by) rows) one.0 (rows_times rows by one.1)
 
 -- the multiplier and the coefficients of the rest and of the rows are in range
 pub record IsRanged (s : State) : Type 0 where
@@ -98,14 +73,14 @@ move_ranged m s t times ends = subst IsRanged (move_result-value m s t ends) who
 
     whole : IsRanged (moved m s)
     whole =
-        let both = both_fit (state_operations m.by s) (less_operations m.times m.left m.rule m.right (multiplied s.rest m.by)) none in
-        let first = one_fits (product_of s.multiplier m.by) (multiplications s.rest m.by ++ row_operations s.rows m.by) both.0 in
-        let state = both_fit (multiplications s.rest m.by) (row_operations s.rows m.by) first.1 in
-        let less = both_fit (products m.times m.rule) (sums (multiplied s.rest m.by) (negated (shifted m.times m.left m.rule m.right))) both.1 in
+        let both = none_append (state_operations m.by s) (less_operations m.times m.left m.rule m.right (multiplied s.rest m.by)) none in
+        let first = fits_first (product_of s.multiplier m.by) (multiplications s.rest m.by ++ row_operations s.rows m.by) both.0 in
+        let state = none_append (multiplications s.rest m.by) (row_operations s.rows m.by) first.1 in
+        let less = none_append (products m.times m.rule) (sums (multiplied s.rest m.by) (negated (shifted m.times m.left m.rule m.right))) both.1 in
         record {
           multiplier = first.0;
           rest = in_range-added (multiplied s.rest m.by) (negated (shifted m.times m.left m.rule m.right)) less.1;
-          rows = rows_and (map (multiplied_row m.by) s.rows) (move_row m ∷ []) (rows_times s.rows m.by state.1) (times, tt);
+          rows = All-push HasNumber (map (multiplied_row m.by) s.rows) (move_row m) (rows_times s.rows m.by state.1) times;
         }
 
 module _ (compare : Compare) (rules : List Rule) where
@@ -153,7 +128,7 @@ module _ (compare : Compare) (rules : List Rule) where
 
   -- the polynomial that is reduced has its coefficients in range
   pub normal_forms_are_ranged : (p : List Term) (steps : ℕ) (s : State) → All (λ t. IsCoefficient t.0) p → normal_form_of compare rules p steps ≡ Ok s → IsRanged s
-  normal_forms_are_ranged p steps s ranged ends = reduction_ranged steps steps (start_of p) s ends (record { multiplier = one; rest = ranged; rows = tt })
+  normal_forms_are_ranged p steps s ranged ends = reduction_ranged steps steps (start_of p) s ends (record { multiplier = one; rest = ranged; rows = All-nil HasNumber })
     where
       one : IsCoefficient (pos 1)
       one = omega arith

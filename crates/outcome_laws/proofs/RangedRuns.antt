@@ -1,10 +1,11 @@
 -- In each state of a run the scales of the records and the coefficients of their rows are in range.
-use Rattle.std.proofs.Common.{◌≡◌, ◌≢◌, ◌<ℤ◌, ℕ, zero, suc, ℤ, pos, Bool, true, false, List, [], ◌∷◌, ◌++◌, map, slice_get, cond, nat_le, length, take, Option, Some, None, Result, Ok, Err, refl, sym, ap, ◌∙◌, subst, arith}
-use Rattle.std.specs.List.{AllByRecursion}
+use Rattle.std.proofs.Common.{◌≡◌, ◌≢◌, ◌<ℤ◌, ℕ, zero, suc, ℤ, pos, Bool, true, false, List, [], ◌∷◌, ◌++◌, map, get_or, slice_get, cond, nat_le, length, take, Option, Some, None, Result, Ok, Err, refl, sym, ap, ◌∙◌, subst, arith}
+use Rattle.std.specs.List.{All, AllByRecursion}
 use Rattle.std.specs.Int.{◌∣◌}
 use Rattle.std.specs.Int.RustNames.{unsigned_abs}
 use Rattle.std.proofs.lemmas.Int.{ints}
-use Rattle.std.proofs.lemmas.List.Elements.{recursion_from_All}
+use Rattle.std.proofs.lemmas.List.Elements.{All-nil, All-cons, All-head, All-append, All-push, All-map}
+use Rattle.std.proofs.lemmas.Option.{slice_get_within, get_or_from_slice_get}
 use Rattle.std.proofs.lemmas.Nat.Gcd.{le_of_dvd}
 use Rattle.coef_int.specs.declared.Overflow.{Overflow}
 use Rattle.coef_int.specs.Range.{IsCoefficient}
@@ -16,6 +17,7 @@ use Rattle.nc_polynomial.specs.Content.{IsContent}
 use Rattle.nc_polynomial.specs.Shape.{IsShaped}
 use Rattle.nc_polynomial.specs.declared.fault.PolyFault.{PolyFault}
 use Rattle.nc_polynomial.proofs.Divisors.{abs_positive, content-zero}
+use Rattle.traced_rows.specs.declared.Origin.TheVariants as origin
 use Rattle.traced_rows.specs.declared.Row.{Row}
 use Rattle.traced_rows.specs.declared.Made.{Made}
 use Rattle.cofactor_trace.specs.declared.halt.Halt.{Halt}
@@ -29,18 +31,19 @@ use Rattle.ambiguities.specs.declared.ambiguity.Ambiguity.{Ambiguity}
 use Rattle.ambiguities.specs.SPolynomials.{s_rows_of, s_polynomial_of}
 use Rattle.completion_laws.proofs.ShapeLaws.{normal_forms_are_shaped, s_polynomials_are_shaped}
 use Rattle.ambiguities.specs.declared.waiting.Waiting.{Waiting}
-use Rattle.rule_making.specs.Making.{Recorded, Rest, rest_with, negated_rows, leads_negative, IsMadeFrom, Adds}
+use Rattle.rule_making.specs.Making.{Recorded, Rest, rest_with, negated_row, negated_rows, leads_negative, IsMadeFrom, Adds}
 use Rattle.traced_completion.specs.Pending.{ambiguities_of}
 use Rattle.traced_completion.specs.Results.{and_then, halted, unless_overflow, each_in_turn}
 use Rattle.traced_completion.specs.Works.{Work, generator_rows, generator_work, First, first_of, first_rows, second_rows, rows_operations, second_rest, second_reduction, second_work, Goes, InTurn, InTwoPasses}
 use Rattle.traced_completion.specs.PlainRun.{Setting, RunState, went, closed, stopped, recorded, Ends, taken_count, IsTreated, TreatsFirst, TreatsPending, IsRound, IsRunState}
 use Rattle.outcome_laws.proofs.RunsKept.{no_value, same_value, went_on}
-use Rattle.outcome_laws.proofs.RangedReductions.{AreInRange, negative_in_range, both_fit, rows_and, rows_times, normal_forms_are_ranged}
+use Rattle.outcome_laws.proofs.RangedReductions.{HasNumber, AreInRange, rows_times, normal_forms_are_ranged}
+use Rattle.outcome_laws.proofs.Results.{none_append}
+use Rattle.outcome_laws.proofs.EvidenceRanges.{negative_in_range}
 
 -- rows
 negated_in_range : (rows : List Row) → AreInRange rows → AreInRange (negated_rows rows)
-negated_in_range [] each = tt
-negated_in_range (row ∷ rows) each = (negative_in_range row.coef each.0, negated_in_range rows each.1)
+negated_in_range rows each = All-map HasNumber negated_row rows (λ k row inside. negative_in_range (get_or rows k row).coef (each k row inside))
 
 -- the rest is sorted, and the coefficients of its terms and rows are in range
 record IsGood (rest : Rest) : Type 0 where
@@ -61,9 +64,9 @@ scale_in_range [] k shaped content positive =
     let none : k ≡ pos 0 = (content-zero [] k tt content).1 refl in
     absurd (omega (arith, ints, none, positive))
 scale_in_range (t ∷ p) k shaped content positive =
-    let divides = (recursion_from_All (λ (u : Term). unsigned_abs k ∣ unsigned_abs u.0) (t ∷ p) content.divides).0 in
-    let nonzero = (recursion_from_All (λ (u : Term). u.0 ≢ pos 0) (t ∷ p) shaped.nonzero).0 in
-    let in_range = (recursion_from_All (λ (u : Term). IsCoefficient u.0) (t ∷ p) shaped.in_range).0 in
+    let divides = All-head (λ (u : Term). unsigned_abs k ∣ unsigned_abs u.0) t p content.divides in
+    let nonzero = All-head (λ (u : Term). u.0 ≢ pos 0) t p shaped.nonzero in
+    let in_range = All-head (λ (u : Term). IsCoefficient u.0) t p shaped.in_range in
     let less = le_of_dvd (abs_positive t.0 nonzero) divides in
     omega (arith, less, in_range)
 
@@ -74,19 +77,10 @@ made_in_range compare rest g m good from = (
 )
 
 abbrev pub AreMadeInRange : List Made → Type 0
-AreMadeInRange made = AllByRecursion IsMadeInRange made
-
-and_one : (made : List Made) (m : Made) → AreMadeInRange made → IsMadeInRange m → AreMadeInRange (made ++ m ∷ [])
-and_one [] m each one = (one, tt)
-and_one (x ∷ made) m each one = (each.0, and_one made m each.1 one)
+AreMadeInRange made = All IsMadeInRange made
 
 pub made_at : (made : List Made) (place : ℕ) (m : Made) → AreMadeInRange made → slice_get made place ≡ Some m → IsMadeInRange m
-made_at [] place m each is = absurd (cc)
-made_at (x ∷ made) zero m each is = subst IsMadeInRange (same is) each.0
-  where
-    same : ◌≡◌ {A = Option Made} (Some x) (Some m) → x ≡ m
-    same k = cc
-made_at (x ∷ made) (suc place) m each is = made_at made place m each.1 is
+made_at made place m each is = subst IsMadeInRange (get_or_from_slice_get made place m m is) (each place m (slice_get_within made place m is))
 
 -- works
 same_rest : (x y : Rest) → ◌≡◌ {A = Option Rest} (Some x) (Some y) → x ≡ y
@@ -111,7 +105,7 @@ module _ (compare : Compare) (steps : ℕ) where
       let s = went.value in
       let ranged = normal_forms_are_ranged compare rules p steps s shaped.in_range went.given in
       rest_good s.rest (generator_rows number s.multiplier s.rows) rest (same_value (rest_with s.rest (generator_rows number s.multiplier s.rows)) (Some rest) went.rest)
-      (normal_forms_are_shaped compare rules p steps s shaped went.given) (ranged.multiplier, negated_in_range s.rows ranged.rows)
+      (normal_forms_are_shaped compare rules p steps s shaped went.given) (All-cons HasNumber (record { coef = s.multiplier; left = []; from = origin.Generator number; right = [] }) (negated_rows s.rows) ranged.multiplier (negated_in_range s.rows ranged.rows))
 
   -- the products of its rows were tested
   second_left : (f : First) (s : State) (p : List Term) (rest : Rest) → IsShaped p → AreInRange s.rows → second_rest f s p ≡ Ok (Some rest) → IsGood rest
@@ -120,9 +114,9 @@ module _ (compare : Compare) (steps : ℕ) where
     where
       go : (o : Option Overflow) → first_overflow (rows_operations f s) ≡ o → unless_overflow o (rest_with (t ∷ p) (second_rows f s)) ≡ Ok (Some rest) → IsGood rest
       go None none k =
-          let both = both_fit (row_operations f.rows f.reduced.multiplier) (row_operations (first_rows f) s.multiplier) none in
+          let both = none_append (row_operations f.rows f.reduced.multiplier) (row_operations (first_rows f) s.multiplier) none in
           rest_good (t ∷ p) (second_rows f s) rest (same_value (rest_with (t ∷ p) (second_rows f s)) (Some rest) k) shaped
-          (rows_and (map (multiplied_row s.multiplier) (first_rows f)) (negated_rows s.rows) (rows_times (first_rows f) s.multiplier both.1) (negated_in_range s.rows each))
+          (All-append HasNumber (map (multiplied_row s.multiplier) (first_rows f)) (negated_rows s.rows) (rows_times (first_rows f) s.multiplier both.1) (negated_in_range s.rows each))
       go (Some o) some k = absurd (no_value (fault.Overflow o) (Some rest) k)
 
   second_good : (f : First) → IsShaped f.reduced.rest → KeepsGood (second_work compare steps f)
@@ -159,7 +153,7 @@ module _ (compare : Compare) (steps : ℕ) where
   adds_in_range None before after same each good = subst (λ (r : Recorded). AreMadeInRange r.made) (sym same) each
   adds_in_range (Some rest) before after more each good =
       subst (λ (r : Recorded). AreMadeInRange r.made) (sym more.appended)
-      (and_one before.made more.made each (made_in_range compare rest more.rule more.made (good rest refl) more.made_from))
+      (All-push IsMadeInRange before.made more.made each (made_in_range compare rest more.rule more.made (good rest refl) more.made_from))
 
   turns_in_range : (works : List Work) → AllByRecursion KeepsGood works → (before after : Recorded) → InTurn compare works before (Ok after) → AreMadeInRange before.made → AreMadeInRange after.made
   turns_in_range [] good before after turn each = subst (λ (r : Recorded). AreMadeInRange r.made) (sym (same_value after before turn)) each
@@ -229,6 +223,6 @@ module _ (setting : Setting) (shaped : (n : ℕ) → IsShaped (generator_at sett
       go (w ∷ ws) treats = by_pairs w ws (nat_le setting.budget.pairs (length before.treated)) treats
 
   pub runs_in_range : (n : ℕ) (s : RunState) → IsRunState setting n s → AreMadeInRange s.made
-  runs_in_range zero s is = subst (λ (x : RunState). AreMadeInRange x.made) (sym is) tt
+  runs_in_range zero s is = subst (λ (x : RunState). AreMadeInRange x.made) (sym is) (All-nil IsMadeInRange)
   runs_in_range (suc zero) s is = zero_in_range is.before s is.round (runs_in_range zero is.before is.is_before)
   runs_in_range (suc (suc n)) s is = later_in_range n is.before s is.round (runs_in_range (suc n) is.before is.is_before)

@@ -1,10 +1,10 @@
 -- What a reduction of a polynomial within the limits leaves is within them, and so are its multiplier and its rows.
 use Rattle.std.proofs.Common.{◌≡◌, ◌≤◌, ℕ, zero, suc, ◌+◌, ℤ, ◌*ℤ◌, ◌||◌, Bool, true, false, cond, List, [], ◌∷◌, ◌++◌, length, map, nat_lt, Option, Some, None, Result, Ok, Err, refl, sym, ap, ◌∙◌, subst, arith}
-use Rattle.std.specs.List.{All, AllByRecursion}
+use Rattle.std.specs.List.{All}
 use Rattle.std.proofs.lemmas.Bool.Decides.{nat_tests}
 use Rattle.std.proofs.lemmas.Int.{ints}
 use Rattle.std.proofs.lemmas.List.{length-take, length-drop}
-use Rattle.std.proofs.lemmas.List.Elements.{All-contains, All-from_recursion, recursion_from_All}
+use Rattle.std.proofs.lemmas.List.Elements.{All-nil, All-cons, All-head, All-tail, All-push, All-contains}
 use Rattle.coef_int.specs.declared.Overflow.{Overflow}
 use Rattle.coef_int.specs.Range.{IsCoefficient}
 use Rattle.coef_int.specs.Operations.{product_of, first_overflow}
@@ -36,12 +36,14 @@ use Rattle.outcome_laws.proofs.EvidenceRanges.{quotient_in_range}
 
 -- no word has more letters than the limit, and the integers are coefficients
 pub record Fits (p : List Term) : Type 0 where
-  pub short : AllByRecursion (λ t. length t.1 ≤ word_limit) p
-  pub in_range : AllByRecursion (λ t. IsCoefficient t.0) p
+  pub short : All (λ t. length t.1 ≤ word_limit) p
+  pub in_range : All (λ t. IsCoefficient t.0) p
 
-none_long : (p : List Term) → has_long_word p ≡ false → AllByRecursion (λ t. length t.1 ≤ word_limit) p
-none_long [] none = tt
-none_long (t ∷ p) none = let both = or_false (nat_lt word_limit (length t.1)) (has_long_word p) none in (at_most (length t.1) both.0, none_long p both.1)
+none_long : (p : List Term) → has_long_word p ≡ false → All (λ t. length t.1 ≤ word_limit) p
+none_long [] none = All-nil (λ (t : Term). length t.1 ≤ word_limit)
+none_long (t ∷ p) none =
+    let both = or_false (nat_lt word_limit (length t.1)) (has_long_word p) none in
+    All-cons (λ (u : Term). length u.1 ≤ word_limit) t p (at_most (length t.1) both.0) (none_long p both.1)
   where
     or_false : (a b : Bool) → a || b ≡ false → (a ≡ false) × (b ≡ false)
     or_false true b e = absurd (cc)
@@ -50,10 +52,10 @@ none_long (t ∷ p) none = let both = or_false (nat_lt word_limit (length t.1)) 
     at_most : (n : ℕ) → nat_lt word_limit n ≡ false → n ≤ word_limit
     at_most n e = grind (arith, nat_tests)
 
-pub sized_short : (p v : List Term) → sized p ≡ Ok v → AllByRecursion (λ t. length t.1 ≤ word_limit) p
+pub sized_short : (p v : List Term) → sized p ≡ Ok v → All (λ t. length t.1 ≤ word_limit) p
 sized_short p v ends = go (has_long_word p) refl (nat_lt term_limit (length p)) ends
   where
-    go : (long : Bool) → has_long_word p ≡ long → (many : Bool) → cond long (Err (size_fault true)) (cond many (Err (size_fault false)) (Ok p)) ≡ Ok v → AllByRecursion (λ t. length t.1 ≤ word_limit) p
+    go : (long : Bool) → has_long_word p ≡ long → (many : Bool) → cond long (Err (size_fault true)) (cond many (Err (size_fault false)) (Ok p)) ≡ Ok v → All (λ t. length t.1 ≤ word_limit) p
     go true is many k = absurd (no_error v (size_fault true) (sym k))
     go false is many k = none_long p is
 
@@ -66,7 +68,7 @@ pub record StepFits (m : Move) (s : State) : Type 0 where
 pub step_fits : (m : Move) (s t : State) → move_result m s ≡ Ok t → StepFits m s
 step_fits m s t ends = go (first_overflow (move_operations m s)) refl ends
   where
-    size : (r : Result (List Term) PolyFault) → sized (moved m s).rest ≡ r → if_sized r (moved m s) ≡ Ok t → AllByRecursion (λ u. length u.1 ≤ word_limit) (moved m s).rest
+    size : (r : Result (List Term) PolyFault) → sized (moved m s).rest ≡ r → if_sized r (moved m s) ≡ Ok t → All (λ u. length u.1 ≤ word_limit) (moved m s).rest
     size (Ok p) is k = sized_short (moved m s).rest p is
     size (Err e) is k = absurd (no_error t e (sym k))
 
@@ -81,7 +83,7 @@ step_fits m s t ends = go (first_overflow (move_operations m s)) refl ends
           rows = rows.1;
           rest = record {
             short = size (sized (moved m s).rest) refl k;
-            in_range = recursion_from_All (λ (u : Term). IsCoefficient u.0) (moved m s).rest (in_range-added (multiplied s.rest m.by) (negated (shifted m.times m.left m.rule m.right)) less.1);
+            in_range = in_range-added (multiplied s.rest m.by) (negated (shifted m.times m.left m.rule m.right)) less.1;
           };
         }
     go (Some o) none k = absurd (no_error t (fault.Overflow o) (sym k))
@@ -122,29 +124,27 @@ pub record IsShortRow (r : Row) : Type 0 where
 pub record FitsState (s : State) : Type 0 where
   pub multiplier : IsCoefficient s.multiplier
   pub rest : Fits s.rest
-  pub rows : AllByRecursion IsShortRow s.rows
+  pub rows : All IsShortRow s.rows
 
-pub short_multiplied : (rows : List Row) (by : ℤ) → first_overflow (row_operations rows by) ≡ None → AllByRecursion IsShortRow rows → AllByRecursion IsShortRow (map (multiplied_row by) rows)
-short_multiplied [] by none each = tt
+pub short_multiplied : (rows : List Row) (by : ℤ) → first_overflow (row_operations rows by) ≡ None → All IsShortRow rows → All IsShortRow (map (multiplied_row by) rows)
+short_multiplied [] by none each = All-nil IsShortRow
 short_multiplied (r ∷ rows) by none each =
     let first = fits_first (product_of r.coef by) (row_operations rows by) none in
-    (record { coefficient = first.0; left = each.0.left; right = each.0.right }, short_multiplied rows by first.1 each.1)
-
-short_last : (rows : List Row) (r : Row) → AllByRecursion IsShortRow rows → IsShortRow r → AllByRecursion IsShortRow (rows ++ r ∷ [])
-short_last [] r each last = (last, tt)
-short_last (x ∷ rows) r each last = (each.0, short_last rows r each.1 last)
+    let row = All-head IsShortRow r rows each in
+    All-cons IsShortRow (multiplied_row by r) (map (multiplied_row by) rows) (record { coefficient = first.0; left = row.left; right = row.right })
+    (short_multiplied rows by first.1 (All-tail IsShortRow r rows each))
 
 module _ (letters : ℕ) (compare : Compare) (rules : List Rule) (are : All (IsRule letters compare) rules) where
   state_keeps : (c : Choice) (g : Rule) (s : State) → choice_of compare (entries_of rules) s.rest ≡ Some c → rule_at rules c.number ≡ Some g → StepFits (move_of c g) s → FitsState s → FitsState (moved (move_of c g) s)
   state_keeps c g s chosen has step before =
       let term = (found compare rules s.rest c chosen).term in
-      let word : length c.word ≤ word_limit = All-contains (λ (t : Term). length t.1 ≤ word_limit) s.rest (c.coefficient, c.word) (All-from_recursion (λ (t : Term). length t.1 ≤ word_limit) s.rest before.rest.short) term in
-      let coefficient : IsCoefficient c.coefficient = All-contains (λ (t : Term). IsCoefficient t.0) s.rest (c.coefficient, c.word) (All-from_recursion (λ (t : Term). IsCoefficient t.0) s.rest before.rest.in_range) term in
+      let word : length c.word ≤ word_limit = All-contains (λ (t : Term). length t.1 ≤ word_limit) s.rest (c.coefficient, c.word) before.rest.short term in
+      let coefficient : IsCoefficient c.coefficient = All-contains (λ (t : Term). IsCoefficient t.0) s.rest (c.coefficient, c.word) before.rest.in_range term in
       let leading = (rule_at-all (IsRule letters compare) rules c.number g has are).positive in
       record {
         multiplier = step.multiplier;
         rest = step.rest;
-        rows = short_last (map (multiplied_row (move_of c g).by) s.rows) (move_row (move_of c g)) (short_multiplied s.rows (move_of c g).by step.rows before.rows)
+        rows = All-push IsShortRow (map (multiplied_row (move_of c g).by) s.rows) (move_row (move_of c g)) (short_multiplied s.rows (move_of c g).by step.rows before.rows)
             (record {
               coefficient = quotient_in_range c.coefficient _ (gcd_of-positive_right c.coefficient g.leading leading) coefficient;
               left = omega (arith, length-take c.place c.word, word);
@@ -154,4 +154,4 @@ module _ (letters : ℕ) (compare : Compare) (rules : List Rule) (are : All (IsR
 
   pub reduced_within : (p : List Term) (steps : ℕ) (s : State) → Fits p → normal_form_of compare rules p steps ≡ Ok s → FitsState s
   reduced_within p steps s fits ends =
-      fitting_reduction FitsState compare rules state_keeps steps steps (start_of p) s ends (record { multiplier = omega (arith, ints); rest = fits; rows = tt })
+      fitting_reduction FitsState compare rules state_keeps steps steps (start_of p) s ends (record { multiplier = omega (arith, ints); rest = fits; rows = All-nil IsShortRow })

@@ -1,7 +1,10 @@
 -- Results that are values, and operations of which none overflows.
-use Rattle.std.proofs.Common.{◌≡◌, List, [], ◌∷◌, ◌++◌, Bool, true, false, cond, Some, None, Result, Ok, Err, refl, ◌∙◌, arith}
-use Rattle.std.specs.List.{AllByRecursion}
+use Rattle.std.proofs.Common.{◌≡◌, ℕ, zero, suc, List, [], ◌∷◌, ◌++◌, Bool, true, false, cond, Some, None, Result, Ok, Err, refl, ◌∙◌, arith}
+use Rattle.std.specs.List.{All}
+use Rattle.std.proofs.lemmas.List.Elements.{All-nil, All-cons, All-head, All-tail}
 use Rattle.std.proofs.lemmas.Bool.Decides.{nat_tests}
+use Rattle.definitions.specs.Poly.{Term}
+use Rattle.definitions.specs.Combination.{generator_at}
 use Rattle.coef_int.specs.declared.Overflow.{Overflow}
 use Rattle.coef_int.specs.Range.{IsCoefficient, is_coefficient}
 use Rattle.coef_int.specs.Operations.{exact_value, first_overflow}
@@ -14,10 +17,17 @@ module _ {A E : Type 0} where
   pub no_error : (x : A) (e : E) → ◌≡◌ {A = Result A E} (Err e) (Ok x) → ⊥
   no_error x e same = cc
 
--- the last of a list, and the others
-pub split_last : {X : Type 0} (P : X → Type 0) (xs : List X) (x : X) → AllByRecursion P (xs ++ x ∷ []) → AllByRecursion P xs × P x
-split_last P [] x each = (tt, each.0)
-split_last P (y ∷ xs) x each = let rest = split_last P xs x each.1 in ((each.0, rest.0), rest.1)
+-- what holds of each generator and of zero holds of the generator with any number
+pub generator_all : (P : List Term → Type 0) (ps : List (List Term)) → All P ps → P [] → (number : ℕ) → P (generator_at ps number)
+generator_all P ps each none zero = none
+generator_all P [] each none (suc zero) = none
+generator_all P [] each none (suc (suc n)) = none
+generator_all P (p ∷ ps) each none (suc zero) = All-head P p ps each
+generator_all P (p ∷ ps) each none (suc (suc n)) = generator_all P ps (All-tail P p ps each) none (suc n)
+
+-- what holds of each of two
+pub both : {X : Type 0} (P : X → Type 0) (x y : X) → P x → P y → All P (x ∷ y ∷ [])
+both P x y one other = All-cons P x (y ∷ []) one (All-cons P y [] other (All-nil P))
 
 -- the first of them fits, and then the others
 pub fits_first : (o : Overflow) (os : List Overflow) → first_overflow (o ∷ os) ≡ None → IsCoefficient (exact_value o) × (first_overflow os ≡ None)

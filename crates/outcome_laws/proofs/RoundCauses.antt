@@ -1,9 +1,9 @@
 -- What the cause of a round that stops says.
 use Rattle.std.proofs.Common.{◌≡◌, ◌⊎◌, inl, inr, ◌≤◌, ℕ, zero, suc, Bool, true, false, List, [], ◌∷◌, ◌++◌, map, length, take, nat_le, Option, Some, None, Result, Ok, Err, refl, sym, ap, ◌∙◌, subst, arith, append-nil}
-use Rattle.std.specs.List.{All, AllByRecursion, Contains}
+use Rattle.std.specs.List.{All, Contains}
 use Rattle.std.proofs.lemmas.Bool.{leb-true}
 use Rattle.std.proofs.lemmas.List.{length-map}
-use Rattle.std.proofs.lemmas.List.Elements.{Contains-append_cases, recursion_from_All}
+use Rattle.std.proofs.lemmas.List.Elements.{Contains-append_cases}
 use Rattle.coef_int.specs.declared.Overflow.{Overflow}
 use Rattle.coef_int.specs.Operations.{product_of}
 use Rattle.definitions.specs.Poly.{Term}
@@ -46,7 +46,7 @@ use Rattle.outcome_laws.specs.Causes.{AreMade, AreRulesOf, IsFirstReduction, of_
 use Rattle.outcome_laws.proofs.DistinctTreated.{distinct_treated}
 use Rattle.outcome_laws.proofs.LaterRounds.{BeginsWith}
 use Rattle.outcome_laws.proofs.Listed.{failing, value_of}
-use Rattle.outcome_laws.proofs.MadeStates.{taken_are, generators_grow, First_is, first_is_of, rest_shaped, first_reduction, MadeFrom, seconds_grow, states_made}
+use Rattle.outcome_laws.proofs.MadeStates.{generators_grow, First_is, first_is_of, rest_shaped, first_reduction, MadeFrom, seconds_grow, states_made}
 use Rattle.outcome_laws.proofs.OpenRuns.{same_halt, not_went, not_closed, order_laws, run_kept}
 use Rattle.outcome_laws.proofs.ProblemPolynomials.{any_letter, generators_are, generators_shaped, turns_in_range}
 use Rattle.outcome_laws.proofs.ReductionCauses.{reduction_means, s_polynomial_means, by_cause}
@@ -54,7 +54,7 @@ use Rattle.outcome_laws.proofs.ReductionFaults.{normal_form_stops, normal_form_l
 use Rattle.outcome_laws.proofs.RoundFaults.{Now, generator_fails, FirstFails, not_made, not_reduced, first_fails, are_firsts, SecondFails, second_fails, SecondStops, in_steps, in_products, second_stops}
 use Rattle.outcome_laws.proofs.SPolynomialFaults.{s_polynomial_stops}
 use Rattle.outcome_laws.proofs.StepMade.{reduced_of}
-use Rattle.outcome_laws.proofs.WholeRuns.{first_is_least_pending}
+use Rattle.outcome_laws.proofs.WholeRuns.{taken_are, first_is_least_pending}
 
 -- a product of the rows of a rule that a second reduction makes
 rows_operation : (f : First) (s : State) (o : Overflow) → Contains (rows_operations f s) o → IsOfRows f.rows (reduced_of f.reduced) (reduced_of s) o
@@ -106,7 +106,7 @@ module _ (problem : Problem) (budget : Budget) where
     zero_means : (s : RunState) → IsRunState setting 0 s → (e : ReduceFault) (c : Cause) → IsCauseOf e c
         → InTurn compare (map (generator_work compare budget.steps generators) setting.in_turn) (recorded s) (Err e) → Means (place.Round 0) c
     zero_means s is e c why turn =
-        let in_range = recursion_from_All (λ k. (1 ≤ k) × (k ≤ length generators)) setting.in_turn (turns_in_range problem) in
+        let in_range = turns_in_range problem in
         let fails =
         generator_fails (quiver_of problem.parts.quiver) any_letter letters compare rank (order_laws problem budget) generators (generators_are problem) budget.steps (λ r. AreMade problem budget r.rules r.made) setting.in_turn in_range
         (generators_grow problem budget setting.in_turn in_range) (recorded s) (done_after setting 0) s.treated e (state_now 0 s is) (states_made problem budget 0 s is) turn in
@@ -179,17 +179,14 @@ module _ (problem : Problem) (budget : Budget) where
           same : (d : ReduceFault) → ◌≡◌ {A = Result Recorded ReduceFault} (Err e) (Err d) → d ≡ e
           same d k = cc
 
-          listed : AllByRecursion (IsAmbiguity s.rules) taken
-          listed = recursion_from_All (IsAmbiguity s.rules) taken are
-
           go : (r : Result (List First) ReduceFault) → each_in_turn (first_of compare budget.steps s.rules) taken ≡ r → InTwoPasses compare budget.steps r (recorded s) (Err e) → Means (place.Round (suc n)) c
           go (Err d) ends two =
               first_means e c why
-              (first_fails (quiver_of problem.parts.quiver) any_letter letters compare rank (order_laws problem budget) generators (generators_are problem) budget.steps s.rules taken e listed (ends ∙ ap Err (same d two)))
+              (first_fails (quiver_of problem.parts.quiver) any_letter letters compare rank (order_laws problem budget) generators (generators_are problem) budget.steps s.rules taken e are (ends ∙ ap Err (same d two)))
           go (Ok firsts) ends two =
               let now = state_now (suc n) s run in
               let firsts_are =
-              are_firsts (quiver_of problem.parts.quiver) any_letter letters compare rank (order_laws problem budget) generators (generators_are problem) budget.steps s.rules taken firsts listed ends in
+              are_firsts (quiver_of problem.parts.quiver) any_letter letters compare rank (order_laws problem budget) generators (generators_are problem) budget.steps s.rules taken firsts are ends in
               second_means e c why
               (second_fails (quiver_of problem.parts.quiver) any_letter letters compare rank (order_laws problem budget) generators (generators_are problem) budget.steps s.rules now.0.are_rules now.1
               (MadeFrom problem budget s.rules) taken firsts firsts_are (seconds_grow problem budget s.rules taken firsts firsts_are)

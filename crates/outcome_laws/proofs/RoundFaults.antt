@@ -1,6 +1,7 @@
 -- Where a round that stops has its fault: in the reduction of a generator, of an S-polynomial, or of what is left of one.
 use Rattle.std.proofs.Common.{◌≡◌, ◌≤◌, ℕ, Bool, List, [], ◌∷◌, ◌++◌, map, length, Option, Some, None, Result, Ok, Err, refl, sym, ap, ◌∙◌, subst}
 use Rattle.std.specs.List.{All, AllByRecursion}
+use Rattle.std.proofs.lemmas.List.Elements.{All-head, All-tail, All-replicate, All-take}
 use Rattle.coef_int.specs.declared.Overflow.{Overflow}
 use Rattle.coef_int.specs.Operations.{first_overflow}
 use Rattle.definitions.specs.Poly.{Term}
@@ -57,12 +58,12 @@ pub record OneFails {A B : Type 0} (Is : A → Type 0) (f : A → Result B Reduc
   pub is : Is item
   pub fails : f item ≡ Err e
 
-one_fails : {A B : Type 0} (Is : A → Type 0) (f : A → Result B ReduceFault) (xs : List A) (e : ReduceFault) → AllByRecursion Is xs → each_in_turn f xs ≡ Err e → OneFails Is f e
+one_fails : {A B : Type 0} (Is : A → Type 0) (f : A → Result B ReduceFault) (xs : List A) (e : ReduceFault) → All Is xs → each_in_turn f xs ≡ Err e → OneFails Is f e
 one_fails {B} Is f [] e each is = absurd (value_or {A = List B} [] e is)
-one_fails {B} Is f (x ∷ xs) e each is = go (failed (f x) (λ y. and_then (each_in_turn f xs) (λ ys. Ok (y ∷ ys))) e is) (one_fails Is f xs e each.1)
+one_fails {B} Is f (x ∷ xs) e each is = go (failed (f x) (λ y. and_then (each_in_turn f xs) (λ ys. Ok (y ∷ ys))) e is) (one_fails Is f xs e (All-tail Is x xs each))
   where
     go : Failed (f x) (λ y. and_then (each_in_turn f xs) (λ ys. Ok (y ∷ ys))) e → (each_in_turn f xs ≡ Err e → OneFails Is f e) → OneFails Is f e
-    go (at_first fails) rest = record { item = x; is = each.0; fails = fails }
+    go (at_first fails) rest = record { item = x; is = All-head Is x xs each; fails = fails }
     go (later y went fails) rest = rest (failed_first (each_in_turn f xs) (λ ys. y ∷ ys) e fails)
 
 module _ (q : Quiver) (play : ℕ → Bool) (letters : ℕ) (compare : Compare) (rank : List ℕ → List ℕ) (laws : IsAdmissible letters compare rank) (generators : List (List Term))
@@ -82,14 +83,17 @@ module _ (q : Quiver) (play : ℕ → Bool) (letters : ℕ) (compare : Compare) 
     pub most : number ≤ length generators
     pub fails : normal_form_of compare before.rules (generator_at generators number) steps ≡ Err e
 
-  pub generator_fails : (P : Recorded → Type 0) (numbers : List ℕ) → AllByRecursion (λ k. (1 ≤ k) × (k ≤ length generators)) numbers
+  pub generator_fails : (P : Recorded → Type 0) (numbers : List ℕ) → All (λ k. (1 ≤ k) × (k ≤ length generators)) numbers
       → AllByRecursion (Grows compare P) (map (generator_work compare steps generators) numbers) → (before : Recorded) (done : List ℕ) (treated : List Ambiguity) (e : ReduceFault)
       → Now before done treated → P before → InTurn compare (map (generator_work compare steps generators) numbers) before (Err e) → GeneratorFails P e
   generator_fails P [] in_range grow before done treated e now held turn = absurd (no_value e before turn)
   generator_fails P (n ∷ numbers) in_range grow before done treated e now held turn =
       go (generator_work compare steps generators n before.rules) refl turn
-      (λ between here holds next. generator_fails P numbers in_range.1 grow.1 between (done ++ (n ∷ [])) treated e here holds next)
+      (λ between here holds next. generator_fails P numbers (All-tail (λ k. (1 ≤ k) × (k ≤ length generators)) n numbers in_range) grow.1 between (done ++ (n ∷ [])) treated e here holds next)
     where
+      first : All (λ k. (1 ≤ k) × (k ≤ length generators)) (n ∷ [])
+      first = All-take (λ k. (1 ≤ k) × (k ≤ length generators)) 1 (n ∷ numbers) in_range
+
       go : (r : Result (Option Rest) ReduceFault) → generator_work compare steps generators n before.rules ≡ r
           → Goes compare r before (λ between. InTurn compare (map (generator_work compare steps generators) numbers) between (Err e)) (Err e)
           → ((between : Recorded) → Now between (done ++ (n ∷ [])) treated → P between → InTurn compare (map (generator_work compare steps generators) numbers) between (Err e) → GeneratorFails P e)
@@ -101,14 +105,14 @@ module _ (q : Quiver) (play : ℕ → Bool) (letters : ℕ) (compare : Compare) 
         kept = now;
         holds = held;
         number = n;
-        least = in_range.0.0;
-        most = in_range.0.1;
+        least = (All-head (λ k. (1 ≤ k) × (k ≤ length generators)) n numbers in_range).0;
+        most = (All-head (λ k. (1 ≤ k) × (k ≤ length generators)) n numbers in_range).1;
         fails = failed_first (normal_form_of compare before.rules (generator_at generators n) steps) (λ s. rest_with s.rest (generator_rows n s.multiplier s.rows)) e
             (ends ∙ ap Err (sym (fault_is {A = Recorded} e d on)));
       }
       go (Ok rest) ends on further =
           further on.between
-          (generators_in_turn q play letters compare rank laws generators each steps (n ∷ []) (in_range.0, tt) before on.between done treated now
+          (generators_in_turn q play letters compare rank laws generators each steps (n ∷ []) first before on.between done treated now
           (subst (λ r. Goes compare r before (λ between. ◌≡◌ {A = Result Recorded ReduceFault} (Ok on.between) (Ok between)) (Ok on.between)) (sym ends) (record { between = on.between; added = on.added; next = refl })))
           (grow.0 before on.between rest ends on.added held) on.next
 
@@ -117,7 +121,7 @@ module _ (q : Quiver) (play : ℕ → Bool) (letters : ℕ) (compare : Compare) 
     not_made : (a : Ambiguity) (d : PolyFault) → IsAmbiguity rules a → s_polynomial_of rules a ≡ Err d → e ≡ halt_of d → FirstFails rules e
     not_reduced : (a : Ambiguity) (p : List Term) → IsAmbiguity rules a → s_polynomial_of rules a ≡ Ok p → normal_form_of compare rules p steps ≡ Err e → FirstFails rules e
 
-  pub first_fails : (rules : List Rule) (taken : List Ambiguity) (e : ReduceFault) → AllByRecursion (IsAmbiguity rules) taken → each_in_turn (first_of compare steps rules) taken ≡ Err e → FirstFails rules e
+  pub first_fails : (rules : List Rule) (taken : List Ambiguity) (e : ReduceFault) → All (IsAmbiguity rules) taken → each_in_turn (first_of compare steps rules) taken ≡ Err e → FirstFails rules e
   first_fails rules taken e are ends =
       let one = one_fails (IsAmbiguity rules) (first_of compare steps rules) taken e are ends in
       by_part one.item one.is (failed (halted (s_polynomial_of rules one.item)) (λ p. and_then (normal_form_of compare rules p steps) (λ s. Ok (record { rows = s_rows_of rules one.item; reduced = s }))) e one.fails)
@@ -154,12 +158,12 @@ module _ (q : Quiver) (play : ℕ → Bool) (letters : ℕ) (compare : Compare) 
   AreFirsts rules (a ∷ taken) [] = ⊥
   AreFirsts rules (a ∷ taken) (f ∷ fs) = (IsAmbiguity rules a × (first_of compare steps rules a ≡ Ok f)) × AreFirsts rules taken fs
 
-  pub are_firsts : (rules : List Rule) (taken : List Ambiguity) (firsts : List First) → AllByRecursion (IsAmbiguity rules) taken → each_in_turn (first_of compare steps rules) taken ≡ Ok firsts → AreFirsts rules taken firsts
+  pub are_firsts : (rules : List Rule) (taken : List Ambiguity) (firsts : List First) → All (IsAmbiguity rules) taken → each_in_turn (first_of compare steps rules) taken ≡ Ok firsts → AreFirsts rules taken firsts
   are_firsts rules [] firsts are is = subst (AreFirsts rules []) (same_value [] firsts is) tt
   are_firsts rules (a ∷ taken) firsts are is =
       let one = went_on (first_of compare steps rules a) (λ f. and_then (each_in_turn (first_of compare steps rules) taken) (λ fs. Ok (f ∷ fs))) firsts is in
       let others = went_on (each_in_turn (first_of compare steps rules) taken) (λ fs. Ok (one.value ∷ fs)) firsts one.rest in
-      subst (AreFirsts rules (a ∷ taken)) (same_value (one.value ∷ others.value) firsts others.rest) ((are.0, one.given), are_firsts rules taken others.value are.1 others.given)
+      subst (AreFirsts rules (a ∷ taken)) (same_value (one.value ∷ others.value) firsts others.rest) ((All-head (IsAmbiguity rules) a taken are, one.given), are_firsts rules taken others.value (All-tail (IsAmbiguity rules) a taken are) others.given)
 
   -- The rules so far of the round, and an ambiguity of those from before it whose second reduction has a fault.
   pub record SecondFails (P : Recorded → Type 0) (start : List Rule) (e : ReduceFault) : Type 0 where
@@ -206,7 +210,7 @@ module _ (q : Quiver) (play : ℕ → Bool) (letters : ℕ) (compare : Compare) 
         }
         go (Ok rest) ends on further =
             further on.between (begins_with start compare rest before on.between front on.added)
-            (ambiguities_in_turn q play letters compare rank laws generators each steps start start_are start_typed (a ∷ []) (are.0.0, tt) (f ∷ [])
+            (ambiguities_in_turn q play letters compare rank laws generators each steps start start_are start_typed (a ∷ []) (All-replicate (IsAmbiguity start) 1 a are.0.0) (f ∷ [])
             (ap (λ r. and_then r (λ g. and_then (each_in_turn (first_of compare steps start) []) (λ gs. Ok (g ∷ gs)))) are.0.1)
             before on.between done treated front now
             (subst (λ r. Goes compare r before (λ between. ◌≡◌ {A = Result Recorded ReduceFault} (Ok on.between) (Ok between)) (Ok on.between)) (sym ends) (record { between = on.between; added = on.added; next = refl })))

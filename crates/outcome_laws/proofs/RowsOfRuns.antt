@@ -1,15 +1,14 @@
 -- What holds of polynomials and rows after reductions and S-polynomials holds of the records of a run.
 use Rattle.std.proofs.Common.{◌≡◌, ◌<◌, ◌≤◌, ℕ, zero, suc, ◌+◌, ℤ, ◌*ℤ◌, List, [], ◌∷◌, ◌++◌, map, length, take, Bool, true, false, cond, nat_le, Option, Some, None, Result, Ok, Err, refl, sym, ap, ◌∙◌, subst, arith}
-use Rattle.std.specs.List.{All, AllByRecursion}
+use Rattle.std.specs.List.{All}
 use Rattle.std.proofs.lemmas.List.{length-append, length-map}
-use Rattle.std.proofs.lemmas.List.Elements.{All-nil, All-from_recursion, recursion_from_All, All-append, All-map, All-take}
+use Rattle.std.proofs.lemmas.List.Elements.{All-nil, All-cons, All-head, All-tail, All-weaker, All-append, All-push, All-map, recursion_from_All}
 use Rattle.coef_int.specs.declared.Overflow.{Overflow}
 use Rattle.coef_int.specs.Range.{IsCoefficient}
 use Rattle.coef_int.specs.Operations.{product_of, first_overflow}
 use Rattle.definitions.specs.Poly.{Term}
 use Rattle.word_core.specs.Letters.{IsOver}
 use Rattle.definitions.specs.Combination.{generator_at}
-use Rattle.definitions.proofs.UnitSound.{all-append}
 use Rattle.nc_polynomial.specs.declared.fault.PolyFault.{PolyFault}
 use Rattle.traced_rows.specs.declared.Origin.TheVariants as origin
 use Rattle.traced_rows.specs.declared.Row.{Row}
@@ -32,9 +31,9 @@ use Rattle.traced_completion.specs.Works.{Work, generator_rows, generator_work, 
 use Rattle.traced_completion.specs.Pending.{AreAllPending, ambiguities_of}
 use Rattle.traced_completion.specs.RunLaws.{HasWords}
 use Rattle.traced_completion.specs.PlainRun.{Setting, RunState, went, closed, stopped, recorded, Ends, taken_count, IsTreated, TreatsFirst, TreatsPending, IsRoundZero, IsLaterRound, IsRunState}
-use Rattle.traced_completion.proofs.StoreLemmas.{pending-all}
 use Rattle.traced_completion.proofs.RunRules.{made_is_rule}
-use Rattle.outcome_laws.proofs.Results.{same_ok, no_error, fits_first, none_append}
+use Rattle.outcome_laws.proofs.Results.{same_ok, no_error, generator_all, fits_first, none_append}
+use Rattle.outcome_laws.proofs.WholeRuns.{taken_are}
 
 some_is : (x y : Rest) → ◌≡◌ {A = Option Rest} (Some x) (Some y) → x ≡ y
 some_is x y same = cc
@@ -43,11 +42,11 @@ none_some : (x : Rest) → ◌≡◌ {A = Option Rest} None (Some x) → ⊥
 none_some x same = cc
 
 -- the words of generators, by their numbers
-pub generator_words : (letters : ℕ) (ps : List (List Term)) → AllByRecursion (HasWords letters) ps → (number : ℕ) → AreWords letters (generator_at ps number)
-generator_words letters ps each zero = tt
-generator_words letters [] each (suc n) = tt
-generator_words letters (p ∷ ps) each (suc zero) = words_from letters p (recursion_from_All (λ t. 0 < length t.1) p each.0.nonempty) (recursion_from_All (λ t. IsOver letters t.1) p each.0.over)
-generator_words letters (p ∷ ps) each (suc (suc n)) = generator_words letters ps each.1 (suc n)
+pub generator_words : (letters : ℕ) (ps : List (List Term)) → All (HasWords letters) ps → (number : ℕ) → AreWords letters (generator_at ps number)
+generator_words letters ps each =
+    generator_all (AreWords letters) ps
+    (All-weaker (HasWords letters) (AreWords letters)
+    (λ p has. words_from letters p (recursion_from_All (λ t. 0 < length t.1) p has.nonempty) (recursion_from_All (λ t. IsOver letters t.1) p has.over)) ps each) tt
 
 -- the generator with this number has the property, and so has its row with the multiplier of its reduction
 pub record IsKeptGenerator (letters : ℕ) (setting : Setting) (IsPoly : List Term → Type 0) (IsRow : ℕ → Row → Type 0) (number : ℕ) : Type 0 where
@@ -62,36 +61,34 @@ pub record IsKept (letters : ℕ) (setting : Setting) (IsPoly : List Term → Ty
   pub multiple : (count : ℕ) (by : ℤ) (r : Row) → IsRow count r → IsCoefficient (r.coef *ℤ by) → IsRow count (multiplied_row by r)
   pub words : (p : List Term) → IsPoly p → AreWords letters p
   pub reduced : (rules : List Rule) (p : List Term) (s : State) → All (IsRule letters setting.compare) rules → IsPoly p → normal_form_of setting.compare rules p setting.budget.steps ≡ Ok s
-      → IsPoly s.rest × AllByRecursion (IsRow (length rules)) s.rows
+      → IsPoly s.rest × All (IsRow (length rules)) s.rows
   pub ambiguous : (rules : List Rule) (a : Ambiguity) (p : List Term) → All (IsRule letters setting.compare) rules → IsAmbiguity rules a → s_polynomial_of rules a ≡ Ok p
-      → IsPoly p × AllByRecursion (IsRow (length rules)) (s_rows_of rules a)
-  pub generators : AllByRecursion (IsKeptGenerator letters setting IsPoly IsRow) setting.in_turn
-  pub makes : (count : ℕ) (rest : Rest) (g : Rule) (m : Made) → IsMadeFrom setting.compare rest g m → IsPoly rest.polynomial → AllByRecursion (IsRow count) m.rows → 1 ≤ length m.rows → IsMade count m
+      → IsPoly p × All (IsRow (length rules)) (s_rows_of rules a)
+  pub generators : All (IsKeptGenerator letters setting IsPoly IsRow) setting.in_turn
+  pub makes : (count : ℕ) (rest : Rest) (g : Rule) (m : Made) → IsMadeFrom setting.compare rest g m → IsPoly rest.polynomial → All (IsRow count) m.rows → 1 ≤ length m.rows → IsMade count m
 
 module _ (letters : ℕ) (setting : Setting) (IsPoly : List Term → Type 0) (IsRow : ℕ → Row → Type 0) (IsMade : ℕ → Made → Type 0) (kept : IsKept letters setting IsPoly IsRow IsMade) where
   abbrev AreRules : List Rule → Type 0
   AreRules rules = All (IsRule letters setting.compare) rules
 
   abbrev Rows : ℕ → List Row → Type 0
-  Rows count rows = AllByRecursion (IsRow count) rows
+  Rows count rows = All (IsRow count) rows
 
   rows_more : (few many : ℕ) → few ≤ many → (rows : List Row) → Rows few rows → Rows many rows
-  rows_more few many most [] each = tt
-  rows_more few many most (r ∷ rows) each = (kept.more few many r most each.0, rows_more few many most rows each.1)
+  rows_more few many most = All-weaker (IsRow few) (IsRow many) (λ r. kept.more few many r most)
 
   rows_negated : (count : ℕ) (rows : List Row) → Rows count rows → Rows count (negated_rows rows)
-  rows_negated count [] each = tt
-  rows_negated count (r ∷ rows) each = (kept.negative count r each.0, rows_negated count rows each.1)
+  rows_negated count rows each = All-map (IsRow count) negated_row rows (All-weaker (IsRow count) (λ r. IsRow count (negated_row r)) (kept.negative count) rows each)
 
   rows_multiplied : (count : ℕ) (by : ℤ) (rows : List Row) → first_overflow (row_operations rows by) ≡ None → Rows count rows → Rows count (map (multiplied_row by) rows)
-  rows_multiplied count by [] none each = tt
+  rows_multiplied count by [] none each = All-nil (IsRow count)
   rows_multiplied count by (r ∷ rows) none each =
       let fits = fits_first (product_of r.coef by) (row_operations rows by) none in
-      (kept.multiple count by r each.0 fits.0, rows_multiplied count by rows fits.1 each.1)
+      All-cons (IsRow count) (multiplied_row by r) (map (multiplied_row by) rows) (kept.multiple count by r (All-head (IsRow count) r rows each) fits.0) (rows_multiplied count by rows fits.1 (All-tail (IsRow count) r rows each))
 
   rows_less : (count : ℕ) (rows : List Row) (by : ℤ) (taken : List Row) → first_overflow (row_operations rows by) ≡ None → Rows count rows → Rows count taken → Rows count (less_rows rows by taken)
   rows_less count rows by taken none each also =
-      all-append (IsRow count) (map (multiplied_row by) rows) (negated_rows taken) (rows_multiplied count by rows none each) (rows_negated count taken also)
+      All-append (IsRow count) (map (multiplied_row by) rows) (negated_rows taken) (rows_multiplied count by rows none each) (rows_negated count taken also)
 
   some_less : (rows : List Row) (by : ℤ) (taken : List Row) → 1 ≤ length rows → 1 ≤ length (less_rows rows by taken)
   some_less rows by taken some = omega (arith, length-append (map (multiplied_row by) rows) (negated_rows taken), length-map rows (multiplied_row by), some)
@@ -118,7 +115,8 @@ module _ (letters : ℕ) (setting : Setting) (IsPoly : List Term → Type 0) (Is
       go (Ok s) ends k =
           let after = kept.reduced rules (generator_at setting.generators number) s are is.polynomial ends in
           let row = kept.more 0 (length rules) (record { coef = s.multiplier; left = []; from = origin.Generator number; right = [] }) (omega arith) (is.row rules s are ends) in
-          rest_holds (length rules) s.rest (generator_rows number s.multiplier s.rows) rest (same_ok _ (Some rest) k) after.0 (row, rows_negated (length rules) s.rows after.1) (omega arith)
+          rest_holds (length rules) s.rest (generator_rows number s.multiplier s.rows) rest (same_ok _ (Some rest) k) after.0
+          (All-cons (IsRow (length rules)) (record { coef = s.multiplier; left = []; from = origin.Generator number; right = [] }) (negated_rows s.rows) row (rows_negated (length rules) s.rows after.1)) (omega arith)
 
   -- a first reduction
   record HoldsFirst (count : ℕ) (f : First) : Type 0 where
@@ -176,16 +174,17 @@ module _ (letters : ℕ) (setting : Setting) (IsPoly : List Term → Type 0) (Is
         go (Err e) made k = absurd (no_error f _ k)
         go (Ok p) made k = after p made (normal_form_of setting.compare rules p setting.budget.steps) refl k
 
-    firsts_hold : (taken : List Ambiguity) (fs : List First) → AllByRecursion (IsAmbiguity rules) taken → each_in_turn first_reduction taken ≡ Ok fs → AllByRecursion (HoldsFirst (length rules)) fs
-    firsts_hold [] fs each same = subst (AllByRecursion (HoldsFirst (length rules))) (same_ok [] fs same) tt
-    firsts_hold (a ∷ taken) fs each same = go (first_reduction a) (each_in_turn first_reduction taken) refl refl (λ gs have. firsts_hold taken gs each.1 have) same
+    firsts_hold : (taken : List Ambiguity) (fs : List First) → All (IsAmbiguity rules) taken → each_in_turn first_reduction taken ≡ Ok fs → All (HoldsFirst (length rules)) fs
+    firsts_hold [] fs each same = subst (All (HoldsFirst (length rules))) (same_ok [] fs same) (All-nil (HoldsFirst (length rules)))
+    firsts_hold (a ∷ taken) fs each same = go (first_reduction a) (each_in_turn first_reduction taken) refl refl (λ gs have. firsts_hold taken gs (All-tail (IsAmbiguity rules) a taken each) have) same
       where
         go : (r : Result First ReduceFault) (q : Result (List First) ReduceFault) → first_reduction a ≡ r → each_in_turn first_reduction taken ≡ q
-            → ((gs : List First) → each_in_turn first_reduction taken ≡ Ok gs → AllByRecursion (HoldsFirst (length rules)) gs)
-            → and_then r (λ f. and_then q (λ gs. Ok (f ∷ gs))) ≡ Ok fs → AllByRecursion (HoldsFirst (length rules)) fs
+            → ((gs : List First) → each_in_turn first_reduction taken ≡ Ok gs → All (HoldsFirst (length rules)) gs)
+            → and_then r (λ f. and_then q (λ gs. Ok (f ∷ gs))) ≡ Ok fs → All (HoldsFirst (length rules)) fs
         go (Err e) q one others rest k = absurd (no_error fs e k)
         go (Ok f) (Err e) one others rest k = absurd (no_error fs e k)
-        go (Ok f) (Ok gs) one others rest k = subst (AllByRecursion (HoldsFirst (length rules))) (same_ok (f ∷ gs) fs k) (first_holds a f each.0 one, rest gs others)
+        go (Ok f) (Ok gs) one others rest k = subst (All (HoldsFirst (length rules))) (same_ok (f ∷ gs) fs k)
+            (All-cons (HoldsFirst (length rules)) f gs (first_holds a f (All-head (IsAmbiguity rules) a taken each) one) (rest gs others))
 
   -- the first of them has this many rules before it
   abbrev pub MadeFrom : ℕ → List Made → Type 0
@@ -218,8 +217,8 @@ module _ (letters : ℕ) (setting : Setting) (IsPoly : List Term → Type 0) (Is
       kept.makes (length before.rules) rest more.rule more.made more.made_from is.polynomial (subst (Rows (length before.rules)) (sym rows_are) rows.0) (subst (λ (l : List Row). 1 ≤ length l) (sym rows_are) rows.1) in
       subst Held (sym more.appended)
       (record {
-        rules = All-append (IsRule letters setting.compare) before.rules (more.rule ∷ []) held.rules
-            (All-from_recursion (IsRule letters setting.compare) (more.rule ∷ []) (made_is_rule letters setting.compare rest more.rule more.made more.made_from (kept.words rest.polynomial is.polynomial), tt));
+        rules = All-push (IsRule letters setting.compare) before.rules more.rule held.rules
+            (made_is_rule letters setting.compare rest more.rule more.made more.made_from (kept.words rest.polynomial is.polynomial));
         one_each = omega (arith, length-append before.rules (more.rule ∷ []), length-append before.made (more.made ∷ []), held.one_each);
         made = made_push 0 before.made more.made held.made (subst (λ n. IsMade n more.made) (counted (length before.made) (length before.rules) held.one_each) made);
       })
@@ -232,9 +231,9 @@ module _ (letters : ℕ) (setting : Setting) (IsPoly : List Term → Type 0) (Is
       made_rows true is = (rows_negated (length before.rules) rest.rows is.rows, omega (arith, length-map rest.rows negated_row, is.some))
       made_rows false is = (is.rows, is.some)
 
-  turns_held : (count : ℕ) (works : List Work) (before t : Recorded) → InTurn setting.compare works before (Ok t) → count ≤ length before.rules → Held before → AllByRecursion (KeepsRows count) works → Held t
+  turns_held : (count : ℕ) (works : List Work) (before t : Recorded) → InTurn setting.compare works before (Ok t) → count ≤ length before.rules → Held before → All (KeepsRows count) works → Held t
   turns_held count [] before t turn least held each = subst Held (sym (same_ok t before turn)) held
-  turns_held count (work ∷ works) before t turn least held each = go (work before.rules) refl (λ s next many now. turns_held count works s t next many now each.1) turn
+  turns_held count (work ∷ works) before t turn least held each = go (work before.rules) refl (λ s next many now. turns_held count works s t next many now (All-tail (KeepsRows count) work works each)) turn
     where
       longer : (rest : Option Rest) (after : Recorded) → Adds setting.compare rest before after → count ≤ length after.rules
       longer None after same = omega (arith, ap (λ (r : Recorded). length r.rules) same, least)
@@ -246,16 +245,15 @@ module _ (letters : ℕ) (setting : Setting) (IsPoly : List Term → Type 0) (Is
       go (Err e) has rest k = absurd (no_error t e (sym k))
       go (Ok o) has rest k =
           rest k.between k.next (longer o k.between k.added)
-          (adds_held o before k.between k.added held (λ r same. each.0 before.rules least held.rules r (has ∙ ap Ok same)))
+          (adds_held o before k.between k.added held (λ r same. All-head (KeepsRows count) work works each before.rules least held.rules r (has ∙ ap Ok same)))
 
   -- rounds
-  generator_works : (numbers : List ℕ) → AllByRecursion (IsKeptGenerator letters setting IsPoly IsRow) numbers → AllByRecursion (KeepsRows 0) (map (generator_work setting.compare setting.budget.steps setting.generators) numbers)
-  generator_works [] each = tt
-  generator_works (n ∷ numbers) each = (generator_keeps n each.0, generator_works numbers each.1)
+  generator_works : (numbers : List ℕ) → All (IsKeptGenerator letters setting IsPoly IsRow) numbers → All (KeepsRows 0) (map (generator_work setting.compare setting.budget.steps setting.generators) numbers)
+  generator_works numbers each =
+      All-map (KeepsRows 0) (generator_work setting.compare setting.budget.steps setting.generators) numbers (λ k n inside. generator_keeps _ (each k n inside))
 
-  second_works : (count : ℕ) (fs : List First) → AllByRecursion (HoldsFirst count) fs → AllByRecursion (KeepsRows count) (map (second_work setting.compare setting.budget.steps) fs)
-  second_works count [] each = tt
-  second_works count (f ∷ fs) each = (second_keeps count f each.0, second_works count fs each.1)
+  second_works : (count : ℕ) (fs : List First) → All (HoldsFirst count) fs → All (KeepsRows count) (map (second_work setting.compare setting.budget.steps) fs)
+  second_works count fs each = All-map (KeepsRows count) (second_work setting.compare setting.budget.steps) fs (λ k f inside. second_keeps count _ (each k f inside))
 
   passes_held : (before t : Recorded) (taken : List Ambiguity) → All (IsAmbiguity before.rules) taken → Held before
       → InTwoPasses setting.compare setting.budget.steps (each_in_turn (first_of setting.compare setting.budget.steps before.rules) taken) before (Ok t) → Held t
@@ -265,7 +263,7 @@ module _ (letters : ℕ) (setting : Setting) (IsPoly : List Term → Type 0) (Is
       go (Err e) has k = absurd (no_error t e (sym k))
       go (Ok fs) has k =
           turns_held (length before.rules) (map (second_work setting.compare setting.budget.steps) fs) before t k (omega arith) held
-          (second_works (length before.rules) fs (firsts_hold before.rules held.rules taken fs (recursion_from_All (IsAmbiguity before.rules) taken each) has))
+          (second_works (length before.rules) fs (firsts_hold before.rules held.rules taken fs each has))
 
   went_stopped : (s : RunState) (h : Halt) → went s ≡ stopped h → ⊥
   went_stopped s h same = cc
@@ -286,10 +284,6 @@ module _ (letters : ℕ) (setting : Setting) (IsPoly : List Term → Type 0) (Is
       (subst (InTurn setting.compare (map (generator_work setting.compare setting.budget.steps setting.generators) setting.in_turn) (recorded s)) (ends_ok 0 None s.treated is.result t is.ends) is.generators)
       (omega arith) held (generator_works setting.in_turn kept.generators)
 
-  -- what is taken of the pending ones are ambiguities
-  pub pending_are : (rules : List Rule) (treated : List Ambiguity) (pending : List Waiting) → AreAllPending setting.compare rules treated pending → All (λ w. IsAmbiguity rules w.which) pending
-  pending_are rules treated pending all = pending-all (λ (w : Waiting). IsAmbiguity rules w.which) setting.compare rules treated pending all (λ w one. one.is)
-
   later_round : (number : ℕ) (s t : RunState) → IsLaterRound setting number s (went t) → Held (recorded s) → Held (recorded t)
   later_round number s t is held = go is.pending is.all_pending is.treats
     where
@@ -298,9 +292,7 @@ module _ (letters : ℕ) (setting : Setting) (IsPoly : List Term → Type 0) (Is
       treats_taken least pending all round =
           let count = taken_count setting.budget s pending in
           let taken = ambiguities_of (take count pending) in
-          let are : All (IsAmbiguity s.rules) taken =
-          All-map (IsAmbiguity s.rules) (λ (w : Waiting). w.which) (take count pending) (All-take (λ (w : Waiting). IsAmbiguity s.rules w.which) count pending (pending_are s.rules s.treated pending all)) in
-          passes_held (recorded s) (recorded t) taken are held
+          passes_held (recorded s) (recorded t) taken (taken_are setting.compare s.rules s.treated pending count all) held
           (subst (InTwoPasses setting.compare setting.budget.steps (each_in_turn (first_of setting.compare setting.budget.steps s.rules) taken) (recorded s))
           (ends_ok number (Some least) (s.treated ++ taken) round.result t round.ends) round.passes)
 

@@ -1,7 +1,7 @@
 -- The invariant holds after round 0, later rounds and whole runs.
-use Rattle.std.proofs.Common.{◌≡◌, ◌≤◌, ℕ, zero, suc, Bool, List, [], ◌∷◌, ◌++◌, length, map, get_or, Option, Result, Ok, Err, refl, sym, subst, arith, append-nil, append_assoc}
-use Rattle.std.specs.List.{All, AllByRecursion}
-use Rattle.std.proofs.lemmas.List.Elements.{recursion_from_All}
+use Rattle.std.proofs.Common.{◌≡◌, ◌≤◌, ℕ, zero, suc, Bool, List, [], ◌∷◌, ◌++◌, length, map, Option, Result, Ok, Err, refl, sym, subst, arith, append-nil, append_assoc}
+use Rattle.std.specs.List.{All}
+use Rattle.std.proofs.lemmas.List.Elements.{All-head, All-tail, All-weaker, All-get_or, recursion_from_All}
 use Rattle.definitions.specs.Poly.{Term}
 use Rattle.definitions.specs.Combination.{generator_at}
 use Rattle.definitions.specs.Quiver.{Quiver}
@@ -28,6 +28,7 @@ use Rattle.traced_completion.specs.Results.{and_then}
 use Rattle.traced_completion.specs.Works.{generator_work, Goes, InTurn}
 use Rattle.outcome_laws.specs.KeptRuns.{IsGenerator}
 use Rattle.outcome_laws.proofs.Adding.{appended}
+use Rattle.outcome_laws.proofs.Results.{generator_all}
 
 -- results
 module _ {A E : Type 0} where
@@ -48,31 +49,23 @@ went_on (Ok x) next y is = record { value = x; given = refl; rest = is }
 went_on (Err e) next y is = absurd (no_value e y is)
 
 -- generators
-zero_below : (letters : ℕ) → HasLettersBelow letters []
-zero_below letters = record { at = λ w some. absurd (some refl) }
-
-generator_of : (q : Quiver) (play : ℕ → Bool) (letters : ℕ) (generators : List (List Term)) (n : ℕ) → AllByRecursion (IsGenerator q play letters) generators → 1 ≤ n → n ≤ length generators → IsGenerator q play letters (generator_at generators n)
+generator_of : (q : Quiver) (play : ℕ → Bool) (letters : ℕ) (generators : List (List Term)) (n : ℕ) → All (IsGenerator q play letters) generators → 1 ≤ n → n ≤ length generators → IsGenerator q play letters (generator_at generators n)
 generator_of q play letters generators zero each first last = absurd (omega (arith, first))
-generator_of q play letters [] (suc n) each first last = absurd (omega (arith, last))
-generator_of q play letters (g ∷ generators) (suc zero) each first last = each.0
-generator_of q play letters (g ∷ generators) (suc (suc n)) each first last = generator_of q play letters generators (suc n) each.1 (omega arith) (omega (arith, last))
+generator_of q play letters generators (suc n) each first last = All-get_or (IsGenerator q play letters) generators n [] (omega (arith, last)) each
 
-pub letters_below : (q : Quiver) (play : ℕ → Bool) (letters : ℕ) (generators : List (List Term)) → AllByRecursion (IsGenerator q play letters) generators → HaveLettersBelow letters generators
-letters_below q play letters generators each zero = zero_below letters
-letters_below q play letters [] each (suc n) = subst (HasLettersBelow letters) (sym (past n)) (zero_below letters)
-  where
-    past : (n : ℕ) → get_or {A = List Term} [] n [] ≡ []
-    past zero = refl
-    past (suc n) = refl
-letters_below q play letters (g ∷ generators) each (suc zero) = record { at = words_with_coefficients (IsOver letters) g (recursion_from_All (λ (t : Term). IsOver letters t.1) g each.0.over) }
-letters_below q play letters (g ∷ generators) each (suc (suc n)) = letters_below q play letters generators each.1 (suc n)
+pub letters_below : (q : Quiver) (play : ℕ → Bool) (letters : ℕ) (generators : List (List Term)) → All (IsGenerator q play letters) generators → HaveLettersBelow letters generators
+letters_below q play letters generators each =
+    generator_all (HasLettersBelow letters) generators
+    (All-weaker (IsGenerator q play letters) (HasLettersBelow letters)
+    (λ g is. record { at = words_with_coefficients (IsOver letters) g (recursion_from_All (λ (t : Term). IsOver letters t.1) g is.over) }) generators each)
+    (record { at = λ w some. absurd (some refl) })
 
 module _ (q : Quiver) (play : ℕ → Bool) (letters : ℕ) (compare : Compare) (rank : List ℕ → List ℕ) (laws : IsAdmissible letters compare rank) (generators : List (List Term)) (each : All (IsGenerator q play letters) generators) (steps : ℕ) where
   abbrev pub KeptNow : Recorded → List ℕ → List Ambiguity → Type 0
   KeptNow r done treated = Kept letters compare generators r.rules r.made done treated × AreTypedInPlay q play r.rules
 
   pub over_all : HaveLettersBelow letters generators
-  over_all = letters_below q play letters generators (recursion_from_All (IsGenerator q play letters) generators each)
+  over_all = letters_below q play letters generators each
 
   -- what a reduction leaves, with all that is asked of it
   pub record IsLeft (rules : List Rule) (p : List Term) (s : State) : Type 0 where
@@ -97,7 +90,7 @@ module _ (q : Quiver) (play : ℕ → Bool) (letters : ℕ) (compare : Compare) 
       → generator_work compare steps generators n before.rules ≡ Ok rest → Adds compare rest before after → KeptNow after (done ++ (n ∷ [])) treated
   one_generator n first last before after done treated rest now ends added =
       let went = went_on (normal_form_of compare before.rules (generator_at generators n) steps) (λ s. Ok (rest_with s.rest (generator_rows n s))) rest ends in
-      let g = generator_of q play letters generators n (recursion_from_All (IsGenerator q play letters) generators each) first last in
+      let g = generator_of q play letters generators n each first last in
       let is = left before.rules (generator_at generators n) went.value now.0.are_rules now.1 g.shaped g.over g.typed went.given in
       let rest_is : rest_with went.value.rest (generator_rows n went.value) ≡ rest = same_value (rest_with went.value.rest (generator_rows n went.value)) rest went.rest in
       let adds = appended q play letters compare went.value.rest (generator_rows n went.value) before after is.shaped is.over is.typed (subst (λ r. Adds compare r before after) (sym rest_is) added) in (
@@ -105,16 +98,18 @@ module _ (q : Quiver) (play : ℕ → Bool) (letters : ℕ) (compare : Compare) 
         rules_stay_typed q play letters compare went.value.rest (generator_rows n went.value) before.rules before.made after.rules after.made now.1 is.typed adds,
       )
 
-  pub generators_in_turn : (numbers : List ℕ) → AllByRecursion (λ k. (1 ≤ k) × (k ≤ length generators)) numbers → (before after : Recorded) (done : List ℕ) (treated : List Ambiguity) → KeptNow before done treated
+  pub generators_in_turn : (numbers : List ℕ) → All (λ k. (1 ≤ k) × (k ≤ length generators)) numbers → (before after : Recorded) (done : List ℕ) (treated : List Ambiguity) → KeptNow before done treated
       → InTurn compare (map (generator_work compare steps generators) numbers) before (Ok after) → KeptNow after (done ++ numbers) treated
   generators_in_turn [] in_range before after done treated now turn =
       subst (λ r. KeptNow r (done ++ []) treated) (sym (same_value after before turn)) (subst (λ d. KeptNow before d treated) (sym (append-nil done)) now)
   generators_in_turn (n ∷ numbers) in_range before after done treated now turn = go (generator_work compare steps generators n before.rules) refl turn
-      (λ between here next. subst (λ d. KeptNow after d treated) (append_assoc done (n ∷ []) numbers) (generators_in_turn numbers in_range.1 between after (done ++ (n ∷ [])) treated here next))
+      (λ between here next. subst (λ d. KeptNow after d treated) (append_assoc done (n ∷ []) numbers) (generators_in_turn numbers (All-tail (λ k. (1 ≤ k) × (k ≤ length generators)) n numbers in_range) between after (done ++ (n ∷ [])) treated here next))
     where
       go : (r : Result (Option Rest) ReduceFault) → generator_work compare steps generators n before.rules ≡ r
           → Goes compare r before (λ between. InTurn compare (map (generator_work compare steps generators) numbers) between (Ok after)) (Ok after)
           → ((between : Recorded) → KeptNow between (done ++ (n ∷ [])) treated → InTurn compare (map (generator_work compare steps generators) numbers) between (Ok after) → KeptNow after (done ++ (n ∷ numbers)) treated)
           → KeptNow after (done ++ (n ∷ numbers)) treated
       go (Err e) ends on later = absurd (no_value e after (sym on))
-      go (Ok rest) ends on later = later on.between (one_generator n in_range.0.0 in_range.0.1 before on.between done treated rest now ends on.added) on.next
+      go (Ok rest) ends on later =
+          let first = All-head (λ k. (1 ≤ k) × (k ≤ length generators)) n numbers in_range in
+          later on.between (one_generator n first.0 first.1 before on.between done treated rest now ends on.added) on.next

@@ -1,11 +1,11 @@
 -- The invariant of whole runs, and what is pending.
 use Rattle.std.proofs.Common.{◌≡◌, inl, inr, ◌≤◌, ℕ, zero, suc, Bool, true, false, List, [], ◌∷◌, ◌++◌, length, map, take, nat_le, Option, Some, None, Result, Ok, Err, Contains, refl, sym, ap, ◌∙◌, subst, arith, append-nil}
-use Rattle.std.specs.List.{All, AllByRecursion}
+use Rattle.std.specs.List.{All}
 use Rattle.std.proofs.lemmas.Cmp.{tied_itself}
 use Rattle.std.specs.declared.cmp.Ordering.TheVariants.{Less, Equal}
-use Rattle.std.proofs.lemmas.List.Elements.{recursion_from_All, All-nil}
+use Rattle.std.proofs.lemmas.List.Elements.{All-nil, All-map, All-take}
 use Rattle.definitions.specs.Quiver.{Quiver}
-use Rattle.word_orders.specs.Admissible.{IsAdmissible}
+use Rattle.word_orders.specs.Admissible.{Compare, IsAdmissible}
 use Rattle.cofactor_trace.specs.declared.halt.Halt.{Halt}
 use Rattle.rule_reduce.specs.declared.rule.Rule.{Rule}
 use Rattle.rule_reduce.specs.declared.fault.ReduceFault.{ReduceFault}
@@ -19,8 +19,9 @@ use Rattle.rule_making.specs.Making.{Recorded}
 use Rattle.traced_completion.specs.Results.{each_in_turn}
 use Rattle.traced_completion.specs.Works.{generator_work, First, first_of, InTurn, InTwoPasses}
 use Rattle.ambiguities.specs.Order.{IsWaitingBefore}
-use Rattle.traced_completion.specs.Pending.{IsPending, ambiguities_of}
+use Rattle.traced_completion.specs.Pending.{IsPending, AreAllPending, ambiguities_of}
 use Rattle.traced_completion.specs.PlainRun.{Setting, RunState, went, closed, stopped, start, recorded, Ends, taken_count, IsTreated, TreatsFirst, TreatsPending, IsRound, IsRunState}
+use Rattle.traced_completion.proofs.StoreLemmas.{pending-all}
 use Rattle.outcome_laws.specs.KeptRuns.{IsGenerator, done_after, IsKeptState, RunsAreKept, ClosedIsNothingPending, FirstIsLeastPending}
 use Rattle.outcome_laws.proofs.RunsKept.{no_value, KeptNow, generators_in_turn}
 use Rattle.outcome_laws.proofs.LaterRounds.{ambiguities_in_turn}
@@ -43,10 +44,10 @@ ended number least treated (Err e) s given_up = absurd (not_stopped given_up.sto
     not_stopped e = cc
 
 -- the ambiguities that are taken are ambiguities of the rules
-taken_are : (rules : List Rule) (treated : List Ambiguity) (count : ℕ) (pending : List Waiting) → ((w : Waiting) → Contains pending w → IsPending rules treated w) → AllByRecursion (IsAmbiguity rules) (ambiguities_of (take count pending))
-taken_are rules treated zero pending each = tt
-taken_are rules treated (suc n) [] each = tt
-taken_are rules treated (suc n) (w ∷ pending) each = ((each w (zero, omega arith, refl)).is, taken_are rules treated n pending (λ v at. each v (suc at.0, omega (arith, at.1), at.2)))
+pub taken_are : (compare : Compare) (rules : List Rule) (treated : List Ambiguity) (pending : List Waiting) (count : ℕ) → AreAllPending compare rules treated pending → All (IsAmbiguity rules) (ambiguities_of (take count pending))
+taken_are compare rules treated pending count all =
+    All-map (IsAmbiguity rules) (λ (w : Waiting). w.which) (take count pending)
+    (All-take (λ (w : Waiting). IsAmbiguity rules w.which) count pending (pending-all (λ (w : Waiting). IsAmbiguity rules w.which) compare rules treated pending all (λ w one. one.is)))
 
 -- rounds
 module _ (q : Quiver) (play : ℕ → Bool) (letters : ℕ) (rank : List ℕ → List ℕ) (setting : Setting) (laws : IsAdmissible letters setting.compare rank) (each : All (IsGenerator q play letters) setting.generators)
@@ -67,11 +68,11 @@ module _ (q : Quiver) (play : ℕ → Bool) (letters : ℕ) (rank : List ℕ →
   round_zero before s now round =
       let end = ended 0 None before.treated round.result s round.ends in
       kept_state setting.in_turn before.treated end.value s end.state
-      (generators_in_turn q play letters setting.compare rank laws setting.generators each setting.budget.steps setting.in_turn (recursion_from_All (λ k. (1 ≤ k) × (k ≤ length setting.generators)) setting.in_turn in_range)
+      (generators_in_turn q play letters setting.compare rank laws setting.generators each setting.budget.steps setting.in_turn in_range
       (recorded before) end.value [] before.treated (now.kept, now.typed)
       (subst (λ r. InTurn setting.compare (map (generator_work setting.compare setting.budget.steps setting.generators) setting.in_turn) (recorded before) r) end.given round.generators))
 
-  treated_round : (number : ℕ) (before s : RunState) (done : List ℕ) (least : List ℕ) (taken : List Ambiguity) → AllByRecursion (IsAmbiguity before.rules) taken → IsKeptAfter done before → IsTreated setting number before least taken (went s) → IsKeptAfter done s
+  treated_round : (number : ℕ) (before s : RunState) (done : List ℕ) (least : List ℕ) (taken : List Ambiguity) → All (IsAmbiguity before.rules) taken → IsKeptAfter done before → IsTreated setting number before least taken (went s) → IsKeptAfter done s
   treated_round number before s done least taken are now round =
       let end = ended number (Some least) (before.treated ++ taken) round.result s round.ends in
       kept_state done (before.treated ++ taken) end.value s end.state
@@ -84,7 +85,7 @@ module _ (q : Quiver) (play : ℕ → Bool) (letters : ℕ) (rank : List ℕ →
           (recorded before) value done before.treated (record { more = []; is = sym (append-nil before.rules) }) (now.kept, now.typed) two
 
   later_round : (n : ℕ) (before s : RunState) (done : List ℕ) → IsKeptAfter done before → IsRound setting (suc n) before (went s) → IsKeptAfter done s
-  later_round n before s done now round = go round.pending (λ w at. (round.all_pending.members w).0 at) round.treats
+  later_round n before s done now round = go round.pending round.all_pending round.treats
     where
       not_closed : went s ≡ closed → ⊥
       not_closed e = cc
@@ -92,12 +93,12 @@ module _ (q : Quiver) (play : ℕ → Bool) (letters : ℕ) (rank : List ℕ →
       not_stopped : {h : Halt} → went s ≡ stopped h → ⊥
       not_stopped e = cc
 
-      by_pairs : (w : Waiting) (ws : List Waiting) → ((v : Waiting) → Contains (w ∷ ws) v → IsPending before.rules before.treated v) → (b : Bool) → TreatsFirst setting (suc n) before w.word (w ∷ ws) b (went s) → IsKeptAfter done s
+      by_pairs : (w : Waiting) (ws : List Waiting) → AreAllPending setting.compare before.rules before.treated (w ∷ ws) → (b : Bool) → TreatsFirst setting (suc n) before w.word (w ∷ ws) b (went s) → IsKeptAfter done s
       by_pairs w ws pending true treats = absurd (not_stopped treats)
       by_pairs w ws pending false treats =
-          treated_round (suc n) before s done w.word (ambiguities_of (take (taken_count setting.budget before (w ∷ ws)) (w ∷ ws))) (taken_are before.rules before.treated (taken_count setting.budget before (w ∷ ws)) (w ∷ ws) pending) now treats
+          treated_round (suc n) before s done w.word (ambiguities_of (take (taken_count setting.budget before (w ∷ ws)) (w ∷ ws))) (taken_are setting.compare before.rules before.treated (w ∷ ws) (taken_count setting.budget before (w ∷ ws)) pending) now treats
 
-      go : (ws : List Waiting) → ((v : Waiting) → Contains ws v → IsPending before.rules before.treated v) → TreatsPending setting (suc n) before ws (went s) → IsKeptAfter done s
+      go : (ws : List Waiting) → AreAllPending setting.compare before.rules before.treated ws → TreatsPending setting (suc n) before ws (went s) → IsKeptAfter done s
       go [] pending treats = absurd (not_closed treats)
       go (w ∷ ws) pending treats = by_pairs w ws pending (nat_le setting.budget.pairs (length before.treated)) treats
 
