@@ -1,10 +1,10 @@
 -- A certificate with lemmas that names the claim, is within the limits and adds up with polynomials of the program is refused
 -- for a limit alone, or for want of memory.
-use Rattle.std.proofs.Common.{◌≡◌, ◌+◌, ◌⊎◌, inl, inr, ℕ, suc, List, [], ◌∷◌, ◌++◌, arith, refl, sym, ap, ap₂, ◌∙◌, subst, length}
-use Rattle.std.specs.List.{All, AllByRecursion}
+use Rattle.std.proofs.Common.{◌≡◌, ◌+◌, ◌⊎◌, inl, inr, ℕ, suc, List, [], ◌∷◌, ◌++◌, Some, arith, refl, sym, ap, ap₂, ◌∙◌, subst, length}
+use Rattle.std.specs.List.{All}
 use Rattle.std.proofs.lemmas.Int.{ints}
 use Rattle.std.proofs.lemmas.List.{length-append}
-use Rattle.std.proofs.lemmas.List.Elements.{All-head, All-tail, recursion_from_All, All-from_recursion}
+use Rattle.std.proofs.lemmas.List.Elements.{All-head, All-tail, All-pop}
 use Rattle.definitions.specs.Poly.{Term, coefficient_of, poly_multiple, SamePolynomial}
 use Rattle.nc_polynomial.specs.Shape.{IsCanonical}
 use Rattle.traced_rows.specs.declared.evidence.Lemma.{Lemma}
@@ -19,7 +19,6 @@ use Rattle.cofactor_checker.specs.Lemmas.{lemma_polynomials, RefusesLemmas, row_
 use Rattle.cofactor_checker.specs.LemmaAcceptance.{goal_claim, all_polynomials, IsPositive, IsFirstLoose, HasLooseGoal, RefusesBlock, RefusesLemmaCertificate}
 use Rattle.cofactor_checker.proofs.LemmaSums.{sums_agree}
 use Rattle.outcome_laws.specs.EvidenceLimits.{IsLemmaWithin, IsLemmaCertificateWithin}
-use Rattle.outcome_laws.proofs.Results.{split_last}
 use Rattle.report_readback.proofs.PlainAnswers.{Polys, item, none_differs}
 use Rattle.report_readback.proofs.OneLemma.{Answers, rows_answer, polynomial_is, lemma_answer}
 
@@ -79,11 +78,11 @@ module _ (claims gs : Polys) (c : LemmaCertificate) (ps : Polys) (claim : IsNumb
     at = λ w. ap (λ qs. coefficient_of (plain_sum gs qs c.goal.rows) w) polynomials ∙ ap (λ q. coefficient_of q w) (sym (sums_agree gs ps c.goal.rows)) ∙ evidence.goal_adds_up.at w;
   }
 
-  shares : AllByRecursion (IsShareOf c.denominator) c.lemmas × IsShareOf c.denominator c.goal
-  shares = split_last (IsShareOf c.denominator) c.lemmas c.goal (recursion_from_All (IsShareOf c.denominator) (c.lemmas ++ c.goal ∷ []) evidence.shares)
+  shares : All (IsShareOf c.denominator) c.lemmas × IsShareOf c.denominator c.goal
+  shares = All-pop (IsShareOf c.denominator) (c.lemmas ++ c.goal ∷ []) c.lemmas (Some c.goal) refl evidence.shares
 
   loose_answer : (lemma : ℕ) → IsFirstLoose c.denominator c.lemmas lemma ⊎ HasLooseGoal c lemma → ⊥
-  loose_answer lemma (inl first) = first.loose (item (IsShareOf c.denominator) c.lemmas first.before first.lemma (All-from_recursion (IsShareOf c.denominator) c.lemmas shares.0) first.there).1
+  loose_answer lemma (inl first) = first.loose (item (IsShareOf c.denominator) c.lemmas first.before first.lemma shares.0 first.there).1
   loose_answer lemma (inr goal) = goal.loose shares.1.1
 
   pub lemmas_certificate_answer : (r : Refusal) → RefusesLemmaCertificate claims gs c r → Answers r

@@ -7,7 +7,7 @@ use Rattle.std.proofs.Math.Nat.{dvd-mul_right}
 use Rattle.std.proofs.lemmas.Bool.Decides.{nat_tests}
 use Rattle.std.proofs.lemmas.Int.{ints, unsigned_abs-mul}
 use Rattle.std.proofs.lemmas.List.{length-append, length-map}
-use Rattle.std.proofs.lemmas.List.Elements.{All-map, recursion_from_All}
+use Rattle.std.proofs.lemmas.List.Elements.{All-head, All-tail, All-map}
 use Rattle.definitions.specs.Poly.{Term, coefficient_of, poly_multiple}
 use Rattle.definitions.specs.Combination.{Row}
 use Rattle.nc_polynomial.specs.declared.fault.SizeFault.{SizeFault}
@@ -78,14 +78,16 @@ divides_multiple s p =
     (λ k t below. subst (λ n. unsigned_abs s ∣ n) (sym (unsigned_abs-mul s (get_or p k t).0)) (dvd-mul_right (unsigned_abs s) (unsigned_abs (get_or p k t).0)))
 
 -- sizes
-none_long : (s : ℤ) (p : List Term) → AllByRecursion (λ t. length t.1 ≤ word_limit) p → has_long_word (poly_multiple s p) ≡ false
+none_long : (s : ℤ) (p : List Term) → All (λ t. length t.1 ≤ word_limit) p → has_long_word (poly_multiple s p) ≡ false
 none_long s [] short = refl
-none_long s (t ∷ p) short = let here : nat_lt word_limit (length t.1) ≡ false = grind (arith, nat_tests, short.0) in rw (here, none_long s p short.1) refl
+none_long s (t ∷ p) short =
+    let here : nat_lt word_limit (length t.1) ≡ false = grind (arith, nat_tests, All-head (λ (u : Term). length u.1 ≤ word_limit) t p short) in
+    rw (here, none_long s p (All-tail (λ (u : Term). length u.1 ≤ word_limit) t p short)) refl
 
 multiple_fits : (s : ℤ) (p : List Term) (limit : SizeFault) → IsCanonical p → sized (poly_multiple s p) ≡ Err (fault.Size limit) → ⊥
 multiple_fits s p limit canonical =
     let few : nat_lt term_limit (length (poly_multiple s p)) ≡ false = grind (arith, nat_tests, length-map {B = Term} p (λ (t : Term). (s *ℤ t.0, t.1)), canonical.few) in
-    rw (none_long s p (recursion_from_All (λ t. length t.1 ≤ word_limit) p canonical.short), few) (λ same. cc)
+    rw (none_long s p canonical.short, few) (λ same. cc)
 
 -- the lemma
 module _ (gs before : Polys) (l : Lemma) (p : List Term) (positive : pos 0 <ℤ l.scale) (adds_up : AddsUpTo gs before l p) (canonical : IsCanonical p) where
