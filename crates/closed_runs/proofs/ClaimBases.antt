@@ -1,7 +1,7 @@
 -- The bases of the closed claims of a problem can be written, and each is closed, or its check stops.
 use Rattle.std.proofs.Common.{◌≡◌, ◌≢◌, ◌<◌, ◌≤◌, inl, inr, ℕ, zero, suc, ◌+◌, pos, List, [], ◌∷◌, length, refl, sym, ap, ◌∙◌, subst, arith}
 use Rattle.std.specs.List.{All, AllByRecursion, range_with_len}
-use Rattle.std.proofs.lemmas.List.Elements.{All-from_recursion, recursion_from_All}
+use Rattle.std.proofs.lemmas.List.Elements.{All-nil, All-cons, All-map, All-weaker, All-from_recursion, recursion_from_All}
 use Rattle.definitions.specs.Poly.{Term}
 use Rattle.word_core.specs.Letters.{IsOver}
 use Rattle.word_orders.specs.Admissible.{Compare}
@@ -77,8 +77,8 @@ module _ (problem : Problem) (budget : Budget) (form : Format) where
       → P (basis_by rules number rest)) where
     each_from : (claim more : ℕ) → 1 ≤ claim → claim + more ≤ suc count → (outcomes : List Outcome)
         → AreOutcomesOf setting form problem (range_with_len claim more) outcomes
-        → AllByRecursion P (closed_from rules claim outcomes)
-    each_from claim zero first last [] are = tt
+        → All P (closed_from rules claim outcomes)
+    each_from claim zero first last [] are = All-nil P
     each_from claim zero first last (o ∷ outcomes) are = absurd are
     each_from claim (suc more) first last [] are = absurd are
     each_from claim (suc more) first last (o ∷ outcomes) are =
@@ -87,14 +87,15 @@ module _ (problem : Problem) (budget : Budget) (form : Format) where
         (each_from (suc claim) more (omega (arith, first)) (omega (arith, last)) outcomes
         (subst (λ n. AreOutcomesOf setting form problem (range_with_len n more) outcomes) step are.1))
       where
-        go : (o : Outcome) → IsOutcomeAt problem budget form claim o → AllByRecursion P (closed_from rules (suc claim) outcomes)
-            → AllByRecursion P (closed_from rules claim (o ∷ outcomes))
+        go : (o : Outcome) → IsOutcomeAt problem budget form claim o → All P (closed_from rules (suc claim) outcomes)
+            → All P (closed_from rules claim (o ∷ outcomes))
         go (outcome.Derived e) is rest = rest
-        go (outcome.Closed left) is rest = (each claim left (record { least = first; most = omega (arith, last) }) is, rest)
+        go (outcome.Closed left) is rest =
+            All-cons P (basis_by rules claim left) (closed_from rules (suc claim) outcomes) (each claim left (record { least = first; most = omega (arith, last) }) is) rest
         go (outcome.Halted h) is rest = rest
 
     pub each_closed : (outcomes : List Outcome) → AreOutcomesOf setting form problem (claim_numbers problem) outcomes → All P (closed_from rules 1 outcomes)
-    each_closed outcomes are = All-from_recursion P (closed_from rules 1 outcomes) (each_from 1 count (omega arith) (omega arith) outcomes are)
+    each_closed outcomes are = each_from 1 count (omega arith) (omega arith) outcomes are
 
   -- words with letters
   claim_words : (number : ℕ) → AreWords letters (claim_at problem number)
@@ -118,17 +119,12 @@ module _ (problem : Problem) (budget : Budget) (form : Format) where
       All-from_recursion (λ (t : Term). 0 < length t.1) rest.terms
       (subst (AllByRecursion (λ (t : Term). 0 < length t.1)) closing.left.rest_is (words_nonempty letters closing.left.reduced.rest words))
 
-  polys_have_letters : (rules : List Rule) → AllByRecursion (IsRule letters compare) rules → AllByRecursion HasLetters (polynomials_in rules)
-  polys_have_letters [] are = tt
-  polys_have_letters (g ∷ rules) are = (are.0.nonempty, polys_have_letters rules are.1)
-
   module _ (rules : List Poly) (last : AreLastRules setting form problem (claim_numbers problem) rules) where
     rules_have_letters : All HasLetters rules
     rules_have_letters =
         subst (All HasLetters) (sym last.are)
-        (All-from_recursion HasLetters (polynomials_in last.state.rules)
-        (polys_have_letters last.state.rules
-        (recursion_from_All (IsRule letters compare) last.state.rules (state_kept problem budget last.rounds last.state last.run).kept.are_rules)))
+        (All-map HasLetters (λ (g : Rule). g.poly) last.state.rules
+        (All-weaker (IsRule letters compare) (λ g. HasLetters g.poly) (λ g is. is.nonempty) last.state.rules (state_kept problem budget last.rounds last.state last.run).kept.are_rules))
 
     pub closed_are_writable : length rules ≤ rule_limit → (outcomes : List Outcome) → AreOutcomesOf setting form problem (claim_numbers problem) outcomes
         → All (IsWritableBasis problem.parts.quiver) (closed_from rules 1 outcomes)

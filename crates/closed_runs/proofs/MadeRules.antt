@@ -2,7 +2,7 @@
 use Rattle.std.proofs.Common.{◌≡◌, ℕ, zero, suc, pos, Bool, true, false, nat_le, List, [], ◌∷◌, ◌++◌, map, length, take, Option, Some, None, Result, Ok, Err}
 use Rattle.std.proofs.Common.{sym, subst}
 use Rattle.std.specs.List.{All}
-use Rattle.std.proofs.lemmas.List.Elements.{All-from_recursion, All-append, All-nil}
+use Rattle.std.proofs.lemmas.List.Elements.{All-push, All-nil}
 use Rattle.word_orders.specs.Admissible.{Compare}
 use Rattle.nc_polynomial.specs.Content.{IsContent}
 use Rattle.traced_rows.specs.declared.Made.{Made}
@@ -27,7 +27,7 @@ module _ (compare : Compare) (P : Rule → Type 0) (made : (rest : Rest) (g : Ru
   added None before after same each = subst (λ (r : Recorded). All P r.rules) (sym same) each
   added (Some rest) before after more each =
       subst (λ (r : Recorded). All P r.rules) (sym more.appended)
-      (All-append P before.rules (more.rule ∷ []) each (All-from_recursion P (more.rule ∷ []) (made rest more.rule more.made more.made_from, tt)))
+      (All-push P before.rules more.rule each (made rest more.rule more.made more.made_from))
 
   in_turn : (works : List Work) (before after : Recorded) → InTurn compare works before (Ok after) → All P before.rules → All P after.rules
   in_turn [] before after turn each = subst (λ (r : Recorded). All P r.rules) (sym (same_value after before turn)) each

@@ -1,9 +1,9 @@
 -- The basis that is printed of a closed claim is closed, or its check stops.
 use Rattle.std.proofs.Common.{◌≡◌, ◌⊎◌, inl, inr, ◌<◌, ◌≤◌, ℕ, zero, suc, ◌+◌, pos, List, [], length, None, Result, Ok, Err, Contains, refl, sym, ap, ◌∙◌}
 use Rattle.std.proofs.Common.{subst, arith}
-use Rattle.std.specs.List.{All, AllByRecursion, range_with_len}
+use Rattle.std.specs.List.{All, range_with_len}
 use Rattle.std.proofs.lemmas.List.{length-map}
-use Rattle.std.proofs.lemmas.List.Elements.{All-from_recursion, recursion_from_All}
+use Rattle.std.proofs.lemmas.List.Elements.{recursion_from_All}
 use Rattle.std.proofs.lemmas.List.FromFn.{length-range_with_len, get_or-range_with_len}
 use Rattle.definitions.specs.Poly.{Term, coefficient_of}
 use Rattle.definitions.specs.Combination.{generator_at, InRationalIdeal}
@@ -188,18 +188,13 @@ module _ (problem : Problem) (budget : Budget) where
         closing_rules_are_last letters rank setting laws form problem (claim_numbers problem) b.rules b.claim rounds s b.rest printed.rules
         (number_among (length problem.parts.claims) b.claim names) printed.outcome.gets
 
-    each_is : AllByRecursion (IsRule letters compare) s.rules
-    each_is = recursion_from_All (IsRule letters compare) s.rules (are_rules rounds s run)
-
     pub rules_are : rules_of problem b ≡ s.rules
-    rules_are = ap (rules_from compare) polys_are ∙ rules_of_run letters compare s.rules each_is
+    rules_are = ap (rules_from compare) polys_are ∙ rules_of_run letters compare s.rules (are_rules rounds s run)
 
     rules_may : All (MayBeRule compare) b.rules
     rules_may =
         subst (All (MayBeRule compare)) (sym polys_are)
-        (All-from_recursion (MayBeRule compare) (polynomials_in s.rules)
-        (all_may letters compare s.rules each_is
-        (recursion_from_All (λ (g : Rule). IsContent g.poly.terms (pos 1)) s.rules (runs_are_primitive setting rounds s run))))
+        (all_may letters compare s.rules (are_rules rounds s run) (runs_are_primitive setting rounds s run))
 
     -- what isn't left
     generator_left : (number : ℕ) (rest : Poly) → IsNumberUpTo (length problem.generators) number → rest_of problem b (part.Generator number) ≡ Ok rest.terms

@@ -1,6 +1,7 @@
 -- The rules of a run are the rules of their polynomials, and each of these may be a rule.
-use Rattle.std.proofs.Common.{◌≡◌, ◌<ℤ◌, ℕ, pos, List, [], ◌∷◌, ◌++◌, option_to_list, Option, IsSomeAnd, refl, sym, ap, ◌∙◌, subst}
-use Rattle.std.specs.List.{AllByRecursion}
+use Rattle.std.proofs.Common.{◌≡◌, ◌<ℤ◌, ℕ, pos, List, [], ◌∷◌, ◌++◌, get_or, option_to_list, Option, IsSomeAnd, refl, sym, ap, ◌∙◌, subst}
+use Rattle.std.specs.List.{All}
+use Rattle.std.proofs.lemmas.List.Elements.{All-head, All-tail, All-map}
 use Rattle.std.specs.Option.{option_map}
 use Rattle.definitions.specs.Poly.{Term}
 use Rattle.word_orders.specs.Admissible.{Compare}
@@ -11,12 +12,12 @@ use Rattle.claim_decider.specs.Decided.{polynomials_in}
 use Rattle.closed_checker.specs.Rests.{MayBeRule, rules_from}
 
 module _ (letters : ℕ) (compare : Compare) where
-  pub rules_of_run : (rules : List Rule) → AllByRecursion (IsRule letters compare) rules → rules_from compare (polynomials_in rules) ≡ rules
+  pub rules_of_run : (rules : List Rule) → All (IsRule letters compare) rules → rules_from compare (polynomials_in rules) ≡ rules
   rules_of_run [] are = refl
   rules_of_run (g ∷ rules) are =
       ap (λ (o : Option Term). option_to_list (option_map (λ (t : Term). record { leading = t.0; lead = t.1; poly = g.poly }) o)
-      ++ rules_from compare (polynomials_in rules)) are.0.leading
-      ∙ ap (λ (rest : List Rule). g ∷ rest) (rules_of_run rules are.1)
+      ++ rules_from compare (polynomials_in rules)) (All-head (IsRule letters compare) g rules are).leading
+      ∙ ap (λ (rest : List Rule). g ∷ rest) (rules_of_run rules (All-tail (IsRule letters compare) g rules are))
 
   may : (g : Rule) → IsRule letters compare g → IsContent g.poly.terms (pos 1) → MayBeRule compare g.poly
   may g is primitive = record {
@@ -25,7 +26,6 @@ module _ (letters : ℕ) (compare : Compare) where
     nonempty = is.nonempty;
   }
 
-  pub all_may : (rules : List Rule) → AllByRecursion (IsRule letters compare) rules → AllByRecursion (λ g. IsContent g.poly.terms (pos 1)) rules
-      → AllByRecursion (MayBeRule compare) (polynomials_in rules)
-  all_may [] are primitive = tt
-  all_may (g ∷ rules) are primitive = (may g are.0 primitive.0, all_may rules are.1 primitive.1)
+  pub all_may : (rules : List Rule) → All (IsRule letters compare) rules → All (λ g. IsContent g.poly.terms (pos 1)) rules
+      → All (MayBeRule compare) (polynomials_in rules)
+  all_may rules are primitive = All-map (MayBeRule compare) (λ (g : Rule). g.poly) rules (λ k g inside. may (get_or rules k g) (are k g inside) (primitive k g inside))

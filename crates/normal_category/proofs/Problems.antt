@@ -2,7 +2,7 @@
 use Rattle.std.proofs.Common.{◌≡◌, ℕ, zero, suc, ◌≤◌, Bool, true, List, [], ◌∷◌, length, arith}
 use Rattle.std.specs.List.{All, AllByRecursion, AllZip, list_all}
 use Rattle.std.proofs.lemmas.List.{length-map}
-use Rattle.std.proofs.lemmas.List.Elements.{All-from_recursion, recursion_from_All}
+use Rattle.std.proofs.lemmas.List.Elements.{All-nil, All-cons, All-head, All-tail, recursion_from_All}
 use Rattle.definitions.specs.Poly.{Term, SamePolynomial}
 use Rattle.definitions.specs.Combination.{generator_at, InRationalIdeal}
 use Rattle.definitions.specs.Soundness.{HasSignature}
@@ -14,7 +14,7 @@ use Rattle.rule_reduce.specs.declared.rule.Rule.{Rule}
 use Rattle.rule_reduce.specs.RuleLists.{IsRule, polynomials_of}
 use Rattle.ambiguities.specs.Resolved.{Resolved}
 use Rattle.adjoint_rules.specs.declared.problem.Problem.{Problem}
-use Rattle.adjoint_rules.specs.Problem.{numbers, is_in_play, polynomials, generators_in, IsInPlay, HasLettersInPlay}
+use Rattle.adjoint_rules.specs.Problem.{numbers, is_in_play, polynomials, generators_in, IsInPlay}
 use Rattle.adjoint_rules.proofs.Generators.{claims_have_signatures}
 use Rattle.adjoint_rules.specs.Claims.{claim_at}
 use Rattle.completion_laws.specs.Typed.{AreTypedInPlay}
@@ -39,12 +39,14 @@ ideal_same generators f g same inside = record {
       record { positive = inside.combination.positive; sum = Same_trans _ _ _ inside.combination.sum (SamePolynomial-multiple inside.denominator f g same) };
 }
 
-ideals_along : (generators fs gs : List (List Term)) → AllZip SamePolynomial fs gs → AllByRecursion (InRationalIdeal generators) fs
-    → AllByRecursion (InRationalIdeal generators) gs
-ideals_along generators [] [] same each = tt
+ideals_along : (generators fs gs : List (List Term)) → AllZip SamePolynomial fs gs → All (InRationalIdeal generators) fs
+    → All (InRationalIdeal generators) gs
+ideals_along generators [] [] same each = All-nil (InRationalIdeal generators)
 ideals_along generators [] (g ∷ gs) same each = absurd same
 ideals_along generators (f ∷ fs) [] same each = absurd same
-ideals_along generators (f ∷ fs) (g ∷ gs) same each = (ideal_same generators f g same.0 each.0, ideals_along generators fs gs same.1 each.1)
+ideals_along generators (f ∷ fs) (g ∷ gs) same each =
+    All-cons (InRationalIdeal generators) g gs (ideal_same generators f g same.0 (All-head (InRationalIdeal generators) f fs each))
+    (ideals_along generators fs gs same.1 (All-tail (InRationalIdeal generators) f fs each))
 
 module _ (problem : Problem) (rules : List Rule)
     (are_rules : All (IsRule (letter_count problem.parts.quiver) (asked_cmp problem.parts.order)) rules)
@@ -58,9 +60,7 @@ module _ (problem : Problem) (rules : List Rule)
     are_rules = are_rules;
     resolved = resolved;
     typed = typed;
-    generated = All-from_recursion (InRationalIdeal (polynomials_of rules)) (generators_in problem.parts)
-        (ideals_along (polynomials_of rules) (polynomials problem.generators) (generators_in problem.parts) problem.closed.same
-        (recursion_from_All (InRationalIdeal (polynomials_of rules)) (polynomials problem.generators) generated));
+    generated = ideals_along (polynomials_of rules) (polynomials problem.generators) (generators_in problem.parts) problem.closed.same generated;
   }
 
   abbrev play : ℕ → Bool
@@ -75,30 +75,27 @@ module _ (problem : Problem) (rules : List Rule)
   all_tested [] each = tt
   all_tested (f ∷ fs) each = (tested f each.0, all_tested fs each.1)
 
-  claim_plays : (claims : List Poly) → AllByRecursion (HasLettersInPlay problem.parts.quiver problem.parts.starred (numbers problem.parts.marked)) claims
-      → AllByRecursion (Plays problem.parts rules basis) (polynomials claims)
+  abbrev InPlay : ℕ → Type 0
+  InPlay = IsInPlay problem.parts.quiver problem.parts.starred (numbers problem.parts.marked)
+
+  abbrev WordInPlay : Term → Type 0
+  WordInPlay t = All InPlay t.1
+
+  terms_play : (p : List Term) → All WordInPlay p → Plays problem.parts rules basis p
+  terms_play [] each = tt
+  terms_play (t ∷ p) each = (recursion_from_All InPlay t.1 (All-head WordInPlay t p each), terms_play p (All-tail WordInPlay t p each))
+
+  claim_plays : (claims : List Poly) → All (λ f. All WordInPlay f.terms) claims → AllByRecursion (Plays problem.parts rules basis) (polynomials claims)
   claim_plays [] each = tt
-  claim_plays (f ∷ claims) each = (
-    terms f.terms
-        (recursion_from_All (λ (t : Term). All (IsInPlay problem.parts.quiver problem.parts.starred (numbers problem.parts.marked)) t.1) f.terms each.0),
-    claim_plays claims each.1,
-  )
-    where
-      terms : (p : List Term) → AllByRecursion (λ (t : Term). All (IsInPlay problem.parts.quiver problem.parts.starred (numbers problem.parts.marked)) t.1) p
-          → Plays problem.parts rules basis p
-      terms [] each = tt
-      terms (t ∷ p) each =
-          (recursion_from_All (IsInPlay problem.parts.quiver problem.parts.starred (numbers problem.parts.marked)) t.1 each.0, terms p each.1)
+  claim_plays (f ∷ claims) each =
+      (terms_play f.terms (All-head (λ (g : Poly). All WordInPlay g.terms) f claims each), claim_plays claims (All-tail (λ (g : Poly). All WordInPlay g.terms) f claims each))
 
   pub problem_is_sharp : (claim : ℕ) → 1 ≤ claim → claim ≤ length problem.parts.claims → (InRationalIdeal (polynomials_of rules) (claim_at problem claim) → ⊥)
       → SharpMeans problem.parts rules (claim_at problem claim)
   problem_is_sharp claim first last outside =
       sharp_means problem.parts rules basis (all_tested (generators_in problem.parts) (generator_words problem.parts problem.posed)) (claim_at problem claim)
       (numbered (Plays problem.parts rules basis) (polynomials problem.parts.claims)
-      (claim_plays problem.parts.claims
-      (recursion_from_All
-      (HasLettersInPlay problem.parts.quiver problem.parts.starred
-      (numbers problem.parts.marked)) problem.parts.claims problem.posed.claim_letters)) claim first inside)
+      (claim_plays problem.parts.claims problem.posed.claim_letters) claim first inside)
       (numbered (HasSignature (quiver_of problem.parts.quiver)) (polynomials problem.parts.claims)
       (claims_have_signatures problem.parts problem.posed) claim first inside)
       outside

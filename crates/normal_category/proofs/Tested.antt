@@ -1,8 +1,9 @@
 -- The test of the polynomials of rules holds exactly where all rules are typed and in play.
-use Rattle.std.proofs.Common.{◌≡◌, ℕ, Bool, true, ◌&&◌, List, [], ◌∷◌, Option, Some, None, refl, sym, ap, subst}
+use Rattle.std.proofs.Common.{◌≡◌, ℕ, Bool, true, ◌&&◌, List, [], ◌∷◌, get_or, Option, Some, None, refl, sym, ap, ◌∙◌, subst}
 use Rattle.std.proofs.lemmas.Bool.{and_parts, and_from}
-use Rattle.std.proofs.lemmas.List.Elements.{All-from_recursion, recursion_from_All}
-use Rattle.std.specs.List.{AllByRecursion, list_all}
+use Rattle.std.proofs.lemmas.List.Folds.{list_all-map}
+use Rattle.std.proofs.lemmas.List.Sums.{AllPass-from_list_all, list_all-from_AllPass}
+use Rattle.std.specs.List.{All, list_all}
 use Rattle.definitions.specs.Poly.{Term, coefficient_of}
 use Rattle.definitions.specs.Quiver.{Quiver, is_path, IsTyped, signature_of}
 use Rattle.definitions.proofs.Typed.{signature_from_path}
@@ -59,21 +60,20 @@ module _ (q : Quiver) where
     to_test p is = and_from (is_typed q p.terms) (has_letters_in_play play p.terms)
         (test_from_typed p is.source is.target is.typed) (words_suffice (list_all play) p is.in_play.at)
 
-    each_from_test : (rules : List Rule) → list_all test (polynomials_of rules) ≡ true → AllByRecursion (λ g. IsTypedInPlay q play g.poly.terms) rules
-    each_from_test [] holds = tt
-    each_from_test (g ∷ rules) holds =
-        let parts = and_parts (test g.poly.terms) (list_all test (polynomials_of rules)) holds in
-        (from_test g.poly.terms parts.0, each_from_test rules parts.1)
+    abbrev test_rule : Rule → Bool
+    test_rule g = test g.poly.terms
 
-    each_to_test : (rules : List Rule) → AllByRecursion (λ g. IsTypedInPlay q play g.poly.terms) rules → list_all test (polynomials_of rules) ≡ true
-    each_to_test [] each = refl
-    each_to_test (g ∷ rules) each =
-        and_from (test g.poly.terms) (list_all test (polynomials_of rules)) (to_test g.poly each.0) (each_to_test rules each.1)
+    each_from_test : (rules : List Rule) → list_all test (polynomials_of rules) ≡ true → All (λ g. IsTypedInPlay q play g.poly.terms) rules
+    each_from_test rules holds k g inside =
+        from_test (get_or rules k g).poly.terms (AllPass-from_list_all test_rule rules (sym (list_all-map test (λ (f : Rule). f.poly.terms) rules) ∙ holds) k g inside)
+
+    each_to_test : (rules : List Rule) → All (λ g. IsTypedInPlay q play g.poly.terms) rules → list_all test (polynomials_of rules) ≡ true
+    each_to_test rules each =
+        list_all-map test (λ (f : Rule). f.poly.terms) rules
+        ∙ list_all-from_AllPass test_rule rules (λ k g inside. to_test (get_or rules k g).poly (each k g inside))
 
 pub sharp_rules_are_told : SharpRulesAreTold
 sharp_rules_are_told p rules =
     let q = quiver_of p.quiver in
-    let play = is_in_play p.quiver p.starred (numbers p.marked) in (
-      λ holds. All-from_recursion (λ (g : Rule). IsTypedInPlay q play g.poly.terms) rules (each_from_test q play rules holds),
-      λ sharp. each_to_test q play rules (recursion_from_All (λ (g : Rule). IsTypedInPlay q play g.poly.terms) rules sharp),
-    )
+    let play = is_in_play p.quiver p.starred (numbers p.marked) in
+    (each_from_test q play rules, each_to_test q play rules)
