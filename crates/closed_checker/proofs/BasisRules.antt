@@ -2,7 +2,7 @@
 use Rattle.std.proofs.Common.{◌≡◌, ◌<ℤ◌, ℕ, pos, List, [], ◌∷◌, ◌++◌, option_to_list, Option, Some, None, IsSomeAnd, refl, ap, subst}
 use Rattle.std.specs.List.{All}
 use Rattle.std.specs.Option.{option_map}
-use Rattle.std.proofs.lemmas.List.Elements.{All-nil, All-cons, All-head, All-tail, recursion_from_All}
+use Rattle.std.proofs.lemmas.List.Elements.{All-nil, All-cons, All-head, All-tail}
 use Rattle.coef_int.specs.Range.{IsCoefficient}
 use Rattle.definitions.specs.Poly.{Term}
 use Rattle.word_core.specs.Letters.{IsOver}
@@ -37,9 +37,7 @@ module _ (compare : Compare) where
     leads_rule p t may over leads = record {
       leading = leads;
       positive = subst (λ (o : Option Term). IsSomeAnd o (λ u. pos 0 <ℤ u.0)) leads may.positive;
-      in_range =
-          leading-all (λ u. IsCoefficient u.0) compare p.terms t leads
-          (recursion_from_All (λ (u : Term). IsCoefficient u.0) p.terms p.canonical.shaped.in_range);
+      in_range = leading-all (λ u. IsCoefficient u.0) compare p.terms t leads p.canonical.shaped.in_range;
       nonempty = may.nonempty;
       over = over;
     }

@@ -2,7 +2,7 @@
 use Rattle.std.proofs.Common.{◌≡◌, ◌≢◌, ◌≤◌, ℕ, pos, List, [], ◌∷◌, length, Result, Ok, Err, refl, sym, ap, ◌∙◌, subst, arith}
 use Rattle.std.specs.List.{All}
 use Rattle.std.proofs.lemmas.List.{length-map}
-use Rattle.std.proofs.lemmas.List.Elements.{recursion_from_All}
+use Rattle.std.proofs.lemmas.List.Elements.{All-head}
 use Rattle.definitions.specs.Poly.{Term, coefficient_of}
 use Rattle.definitions.specs.Combination.{generator_at, InRationalIdeal}
 use Rattle.word_core.specs.Letters.{IsOver}
@@ -56,7 +56,7 @@ empty_is_zero p none = record { at = λ w. ap (λ (q : List Term). coefficient_o
 pub zero_is_empty : (p : List Term) → IsShaped p → IsZero p → p ≡ []
 zero_is_empty [] shaped none = refl
 zero_is_empty (t ∷ p) shaped none =
-    absurd ((recursion_from_All (λ (u : Term). u.0 ≢ pos 0) (t ∷ p) shaped.nonzero).0
+    absurd (All-head (λ (u : Term). u.0 ≢ pos 0) t p shaped.nonzero
     (sym (first_coefficient t p (distinct-descending (t ∷ p) (recursion_from_IsDescending (t ∷ p) shaped.descending)).0) ∙ none.at t.1))
 
 -- reductions with their rest
@@ -134,8 +134,7 @@ module _ (problem : Problem) (b : Basis) where
         let over = claim_over problem b.claim in
         let found = reduction_of letters (order_of problem) rank laws rules are_rules (claim_of problem b) b.rest.terms
         (canonical_at problem.parts.claims b.claim).shaped over closed.claim in
-        let each = recursion_from_All (λ (t : Term). IsOver letters t.1) (claim_of problem b) over in
-        let below : HasLettersBelow letters (claim_of problem b) = record { at = words_with_coefficients (IsOver letters) (claim_of problem b) each } in
+        let below : HasLettersBelow letters (claim_of problem b) = record { at = words_with_coefficients (IsOver letters) (claim_of problem b) over } in
         let vanishes = rests_of_ideal_are_zero letters (order_of problem) rank rules
         (claim_of problem b) found.state laws are_rules resolved inside below found.reduced in
         closed.nonzero (zero_is_empty b.rest.terms b.rest.canonical.shaped (subst IsZero found.rest_is vanishes))

@@ -1,7 +1,7 @@
 -- The letters of a problem's generators and of its claims are letters of its quiver.
 use Rattle.std.proofs.Common.{◌≡◌, ◌≢◌, ◌≤◌, ◌<◌, ℕ, pos, true, List, [], ◌∷◌, slice_get, Some, subst, arith}
 use Rattle.std.specs.List.{All, AllByRecursion}
-use Rattle.std.proofs.lemmas.List.Elements.{All-nil, All-cons, All-from_recursion, recursion_from_All, All-weaker}
+use Rattle.std.proofs.lemmas.List.Elements.{All-nil, All-cons, All-weaker}
 use Rattle.std.proofs.lemmas.Option.{slice_get_within, get_or_from_slice_get}
 use Rattle.definitions.specs.Poly.{Term}
 use Rattle.definitions.specs.Quiver.{Quiver, letters, source, leads, is_path}
@@ -31,10 +31,9 @@ path_over q u v (a ∷ w) path = leads_over q u v (a ∷ w) path
 module _ (ds : List Declaration) where
   typed_over : (p : Poly) → HasSignature (quiver_of ds) p.terms → IsPolyOver ds p
   typed_over p has =
-      All-from_recursion (λ t. IsOver (letter_count ds) t.1) p.terms
-      (words_listed (IsOver (letter_count ds)) p.terms (distinct-descending p.terms (recursion_from_IsDescending p.terms p.canonical.shaped.descending))
-      (recursion_from_All (λ (t : Term). t.0 ≢ pos 0) p.terms p.canonical.shaped.nonzero)
-      (λ w some. subst (λ k. IsOver k w) (letters-quiver_of ds) (path_over (quiver_of ds) has.source has.target w (has.typed.at w some))))
+      words_listed (IsOver (letter_count ds)) p.terms (distinct-descending p.terms (recursion_from_IsDescending p.terms p.canonical.shaped.descending))
+      p.canonical.shaped.nonzero
+      (λ w some. subst (λ k. IsOver k w) (letters-quiver_of ds) (path_over (quiver_of ds) has.source has.target w (has.typed.at w some)))
 
   all_over : (ps : List Poly) → AllByRecursion (HasSignature (quiver_of ds)) (polynomials ps) → All (IsPolyOver ds) ps
   all_over [] each = All-nil (IsPolyOver ds)

@@ -1,11 +1,11 @@
 -- Whether a polynomial may be a rule is decided.
 use Rattle.std.proofs.Common.{inl, inr, ◌<◌, ◌<ℤ◌, ℕ, zero, suc, ℤ, pos, negsuc, List, [], ◌∷◌, length, Option, Some, None}
 use Rattle.std.proofs.Common.{IsSomeAnd, arith}
-use Rattle.std.specs.List.{AllByRecursion}
+use Rattle.std.specs.List.{All}
 use Rattle.std.proofs.lemmas.Int.{ints}
-use Rattle.std.proofs.lemmas.List.Elements.{All-from_recursion, recursion_from_All}
+use Rattle.std.proofs.lemmas.List.Elements.{All-nil, All-cons, All-tail}
 use Rattle.definitions.specs.Poly.{Term}
-use Rattle.common_lemmas.proofs.Decided.{IsDecided, decided_by, both_decided, all_decided}
+use Rattle.common_lemmas.proofs.Decided.{IsDecided, decided_by, both_decided}
 use Rattle.word_orders.specs.Admissible.{Compare}
 use Rattle.nc_polynomial.specs.Content.{IsContent}
 use Rattle.nc_polynomial.specs.declared.poly.Poly.{Poly}
@@ -37,13 +37,14 @@ word_decided : (w : List ℕ) → IsDecided (0 < length w)
 word_decided [] = inr (λ some. omega (arith, some))
 word_decided (a ∷ w) = inl (omega arith)
 
-words_decided : (p : List Term) → IsDecided (AllByRecursion (λ t. 0 < length t.1) p)
-words_decided p = all_decided (λ (t : Term). 0 < length t.1) (λ t. word_decided t.1) p
+words_decided : (p : List Term) → IsDecided (All (λ t. 0 < length t.1) p)
+words_decided [] = inl (All-nil (λ (t : Term). 0 < length t.1))
+words_decided (t ∷ p) = decided_by (λ h. All-cons (λ (u : Term). 0 < length u.1) t p h.0 h.1) (λ all. (all 0 t (omega arith), All-tail (λ (u : Term). 0 < length u.1) t p all)) (both_decided (word_decided t.1) (words_decided p))
 
 -- rules
 module _ (compare : Compare) where
   pub rule_decided : (p : Poly) → IsDecided (MayBeRule compare p)
   rule_decided p =
-      decided_by (λ h. record { primitive = h.0; positive = h.1.0; nonempty = All-from_recursion (λ (t : Term). 0 < length t.1) p.terms h.1.1 })
-      (λ may. (may.primitive, (may.positive, recursion_from_All (λ (t : Term). 0 < length t.1) p.terms may.nonempty)))
+      decided_by (λ h. record { primitive = h.0; positive = h.1.0; nonempty = h.1.1 })
+      (λ may. (may.primitive, (may.positive, may.nonempty)))
       (both_decided (primitive_decided p.terms) (both_decided (positive_decided (leading_term compare p.terms)) (words_decided p.terms)))

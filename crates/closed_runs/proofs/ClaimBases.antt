@@ -1,7 +1,7 @@
 -- The bases of the closed claims of a problem can be written, and each is closed, or its check stops.
 use Rattle.std.proofs.Common.{◌≡◌, ◌≢◌, ◌<◌, ◌≤◌, inl, inr, ℕ, zero, suc, ◌+◌, pos, List, [], ◌∷◌, length, refl, sym, ap, ◌∙◌, subst, arith}
-use Rattle.std.specs.List.{All, AllByRecursion, range_with_len}
-use Rattle.std.proofs.lemmas.List.Elements.{All-nil, All-cons, All-map, All-weaker, All-from_recursion, recursion_from_All}
+use Rattle.std.specs.List.{All, range_with_len}
+use Rattle.std.proofs.lemmas.List.Elements.{All-nil, All-cons, All-map, All-weaker}
 use Rattle.definitions.specs.Poly.{Term}
 use Rattle.word_core.specs.Letters.{IsOver}
 use Rattle.word_orders.specs.Admissible.{Compare}
@@ -104,9 +104,9 @@ module _ (problem : Problem) (budget : Budget) (form : Format) where
       let claim = claim_at problem number in
       words_from letters claim
       (words_listed (λ w. 0 < length w) claim (distinct-descending claim (recursion_from_IsDescending claim is.shaped.descending))
-      (recursion_from_All (λ (t : Term). t.0 ≢ pos 0) claim is.shaped.nonzero)
+      is.shaped.nonzero
       (typed_has_no_empty_word (quiver_of problem.parts.quiver) any_letter claim is.typed).at)
-      (recursion_from_All (λ (t : Term). IsOver letters t.1) claim is.over)
+      is.over
 
   rest_has_letters : (number : ℕ) (rest : Poly) → IsOutcomeAt problem budget form number (outcome.Closed rest) → HasLetters rest
   rest_has_letters number rest is =
@@ -116,8 +116,7 @@ module _ (problem : Problem) (budget : Budget) (form : Format) where
       let are = (state_kept problem budget is.rounds is.state run).kept.are_rules in
       let words = normal_words letters compare is.state.rules are (claim_at problem number) budget.steps closing.left.reduced
       (claim_words number) closing.left.reduction in
-      All-from_recursion (λ (t : Term). 0 < length t.1) rest.terms
-      (subst (AllByRecursion (λ (t : Term). 0 < length t.1)) closing.left.rest_is (words_nonempty letters closing.left.reduced.rest words))
+      subst (All (λ (t : Term). 0 < length t.1)) closing.left.rest_is (words_nonempty letters closing.left.reduced.rest words)
 
   module _ (rules : List Poly) (last : AreLastRules setting form problem (claim_numbers problem) rules) where
     rules_have_letters : All HasLetters rules

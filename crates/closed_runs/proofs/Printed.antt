@@ -3,7 +3,6 @@ use Rattle.std.proofs.Common.{◌≡◌, ◌⊎◌, inl, inr, ◌<◌, ◌≤◌
 use Rattle.std.proofs.Common.{subst, arith}
 use Rattle.std.specs.List.{All, range_with_len}
 use Rattle.std.proofs.lemmas.List.{length-map}
-use Rattle.std.proofs.lemmas.List.Elements.{recursion_from_All}
 use Rattle.std.proofs.lemmas.List.FromFn.{length-range_with_len, get_or-range_with_len}
 use Rattle.definitions.specs.Poly.{Term, coefficient_of}
 use Rattle.definitions.specs.Combination.{generator_at, InRationalIdeal}
@@ -143,7 +142,7 @@ module _ (problem : Problem) (budget : Budget) where
       nothing_left p rest shaped over inside is =
           let found = reduction_of letters compare rank laws s.rules are_rules p rest.terms shaped over is in
           let below : HasLettersBelow letters p =
-          record { at = words_with_coefficients (IsOver letters) p (recursion_from_All (λ (t : Term). IsOver letters t.1) p over) } in
+          record { at = words_with_coefficients (IsOver letters) p over } in
           let vanishes = rests_of_ideal_are_zero letters compare rank s.rules p found.state laws are_rules resolved inside below found.reduced in
           zero_is_empty rest.terms rest.canonical.shaped (subst IsZero found.rest_is vanishes)
 

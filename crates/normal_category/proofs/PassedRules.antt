@@ -3,6 +3,7 @@ use Rattle.std.proofs.Common.{◌≡◌, ◌≢◌, ◌⊎◌, inl, inr, ℕ, su
 use Rattle.std.specs.Prelude.{is_some, nat_le}
 use Rattle.definitions.specs.Quiver.{star}
 use Rattle.std.proofs.lemmas.Bool.{and_parts, and_from, cases_lt}
+use Rattle.std.proofs.lemmas.List.Sums.{AllPass-from_list_all, list_all-from_AllPass}
 use Rattle.std.proofs.lemmas.Option.{same_Some, slice_get-get_or}
 use Rattle.std.specs.List.{All, AllByRecursion, list_all, list_any}
 use Rattle.definitions.specs.Poly.{Term, coefficient_of}
@@ -55,21 +56,13 @@ full_tells (Some x) b is full holds = (x, holds)
 
 -- a test of all words
 module _ (test : List ℕ → Bool) where
-  each_word : (p : List Term) → list_all (λ t. test t.1) p ≡ true → AllByRecursion (λ t. test t.1 ≡ true) p
-  each_word [] e = tt
-  each_word (t ∷ p) e = let parts = and_parts (test t.1) (list_all (λ t. test t.1) p) e in (parts.0, each_word p parts.1)
-
-  all_words : (p : List Term) → AllByRecursion (λ t. test t.1 ≡ true) p → list_all (λ t. test t.1) p ≡ true
-  all_words [] each = refl
-  all_words (t ∷ p) each = and_from (test t.1) (list_all (λ t. test t.1) p) each.0 (all_words p each.1)
-
   -- it holds of the words that occur
   pub words_tested : (p : List Term) → list_all (λ t. test t.1) p ≡ true → (w : List ℕ) → coefficient_of p w ≢ pos 0 → test w ≡ true
-  words_tested p holds w some = words_with_coefficients (λ w. test w ≡ true) p (each_word p holds) w some
+  words_tested p holds w some = words_with_coefficients (λ w. test w ≡ true) p (AllPass-from_list_all (λ (t : Term). test t.1) p holds) w some
 
   -- and they are all words of the polynomial
   pub words_suffice : (p : Poly) → ((w : List ℕ) → coefficient_of p.terms w ≢ pos 0 → test w ≡ true) → list_all (λ t. test t.1) p.terms ≡ true
-  words_suffice p at = all_words p.terms (words_listed (λ w. test w ≡ true) p.terms
+  words_suffice p at = list_all-from_AllPass (λ (t : Term). test t.1) p.terms (words_listed (λ w. test w ≡ true) p.terms
       (distinct-descending p.terms (recursion_from_IsDescending p.terms p.canonical.shaped.descending))
       p.canonical.shaped.nonzero at)
 

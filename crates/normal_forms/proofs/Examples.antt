@@ -307,8 +307,13 @@ play = is_in_play declared false (0 ∷ [])
 
 typed : All (λ g. IsTypedInPlay (quiver_of declared) play g.poly.terms) rules
 typed = both (λ (g : Rule). IsTypedInPlay (quiver_of declared) play g.poly.terms) zero_rule square_rule
-    (record { source = 0; target = 0; typed = typed_zero; in_play = record { at = words_with_coefficients (AreInPlay play) zero_terms (refl, tt) } })
-    (record { source = 1; target = 1; typed = typed_square; in_play = record { at = words_with_coefficients (AreInPlay play) square_terms (refl, (refl, tt)) } })
+    (record { source = 0; target = 0; typed = typed_zero; in_play = record { at = words_with_coefficients (AreInPlay play) zero_terms (alone (λ (t : Term). AreInPlay play t.1) (pos 1, 0 ∷ []) refl) } })
+    (record {
+      source = 1;
+      target = 1;
+      typed = typed_square;
+      in_play = record { at = words_with_coefficients (AreInPlay play) square_terms (both (λ (t : Term). AreInPlay play t.1) (pos 1, 2 ∷ 2 ∷ []) (negsuc 0, 2 ∷ []) refl refl) };
+    })
 
 generators_are : generators_in parts ≡ zero_terms ∷ square_terms ∷ ((pos 1, 0 ∷ 0 ∷ []) ∷ (negsuc 0, 0 ∷ []) ∷ []) ∷ []
 generators_are = refl
@@ -339,13 +344,15 @@ basis = record { posed = posed; are_rules = are_rules; resolved = resolved; type
 claim_shaped : IsShaped claim_terms
 claim_shaped = shaped_as_written claim_terms (tt, tt) ((λ e. cc), tt) (omega arith, tt)
 
+claim_over : All (λ t. IsOver 4 t.1) claim_terms
+claim_over = alone (λ (t : Term). IsOver 4 t.1) (pos 1, 2 ∷ []) (over_letter 2 (omega arith))
+
 claim_reduced : IsReduced 4 word_cmp rules claim_terms (start_of claim_terms)
-claim_reduced = normal_forms_are_reduced 4 word_cmp (rank_of 4) rules claim_terms 0 (start_of claim_terms) laws are_rules claim_shaped
-    (alone (λ (t : Term). IsOver 4 t.1) (pos 1, 2 ∷ []) (over_letter 2 (omega arith))) refl
+claim_reduced = normal_forms_are_reduced 4 word_cmp (rank_of 4) rules claim_terms 0 (start_of claim_terms) laws are_rules claim_shaped claim_over refl
 
 outside : InRationalIdeal (polynomials_of rules) claim_terms → ⊥
 outside inside = clash (rests_of_ideal_are_zero 4 word_cmp (rank_of 4) rules claim_terms (start_of claim_terms) laws are_rules resolved inside
-    (record { at = words_with_coefficients (IsOver 4) claim_terms (over_letter 2 (omega arith), tt) }) claim_reduced)
+    (record { at = words_with_coefficients (IsOver 4) claim_terms claim_over }) claim_reduced)
   where
     clash : IsZero claim_terms → ⊥
     clash none = differ (none.at (2 ∷ []))

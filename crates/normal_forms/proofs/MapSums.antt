@@ -2,7 +2,7 @@
 use Rattle.std.proofs.Common.{◌≡◌, ◌⊎◌, inl, inr, ℕ, suc, ◌<◌, Bool, true, false, cond, List, [], ◌∷◌, ◌++◌, length, map, refl, sym, ap, ap₂, subst, ◌∙◌, true≢false, eqb-true, eq-eqb, arith}
 use Rattle.std.specs.List.{All, AllByRecursion, Contains}
 use Rattle.std.proofs.lemmas.List.{length-append}
-use Rattle.std.proofs.lemmas.List.Elements.{All-weaker, recursion_from_All}
+use Rattle.std.proofs.lemmas.List.Elements.{All-weaker}
 use Rattle.std.proofs.lemmas.Map.Made.{Contains-tail}
 use Rattle.definitions.specs.Poly.{Word, Term, word_eq}
 use Rattle.definitions.specs.Category.{IsArrow}
@@ -36,8 +36,7 @@ empty_is_irreducible p rules are =
     All-weaker (IsRule (letter_count p.quiver) (asked_cmp p.order)) (λ (g : Rule). OccursNowhere [] g.lead) (λ g is place at. none g is place at) rules are
   where
     some : (g : Rule) → IsRule (letter_count p.quiver) (asked_cmp p.order) g → 0 < length g.lead
-    some g is = leading-all (λ t. 0 < length t.1) (asked_cmp p.order) g.poly.terms (g.leading, g.lead) is.leading
-        (recursion_from_All (λ (t : Term). 0 < length t.1) g.poly.terms is.nonempty)
+    some g is = leading-all (λ t. 0 < length t.1) (asked_cmp p.order) g.poly.terms (g.leading, g.lead) is.leading is.nonempty
 
     none : (g : Rule) → IsRule (letter_count p.quiver) (asked_cmp p.order) g → (place : ℕ) → OccursAt [] g.lead place → ⊥
     none g is place at =

@@ -160,7 +160,7 @@ play = is_in_play declared true []
 
 typed : All (λ g. IsTypedInPlay (quiver_of declared) play g.poly.terms) rules
 typed = alone (λ (g : Rule). IsTypedInPlay (quiver_of declared) play g.poly.terms) map_rule
-    (record { source = 0; target = 0; typed = one_typed 1 refl; in_play = record { at = words_with_coefficients (AreInPlay play) map_terms (refl, tt) } })
+    (record { source = 0; target = 0; typed = one_typed 1 refl; in_play = record { at = words_with_coefficients (AreInPlay play) map_terms (alone (λ (t : Term). AreInPlay play t.1) (pos 1, 1 ∷ []) refl) } })
 
 basis : IsBasis parts rules
 basis = record {
@@ -172,14 +172,17 @@ basis = record {
 }
 
 -- a' is its own normal form, and so it is outside
+adjoint_over : All (λ t. IsOver 3 t.1) adjoint_terms
+adjoint_over = alone (λ (t : Term). IsOver 3 t.1) (pos 1, 2 ∷ []) (over_letter 2 (omega arith))
+
 adjoint_reduced : IsReduced 3 word_cmp rules adjoint_terms (start_of adjoint_terms)
 adjoint_reduced = normal_forms_are_reduced 3 word_cmp (rank_of 3) rules adjoint_terms 0 (start_of adjoint_terms) laws are_rules
     (shaped_as_written adjoint_terms (tt, tt) ((λ e. cc), tt) (omega arith, tt))
-    (alone (λ (t : Term). IsOver 3 t.1) (pos 1, 2 ∷ []) (over_letter 2 (omega arith))) refl
+    adjoint_over refl
 
 outside : InRationalIdeal (polynomials_of rules) adjoint_terms → ⊥
 outside inside = clash (rests_of_ideal_are_zero 3 word_cmp (rank_of 3) rules adjoint_terms (start_of adjoint_terms) laws are_rules resolved inside
-    (record { at = words_with_coefficients (IsOver 3) adjoint_terms (over_letter 2 (omega arith), tt) }) adjoint_reduced)
+    (record { at = words_with_coefficients (IsOver 3) adjoint_terms adjoint_over }) adjoint_reduced)
   where
     clash : IsZero adjoint_terms → ⊥
     clash none = differ (none.at (2 ∷ []))

@@ -2,7 +2,7 @@
 use Rattle.std.proofs.Common.{◌≡◌, ◌≢◌, ℕ, zero, ℤ, suc, ◌+◌, pos, Bool, true, false, not, ◌&&◌, cond, List, [], ◌∷◌, ◌++◌, length, take, drop, filter, Option, Some, None, MatchOption, refl, sym, ap, ap₂, ◌∙◌, subst, append-nil}
 use Rattle.std.proofs.lemmas.Bool.{false_from_ne_true}
 use Rattle.std.proofs.lemmas.Bool.Decides.{Decides-int_eq}
-use Rattle.std.proofs.lemmas.List.Elements.{All-nil, All-cons, recursion_from_All}
+use Rattle.std.proofs.lemmas.List.Elements.{All-nil, All-cons, All-head, All-tail}
 use Rattle.std.specs.List.{All, AllByRecursion}
 use Rattle.std.specs.Int.RustNames.{unsigned_abs}
 use Rattle.std.specs.Ordering.{int_eq}
@@ -61,19 +61,17 @@ first_rule-tells (g ∷ rules) word = go (place_in word g.lead) (place_in-tells 
         up (suc n) e = e
 
 -- the other terms of a rule are those below its leading word
-same_kept : (p : List Term) (one other : Word → Bool) → AllByRecursion (λ t. one t.1 ≡ other t.1) p → filter (λ t. one t.1) p ≡ filtered other p
+same_kept : (p : List Term) (one other : Word → Bool) → All (λ t. one t.1 ≡ other t.1) p → filter (λ t. one t.1) p ≡ filtered other p
 same_kept [] one other each = refl
-same_kept (t ∷ p) one other each = ap₂ (λ b rest. cond b (t ∷ rest) rest) each.0 (same_kept p one other each.1)
+same_kept (t ∷ p) one other each =
+    ap₂ (λ b rest. cond b (t ∷ rest) rest) (All-head (λ (u : Term). one u.1 ≡ other u.1) t p each) (same_kept p one other (All-tail (λ (u : Term). one u.1 ≡ other u.1) t p each))
 
 pub other_terms-parted : (letters : ℕ) (compare : Compare) (g : Rule) → IsRule letters compare g → other_terms g ≡ (parted (led_of g)).tail
 other_terms-parted letters compare g is = same_kept g.poly.terms (λ w. not (word_eq g.lead w)) (is_lower (led_of g))
-    (words_listed Same g.poly.terms distinct nonzero each)
+    (words_listed Same g.poly.terms distinct g.poly.canonical.shaped.nonzero each)
   where
     Same : Word → Type 0
     Same w = not (word_eq g.lead w) ≡ is_lower (led_of g) w
-
-    nonzero : AllByRecursion (λ t. t.0 ≢ pos 0) g.poly.terms
-    nonzero = recursion_from_All (λ (t : Term). t.0 ≢ pos 0) g.poly.terms g.poly.canonical.shaped.nonzero
 
     distinct : AreDistinct g.poly.terms
     distinct = distinct-descending g.poly.terms (recursion_from_IsDescending g.poly.terms g.poly.canonical.shaped.descending)

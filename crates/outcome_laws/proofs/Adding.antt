@@ -1,7 +1,7 @@
 -- What is added for a rest is appended, so that the invariant holds.
 use Rattle.std.proofs.Common.{◌≢◌, ◌<◌, ◌<ℤ◌, ℕ, pos, Bool, List, [], ◌∷◌, length, refl, sym, ap, ◌∙◌, arith}
 use Rattle.std.specs.List.{All}
-use Rattle.std.proofs.lemmas.List.Elements.{All-head, All-from_recursion, recursion_from_All}
+use Rattle.std.proofs.lemmas.List.Elements.{All-head}
 use Rattle.definitions.specs.Poly.{Term, coefficient_of}
 use Rattle.definitions.specs.Quiver.{Quiver}
 use Rattle.word_core.specs.Letters.{IsOver}
@@ -22,7 +22,7 @@ use Rattle.rule_making.proofs.Quotients.{quotient_words, leading_positive}
 
 -- what holds of each word with a coefficient holds of each term
 listed : (P : List ℕ → Type 0) (p : List Term) → IsShaped p → ((w : List ℕ) → coefficient_of p w ≢ pos 0 → P w) → All (λ t. P t.1) p
-listed P p shaped each = All-from_recursion (λ t. P t.1) p (words_listed P p (distinct-descending p (recursion_from_IsDescending p shaped.descending)) (recursion_from_All (λ (t : Term). t.0 ≢ pos 0) p shaped.nonzero) each)
+listed P p shaped each = words_listed P p (distinct-descending p (recursion_from_IsDescending p shaped.descending)) shaped.nonzero each
 
 -- a sorted list with a term isn't zero
 pub nonzero : (t : Term) (p : List Term) → IsShaped (t ∷ p) → IsNonzero (t ∷ p)

@@ -2,7 +2,6 @@
 use Rattle.std.proofs.Common.{◌≡◌, ◌≤◌, ◌<ℤ◌, ℕ, ◌+◌, ℤ, pos, int_div, List, ◌++◌, length, take, drop, Option, Some, None, Ok, refl, sym, ap, subst, arith}
 use Rattle.std.specs.List.{All}
 use Rattle.std.proofs.lemmas.List.{length-append, length-take, length-drop}
-use Rattle.std.proofs.lemmas.List.Elements.{recursion_from_All}
 use Rattle.coef_int.specs.declared.Overflow.{Overflow}
 use Rattle.coef_int.specs.Range.{IsCoefficient}
 use Rattle.coef_int.specs.Operations.{first_overflow}
@@ -15,6 +14,7 @@ use Rattle.nc_polynomial.specs.Arithmetic.{combined}
 use Rattle.nc_polynomial.specs.Product.{and_then}
 use Rattle.nc_polynomial.proofs.Chains.{no_error, sized-value}
 use Rattle.nc_polynomial.proofs.Shapes.{in_range-added}
+use Rattle.traced_rows.proofs.Lists.{all_two}
 use Rattle.word_orders.specs.Admissible.{Compare}
 use Rattle.rule_reduce.specs.declared.rule.Rule.{Rule}
 use Rattle.rule_reduce.specs.RuleLists.{IsRule}
@@ -28,7 +28,7 @@ use Rattle.ambiguities.specs.SPolynomials.{leading_at, shared_divisor, first_row
 use Rattle.ambiguities.proofs.Joined.{lead_at-is, leading_at-is}
 use Rattle.ambiguities.proofs.Multiples.{passed}
 use Rattle.nc_polynomial.specs.Limits.{word_limit}
-use Rattle.outcome_laws.proofs.Results.{both, none_append}
+use Rattle.outcome_laws.proofs.Results.{none_append}
 use Rattle.outcome_laws.proofs.EvidenceRanges.{quotient_in_range, negative_in_range}
 use Rattle.outcome_laws.proofs.ReducedWithin.{Fits, sized_short, IsShortRow}
 
@@ -85,7 +85,7 @@ module _ (letters : ℕ) (compare : Compare) (rules : List Rule) (are : All (IsR
   second_is = rule_at-all (IsRule letters compare) rules a.j is.second is.second_numbered are
 
   lead_short : (g : Rule) → IsRule letters compare g → length g.lead ≤ word_limit
-  lead_short g is_rule = leading-all (λ (t : Term). length t.1 ≤ word_limit) compare g.poly.terms (g.leading, g.lead) is_rule.leading (recursion_from_All (λ (t : Term). length t.1 ≤ word_limit) g.poly.terms g.poly.canonical.short)
+  lead_short g is_rule = leading-all (λ (t : Term). length t.1 ≤ word_limit) compare g.poly.terms (g.leading, g.lead) is_rule.leading g.poly.canonical.short
 
   parts_short : AreShortParts a.kind a.place (lead_at rules a.i) (lead_at rules a.j)
   parts_short =
@@ -100,7 +100,7 @@ module _ (letters : ℕ) (compare : Compare) (rules : List Rule) (are : All (IsR
   s_rows_short =
       let first_in : IsCoefficient (leading_at rules a.i) = subst IsCoefficient (sym (leading_at-is rules a.i is.first is.first_numbered)) first_is.in_range in
       let second_in : IsCoefficient (leading_at rules a.j) = subst IsCoefficient (sym (leading_at-is rules a.j is.second is.second_numbered)) second_is.in_range in
-      both IsShortRow (first_row rules a) (second_row rules a)
+      all_two IsShortRow (first_row rules a) (second_row rules a)
       (record { coefficient = quotient_in_range (leading_at rules a.j) (shared_divisor rules a) divisor_positive second_in; left = omega arith; right = parts_short.0 })
       (record {
         coefficient = negative_in_range (int_div (leading_at rules a.i) (shared_divisor rules a)) (quotient_in_range (leading_at rules a.i) (shared_divisor rules a) divisor_positive first_in);

@@ -4,7 +4,7 @@ use Rattle.std.specs.List.{All}
 use Rattle.std.specs.declared.cmp.Ordering.TheVariants.{Less}
 use Rattle.std.proofs.lemmas.Bool.{cases_lt}
 use Rattle.std.proofs.lemmas.List.{length-map, length-take}
-use Rattle.std.proofs.lemmas.List.Elements.{All-head, recursion_from_All}
+use Rattle.std.proofs.lemmas.List.Elements.{All-head}
 use Rattle.definitions.specs.Poly.{Term}
 use Rattle.word_core.specs.Canonical.{word_cmp}
 use Rattle.word_core.specs.Letters.{IsOver}
@@ -51,7 +51,7 @@ leads_apart letters compare rules apart are = record { nonempty = some; distinct
     some : (n : ℕ) (g : Rule) → rule_at rules n ≡ Some g → 0 < length g.lead
     some n g numbered =
         let is = rule_at-all (IsRule letters compare) rules n g numbered are in
-        leading-all (λ t. 0 < length t.1) compare g.poly.terms (g.leading, g.lead) is.leading (recursion_from_All (λ (t : Term). 0 < length t.1) g.poly.terms is.nonempty)
+        leading-all (λ t. 0 < length t.1) compare g.poly.terms (g.leading, g.lead) is.leading is.nonempty
 
     earlier : (i j : ℕ) (g h : Rule) → rule_at rules i ≡ Some g → rule_at rules j ≡ Some h → g.lead ≡ h.lead → i < j → ⊥
     earlier i j g h first second is before = apart.each i j g h first second before 0 (record { before = []; after = []; splits = sym is ∙ sym (append-nil g.lead); at_place = refl })

@@ -12,6 +12,7 @@ use Rattle.definitions.specs.Poly.{Term, poly_multiple}
 use Rattle.definitions.specs.Combination.{generator_at}
 use Rattle.nc_polynomial.proofs.Divisors.{abs_positive}
 use Rattle.nc_polynomial.specs.declared.poly.Poly.{Poly}
+use Rattle.traced_rows.proofs.Lists.{all_two}
 use Rattle.word_orders.specs.Admissible.{Compare}
 use Rattle.traced_rows.specs.declared.Origin.{Origin}
 use Rattle.traced_rows.specs.declared.Origin.TheVariants as origin
@@ -41,7 +42,7 @@ use Rattle.nc_polynomial.specs.Limits.{word_limit}
 use Rattle.outcome_laws.proofs.AmbiguitiesWithin.{s_polynomial_fits, s_rows_short}
 use Rattle.outcome_laws.proofs.EvidenceRanges.{negative_in_range}
 use Rattle.outcome_laws.proofs.ReducedWithin.{Fits, IsShortRow, reduced_within}
-use Rattle.outcome_laws.proofs.Results.{generator_all, both}
+use Rattle.outcome_laws.proofs.Results.{generator_all}
 use Rattle.outcome_laws.proofs.RowsOfRuns.{generator_words, IsKeptGenerator, IsKept, MadeFrom, states_held}
 
 -- a short row over the first rules and the first generators, by these counts
@@ -124,7 +125,7 @@ module _ (letters : ℕ) (setting : Setting) (generators : All (HasWords letters
   s_rows_limited : (rules : List Rule) (a : Ambiguity) → All (IsRule letters setting.compare) rules → IsAmbiguity rules a → All (IsLimitedRow count_of (length rules)) (s_rows_of rules a)
   s_rows_limited rules a are is =
       limited_rows count_of (length rules) (s_rows_of rules a) (s_rows_short letters setting.compare rules are a is)
-      (both (λ (r : Row). IsByRule (length rules) r.from) (first_row rules a) (second_row rules a)
+      (all_two (λ (r : Row). IsByRule (length rules) r.from) (first_row rules a) (second_row rules a)
       (omega (arith, rule_at-first rules a.i is.first is.first_numbered), rule_at-last rules a.i is.first is.first_numbered)
       (omega (arith, rule_at-first rules a.j is.second is.second_numbered), rule_at-last rules a.j is.second is.second_numbered))
 

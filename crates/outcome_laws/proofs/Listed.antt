@@ -1,8 +1,8 @@
 -- What is listed: operations of which one overflows, values of a function, and the coefficients of terms.
 use Rattle.std.proofs.Common.{◌≡◌, ◌⊎◌, inl, inr, ℕ, zero, suc, ℤ, Bool, true, false, cond, List, [], ◌∷◌, map, Option, Some, refl, sym, ap, ◌∙◌, subst, arith}
-use Rattle.std.specs.List.{Contains, AllByRecursion}
+use Rattle.std.specs.List.{Contains}
 use Rattle.std.proofs.lemmas.Bool.Decides.{nat_tests}
-use Rattle.std.proofs.lemmas.List.Elements.{All-from_recursion, All-contains}
+use Rattle.std.proofs.lemmas.List.Elements.{All-map, All-contains}
 use Rattle.std.specs.declared.cmp.Ordering.TheVariants.{Greater}
 use Rattle.coef_int.specs.declared.Overflow.{Overflow}
 use Rattle.coef_int.specs.Range.{IsCoefficient, is_coefficient}
@@ -75,7 +75,7 @@ coefficient_listed (u ∷ p) apart t at = go (listed_first u p t at) (coefficien
     go : (u ≡ t) ⊎ Contains p t → (Contains p t → coefficient_of p t.1 ≡ t.0) → coefficient_of (u ∷ p) t.1 ≡ t.0
     go (inl same) later = subst (λ (v : Term). coefficient_of (u ∷ p) v.1 ≡ v.0) same (first_coefficient u p apart.0)
     go (inr rest) later =
-        coefficient_other t.1 u p (word_eq-turned u.1 t.1 ∙ All-contains (λ (v : Term). word_eq v.1 u.1 ≡ false) p t (All-from_recursion (λ (v : Term). word_eq v.1 u.1 ≡ false) p apart.0) rest)
+        coefficient_other t.1 u p (word_eq-turned u.1 t.1 ∙ All-contains (λ (v : Term). word_eq v.1 u.1 ≡ false) p t apart.0 rest)
         ∙ later rest
 
 -- one side of the pairs of coefficients of two descending lists
@@ -83,13 +83,9 @@ module _ (side : Pair → ℤ) where
   abbrev terms_of : List Pair → List Term
   terms_of pairs = map (λ a. (side a, a.2)) pairs
 
-  above : (w : List ℕ) (pairs : List Pair) → AllByRecursion (λ b. word_cmp w b.2 ≡ Greater) pairs → AllByRecursion (λ u. word_cmp w u.1 ≡ Greater) (terms_of pairs)
-  above w [] h = tt
-  above w (a ∷ rest) h = (h.0, above w rest h.1)
-
   falls : (pairs : List Pair) → IsFalling pairs → Descends (terms_of pairs)
   falls [] d = tt
-  falls (a ∷ rest) d = (above a.2 rest d.0, falls rest d.1)
+  falls (a ∷ rest) d = (All-map (λ (u : Term). word_cmp a.2 u.1 ≡ Greater) (λ b. (side b, b.2)) rest d.0, falls rest d.1)
 
   pub side_listed : (pairs : List Pair) → IsFalling pairs → (a : Pair) → Contains pairs a → coefficient_of (terms_of pairs) a.2 ≡ side a
   side_listed pairs falling a at =

@@ -3,7 +3,7 @@ use Rattle.std.proofs.Common.{◌≡◌, ◌<◌, ℕ, List, get_or, true, nat_l
 use Rattle.std.specs.List.{All}
 use Rattle.std.proofs.lemmas.Bool.{and_parts}
 use Rattle.std.proofs.lemmas.Bool.Decides.{nat_tests}
-use Rattle.std.proofs.lemmas.List.Elements.{All-nil, All-append, All-map, All-pop, All-weaker, All-from_recursion, recursion_from_All}
+use Rattle.std.proofs.lemmas.List.Elements.{All-nil, All-append, All-map, All-pop, All-weaker}
 use Rattle.definitions.specs.Poly.{Term}
 use Rattle.word_core.specs.Letters.{IsOver}
 use Rattle.nc_polynomial.specs.declared.poly.Poly.{Poly}
@@ -71,14 +71,13 @@ module _ (problem : Problem) (budget : Budget) where
 
   poly_over : (p : Poly) → HasLettersInPlay ds problem.parts.starred (numbers problem.parts.marked) p → AreOver letters_in p.terms
   poly_over p each =
-      recursion_from_All (λ (t : Term). IsOver letters_in t.1) p.terms
-      (All-weaker (λ (t : Term). All (IsInPlay ds problem.parts.starred (numbers problem.parts.marked)) t.1) (λ (t : Term). IsOver letters_in t.1)
-      (λ t word. All-weaker (IsInPlay ds problem.parts.starred (numbers problem.parts.marked)) (λ a. a < letters_in) letter_below t.1 word) p.terms each)
+      All-weaker (λ (t : Term). All (IsInPlay ds problem.parts.starred (numbers problem.parts.marked)) t.1) (λ (t : Term). IsOver letters_in t.1)
+      (λ t word. All-weaker (IsInPlay ds problem.parts.starred (numbers problem.parts.marked)) (λ a. a < letters_in) letter_below t.1 word) p.terms each
 
   pub claim_over : (number : ℕ) → AreOver letters_in (claim_at problem number)
   claim_over =
       generator_all (AreOver letters_in) (polynomials problem.parts.claims)
-      (All-map (AreOver letters_in) (λ (p : Poly). p.terms) problem.parts.claims (λ k p inside. poly_over (get_or problem.parts.claims k p) (problem.posed.claim_letters k p inside))) tt
+      (All-map (AreOver letters_in) (λ (p : Poly). p.terms) problem.parts.claims (λ k p inside. poly_over (get_or problem.parts.claims k p) (problem.posed.claim_letters k p inside))) (All-nil (λ (t : Term). IsOver letters_in t.1))
 
   -- outcomes
   module _ (form : Format) (number : ℕ) where
@@ -91,9 +90,7 @@ module _ (problem : Problem) (budget : Budget) where
 
     -- the record of the claim
     target_over : (by : IsProvedBy setting_in claim) → All (IsOverRow letters_in) by.reduced.rows
-    target_over by =
-        All-from_recursion (IsOverRow letters_in) by.reduced.rows
-        (reduced_over letters_in setting_in.compare by.state.rules (rules_of by.rounds by.state by.run) claim setting_in.budget.steps by.reduced (claim_over number) by.reduction).1
+    target_over by = (reduced_over letters_in setting_in.compare by.state.rules (rules_of by.rounds by.state by.run) claim setting_in.budget.steps by.reduced (claim_over number) by.reduction).1
 
     expanded_over : (by : IsProvedBy setting_in claim) (c : Cofactors) → expansion_of by.state.made (record_of by.reduced) ≡ Ok c → IsEvidenceOver ds (certificate_of number c)
     expanded_over by c ends =
@@ -121,7 +118,7 @@ module _ (problem : Problem) (budget : Budget) where
     outcome_over o (gathered by c ends is) = subst (IsOutcomeOver ds) (sym is) (gathered_over by c ends)
     outcome_over o (left_over rounds s run rest left is) =
         let over = (reduced_over letters_in setting_in.compare s.rules (rules_of rounds s run) claim setting_in.budget.steps left.reduced (claim_over number) left.reduction).0 in
-        subst (IsOutcomeOver ds) (sym is) (subst (λ (p : List Term). All (λ t. IsOver letters_in t.1) p) left.rest_is (All-from_recursion (λ (t : Term). IsOver letters_in t.1) left.reduced.rest over))
+        subst (IsOutcomeOver ds) (sym is) (subst (λ (p : List Term). All (λ t. IsOver letters_in t.1) p) left.rest_is over)
     outcome_over o (given_up halt none is) = subst (IsOutcomeOver ds) (sym is) (subst (IsLeastOver ds) (sym none) tt)
     outcome_over o (with_run rounds s halt run round is) = subst (IsOutcomeOver ds) (sym is) (least_is_over halt.least (least_over letters_in setting_in generators_have_words rounds s halt run round))
 

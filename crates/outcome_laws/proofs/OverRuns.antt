@@ -1,7 +1,7 @@
 -- The letters of records are letters of the generators, and so are those of the least overlap word.
 use Rattle.std.proofs.Common.{◌≡◌, ◌<◌, ℕ, zero, suc, List, [], ◌∷◌, ◌++◌, length, take, get_or, Bool, true, false, nat_le, Option, Some, None, Result, Ok, Err, sym, ap, ◌∙◌, subst}
 use Rattle.std.specs.List.{All}
-use Rattle.std.proofs.lemmas.List.Elements.{All-nil, All-cons, All-head, All-from_recursion}
+use Rattle.std.proofs.lemmas.List.Elements.{All-nil, All-cons, All-head}
 use Rattle.word_core.specs.Letters.{IsOver}
 use Rattle.traced_rows.specs.declared.Row.{Row}
 use Rattle.traced_rows.specs.declared.Made.{Made}
@@ -9,7 +9,6 @@ use Rattle.cofactor_trace.specs.declared.halt.Halt.{Halt}
 use Rattle.rule_reduce.specs.declared.fault.ReduceFault.{ReduceFault}
 use Rattle.rule_reduce.specs.RuleLists.{IsRule}
 use Rattle.ambiguities.specs.declared.ambiguity.Ambiguity.{Ambiguity}
-use Rattle.ambiguities.specs.SPolynomials.{s_rows_of}
 use Rattle.ambiguities.proofs.Bounds.{over_overlap_word}
 use Rattle.ambiguities.proofs.Words.{AreWords, words_over, normal_words, s_words}
 use Rattle.ambiguities.proofs.OverLetters.{IsOverRow, reduced_over, s_rows_over}
@@ -43,8 +42,8 @@ module _ (letters : ℕ) (setting : Setting) (generators : All (HasWords letters
     multiple = λ count by r held fits. held;
     words = λ p held. held;
     reduced = λ rules p s are words ends.
-        (normal_words letters setting.compare rules are p setting.budget.steps s words ends, All-from_recursion (IsOverRow letters) s.rows (reduced_over letters setting.compare rules are p setting.budget.steps s (words_over letters p words) ends).1);
-    ambiguous = λ rules a p are is ends. (s_words letters setting.compare rules are a is p ends, All-from_recursion (IsOverRow letters) (s_rows_of rules a) (s_rows_over letters setting.compare rules are a is));
+        (normal_words letters setting.compare rules are p setting.budget.steps s words ends, (reduced_over letters setting.compare rules are p setting.budget.steps s (words_over letters p words) ends).1);
+    ambiguous = λ rules a p are is ends. (s_words letters setting.compare rules are a is p ends, s_rows_over letters setting.compare rules are a is);
     generators = λ k n inside. each_generator (get_or setting.in_turn k n);
     makes = λ count rest g m made polynomial rows some. rows;
   }

@@ -2,7 +2,7 @@
 use Rattle.std.proofs.Common.{◌≡◌, ◌≢◌, ◌≤◌, ◌<◌, ℕ, pos, Bool, true, IsTrue, List, [], ◌∷◌, length, refl, sym, subst, arith}
 use Rattle.std.specs.List.{All, AllByRecursion, list_all}
 use Rattle.std.proofs.lemmas.List.{length-map}
-use Rattle.std.proofs.lemmas.List.Elements.{All-nil, All-cons, All-from_recursion, recursion_from_All}
+use Rattle.std.proofs.lemmas.List.Elements.{All-nil, All-cons}
 use Rattle.coef_int.specs.Range.{IsCoefficient}
 use Rattle.definitions.specs.Poly.{Term}
 use Rattle.definitions.specs.Combination.{generator_at}
@@ -52,9 +52,8 @@ module _ (q : Quiver) (n : ℕ) (same : letters q ≡ n) where
   typed_is : (p : Poly) → HasSignature q p.terms → IsGenerator q any_letter n p.terms
   typed_is p has = record {
     shaped = p.canonical.shaped;
-    over = All-from_recursion (λ t. IsOver n t.1) p.terms
-        (words_listed (IsOver n) p.terms (distinct-descending p.terms (recursion_from_IsDescending p.terms p.canonical.shaped.descending)) (recursion_from_All (λ (t : Term). t.0 ≢ pos 0) p.terms p.canonical.shaped.nonzero)
-        (λ w some. subst (λ k. IsOver k w) same (path_over q has.source has.target w (has.typed.at w some))));
+    over = words_listed (IsOver n) p.terms (distinct-descending p.terms (recursion_from_IsDescending p.terms p.canonical.shaped.descending)) p.canonical.shaped.nonzero
+        (λ w some. subst (λ k. IsOver k w) same (path_over q has.source has.target w (has.typed.at w some)));
     typed = record { source = has.source; target = has.target; typed = has.typed; in_play = record { at = λ w some. all_letters w } };
   }
 
@@ -94,8 +93,7 @@ module _ (problem : Problem) where
 
   pub claim_letters : (number : ℕ) → HasLettersBelow (letter_count problem.parts.quiver) (claim_at problem number)
   claim_letters number = record {
-    at = words_with_coefficients (IsOver (letter_count problem.parts.quiver)) (claim_at problem number)
-        (recursion_from_All (λ (t : Term). IsOver (letter_count problem.parts.quiver) t.1) (claim_at problem number) (claim_is number).over);
+    at = words_with_coefficients (IsOver (letter_count problem.parts.quiver)) (claim_at problem number) (claim_is number).over;
   }
 
   -- their turns

@@ -1,7 +1,7 @@
 -- Results that are values, and operations of which none overflows.
 use Rattle.std.proofs.Common.{◌≡◌, ℕ, zero, suc, List, [], ◌∷◌, ◌++◌, Bool, true, false, cond, Some, None, Result, Ok, Err, refl, ◌∙◌, arith}
 use Rattle.std.specs.List.{All}
-use Rattle.std.proofs.lemmas.List.Elements.{All-nil, All-cons, All-head, All-tail}
+use Rattle.std.proofs.lemmas.List.Elements.{All-head, All-tail}
 use Rattle.std.proofs.lemmas.Bool.Decides.{nat_tests}
 use Rattle.definitions.specs.Poly.{Term}
 use Rattle.definitions.specs.Combination.{generator_at}
@@ -24,10 +24,6 @@ generator_all P [] each none (suc zero) = none
 generator_all P [] each none (suc (suc n)) = none
 generator_all P (p ∷ ps) each none (suc zero) = All-head P p ps each
 generator_all P (p ∷ ps) each none (suc (suc n)) = generator_all P ps (All-tail P p ps each) none (suc n)
-
--- what holds of each of two
-pub both : {X : Type 0} (P : X → Type 0) (x y : X) → P x → P y → All P (x ∷ y ∷ [])
-both P x y one other = All-cons P x (y ∷ []) one (All-cons P y [] other (All-nil P))
 
 -- the first of them fits, and then the others
 pub fits_first : (o : Overflow) (os : List Overflow) → first_overflow (o ∷ os) ≡ None → IsCoefficient (exact_value o) × (first_overflow os ≡ None)

@@ -2,7 +2,7 @@
 use Rattle.std.proofs.Common.{◌≡◌, ◌<◌, ◌≤◌, ℕ, zero, suc, ◌+◌, ℤ, ◌*ℤ◌, List, [], ◌∷◌, ◌++◌, map, length, take, Bool, true, false, cond, nat_le, Option, Some, None, Result, Ok, Err, refl, sym, ap, ◌∙◌, subst, arith}
 use Rattle.std.specs.List.{All}
 use Rattle.std.proofs.lemmas.List.{length-append, length-map}
-use Rattle.std.proofs.lemmas.List.Elements.{All-nil, All-cons, All-head, All-tail, All-weaker, All-append, All-push, All-map, recursion_from_All}
+use Rattle.std.proofs.lemmas.List.Elements.{All-nil, All-cons, All-head, All-tail, All-weaker, All-append, All-push, All-map}
 use Rattle.coef_int.specs.declared.Overflow.{Overflow}
 use Rattle.coef_int.specs.Range.{IsCoefficient}
 use Rattle.coef_int.specs.Operations.{product_of, first_overflow}
@@ -46,7 +46,7 @@ pub generator_words : (letters : ℕ) (ps : List (List Term)) → All (HasWords 
 generator_words letters ps each =
     generator_all (AreWords letters) ps
     (All-weaker (HasWords letters) (AreWords letters)
-    (λ p has. words_from letters p (recursion_from_All (λ t. 0 < length t.1) p has.nonempty) (recursion_from_All (λ t. IsOver letters t.1) p has.over)) ps each) tt
+    (λ p has. words_from letters p has.nonempty has.over) ps each) (All-nil (λ (t : Term). (0 < length t.1) × IsOver letters t.1))
 
 -- the generator with this number has the property, and so has its row with the multiplier of its reduction
 pub record IsKeptGenerator (letters : ℕ) (setting : Setting) (IsPoly : List Term → Type 0) (IsRow : ℕ → Row → Type 0) (number : ℕ) : Type 0 where

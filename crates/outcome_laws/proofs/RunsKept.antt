@@ -1,7 +1,7 @@
 -- The invariant holds after round 0, later rounds and whole runs.
 use Rattle.std.proofs.Common.{◌≡◌, ◌≤◌, ℕ, zero, suc, Bool, List, [], ◌∷◌, ◌++◌, length, map, Option, Result, Ok, Err, refl, sym, subst, arith, append-nil, append_assoc}
 use Rattle.std.specs.List.{All}
-use Rattle.std.proofs.lemmas.List.Elements.{All-head, All-tail, All-weaker, All-get_or, recursion_from_All}
+use Rattle.std.proofs.lemmas.List.Elements.{All-head, All-tail, All-weaker, All-get_or}
 use Rattle.definitions.specs.Poly.{Term}
 use Rattle.definitions.specs.Combination.{generator_at}
 use Rattle.definitions.specs.Quiver.{Quiver}
@@ -57,7 +57,7 @@ pub letters_below : (q : Quiver) (play : ℕ → Bool) (letters : ℕ) (generato
 letters_below q play letters generators each =
     generator_all (HasLettersBelow letters) generators
     (All-weaker (IsGenerator q play letters) (HasLettersBelow letters)
-    (λ g is. record { at = words_with_coefficients (IsOver letters) g (recursion_from_All (λ (t : Term). IsOver letters t.1) g is.over) }) generators each)
+    (λ g is. record { at = words_with_coefficients (IsOver letters) g is.over }) generators each)
     (record { at = λ w some. absurd (some refl) })
 
 module _ (q : Quiver) (play : ℕ → Bool) (letters : ℕ) (compare : Compare) (rank : List ℕ → List ℕ) (laws : IsAdmissible letters compare rank) (generators : List (List Term)) (each : All (IsGenerator q play letters) generators) (steps : ℕ) where
@@ -81,7 +81,7 @@ module _ (q : Quiver) (play : ℕ → Bool) (letters : ℕ) (compare : Compare) 
       record {
         reduced = reduced;
         shaped = rest_shaped;
-        over = rests_have_letters_below letters compare rules p s (record { at = words_with_coefficients (IsOver letters) p (recursion_from_All (λ (t : Term). IsOver letters t.1) p over) }) reduced rest_shaped;
+        over = rests_have_letters_below letters compare rules p s (record { at = words_with_coefficients (IsOver letters) p over }) reduced rest_shaped;
         typed = normal_forms_stay_typed q play letters compare rules p steps s are rules_typed shaped typed ends;
       }
 

@@ -1,9 +1,9 @@
 -- A step that is computed is a step, and its operations are those of one.
 use Rattle.std.proofs.Common.{◌≡◌, ◌≢◌, ◌⊎◌, inl, inr, ℕ, ℤ, pos, neg_ℤ, ◌+ℤ◌, ◌*ℤ◌, Bool, true, false, cond, List, [], ◌∷◌, ◌++◌, Some, None, Ok, refl, sym, ap, ap₂, ◌∙◌, subst, arith}
-use Rattle.std.specs.List.{Contains, All, AllByRecursion}
+use Rattle.std.specs.List.{Contains, All}
 use Rattle.std.specs.declared.cmp.Ordering.TheVariants.{Greater}
 use Rattle.std.proofs.lemmas.Int.{ints}
-use Rattle.std.proofs.lemmas.List.Elements.{Contains-append_cases}
+use Rattle.std.proofs.lemmas.List.Elements.{All-map, Contains-append_cases}
 use Rattle.std.proofs.lemmas.Option.{same_Some}
 use Rattle.std.proofs.Math.IntN.{*ℤ_comm}
 use Rattle.coef_int.specs.declared.Overflow.{Overflow}
@@ -23,7 +23,7 @@ use Rattle.nc_polynomial.proofs.Chains.{ranged_multiply, shaped_add}
 use Rattle.nc_polynomial.proofs.CoefficientLaws.{coefficient_of-added, coefficient_of-scaled}
 use Rattle.nc_polynomial.proofs.Divisors.{quotient_times}
 use Rattle.nc_polynomial.proofs.Products.{scaled-between, shaped_shift}
-use Rattle.nc_polynomial.proofs.Shapes.{Descends, IsDescending-from_recursion, recursion_from_IsDescending, descending-scaled, nonzero-scaled, shaped-negated}
+use Rattle.nc_polynomial.proofs.Shapes.{Descends, IsBelow, IsDescending-from_recursion, recursion_from_IsDescending, descending-scaled, nonzero-scaled, shaped-negated}
 use Rattle.traced_rows.specs.declared.Row.{Row}
 use Rattle.rule_reduce.specs.declared.rule.Rule.{Rule}
 use Rattle.rule_reduce.specs.declared.state.State.{State}
@@ -69,13 +69,9 @@ multiplied_shaped p k shaped none = record {
 descends_multiplied : (p : List Term) (k : ℤ) → IsShaped p → Descends (multiplied p k)
 descends_multiplied p k shaped = subst Descends (sym (multiplied-scaled p k)) (descending-scaled k p (recursion_from_IsDescending p shaped.descending))
 
-negated_below : (w : List ℕ) (p : List Term) → AllByRecursion (λ u. word_cmp w u.1 ≡ Greater) p → AllByRecursion (λ u. word_cmp w u.1 ≡ Greater) (negated p)
-negated_below w [] h = tt
-negated_below w (t ∷ p) h = (h.0, negated_below w p h.1)
-
 descends_negated : (p : List Term) → Descends p → Descends (negated p)
 descends_negated [] d = tt
-descends_negated (t ∷ p) d = (negated_below t.1 p d.0, descends_negated p d.1)
+descends_negated (t ∷ p) d = (All-map (IsBelow t.1) (λ (u : Term). (neg_ℤ u.0, u.1)) p d.0, descends_negated p d.1)
 
 descends_shifted : (k : ℤ) (l : List ℕ) (g : List Term) (r : List ℕ) → IsShaped g → Descends (negated (shifted k l g r))
 descends_shifted k l g r shaped =

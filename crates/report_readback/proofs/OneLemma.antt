@@ -1,6 +1,6 @@
 -- A lemma whose rows add up to its scale times a polynomial of the program is refused for a limit alone, or for want of memory.
 use Rattle.std.proofs.Common.{◌≡◌, ◌≢◌, ◌≤◌, ◌+◌, ◌⊎◌, inl, inr, ◌<ℤ◌, ◌*ℤ◌, ℕ, ℤ, pos, false, nat_lt, List, [], ◌∷◌, ◌++◌, Err, arith, refl, sym, ap, ◌∙◌, subst, length, map, get_or, int_div}
-use Rattle.std.specs.List.{All, AllByRecursion}
+use Rattle.std.specs.List.{All}
 use Rattle.std.specs.Int.{◌∣◌}
 use Rattle.std.specs.Int.RustNames.{unsigned_abs}
 use Rattle.std.proofs.Math.Nat.{dvd-mul_right}
@@ -65,11 +65,11 @@ rows_answer gs before number l names (refusal.Memory failed) refused = inr tt
 rows_answer gs before number l names other refused = absurd refused
 
 -- a positive integer times a polynomial of the program
-multiple_descends : (s : ℤ) (p : List Term) → pos 0 <ℤ s → IsCanonical p → Descends (poly_multiple s p) × AllByRecursion (λ t. t.0 ≢ pos 0) (poly_multiple s p)
+multiple_descends : (s : ℤ) (p : List Term) → pos 0 <ℤ s → IsCanonical p → Descends (poly_multiple s p) × All (λ t. t.0 ≢ pos 0) (poly_multiple s p)
 multiple_descends s p positive canonical =
     let same = scaled_by_nonzero s (λ none. omega (arith, ints, positive, none)) p canonical.shaped.nonzero in (
       subst Descends (sym same) (descending-scaled s p (recursion_from_IsDescending p canonical.shaped.descending)),
-      subst (AllByRecursion (λ t. t.0 ≢ pos 0)) (sym same) (nonzero-scaled s p),
+      subst (All (λ t. t.0 ≢ pos 0)) (sym same) (nonzero-scaled s p),
     )
 
 divides_multiple : (s : ℤ) (p : List Term) → DividesEach (unsigned_abs s) (poly_multiple s p)
