@@ -1,6 +1,6 @@
 -- What a reader of a kind of block owes: facts of single blocks, from which those of whole texts follow.
 use Rattle.std.proofs.Common.{◌≡◌, ◌⊎◌, ℕ, false, List, [], ◌∷◌, ◌++◌, Some, None, Result, Ok, Err, refl, sym, ap, ap₂, ◌∙◌, subst, inl, inr, if◌then◌else◌}
-use Rattle.std.specs.List.{All}
+use Rattle.std.specs.List.{All, list_any}
 use Rattle.block_text.specs.declared.fault.Flaw.{Flaw}
 use Rattle.block_text.specs.declared.fault.Flaw.TheVariants.{BadLine, TooMany}
 use Rattle.block_text.specs.Fault.{◌>>=◌, asked}
@@ -71,7 +71,7 @@ module _ {Value : Type 0} (kind : Kind Value) where
     pub none_told : (bound_of kind.flaw_of kind.bounds BadLine ≡ None) × (bound_of kind.flaw_of kind.bounds (TooMany block_limit) ≡ None)
     -- blocks of other kinds begin with the words of the kind, which aren't comments
     pub others : steps.others ≡ kind.others
-    pub words : All (λ word. begins_comment word ≡ false) kind.others
+    pub words : list_any begins_comment kind.others ≡ false
     -- the first lines of a block, by what was made of them
     pub IsOpen : Begun → List Line → Type 0
     -- no head of the kind is one of another kind
@@ -105,7 +105,7 @@ begins_by_head others IsOpen first second b none is_open line c read =
 pub reader_by_head : {Value : Type 0} (kind : Kind Value) {Begun : Type 0} (steps : Steps Begun Value) (IsOpen : Begun → List Line → Type 0)
     → ((bound : kind.Bound) → bound_of kind.flaw_of kind.bounds (kind.flaw_of bound) ≡ Some bound)
     → (bound_of kind.flaw_of kind.bounds BadLine ≡ None) × (bound_of kind.flaw_of kind.bounds (TooMany block_limit) ≡ None)
-    → steps.others ≡ kind.others → All (λ word. begins_comment word ≡ false) kind.others
+    → steps.others ≡ kind.others → list_any begins_comment kind.others ≡ false
     → (first second : List ℕ) (head : Begun) → ((line : Line) → steps.begin line ≡ (if is_pair first second line then Some head else None))
     → is_other_head kind.others (first ∷ second ∷ []) ≡ false → IsOpen head ((first ∷ second ∷ []) ∷ [])
     → ((b c : Begun) (front : List Line) (line : Line) → IsOpen b front → is_end line ≡ false → steps.next b line ≡ Ok c → IsOpen c (front ++ line ∷ []))

@@ -1,9 +1,9 @@
 -- Texts one after another, and texts of several parts: written blocks, comments and blocks of other kinds.
 use Rattle.std.proofs.Common.{◌≡◌, ◌≤◌, ◌<◌, ◌+◌, ◌==◌, ℕ, zero, suc, Bool, true, false, not, cond, ◌||◌, List, [], ◌∷◌, ◌++◌, arith, refl, sym, ap, ◌∙◌, subst, length, get_or, take, map, codes, IsTrue, flat_map}
-use Rattle.std.specs.List.{All, AllZip, list_all, onto_first, slice_split}
+use Rattle.std.specs.List.{All, AllZip, list_all, list_any, onto_first, slice_split}
 use Rattle.std.specs.Str.{IsUtf8}
 use Rattle.std.specs.Str.Lines.{lines, strip_carriage_return}
-use Rattle.std.proofs.lemmas.Bool.{and_parts}
+use Rattle.std.proofs.lemmas.Bool.{and_parts, or_parts}
 use Rattle.std.proofs.lemmas.Grind.{flat_map-append}
 use Rattle.std.proofs.lemmas.List.{length-append, append-nil, append_assoc}
 use Rattle.std.proofs.lemmas.List.Elements.{All-nil, All-cons, All-head, All-tail, All-append, All-weaker, All-map, All-filter}
@@ -83,13 +83,13 @@ head_by : (word token : List ℕ) (tokens : Line) (others : List (List ℕ)) (fi
 head_by word token tokens others true same plain rest known = ap begins_comment ((bytes_eq-Decides token word).0 same) ∙ plain
 head_by word token tokens others false same plain rest known = rest known
 
-pub head_stands : (others : List (List ℕ)) (line : Line) → All (λ word. begins_comment word ≡ false) others → is_other_head others line ≡ true → is_skipped line ≡ false
+pub head_stands : (others : List (List ℕ)) (line : Line) → list_any begins_comment others ≡ false → is_other_head others line ≡ true → is_skipped line ≡ false
 head_stands [] [] each known = absurd (cc)
 head_stands [] (token ∷ tokens) each known = absurd (cc)
-head_stands (word ∷ others) [] each known = head_stands others [] (All-tail (λ w. begins_comment w ≡ false) word others each) known
-head_stands (word ∷ others) (token ∷ tokens) each known =
-    head_by word token tokens others (is word token) refl (All-head (λ w. begins_comment w ≡ false) word others each)
-    (head_stands others (token ∷ tokens) (All-tail (λ w. begins_comment w ≡ false) word others each)) known
+head_stands (word ∷ others) [] none known = head_stands others [] (or_parts (begins_comment word) _ none).1 known
+head_stands (word ∷ others) (token ∷ tokens) none known =
+    let parts = or_parts (begins_comment word) (list_any begins_comment others) none in
+    head_by word token tokens others (is word token) refl parts.0 (head_stands others (token ∷ tokens) parts.1) known
 
 body_is_text : (lines : List (List ℕ)) → All IsBodyLine lines → IsTextOf (flat_map ended lines) (content lines)
 body_is_text [] each = no_text
@@ -100,7 +100,7 @@ body_is_text (line ∷ lines) each =
 abbrev pub other_tree : List ℕ → List (List ℕ) → OtherTokens
 other_tree head lines = record { head = tokens_of head; lines = content lines }
 
-pub other_is_text : (others : List (List ℕ)) (head : List ℕ) (lines : List (List ℕ)) → All (λ word. begins_comment word ≡ false) others → IsLineText head → is_other_head others (tokens_of head) ≡ true
+pub other_is_text : (others : List (List ℕ)) (head : List ℕ) (lines : List (List ℕ)) → list_any begins_comment others ≡ false → IsLineText head → is_other_head others (tokens_of head) ≡ true
     → All IsBodyLine lines → IsTextOf (ended head ++ flat_map ended lines ++ codes "end\n") (tokens_of head ∷ (content lines ++ end_line ∷ []))
 other_is_text others head lines words line known each =
     text-append _ _ _ _ (text-append _ _ _ _ (text_of_tokens head (tokens_of head) line refl (head_stands others (tokens_of head) words known)) (body_is_text lines each)) end_is_text
@@ -196,7 +196,7 @@ module _ {Value : Type 0} (kind : Kind Value) where
       (joined (before ++ text) after (first ++ value ∷ []) last (whole_append before text whole written.text_is.whole) start right (omega (arith, few, length-append first (value ∷ []))))
 
   -- parts one after another
-  module _ (text_of : Value → List ℕ) (IsGood : Value → Type 0) (written : (value : Value) → IsGood value → IsWritten (text_of value) value) (words : All (λ word. begins_comment word ≡ false) kind.others) where
+  module _ (text_of : Value → List ℕ) (IsGood : Value → Type 0) (written : (value : Value) → IsGood value → IsWritten (text_of value) value) (words : list_any begins_comment kind.others ≡ false) where
     abbrev Good : Part Value → Type 0
     Good p = IsPart kind.others IsGood p
 

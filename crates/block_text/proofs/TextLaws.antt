@@ -1,6 +1,6 @@
 -- The laws of texts hold of each kind whose reader owes what it has to, and of each writer whose texts are blocks.
 use Rattle.std.proofs.Common.{◌≡◌, ℕ, false, List}
-use Rattle.std.specs.List.{All}
+use Rattle.std.specs.List.{list_any}
 use Rattle.block_text.specs.Tokens.{begins_comment}
 use Rattle.block_text.specs.Kind.{Kind}
 use Rattle.block_text.specs.Laws.{AreTold, AreReadBack}
@@ -19,7 +19,7 @@ module _ {Value : Type 0} (kind : Kind Value) where
     values_have_no_fault = values_have_no_fault kind steps reader;
   }
 
-  pub are_read_back : (text_of : Value → List ℕ) (IsGood : Value → Type 0) → All (λ word. begins_comment word ≡ false) kind.others
+  pub are_read_back : (text_of : Value → List ℕ) (IsGood : Value → Type 0) → list_any begins_comment kind.others ≡ false
       → ((value : Value) → IsGood value → IsWritten kind (text_of value) value) → AreReadBack (HasBlocks kind) text_of IsGood kind.others
   are_read_back text_of IsGood words written = record {
     between = λ value before after first last good whole left right few. written_between kind (text_of value) value before after first last (written value good) whole left right few;

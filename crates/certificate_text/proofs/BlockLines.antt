@@ -1,10 +1,10 @@
 -- Certificates that keep bounds are read.
 use Rattle.std.proofs.Common.{◌≡◌, ◌<◌, ◌≤◌, ◌+◌, ℕ, ℤ, pos, false, List, [], ◌∷◌, ◌++◌, Some, Result, Ok, Err, IsTrue, arith, refl, sym, subst, length, length-append, map, codes, flat_map, add-zero}
-use Rattle.std.specs.List.{All, AllByRecursion, AllZip}
+use Rattle.std.specs.List.{All, AllZip}
 use Rattle.std.specs.Option.{option_map}
 use Rattle.std.proofs.lemmas.Bool.{lt-leb}
 use Rattle.std.proofs.lemmas.List.{append_assoc, append-nil}
-use Rattle.std.proofs.lemmas.List.Elements.{All-head, All-tail, All-weaker, All-from_recursion}
+use Rattle.std.proofs.lemmas.List.Elements.{All-cons, All-head, All-tail, All-append, All-map, All-weaker}
 use Rattle.quiver.specs.Declarations.{Declaration}
 use Rattle.traced_rows.specs.declared.certificate.CertRow.{CertRow}
 use Rattle.traced_rows.specs.declared.evidence.Lemma.{Lemma}
@@ -52,18 +52,20 @@ lemma_row_takes ds r row size l place =
     rw (lemma_row_line_read ds r row) (row_steps (row_values ds r) (over_lemma r.lemma) (λ made. grown size made.left made.right) (λ larger made. (larger, lemma_of l.scale (l.rows ++ made ∷ []))) (λ next. place next.0 next.1))
 
 -- no line of a certificate is `end`
-pub rows_go_on : (rs : List RowTokens) → AllByRecursion (λ line. is_end line ≡ false) (map row_line rs)
-rows_go_on [] = tt
-rows_go_on (r ∷ rs) = (refl, rows_go_on rs)
+abbrev pub GoesOn : Line → Type 0
+GoesOn line = is_end line ≡ false
 
-pub behind_rows : (rs : List RowTokens) (lines : List Line) → AllByRecursion (λ line. is_end line ≡ false) lines → AllByRecursion (λ line. is_end line ≡ false) (map row_line rs ++ lines)
-behind_rows [] lines rest = rest
-behind_rows (r ∷ rs) lines rest = (refl, behind_rows rs lines rest)
+pub rows_go_on : (rs : List RowTokens) → All GoesOn (map row_line rs)
+rows_go_on rs = All-map GoesOn row_line rs (λ k r below. refl)
 
-lemmas_go_on : (ls : List LemmaTokens) (goal : ScaledTokens) → AllByRecursion (λ line. is_end line ≡ false) (flat_map lemma_lines ls ++ goal_lines goal)
-lemmas_go_on [] goal = (refl, rows_go_on goal.rows)
+pub behind_rows : (rs : List RowTokens) (lines : List Line) → All GoesOn lines → All GoesOn (map row_line rs ++ lines)
+behind_rows rs lines rest = All-append GoesOn (map row_line rs) lines (rows_go_on rs) rest
+
+lemmas_go_on : (ls : List LemmaTokens) (goal : ScaledTokens) → All GoesOn (flat_map lemma_lines ls ++ goal_lines goal)
+lemmas_go_on [] goal = All-cons GoesOn _ _ refl (rows_go_on goal.rows)
 lemmas_go_on (l ∷ ls) goal =
-    subst (AllByRecursion (λ line. is_end line ≡ false)) (sym (append_assoc (lemma_lines l) (flat_map lemma_lines ls) (goal_lines goal))) (refl, behind_rows l.scaled.rows (flat_map lemma_lines ls ++ goal_lines goal) (lemmas_go_on ls goal))
+    subst (All GoesOn) (sym (append_assoc (lemma_lines l) (flat_map lemma_lines ls) (goal_lines goal)))
+    (All-cons GoesOn _ _ refl (behind_rows l.scaled.rows (flat_map lemma_lines ls ++ goal_lines goal) (lemmas_go_on ls goal)))
 
 -- numbers outside of rows
 module _ (K : Bound → Type 0) where
@@ -262,10 +264,12 @@ module _ (K : Bound → Type 0) where
 
     pub block_meets : (most : Format) (b : BlockTokens) → IsBlock most b → ((bound : Bound) → K bound → KeepsOne ds bound b) → Meets flaw_of K (IsCertificateOf ds b) (read_block (certificate_steps most ds) (certificate_lines b))
     block_meets most (tokens.plain b) block keeps =
-        read_by most Plain (tokens.plain b) (claim_line b.claim ∷ denominator_line b.denominator ∷ map row_line b.rows) (All-from_recursion (λ line. is_end line ≡ false) (claim_line b.claim ∷ denominator_line b.denominator ∷ map row_line b.rows) (refl, (refl, rows_go_on b.rows)))
+        read_by most Plain (tokens.plain b) (claim_line b.claim ∷ denominator_line b.denominator ∷ map row_line b.rows)
+        (All-cons GoesOn (claim_line b.claim) (denominator_line b.denominator ∷ map row_line b.rows) refl (All-cons GoesOn (denominator_line b.denominator) (map row_line b.rows) refl (rows_go_on b.rows)))
         (plain_meets b block (λ kept. (keeps bound.numbers kept).0) (rows_fit (tokens.plain b) keeps))
     block_meets Plain (tokens.lemmas b) block keeps = absurd block
     block_meets Lemmas (tokens.lemmas b) block keeps =
         read_by Lemmas Lemmas (tokens.lemmas b) (claim_line b.claim ∷ denominator_line b.denominator ∷ (flat_map lemma_lines b.lemmas ++ goal_lines b.goal))
-        (All-from_recursion (λ line. is_end line ≡ false) (claim_line b.claim ∷ denominator_line b.denominator ∷ (flat_map lemma_lines b.lemmas ++ goal_lines b.goal)) (refl, (refl, lemmas_go_on b.lemmas b.goal)))
+        (All-cons GoesOn (claim_line b.claim) (denominator_line b.denominator ∷ (flat_map lemma_lines b.lemmas ++ goal_lines b.goal)) refl
+        (All-cons GoesOn (denominator_line b.denominator) (flat_map lemma_lines b.lemmas ++ goal_lines b.goal) refl (lemmas_go_on b.lemmas b.goal)))
         (lemmas_meets b block (λ kept. (keeps bound.numbers kept).0) (λ kept. (keeps bound.rows kept).1) (rows_fit (tokens.lemmas b) keeps))

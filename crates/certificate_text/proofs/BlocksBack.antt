@@ -4,7 +4,7 @@ use Rattle.std.specs.Prelude.{decimal}
 use Rattle.std.specs.Fmt.{signed_decimal}
 use Rattle.std.specs.List.{All, list_all}
 use Rattle.std.proofs.lemmas.List.{length-map}
-use Rattle.std.proofs.lemmas.List.Elements.{All-weaker, All-map, recursion_from_All}
+use Rattle.std.proofs.lemmas.List.Elements.{All-weaker, All-map}
 use Rattle.quiver.specs.Declarations.{Declaration, IsDeclared}
 use Rattle.traced_rows.specs.declared.certificate.CertRow.{CertRow}
 use Rattle.traced_rows.specs.declared.certificate.Certificate.{Certificate}
@@ -74,7 +74,7 @@ module _ (ds : List Declaration) (c : Certificate) (writable : IsWritable ds c) 
 
   block_is_text : IsTextOf (certificate_text ds c) (certificate_lines (plain (plain_tree ds c)) ++ end_line ∷ [])
   block_is_text =
-      let listed = rows_are_text ds over_generator c.rows (recursion_from_All (λ row. IsWrittenRow ds (over_generator row)) c.rows each) in
+      let listed = rows_are_text ds over_generator c.rows each in
       text-append _ _ _ _ (text-append _ _ _ _ (opening_is_text format.Plain c.claim c.denominator writable.claim size) listed) end_is_text
 
   is_block : IsPlainBlock (plain_tree ds c)
@@ -99,7 +99,7 @@ module _ (ds : List Declaration) (c : Certificate) (writable : IsWritable ds c) 
     denominator = size.value;
     rows =
         zip_by (λ (r : RowTokens) row. row_values ds r ≡ Ok row) (λ row. row_tree ds (over_generator row)) c.rows
-        (recursion_from_All _ c.rows (All-weaker (λ row. IsWrittenRow ds (over_generator row)) _ (λ row. row_says ds (over_generator row)) c.rows each));
+        (All-weaker (λ row. IsWrittenRow ds (over_generator row)) (λ row. row_values ds (row_tree ds (over_generator row)) ≡ Ok row) (λ row. row_says ds (over_generator row)) c.rows each);
   }
 
   pub plain_written : (most : Format) → IsWritten (certificate_kind most ds) (certificate_text ds c) (evidence.Plain c)

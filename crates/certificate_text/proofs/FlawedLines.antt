@@ -2,7 +2,7 @@
 use Rattle.std.proofs.Common.{◌≡◌, ◌⊎◌, inl, inr, ◌+◌, ℕ, pos, List, [], ◌∷◌, ◌++◌, Some, None, Ok, Err, IsTrue, arith, sym, ap, ap₂, ◌∙◌, subst, length, nat_le, append_assoc, append-nil, codes}
 use Rattle.std.specs.List.{All}
 use Rattle.std.specs.Option.{option_map}
-use Rattle.std.proofs.lemmas.List.Elements.{All-nil, All-push, All-from_recursion}
+use Rattle.std.proofs.lemmas.List.Elements.{All-nil, All-cons, All-push, All-replicate}
 use Rattle.quiver.specs.Declarations.{Declaration}
 use Rattle.traced_rows.specs.declared.certificate.CertRow.{CertRow}
 use Rattle.traced_rows.specs.declared.certificate.Certificate.{Certificate}
@@ -104,8 +104,8 @@ module _ (most : Format) (ds : List Declaration) (flaw : Flaw) (front : List Lin
 
   -- the head
   shortest_names : (form : Format) (claim denominator : List ℕ) → All (λ bound. KeepsOne ds bound (shortest form claim denominator)) (before numbers)
-  shortest_names Plain claim denominator = All-from_recursion (λ bound. KeepsOne ds bound (shortest Plain claim denominator)) (before numbers) (All-nil (HasNames ds), tt)
-  shortest_names Lemmas claim denominator = All-from_recursion (λ bound. KeepsOne ds bound (shortest Lemmas claim denominator)) (before numbers) (All-nil (HasNames ds), tt)
+  shortest_names Plain claim denominator = All-replicate (λ bound. KeepsOne ds bound (shortest Plain claim denominator)) 1 names (All-nil (HasNames ds))
+  shortest_names Lemmas claim denominator = All-replicate (λ bound. KeepsOne ds bound (shortest Lemmas claim denominator)) 1 names (All-nil (HasNames ds))
 
   stopped_headed : (form : Format) → IsHeaded most form front → claim_of line ≡ Err flaw → Stopped
   stopped_headed form headed read = stopped_by (certificate_kind most ds) flaw _ (number_unsaid (codes "claim") (number_within number_limit) line flaw read) (λ found.
@@ -184,20 +184,23 @@ module _ (most : Format) (ds : List Declaration) (flaw : Flaw) (front : List Lin
       abbrev led : BlockTokens
       led = lemmas (rows_behind opened.claim opened.denominator opened.finished lead (record { scale = digits; rows = [] }))
 
+      abbrev LedKeeps : Bound → Type 0
+      LedKeeps bound = KeepsOne ds bound led
+
       led_rows : (bound : Bound) → RowsWithin ds (rows_in led) bound
       led_rows bound =
           subst (λ rs. RowsWithin ds rs bound) (sym (append-nil (rows_of opened.finished)) ∙ sym (rows_are opened.claim opened.denominator opened.finished lead (record { scale = digits; rows = [] }))) (opened.have.keep bound)
 
       stopped_large : IsNext lead opened.finished → IsTrue (is_number digits) → line ∷ [] ≡ lead_lines lead (record { scale = digits; rows = [] }) → flaw ≡ NumberTooLarge → Stopped
       stopped_large next number line_is large =
-          stopped_by_lead lead digits numbers next number line_is large (All-from_recursion (λ bound. KeepsOne ds bound led) (before numbers) (led_rows names, tt))
+          stopped_by_lead lead digits numbers next number line_is large (All-replicate LedKeeps 1 names (led_rows names))
 
       stopped_many : IsNext lead opened.finished → IsTrue (is_number digits) → line ∷ [] ≡ lead_lines lead (record { scale = digits; rows = [] }) → IsWithin integer_limit digits
           → flaw ≡ TooMany row_limit → Stopped
       stopped_many next number line_is within many =
           let outside = rows_outside most ds opened.claim opened.denominator opened.finished lead (record { scale = digits; rows = [] }) opened.begun.within within in
           stopped_by_lead lead digits rows next number line_is many
-          (All-from_recursion (λ bound. KeepsOne ds bound led) (before rows) (led_rows names, ((outside, led_rows numbers), (led_rows words, tt))))
+          (All-cons LedKeeps names (numbers ∷ words ∷ []) (led_rows names) (All-cons LedKeeps numbers (words ∷ []) (outside, led_rows numbers) (All-replicate LedKeeps 1 words (led_rows words))))
 
     stopped_goal : goal_scale_of line ≡ Err flaw → Stopped
     stopped_goal read = stopped_by (certificate_kind most ds) flaw _ (goal_unread line flaw read) (λ found. stopped_large None found.digits tt found.number (ap (λ l. l ∷ []) found.line_is) found.large)

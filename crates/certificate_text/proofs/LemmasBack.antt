@@ -4,7 +4,7 @@ use Rattle.std.specs.Prelude.{decimal}
 use Rattle.std.specs.Fmt.{signed_decimal}
 use Rattle.std.specs.List.{All, AllZip, list_all, flat_map, sum_by}
 use Rattle.std.proofs.lemmas.List.{append_assoc, length-append, length-map}
-use Rattle.std.proofs.lemmas.List.Elements.{All-nil, All-cons, All-head, All-tail, All-weaker, recursion_from_All}
+use Rattle.std.proofs.lemmas.List.Elements.{All-nil, All-cons, All-head, All-tail, All-weaker}
 use Rattle.std.proofs.lemmas.List.Sums.{sum_by-cons, sum_by_push}
 use Rattle.quiver.specs.Declarations.{Declaration, IsDeclared}
 use Rattle.traced_rows.specs.declared.evidence.LemmaRow.{LemmaRow}
@@ -51,7 +51,7 @@ module _ (ds : List Declaration) (l : Lemma) (written : IsWrittenLemma ds l) whe
       → IsTextOf (front ++ scaled_text ds l) ((before ++ signed_decimal l.scale ∷ []) ∷ map row_line (scaled_tree ds l).rows)
   scaled_is_text front before line split stands =
       let head = text_of_number (front ++ codes " scale ") before (signed_decimal l.scale) (line_text-append front (codes " scale ") line (literal (codes " scale ") refl refl)) written.size.text split stands in
-      let listed = rows_are_text ds (λ (row : LemmaRow). row) l.rows (recursion_from_All (IsWrittenRow ds) l.rows written.rows) in
+      let listed = rows_are_text ds (λ (row : LemmaRow). row) l.rows written.rows in
       subst (λ (text : List ℕ). IsTextOf text ((before ++ signed_decimal l.scale ∷ []) ∷ map row_line (scaled_tree ds l).rows))
       (sym (grouped front (codes " scale ") (signed_decimal l.scale) (10 ∷ []) (flat_map (lemma_row_text ds) l.rows)))
       (text-append _ _ _ _ head listed)
@@ -65,7 +65,7 @@ module _ (ds : List Declaration) (l : Lemma) (written : IsWrittenLemma ds l) whe
   pub says : IsScaledOf ds (scaled_tree ds l) l
   says = record {
     scale = written.size.value;
-    rows = zip_by (IsLemmaRowOf ds) (row_tree ds) l.rows (recursion_from_All _ l.rows (All-weaker (IsWrittenRow ds) _ (lemma_row_says ds) l.rows written.rows));
+    rows = zip_by (IsLemmaRowOf ds) (row_tree ds) l.rows (All-weaker (IsWrittenRow ds) (λ row. IsLemmaRowOf ds (row_tree ds row) row) (lemma_row_says ds) l.rows written.rows);
   }
 
 pub goal_is_text : (ds : List Declaration) (l : Lemma) → IsWrittenLemma ds l → IsTextOf (goal_text ds l) (goal_lines (scaled_tree ds l) ++ end_line ∷ [])

@@ -1,6 +1,5 @@
 -- The reader of certificates owes what a reader of blocks owes.
 use Rattle.std.proofs.Common.{◌≡◌, ◌++◌, ◌∷◌, [], ℕ, false, List, Some, None, Result, Ok, refl, sym, ap, subst, codes, length}
-use Rattle.std.proofs.lemmas.List.Elements.{All-from_recursion}
 use Rattle.quiver.specs.Declarations.{Declaration}
 use Rattle.traced_rows.specs.declared.certificate.Certificate.{Certificate}
 use Rattle.traced_rows.specs.declared.evidence.Lemma.{Lemma}
@@ -9,7 +8,6 @@ use Rattle.traced_rows.specs.declared.evidence.Evidence.TheVariants as evidence
 use Rattle.traced_rows.specs.declared.evidence.Format.{Format}
 use Rattle.traced_rows.specs.declared.evidence.Format.TheVariants.{Plain, Lemmas}
 use Rattle.block_text.specs.declared.fault.Flaw.{Flaw}
-use Rattle.block_text.specs.Tokens.{begins_comment}
 use Rattle.block_text.specs.Lines.{Line, begins, is_end, claim_of}
 use Rattle.block_text.specs.Blocks.{is_other_head}
 use Rattle.block_text.proofs.Bounds.{bound_of}
@@ -138,7 +136,7 @@ module _ (most : Format) (ds : List Declaration) where
     told = told;
     none_told = (refl, refl);
     others = refl;
-    words = All-from_recursion (λ word. begins_comment word ≡ false) other_words (refl, (refl, tt));
+    words = refl;
     IsOpen = IsOpen most ds;
     begins = begins_head;
     goes = goes;

@@ -4,7 +4,7 @@ use Rattle.std.specs.List.{All}
 use Rattle.std.specs.Option.{option_map}
 use Rattle.std.proofs.lemmas.Bool.{or_parts}
 use Rattle.std.proofs.lemmas.List.{length-append}
-use Rattle.std.proofs.lemmas.List.Elements.{All-nil, All-push, All-from_recursion}
+use Rattle.std.proofs.lemmas.List.Elements.{All-nil, All-cons, All-push, All-replicate}
 use Rattle.std.proofs.lemmas.Option.{option_and_then_some}
 use Rattle.quiver.specs.Declarations.{Declaration}
 use Rattle.traced_rows.specs.declared.certificate.CertRow.{CertRow}
@@ -176,7 +176,7 @@ module _ (ds : List Declaration) (size : Size) (rs : List RowTokens) (have : Hav
     where
       by_values : (flaw ≡ UnknownName) ⊎ ((flaw ≡ NumberTooLarge) × HasNames ds r) → Pass ds flaw (rs ++ r ∷ [])
       by_values (inl same) = record { bound = names; flaw_is = same; keep = All-nil (RowsWithin ds (rs ++ r ∷ [])) }
-      by_values (inr known) = record { bound = numbers; flaw_is = known.0; keep = All-from_recursion (RowsWithin ds (rs ++ r ∷ [])) (before numbers) (names_push known.1, tt) }
+      by_values (inr known) = record { bound = numbers; flaw_is = known.0; keep = All-replicate (RowsWithin ds (rs ++ r ∷ [])) 1 names (names_push known.1) }
 
   module _ (row : CertRow) (read : row_values ds r ≡ Ok row) where
     valued : IsValued ds r row
@@ -213,19 +213,16 @@ module _ (ds : List Declaration) (size : Size) (rs : List RowTokens) (have : Hav
     pub passes_full : (flaw : Flaw) → grown size row.left row.right ≡ Err flaw → Pass ds flaw (rs ++ r ∷ [])
     passes_full flaw full = by_room (is_full size row.left row.right flaw full)
       where
+        Keeps : Bound → Type 0
+        Keeps = RowsWithin ds (rs ++ r ∷ [])
+
+        before_words : All Keeps (before words)
+        before_words = All-cons Keeps names (numbers ∷ []) (names_push valued.known) (All-replicate Keeps 1 numbers (numbers_push valued.within))
+
+        before_rows : IsShort row.left row.right → All Keeps (before rows)
+        before_rows short = All-push Keeps (before words) words before_words (words_push short)
+
         by_room : IsFull size row.left row.right flaw → Pass ds flaw (rs ++ r ∷ [])
-        by_room (long same) = record {
-          bound = words;
-          flaw_is = same;
-          keep = All-from_recursion (RowsWithin ds (rs ++ r ∷ [])) (before words) (names_push valued.known, (numbers_push valued.within, tt));
-        }
-        by_room (many same short) = record {
-          bound = rows;
-          flaw_is = same;
-          keep = All-from_recursion (RowsWithin ds (rs ++ r ∷ [])) (before rows) (names_push valued.known, (numbers_push valued.within, (words_push short, tt)));
-        }
-        by_room (crowded same short few) = record {
-          bound = letters;
-          flaw_is = same;
-          keep = All-from_recursion (RowsWithin ds (rs ++ r ∷ [])) (before letters) (names_push valued.known, (numbers_push valued.within, (words_push short, (rows_push few, tt))));
-        }
+        by_room (long same) = record { bound = words; flaw_is = same; keep = before_words }
+        by_room (many same short) = record { bound = rows; flaw_is = same; keep = before_rows short }
+        by_room (crowded same short few) = record { bound = letters; flaw_is = same; keep = All-push Keeps (before rows) rows (before_rows short) (rows_push few) }

@@ -2,10 +2,10 @@
 use Rattle.std.proofs.Common.{◌≡◌, ◌<◌, ◌≤◌, ◌^◌, ◌+◌, ℕ, Bool, true, false, cond, List, [], ◌∷◌, ◌++◌, Ok, arith, refl, sym, ap, ◌∙◌, subst, length, map, codes, IsTrue}
 use Rattle.std.specs.Prelude.{decimal}
 use Rattle.std.specs.Fmt.{signed_decimal}
-use Rattle.std.specs.List.{All, AllByRecursion, AllZip, flat_map, sum_by}
+use Rattle.std.specs.List.{All, AllZip, flat_map, sum_by}
 use Rattle.std.proofs.lemmas.List.{append_assoc, length-map}
 use Rattle.std.proofs.lemmas.List.Sums.{sum_by-cons}
-use Rattle.std.proofs.lemmas.List.Elements.{All-weaker, All-map, All-append}
+use Rattle.std.proofs.lemmas.List.Elements.{All-head, All-tail, All-weaker, All-map, All-append}
 use Rattle.quiver.specs.Declarations.{Declaration}
 use Rattle.traced_rows.specs.declared.certificate.CertRow.{CertRow}
 use Rattle.traced_rows.specs.declared.evidence.CertFrom.{CertFrom}
@@ -169,19 +169,20 @@ pub letters_in-append : (xs ys : List RowTokens) → letters_in (xs ++ ys) ≡ l
 letters_in-append [] ys = omega arith
 letters_in-append (r ∷ xs) ys = omega (arith, letters_in-append xs ys)
 
-pub zip_by : {A B : Type 0} (R : A → B → Type 0) (f : B → A) (ys : List B) → AllByRecursion (λ y. R (f y) y) ys → AllZip R (map f ys) ys
+pub zip_by : {A B : Type 0} (R : A → B → Type 0) (f : B → A) (ys : List B) → All (λ y. R (f y) y) ys → AllZip R (map f ys) ys
 zip_by R f [] each = tt
-zip_by R f (y ∷ ys) each = (each.0, zip_by R f ys each.1)
+zip_by R f (y ∷ ys) each = (All-head (λ x. R (f x) x) y ys each, zip_by R f ys (All-tail (λ x. R (f x) x) y ys each))
 
 -- rows of either format
 module _ {X : Type 0} (ds : List Declaration) (shown : X → LemmaRow) where
   abbrev pub trees : List X → List RowTokens
   trees rows = map (λ row. row_tree ds (shown row)) rows
 
-  pub rows_are_text : (rows : List X) → AllByRecursion (λ row. IsWrittenRow ds (shown row)) rows → IsTextOf (flat_map (λ row. lemma_row_text ds (shown row)) rows) (map row_line (trees rows))
+  pub rows_are_text : (rows : List X) → All (λ row. IsWrittenRow ds (shown row)) rows → IsTextOf (flat_map (λ row. lemma_row_text ds (shown row)) rows) (map row_line (trees rows))
   rows_are_text [] each = no_text
   rows_are_text (row ∷ rows) each =
-      text-append (lemma_row_text ds (shown row)) (flat_map (λ row. lemma_row_text ds (shown row)) rows) (row_line (row_tree ds (shown row)) ∷ []) (map row_line (trees rows)) (row_is_text ds (shown row) each.0) (rows_are_text rows each.1)
+      text-append (lemma_row_text ds (shown row)) (flat_map (λ row. lemma_row_text ds (shown row)) rows) (row_line (row_tree ds (shown row)) ∷ []) (map row_line (trees rows))
+      (row_is_text ds (shown row) (All-head (λ x. IsWrittenRow ds (shown x)) row rows each)) (rows_are_text rows (All-tail (λ x. IsWrittenRow ds (shown x)) row rows each))
 
   along : (P : RowTokens → Type 0) → ((row : LemmaRow) → IsWrittenRow ds row → P (row_tree ds row)) → (rows : List X) → All (λ row. IsWrittenRow ds (shown row)) rows → All P (trees rows)
   along P holds rows each = All-map P (λ row. row_tree ds (shown row)) rows (All-weaker (λ row. IsWrittenRow ds (shown row)) (λ row. P (row_tree ds (shown row))) (λ row. holds (shown row)) rows each)

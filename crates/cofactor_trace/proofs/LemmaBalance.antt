@@ -21,7 +21,7 @@ use Rattle.cofactor_trace.specs.declared.replacement.Replacement.{Replacement}
 use Rattle.cofactor_trace.specs.Laws.{Traces, AreTraces}
 use Rattle.traced_rows.specs.Traces.{origin_poly, traced_poly, traced_sum}
 use Rattle.cofactor_trace.specs.Needed.{IsRecord, AreRecords, Numbered}
-use Rattle.cofactor_trace.specs.Lemmas.{naming_of, direct_of, lemma_rules, lemma_records, lemma_number, lemma_row, lemma_of, signed}
+use Rattle.cofactor_trace.specs.Lemmas.{naming_of, direct_of, lemma_rules, lemma_number, lemma_row, lemma_of, signed}
 use Rattle.traced_rows.specs.LemmaRows.{cert_poly, lemma_row_poly, lemma_sum, AddsUpTo, AreOfLemmas, IsShareOf, IsEvidenceOf}
 use Rattle.cofactor_trace.specs.GatheringLaws.{lemma_polys, GatheringsAddUp}
 use Rattle.traced_rows.proofs.Between.{between-same, between-multiple, between-nothing}

@@ -1,5 +1,5 @@
 -- An expansion is over the generators that the records name.
-use Rattle.std.proofs.Common.{◌≡◌, ℕ, ◌≤◌, ℤ, ◌*ℤ◌, Bool, true, false, cond, List, [], ◌∷◌, map, suc, Some, Result, Ok, Err, unwrap_or, subst}
+use Rattle.std.proofs.Common.{◌≡◌, ℕ, ◌≤◌, ℤ, ◌*ℤ◌, Bool, true, false, cond, List, [], ◌∷◌, map, Some, Result, Ok, Err, unwrap_or, subst}
 use Rattle.std.proofs.lemmas.List.Elements.{All-head, All-tail, All-from_recursion}
 use Rattle.std.specs.List.{All, AllByRecursion}
 use Rattle.std.specs.Map.{lookup}
@@ -15,10 +15,9 @@ use Rattle.cofactor_trace.specs.declared.table.Multiple.{Multiple}
 use Rattle.cofactor_trace.specs.declared.fault.ExpandFault.{ExpandFault}
 use Rattle.cofactor_trace.specs.Expansion.{Known, common_denominator, joined, joined_rows, joined_row, share, record_expansion}
 use Rattle.cofactor_trace.specs.Laws.{IsUpTo, NamesUpTo, GeneratorsAreNamed}
-use Rattle.cofactor_trace.specs.Needed.{Numbered, Expansions, none, known_from, and_then, expansion_from, needed_from, needed_rules, is_named}
+use Rattle.cofactor_trace.specs.Needed.{Numbered, Expansions, none, known_from, and_then, expansion_from, needed_rules}
 use Rattle.cofactor_trace.proofs.GatheredParts.{needed_each}
 use Rattle.cofactor_trace.proofs.Kept.{Each, each_append, each_primitive}
-use Rattle.cofactor_trace.proofs.NeededLaws.{records_of}
 use Rattle.cofactor_trace.proofs.Passes.{each_with}
 use Rattle.cofactor_trace.proofs.RecordLaws.{primitive_is}
 

@@ -1,9 +1,8 @@
 -- The bases of the closed claims of a problem can be written, and each is closed, or its check stops.
-use Rattle.std.proofs.Common.{◌≡◌, ◌≢◌, ◌<◌, ◌≤◌, inl, inr, ℕ, zero, suc, ◌+◌, pos, List, [], ◌∷◌, length, refl, sym, ap, ◌∙◌, subst, arith}
+use Rattle.std.proofs.Common.{◌≡◌, ◌<◌, ◌≤◌, inl, inr, ℕ, zero, suc, ◌+◌, List, [], ◌∷◌, length, refl, sym, ap, ◌∙◌, subst, arith}
 use Rattle.std.specs.List.{All, range_with_len}
 use Rattle.std.proofs.lemmas.List.Elements.{All-nil, All-cons, All-map, All-weaker}
 use Rattle.definitions.specs.Poly.{Term}
-use Rattle.word_core.specs.Letters.{IsOver}
 use Rattle.word_orders.specs.Admissible.{Compare}
 use Rattle.nc_polynomial.specs.declared.poly.Poly.{Poly}
 use Rattle.nc_polynomial.proofs.Distinct.{distinct-descending, words_listed}
@@ -21,7 +20,7 @@ use Rattle.traced_completion.specs.PlainRun.{Setting, setting_of}
 use Rattle.ambiguities.proofs.Words.{AreWords, words_from, words_nonempty, normal_words}
 use Rattle.claim_decider.specs.declared.outcome.Outcome.{Outcome}
 use Rattle.claim_decider.specs.declared.outcome.Outcome.TheVariants as outcome
-use Rattle.claim_decider.specs.Decided.{AreOutcomesOf, AreLastRules, polynomials_in}
+use Rattle.claim_decider.specs.Decided.{AreOutcomesOf, AreLastRules}
 use Rattle.outcome_laws.specs.Meanings.{IsOutcomeAt}
 use Rattle.outcome_laws.proofs.OpenRuns.{open_run}
 use Rattle.outcome_laws.proofs.OutcomeLetters.{outcomes_have_letters, last_rules_have_letters}

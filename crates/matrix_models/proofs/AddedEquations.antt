@@ -1,7 +1,7 @@
 -- Equations that are added to pivots, one list of them after another.
-use Rattle.std.proofs.Common.{◌≡◌, List, [], ◌++◌, All, length, sym, ap, subst}
+use Rattle.std.proofs.Common.{◌≡◌, List, ◌++◌, All, length, sym, ap, subst}
 use Rattle.std.proofs.Math.Seq.{take-append_seam}
-use Rattle.std.proofs.lemmas.List.{append-nil, append_assoc}
+use Rattle.std.proofs.lemmas.List.{append_assoc}
 use Rattle.std.proofs.lemmas.List.Elements.{All-take}
 use Rattle.matrix_models.specs.declared.system.LinearRow.{LinearRow}
 use Rattle.matrix_models.specs.declared.system.System.{System}
@@ -13,9 +13,6 @@ with_rows s rows = record { modulus = s.modulus; unknowns = s.unknowns; rows = r
 
 with_both : (s : System) (xs ys : List LinearRow) → with_equations (with_equations s xs) ys ≡ with_equations s (xs ++ ys)
 with_both s xs ys = ap (with_rows s) (append_assoc s.rows xs ys)
-
-pub add-none : (p : Pivots) → Add [] p p
-add-none p s stand = subst (λ rows. StandFor p (with_rows s rows)) (sym (append-nil s.rows)) stand
 
 pub add-both : (xs ys : List LinearRow) (p q r : Pivots) → Add xs p q → Add ys q r → Add (xs ++ ys) p r
 add-both xs ys p q r first second s stand = subst (StandFor r) (with_both s xs ys) (second (with_equations s xs) (first s stand))

@@ -7,7 +7,7 @@ use Rattle.std.proofs.lemmas.Nat.{mul-mod_first}
 use Rattle.std.proofs.lemmas.List.{get_or-set_same, get_or-set_other}
 use Rattle.matrix_models.specs.Matrices.{total}
 use Rattle.matrix_models.specs.Totals.{total_mod, total_zero, total_add, total_mul, total_mul_right}
-use Rattle.matrix_models.specs.Elimination.{Meets, MeetsAll, IsPivot, ArePivots, AreSmall, IsFree, HasLast, HasNoFactor, MeetsAlike, IsAdded, IsAgainst}
+use Rattle.matrix_models.specs.Elimination.{Meets, MeetsAll, IsPivot, ArePivots, AreSmall, IsFree, HasNoFactor, MeetsAlike, IsAdded, IsAgainst}
 use Rattle.matrix_models.proofs.Congruences.{complete, add_alike, mul_alike, add_cancel, mul_cancel}
 
 -- a multiple of a pivot
@@ -102,16 +102,6 @@ meets-scaled m n u f w row new inverse each = (
 
     right_is : get_or new n 0 % m ≡ (get_or row n 0 * u) % m
     right_is = ap (λ x. x % m) (each n (omega arith)) ∙ mod-mod _ m
-
--- by the inverse of its last factor: it is a pivot
-pub pivot-scaled : (m n place u : ℕ) (row new : List ℕ) → 1 < m → HasLast n row place → length new ≡ n + 1 → (get_or row place 0 * u) % m ≡ 1
-    → ((k : ℕ) → k < n + 1 → get_or new k 0 ≡ (get_or row k 0 * u) % m)
-    → IsPivot n place new
-pivot-scaled m n place u row new large has size inverse each = record {
-  size = size;
-  one = each place (omega (arith, has.within)) ∙ inverse;
-  last = λ k after within. each k (omega arith) ∙ ap (λ x. (x * u) % m) (has.last k after within) ∙ ap (λ x. x % m) (zero-mul u) ∙ zero-mod m;
-}
 
 -- a pivot is set
 pub pivots-set : (n place : ℕ) (pivots : List (Option (List ℕ))) (row : List ℕ) → place < length pivots → ArePivots n pivots → IsPivot n place row

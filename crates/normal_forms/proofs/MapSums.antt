@@ -4,7 +4,7 @@ use Rattle.std.specs.List.{All, AllByRecursion, Contains}
 use Rattle.std.proofs.lemmas.List.{length-append}
 use Rattle.std.proofs.lemmas.List.Elements.{All-weaker}
 use Rattle.std.proofs.lemmas.Map.Made.{Contains-tail}
-use Rattle.definitions.specs.Poly.{Word, Term, word_eq}
+use Rattle.definitions.specs.Poly.{Word, word_eq}
 use Rattle.definitions.specs.Category.{IsArrow}
 use Rattle.definitions.proofs.Linear.{word_eq-true, word_eq-same}
 use Rattle.word_core.specs.Occurrence.{OccursAt, OccursNowhere}

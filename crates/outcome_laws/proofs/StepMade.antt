@@ -1,7 +1,7 @@
 -- A step that is computed is a step, and its operations are those of one.
 use Rattle.std.proofs.Common.{◌≡◌, ◌≢◌, ◌⊎◌, inl, inr, ℕ, ℤ, pos, neg_ℤ, ◌+ℤ◌, ◌*ℤ◌, Bool, true, false, cond, List, [], ◌∷◌, ◌++◌, Some, None, Ok, refl, sym, ap, ap₂, ◌∙◌, subst, arith}
 use Rattle.std.specs.List.{Contains, All}
-use Rattle.std.specs.declared.cmp.Ordering.TheVariants.{Greater}
+
 use Rattle.std.proofs.lemmas.Int.{ints}
 use Rattle.std.proofs.lemmas.List.Elements.{All-map, Contains-append_cases}
 use Rattle.std.proofs.lemmas.Option.{same_Some}
@@ -12,7 +12,6 @@ use Rattle.coef_int.specs.Divisor.{gcd_of}
 use Rattle.coef_int.proofs.Divisors.{divisors_are_greatest}
 use Rattle.definitions.specs.Poly.{Term, word_eq, coefficient_of, poly_multiple, poly_between}
 use Rattle.definitions.proofs.Coefficients.{coefficient_of-append, coefficient_of-multiple}
-use Rattle.word_core.specs.Canonical.{word_cmp}
 use Rattle.word_core.specs.Occurrence.{IsFirstPlace}
 use Rattle.word_orders.specs.Admissible.{Compare}
 use Rattle.nc_polynomial.specs.Terms.{IsDescending, keep, scaled, multiplied, multiplications, negated, shifted, products, sums}

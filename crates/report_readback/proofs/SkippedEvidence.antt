@@ -4,7 +4,7 @@ use Rattle.std.specs.Prelude.{decimal}
 use Rattle.std.specs.Fmt.{signed_decimal}
 use Rattle.std.specs.List.{All, list_all, flat_map}
 use Rattle.std.proofs.lemmas.List.{append_assoc}
-use Rattle.std.proofs.lemmas.List.Elements.{All-nil, All-cons, All-head, All-tail, All-append, All-map, All-filter, recursion_from_All}
+use Rattle.std.proofs.lemmas.List.Elements.{All-nil, All-cons, All-head, All-tail, All-append, All-map, All-filter}
 use Rattle.quiver.specs.Declarations.{Declaration, IsDeclared}
 use Rattle.traced_rows.specs.declared.evidence.Evidence.{Evidence}
 use Rattle.traced_rows.specs.declared.evidence.Evidence.TheVariants as evidence
@@ -72,7 +72,7 @@ module _ {X : Type 0} (ds : List Declaration) (shown : X → LemmaRow) where
   rows_are_body : (rows : List X) → All (λ row. IsWrittenRow ds (shown row)) rows → IsBody (flat_map (λ row. lemma_row_text ds (shown row)) rows)
   rows_are_body rows written = record {
     listed = map row_line (trees ds shown rows);
-    is = rows_are_text ds shown rows (recursion_from_All (λ row. IsWrittenRow ds (shown row)) rows written);
+    is = rows_are_text ds shown rows written;
     go_on = All-map GoesOn row_line (trees ds shown rows) (λ k row below. refl);
   }
 
