@@ -1,5 +1,5 @@
 -- The words of an expression's polynomial are paths of its signature, and it has none where the expression is open.
-use Rattle.std.proofs.Common.{◌≡◌, ◌<◌, ℕ, Bool, true, false, cond, List, [], ◌∷◌, Option, Some, None, Ok, Err, refl, sym, subst, ◌∙◌}
+use Rattle.std.proofs.Common.{◌≡◌, ◌<◌, ℕ, ℤ, pos, Bool, true, false, cond, List, [], ◌∷◌, Option, Some, None, Ok, Err, refl, sym, subst, ◌∙◌}
 use Rattle.std.proofs.lemmas.Bool.{and_parts}
 use Rattle.std.proofs.lemmas.List.Elements.{All-replicate}
 use Rattle.definitions.specs.Poly.{Poly}
@@ -40,10 +40,13 @@ module _ (ds : List Declaration) (declared : IsDeclared ds) (first : ObjectsFirs
   quiver : IsQuiver q
   quiver = is_quiver ds declared first
 
+  one_typed : (s : Option Sig) (a : ℕ) → IsPathOf q s (a ∷ []) → Typed s (letter_poly a)
+  one_typed s a path = All-replicate (λ (t : ℤ × List ℕ). IsPathOf q s t.1) 1 (pos 1, a ∷ []) path
+
   typed-letter : (o : Option Named) (name : List ℕ) → named_in ds name ≡ o → is_map o ≡ true → Typed (Some (letter_signature q (letter_number o))) (letter_poly (letter_number o))
   typed-letter None name e known = absurd (cc)
   typed-letter (Some (Object v)) name e known = absurd (cc)
-  typed-letter (Some (Map a)) name e known = All-replicate _ 1 _ (path-letter q a.0 (subst (λ n. a.0 < n) (sym (letters-quiver_of ds)) (is_named ds name (Map a) e).0))
+  typed-letter (Some (Map a)) name e known = one_typed (Some (letter_signature q a.0)) a.0 (path-letter q a.0 (subst (λ n. a.0 < n) (sym (letters-quiver_of ds)) (is_named ds name (Map a) e).0))
 
   -- the identity of an object is a path from it to itself
   path-identity : (v : ℕ) → v < object_count ds → is_path q v v (identity_in ds v ∷ []) ≡ true
@@ -54,7 +57,7 @@ module _ (ds : List Declaration) (declared : IsDeclared ds) (first : ObjectsFirs
 
   typed-identity : (o : Option Named) (name : List ℕ) → named_in ds name ≡ o → is_object o ≡ true → Typed (Some (from_to (object_number o) (object_number o))) (letter_poly (identity_in ds (object_number o)))
   typed-identity None name e known = absurd (cc)
-  typed-identity (Some (Object v)) name e known = All-replicate _ 1 _ (path-identity v.0 (is_named ds name (Object v) e).0)
+  typed-identity (Some (Object v)) name e known = one_typed (Some (from_to v.0 v.0)) (identity_in ds v.0) (path-identity v.0 (is_named ds name (Object v) e).0)
   typed-identity (Some (Map a)) name e known = absurd (cc)
 
   -- by induction on the expression
