@@ -1,4 +1,6 @@
 //! Shelves and sinks of the machine.
+ghost use Rattle.std.specs.Prelude.{◌<◌};
+
 use crate::comparing::equal;
 use flow_io::{RealShelf, RealSink, Shelf, ShelfFault, Sink, put_all};
 use std::alloc::{Allocator, Global};

@@ -141,10 +141,15 @@ fn made(rt: &impl Abort, alloc: Global, text: &[u8]) -> Result<Problem, TypeFaul
     elaborate(alloc, &tree)
 }
 
-// The fault of the text; or its problem, or no more than that there is one where a row says no more.
-fn outcome(rt: &impl Abort, alloc: Global, text: &[u8], want: &str) -> String {
+// The fault; or the problem, or no more than that there is one where a row says no more.
+fn outcome(
+    rt: &impl Abort,
+    alloc: Global,
+    made: &Result<Problem, TypeFault>,
+    want: &str,
+) -> String {
     let mut told = String::new(alloc);
-    match &made(rt, alloc, text) {
+    match made {
         Ok(problem) if want != "read\n" => write_problem(rt, alloc, &mut told, problem),
         Ok(_) => told.push_str("read\n").expect(rt, "memory"),
         Err(fault) => write_fault(rt, &mut told, fault),
@@ -152,12 +157,17 @@ fn outcome(rt: &impl Abort, alloc: Global, text: &[u8], want: &str) -> String {
     told
 }
 
+// Asserts that this comes of the text.
+fn tell_outcome(rt: &impl Abort, alloc: Global, text: &[u8], want: &str) {
+    let told = outcome(rt, alloc, &made(rt, alloc, text), want);
+    equal(rt, &told.as_str(), &want, want);
+}
+
 // Asserts that the outcome of each text is as its row says.
 fn tell_outcomes(rt: &impl Abort, alloc: Global, rows: &str) {
     for row in rows.split("%\n") {
         let (text, want) = halves(rt, row);
-        let told = outcome(rt, alloc, text.as_bytes(), want);
-        equal(rt, &told.as_str(), &want, row);
+        tell_outcome(rt, alloc, text.as_bytes(), want);
     }
 }
 

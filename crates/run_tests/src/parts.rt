@@ -129,6 +129,13 @@ fn push_identity(rt: &impl Abort, text: &mut String, side: u32) {
     }
 }
 
+// Appends a last line up to so many bytes.
+fn pad(rt: &impl Abort, text: &mut String, bytes: usize) {
+    for _ in text.len()..bytes {
+        text.push('#').expect(rt, "memory");
+    }
+}
+
 fn push_part(rt: &impl Abort, text: &mut String, part: &Part) {
     match part {
         Part::Plain(piece) => push_times(rt, text, piece, 1),
@@ -144,10 +151,7 @@ fn push_part(rt: &impl Abort, text: &mut String, part: &Part) {
         Part::LongRows(left, right, count) => push_long_rows(rt, text, left, right, *count),
         Part::Cancels(letter, first, last) => push_cancels(rt, text, letter, (*first, *last)),
         Part::Identity(side) => push_identity(rt, text, *side),
-        Part::Padding(bytes) => {
-            let missing = bytes.saturating_sub(text.len()) as u32;
-            push_times(rt, text, "#", missing);
-        }
+        Part::Padding(bytes) => pad(rt, text, *bytes),
     }
 }
 
