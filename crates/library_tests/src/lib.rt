@@ -14,7 +14,11 @@ mod evidence_rows;
 #[cfg(test)]
 mod flows;
 #[cfg(test)]
+mod letters;
+#[cfg(test)]
 mod matching;
+#[cfg(test)]
+mod matrices;
 #[cfg(test)]
 mod name_rows;
 #[cfg(test)]
@@ -22,10 +26,16 @@ mod notation;
 #[cfg(test)]
 mod orders;
 #[cfg(test)]
+mod overlapping;
+#[cfg(test)]
 mod problem_rows;
+#[cfg(test)]
+mod rules;
 #[cfg(test)]
 mod shift_test_rows;
 pub mod shifts;
+#[cfg(test)]
+mod solving;
 #[cfg(test)]
 mod statement_rows;
 #[cfg(test)]

@@ -3,11 +3,12 @@ ghost use Rattle.std.specs.Prelude.{◌<◌, ◌≤◌, ◌^◌};
 
 use crate::comparing::equal;
 use crate::notation::word;
+use lists::Listing;
 use std::alloc::Global;
 use std::cmp::Ordering;
 use std::process::Abort;
 use word_core::{Letter, Word};
-use word_orders::{AnyOrder, BlockLex, DegLex, OrderSpec, WeightLex, WordOrder};
+use word_orders::{AnyOrder, BlockLex, DegLex, OrderFault, OrderSpec, WeightLex, WordOrder};
 
 // As many letters as a word can tell apart.
 const LETTERS: u32 = 65536;
@@ -64,4 +65,14 @@ fn orders_compare_what_they_are_named_for(rt: HostRuntime) {
     compare_rows(&rt, alloc, &block, 2);
     let any = AnyOrder::new(alloc, &OrderSpec::Degree, LETTERS).expect(&rt, "degrees");
     compare_rows(&rt, alloc, &any, 0);
+}
+
+#[test]
+fn a_weight_of_zero_is_refused(rt: HostRuntime) {
+    let weights = Vec::from_slice(rt.alloc(), &[(Letter(1), 0)]).expect(&rt, "memory");
+    let alone = WeightLex::new(rt.alloc(), &weights, 3);
+    assert!(rt; matches!(alone, Err(OrderFault::BadWeight { letter: Letter(1) })));
+    let spec = OrderSpec::Weight(Listing::from_vec(weights));
+    let any = AnyOrder::new(rt.alloc(), &spec, 3);
+    assert!(rt; matches!(any, Err(OrderFault::BadWeight { letter: Letter(1) })));
 }

@@ -1,0 +1,7 @@
+use Rattle.std.proofs.Common.{take}
+use Rattle.std.specs.List.{All}
+use Rattle.word_core.specs.Letters.{IsOver}
+use Rattle.library_tests.proofs.rules.read_letters.Given as goal
+
+abbrev pub invariant-loop-term : goal.invariant-loop-term
+invariant-loop-term g l = All (λ t. IsOver (g.O.WordOrder.letters l.order) t.1) (take l.term-index l.terms)
