@@ -6,10 +6,10 @@ ghost use Rattle.adjoint_rules.specs.Limits.{rule_limit};
 ghost use Rattle.block_lines.specs.Reading.{basis_steps};
 
 use crate::place::BasisTerms;
-use adjoint_rules::RULE_LIMIT;
-use block_lines::{
+use crate::{
     LinePlace, LineThen, LinesPlace, LinesThen, NoLines, NumberLine, PolynomialLine, Section,
 };
+use adjoint_rules::RULE_LIMIT;
 use block_text::{BlockKind, LineFault, NUMBER_LIMIT, is_pair};
 use lists::Listing;
 use quiver::Quiver;
