@@ -1,7 +1,7 @@
 -- The line of a polynomial after a word is read.
 use Rattle.std.proofs.Common.{arith, ◌≡◌, ◌⊎◌, ◌∷◌, [], ℕ, Bool, true, false, List, Option, Some, None, Result, Ok, Err, IfSome, refl, sym, ap, ap₂, ◌∙◌, subst, map, inl, inr, codes}
 use Rattle.std.specs.List.{All}
-use Rattle.std.proofs.lemmas.List.Elements.{All-nil, All-map, All-weaker, All-from_recursion}
+use Rattle.std.proofs.lemmas.List.Elements.{All-nil, All-cons, All-map, All-push, All-weaker, All-replicate}
 use Rattle.definitions.specs.Poly.{Poly}
 use Rattle.nc_polynomial.specs.Terms.{IsDescending}
 use Rattle.quiver.specs.Declarations.{Declaration}
@@ -56,17 +56,23 @@ module _ (ds : List Declaration) where
     keeps : All (λ b. KeepsPolynomial ds b from) (polynomial_before bound)
     passed : KeepsPolynomial ds bound from → ⊥
 
+  abbrev Kept : PolynomialTokens → PolynomialBound → Type 0
+  Kept t bound = KeepsPolynomial ds bound t
+
+  kept_two : (t : PolynomialTokens) → Kept t names → Kept t writing → All (Kept t) (names ∷ writing ∷ [])
+  kept_two t known written = All-cons (Kept t) names (writing ∷ []) known (All-replicate (Kept t) 1 writing written)
+
   passed_by : (line : Line) (flaw : Flaw) → IsPolynomialFlaw ds line flaw → ((flaw ≡ BadLine) × ((t : PolynomialTokens) → Fits line t → ⊥)) ⊎ IsPassed line flaw
   passed_by line flaw (wrong.misfit bad none) = inl (bad, none)
-  passed_by line flaw (wrong.unknown t told fits passed) = inr (record { from = t; fits = fits; bound = names; told = told; keeps = All-nil (λ b. KeepsPolynomial ds b t); passed = passed })
+  passed_by line flaw (wrong.unknown t told fits passed) = inr (record { from = t; fits = fits; bound = names; told = told; keeps = All-nil (Kept t); passed = passed })
   passed_by line flaw (wrong.unwritten t told fits known passed) =
-      inr (record { from = t; fits = fits; bound = writing; told = told; keeps = All-from_recursion (λ b. KeepsPolynomial ds b t) (polynomial_before writing) (known, tt); passed = passed })
+      inr (record { from = t; fits = fits; bound = writing; told = told; keeps = All-replicate (Kept t) 1 names known; passed = passed })
   passed_by line flaw (wrong.large t told fits known written passed) =
-      inr (record { from = t; fits = fits; bound = numbers; told = told; keeps = All-from_recursion (λ b. KeepsPolynomial ds b t) (polynomial_before numbers) (known, (written, tt)); passed = passed })
+      inr (record { from = t; fits = fits; bound = numbers; told = told; keeps = kept_two t known written; passed = passed })
   passed_by line flaw (wrong.many t told fits known written within passed) =
-      inr (record { from = t; fits = fits; bound = terms; told = told; keeps = All-from_recursion (λ b. KeepsPolynomial ds b t) (polynomial_before terms) (known, (written, (within, tt))); passed = passed })
+      inr (record { from = t; fits = fits; bound = terms; told = told; keeps = All-push (Kept t) (names ∷ writing ∷ []) numbers (kept_two t known written) within; passed = passed })
   passed_by line flaw (wrong.long t told fits known written within few passed) =
-      inr (record { from = t; fits = fits; bound = words; told = told; keeps = All-from_recursion (λ b. KeepsPolynomial ds b t) (polynomial_before words) (known, (written, (within, (few, tt)))); passed = passed })
+      inr (record { from = t; fits = fits; bound = words; told = told; keeps = All-push (Kept t) (names ∷ writing ∷ numbers ∷ []) terms (All-push (Kept t) (names ∷ writing ∷ []) numbers (kept_two t known written) within) few; passed = passed })
 
   -- by the bounds of a kind, of which those on polynomials are tested before the others
   module _ {Bound : Type 0} (flaw_of : Bound → Flaw) (bounds : List Bound) (part : Bound → Option PolynomialBound) (bound : PolynomialBound → Bound) (part_of : (b : PolynomialBound) → part (bound b) ≡ Some b)

@@ -1,10 +1,8 @@
 -- The reader of bases owes what a reader of blocks owes.
-use Rattle.std.proofs.Common.{◌≡◌, false, true, not, List, Some, refl, map, codes}
+use Rattle.std.proofs.Common.{◌≡◌, true, not, List, Some, refl, map, codes}
 use Rattle.std.specs.List.{list_all}
-use Rattle.std.proofs.lemmas.List.Elements.{All-from_recursion}
 use Rattle.quiver.specs.Declarations.{Declaration}
 use Rattle.block_text.specs.Lines.{number_limit}
-use Rattle.block_text.specs.Tokens.{begins_comment}
 use Rattle.block_text.proofs.Bounds.{bound_of, before, same_flaw}
 use Rattle.block_text.proofs.Owed.{IsReader}
 use Rattle.block_lines.specs.LineKinds.{PolynomialBound, names, writing, numbers, terms, words, polynomial_before, polynomial_behind}
@@ -54,4 +52,4 @@ module _ (ds : List Declaration) where
       block_read flaw_of bounds (codes "basis") (codes "1") other_words basis_of
       (line_read flaw_of bounds (number_read flaw_of bounds (on_polynomial numbers) (codes "claim") number_limit refl)
       (lines_read flaw_of bounds rule_read (line_read flaw_of bounds rest_read (none_read flaw_of bounds)) (codes "rule") rule_limit rules refl last (λ t fit. refl) (λ t fit. refl)))
-      told (refl, refl) (All-from_recursion (λ word. begins_comment word ≡ false) other_words (refl, (refl, (refl, tt)))) refl
+      told (refl, refl) refl refl

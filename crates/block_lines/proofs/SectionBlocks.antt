@@ -2,7 +2,7 @@
 use Rattle.std.proofs.Common.{arith, ◌≡◌, ◌≤◌, ◌<◌, ◌^◌, ◌++◌, ◌∷◌, [], ℕ, suc, Bool, true, false, List, Option, Some, None, Result, Ok, Err, refl, sym, ap, ap₂, ◌∙◌, subst, length, map, append_assoc, codes, IsTrue}
 use Rattle.std.specs.Prelude.{decimal}
 use Rattle.std.specs.Bool.{⊤}
-use Rattle.std.specs.List.{All, AllZip, flat_map, list_all}
+use Rattle.std.specs.List.{All, AllZip, flat_map, list_all, list_any}
 use Rattle.std.specs.Option.{option_map}
 use Rattle.std.specs.Str.Parse.{digits_value}
 use Rattle.std.proofs.lemmas.List.Elements.{All-nil, All-cons, All-head, All-tail}
@@ -89,7 +89,7 @@ module _ {Bound : Type 0} (flaw_of : Bound → Flaw) (bounds : List Bound) where
         by_next (Err e) rest = refl
 
     pub block_read : ((bound : Bound) → bound_of flaw_of bounds (flaw_of bound) ≡ Some bound) → (bound_of flaw_of bounds BadLine ≡ None) × (bound_of flaw_of bounds (TooMany block_limit) ≡ None)
-        → All (λ word. begins_comment word ≡ false) others → is_other_head others head ≡ false → IsReader Blocks Reading
+        → list_any begins_comment others ≡ false → is_other_head others head ≡ false → IsReader Blocks Reading
     block_read told none_told words none =
         reader_by_head Blocks Reading IsOpen told none_told refl words first second steps.start (λ line. refl) none (record { behind = []; are = refl; is_open = lines.starts })
         goes (λ b front here. subst (Begins Blocks bounds) (sym here.are) (begins_headed bounds here.behind (lines.goes_on b here.behind here.is_open))) ends stops

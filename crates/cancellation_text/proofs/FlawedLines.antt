@@ -1,7 +1,7 @@
 -- A line that is wrong at its place in a block: it does not fit the grammar, or it is the first that passes a bound.
 use Rattle.std.proofs.Common.{◌≡◌, ◌⊎◌, ◌+◌, ℕ, List, [], ◌∷◌, ◌++◌, Option, Some, None, Ok, Err, IsTrue, inl, inr, refl, sym, ap, ap₂, ◌∙◌, subst, length, nat_le, append-nil, append_assoc, codes}
 use Rattle.std.specs.List.{All}
-use Rattle.std.proofs.lemmas.List.Elements.{All-nil, All-push, All-from_recursion}
+use Rattle.std.proofs.lemmas.List.Elements.{All-nil, All-cons, All-push, All-replicate}
 use Rattle.word_core.specs.declared.letter.Letter.{Letter}
 use Rattle.quiver.specs.Declarations.{Declaration}
 use Rattle.traced_rows.specs.declared.evidence.Lemma.{Lemma}
@@ -47,8 +47,8 @@ module _ (ds : List Declaration) (flaw : Flaw) (front : List Line) (line : Line)
   -- the head
   bare_names : (claim denominator : List ℕ) → All (λ bound. KeepsOne ds bound (with_goal (bare ds claim denominator) unit_goal)) (before numbers)
   bare_names claim denominator =
-      All-from_recursion (λ bound. KeepsOne ds bound (with_goal (bare ds claim denominator) unit_goal)) (before numbers)
-      (parts_keep_one ds (bare ds claim denominator) names (All-nil (λ (c : CalledTokens). IsKnown ds c.letter), All-nil (HasItemName ds)) (All-nil _), tt)
+      All-replicate (λ bound. KeepsOne ds bound (with_goal (bare ds claim denominator) unit_goal)) 1 names
+      (parts_keep_one ds (bare ds claim denominator) names (All-nil (λ (c : CalledTokens). IsKnown ds c.letter), All-nil (HasItemName ds)) (All-nil _))
 
   stopped_headed : front ≡ head_line ∷ [] → claim_of line ≡ Err flaw → Stopped
   stopped_headed are read = stopped_by (cancellation_kind ds) flaw _ (number_unsaid (codes "claim") (number_within number_limit) line flaw read) (λ found.
@@ -107,7 +107,7 @@ module _ (ds : List Declaration) (flaw : Flaw) (front : List Line) (line : Line)
 
       stopped_large : HasLeadRoom lead p names → flaw ≡ NumberTooLarge → Stopped
       stopped_large room large =
-          stopped_by_lead lead digits numbers next number line_is large (All-from_recursion (λ k. KeepsOne ds k (led p lead (record { scale = digits; rows = [] }))) (before numbers) (lead_keeps names room tt, tt))
+          stopped_by_lead lead digits numbers next number line_is large (All-replicate (λ k. KeepsOne ds k (led p lead (record { scale = digits; rows = [] }))) 1 names (lead_keeps names room tt))
 
     stopped_goal : goal_scale_of line ≡ Err flaw → Stopped
     stopped_goal read = stopped_by (cancellation_kind ds) flaw _ (goal_unread line flaw read) (λ found. stopped_large None found.digits tt found.number (ap (λ l. l ∷ []) found.line_is) tt found.large)
@@ -121,14 +121,17 @@ module _ (ds : List Declaration) (flaw : Flaw) (front : List Line) (line : Line)
         line_is : line ∷ [] ≡ lead_lines (Some found.number) (record { scale = found.digits; rows = [] })
         line_is = ap (λ l. l ∷ []) found.line_is
 
-        keeps : (bound : Bound) → HasRoom p bound → ScaleKeeps found.digits bound → KeepsOne ds bound (led p (Some found.number) (record { scale = found.digits; rows = [] }))
+        Kept : Bound → Type 0
+        Kept bound = KeepsOne ds bound (led p (Some found.number) (record { scale = found.digits; rows = [] }))
+
+        keeps : (bound : Bound) → HasRoom p bound → ScaleKeeps found.digits bound → Kept bound
         keeps = lead_keeps (Some found.number) found.digits next found.scale line_is
 
         by_past : (flaw ≡ NumberTooLarge) ⊎ ((flaw ≡ TooMany row_limit) × IsWithin integer_limit found.digits) → Stopped
         by_past (inl large) = stopped_large (Some found.number) found.digits next found.scale line_is tt large
         by_past (inr many) =
             stopped_by_lead (Some found.number) found.digits rows next found.scale line_is many.0
-            (All-from_recursion (λ k. KeepsOne ds k (led p (Some found.number) (record { scale = found.digits; rows = [] }))) (before rows) (keeps names tt tt, (keeps numbers tt many.1, (keeps words tt tt, tt))))
+            (All-cons Kept names (numbers ∷ words ∷ []) (keeps names tt tt) (All-cons Kept numbers (words ∷ []) (keeps numbers tt many.1) (All-replicate Kept 1 words (keeps words tt tt))))
 
     stopped_lemma : lemma_begun o line ≡ Err flaw → Stopped
     stopped_lemma read =
@@ -143,20 +146,22 @@ module _ (ds : List Declaration) (flaw : Flaw) (front : List Line) (line : Line)
           (subst (Begins (cancellation_kind ds) (before bound)) (front-item p (cancel c))
           (begin_parts ds (more_item p (cancel c)) (before bound) (parts-item ds p (cancel c) opened.known.is (subst (λ n. IsItem (n + 1) (cancel c)) (sym count) line_of.is_item)) keeps))
 
-      cancel_keeps_one : (bound : Bound) → HasRoom p bound → ItemKeeps ds (cancel c) bound → KeepsOne ds bound (with_goal (more_item p (cancel c)) unit_goal)
+      abbrev CancelKeeps : Bound → Type 0
+      CancelKeeps bound = KeepsOne ds bound (with_goal (more_item p (cancel c)) unit_goal)
+
+      cancel_keeps_one : (bound : Bound) → HasRoom p bound → ItemKeeps ds (cancel c) bound → CancelKeeps bound
       cancel_keeps_one bound room one =
           parts_keep_one ds (more_item p (cancel c)) bound (keep-item ds p (cancel c) bound (opened.known.keep bound) one room)
           (subst (λ rs. RowsWithin ds rs bound) (sym (append-nil (rows_of p.items)) ∙ sym (rows-item p.items (cancel c))) (opened.have.keep bound))
 
       stopped_number : (a : Letter) → known_letter ds c.letter ≡ Some a → flaw ≡ NumberTooLarge → Stopped
       stopped_number a known large =
-          stopped_by_cancel numbers large (All-from_recursion (λ k. KeepsOne ds k (with_goal (more_item p (cancel c)) unit_goal)) (before numbers) (cancel_keeps_one names tt (a, known), tt))
+          stopped_by_cancel numbers large (All-replicate CancelKeeps 1 names (cancel_keeps_one names tt (a, known)))
 
       stopped_many : (a : Letter) (n : ℕ) → known_letter ds c.letter ≡ Some a → number_within number_limit c.item ≡ Some n → flaw ≡ TooMany row_limit → Stopped
       stopped_many a n known value many =
           stopped_by_cancel rows many
-          (All-from_recursion (λ k. KeepsOne ds k (with_goal (more_item p (cancel c)) unit_goal)) (before rows)
-          (cancel_keeps_one names tt (a, known), (cancel_keeps_one numbers tt (n, value), (cancel_keeps_one words tt tt, tt))))
+          (All-cons CancelKeeps names (numbers ∷ words ∷ []) (cancel_keeps_one names tt (a, known)) (All-cons CancelKeeps numbers (words ∷ []) (cancel_keeps_one numbers tt (n, value)) (All-replicate CancelKeeps 1 words (cancel_keeps_one words tt tt))))
 
       stopped_cancel : cancel_of ds (length o.items) c ≡ Err flaw → Stopped
       stopped_cancel read =

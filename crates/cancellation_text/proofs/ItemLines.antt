@@ -1,9 +1,9 @@
 -- Blocks that keep bounds are read.
 use Rattle.std.proofs.Common.{◌≡◌, ◌<◌, ◌≤◌, ◌+◌, ℕ, ℤ, true, false, List, [], ◌∷◌, ◌++◌, Option, Some, None, Result, Ok, Err, IsTrue, arith, refl, sym, ap, ◌∙◌, subst, length, length-append, map, codes, flat_map, add-zero}
-use Rattle.std.specs.List.{All, AllByRecursion, AllZip}
+use Rattle.std.specs.List.{All, AllZip}
 use Rattle.std.proofs.lemmas.Bool.{lt-leb}
 use Rattle.std.proofs.lemmas.List.{append_assoc, append-nil}
-use Rattle.std.proofs.lemmas.List.Elements.{All-head, All-tail, All-weaker, All-from_recursion}
+use Rattle.std.proofs.lemmas.List.Elements.{All-cons, All-head, All-tail, All-append, All-map, All-weaker}
 use Rattle.word_core.specs.declared.letter.Letter.{Letter}
 use Rattle.quiver.specs.Declarations.{Declaration}
 use Rattle.traced_rows.specs.declared.certificate.CertRow.{CertRow}
@@ -15,7 +15,7 @@ use Rattle.cancel_rules.specs.declared.cancellation.Item.TheVariants as item
 use Rattle.cancel_rules.specs.declared.cancellation.Cancellation.{Cancellation}
 use Rattle.block_text.specs.Fault.{◌>>=◌, asked}
 use Rattle.block_text.specs.Letters.{is_number, number_within}
-use Rattle.block_text.specs.Lines.{number_limit, integer_limit, begins, integer_of, Line, claim_line, is_end}
+use Rattle.block_text.specs.Lines.{number_limit, integer_limit, begins, integer_of, Line, claim_line}
 use Rattle.block_text.proofs.NumberedLines.{run, run-append}
 use Rattle.block_text.proofs.Owed.{read_block, read_inside, read_inside-run}
 use Rattle.block_text.proofs.Meets.{Meets, reads, then_meets, meets-weaker, asked_meets, unless_meets}
@@ -25,7 +25,7 @@ use Rattle.certificate_text.specs.Lines.{RowTokens, row_limit, is_row, over_lemm
 use Rattle.certificate_text.specs.Blocks.{ScaledTokens, LemmaTokens, row_line, denominator_line, lemma_lines, goal_lines, IsScaled}
 use Rattle.certificate_text.specs.Bounds.{IsWithin, IsScaledOf}
 use Rattle.certificate_text.specs.Reading.{lemma_of}
-use Rattle.certificate_text.proofs.BlockLines.{lemma_row_takes, rows_go_on, behind_rows, integer_meets, scale_meets}
+use Rattle.certificate_text.proofs.BlockLines.{GoesOn, lemma_row_takes, rows_go_on, behind_rows, integer_meets, scale_meets}
 use Rattle.certificate_text.proofs.RowValues.{RowsFit, with_rows, with_rows-append, rows_fit_parts, TakesRow, rows_meet}
 use Rattle.cancellation_text.specs.declared.place.Opened.{Opened}
 use Rattle.cancellation_text.specs.declared.place.Stage.{Stage}
@@ -39,21 +39,17 @@ use Rattle.cancellation_text.proofs.Lines.{called_read, cancel_read}
 use Rattle.cancellation_text.proofs.Parts.{rows_of}
 
 -- no line of a block is `end`
-abbrev GoesOn : Line → Type 0
-GoesOn line = is_end line ≡ false
+item_goes_on : (i : ItemTokens) (rest : List Line) → All GoesOn rest → All GoesOn (item_lines i ++ rest)
+item_goes_on (lemma l) rest more = All-cons GoesOn _ _ refl (behind_rows l.scaled.rows rest more)
+item_goes_on (cancel c) rest more = All-cons GoesOn _ _ refl more
 
-item_goes_on : (i : ItemTokens) (rest : List Line) → AllByRecursion GoesOn rest → AllByRecursion GoesOn (item_lines i ++ rest)
-item_goes_on (lemma l) rest more = (refl, behind_rows l.scaled.rows rest more)
-item_goes_on (cancel c) rest more = (refl, more)
-
-items_go_on : (items : List ItemTokens) (goal : ScaledTokens) → AllByRecursion GoesOn (flat_map item_lines items ++ goal_lines goal)
-items_go_on [] goal = (refl, rows_go_on goal.rows)
+items_go_on : (items : List ItemTokens) (goal : ScaledTokens) → All GoesOn (flat_map item_lines items ++ goal_lines goal)
+items_go_on [] goal = All-cons GoesOn _ _ refl (rows_go_on goal.rows)
 items_go_on (i ∷ items) goal =
-    subst (AllByRecursion GoesOn) (sym (append_assoc (item_lines i) (flat_map item_lines items) (goal_lines goal))) (item_goes_on i (flat_map item_lines items ++ goal_lines goal) (items_go_on items goal))
+    subst (All GoesOn) (sym (append_assoc (item_lines i) (flat_map item_lines items) (goal_lines goal))) (item_goes_on i (flat_map item_lines items ++ goal_lines goal) (items_go_on items goal))
 
-called_go_on : (called : List CalledTokens) (rest : List Line) → AllByRecursion GoesOn rest → AllByRecursion GoesOn (map called_line called ++ rest)
-called_go_on [] rest more = more
-called_go_on (c ∷ called) rest more = (refl, called_go_on called rest more)
+called_go_on : (called : List CalledTokens) (rest : List Line) → All GoesOn rest → All GoesOn (map called_line called ++ rest)
+called_go_on called rest more = All-append GoesOn (map called_line called) rest (All-map GoesOn called_line called (λ k c below. refl)) more
 
 module _ (K : Bound → Type 0) (ds : List Declaration) where
   -- the head
@@ -287,6 +283,6 @@ module _ (K : Bound → Type 0) (ds : List Declaration) where
     pub block_meets : Meets flaw_of K (IsCancellationOf ds b) (read_block (cancellation_steps ds) (cancellation_lines b))
     block_meets =
         rw (read_inside-run (cancellation_steps ds) at.Headed (claim_line b.claim ∷ denominator_line b.denominator ∷ (map called_line b.called ++ (flat_map item_lines b.items ++ goal_lines b.goal)))
-        (All-from_recursion GoesOn (claim_line b.claim ∷ denominator_line b.denominator ∷ (map called_line b.called ++ (flat_map item_lines b.items ++ goal_lines b.goal)))
-        (refl, (refl, called_go_on b.called (flat_map item_lines b.items ++ goal_lines b.goal) (items_go_on b.items b.goal)))))
+        (All-cons GoesOn (claim_line b.claim) (denominator_line b.denominator ∷ (map called_line b.called ++ (flat_map item_lines b.items ++ goal_lines b.goal))) refl
+        (All-cons GoesOn (denominator_line b.denominator) (map called_line b.called ++ (flat_map item_lines b.items ++ goal_lines b.goal)) refl (called_go_on b.called (flat_map item_lines b.items ++ goal_lines b.goal) (items_go_on b.items b.goal)))))
         (then_meets _ block_read (λ q _ read. rw read.1 (reads read.0 refl read.2)))

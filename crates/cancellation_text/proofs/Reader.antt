@@ -1,6 +1,5 @@
 -- The reader of proofs that cancel letters owes what a reader of blocks owes.
 use Rattle.std.proofs.Common.{◌≡◌, ◌++◌, ◌∷◌, [], ℕ, false, List, Option, Some, None, Result, Ok, refl, sym, ap, ◌∙◌, subst, codes, ◌+◌}
-use Rattle.std.proofs.lemmas.List.Elements.{All-from_recursion}
 use Rattle.quiver.specs.Declarations.{Declaration}
 use Rattle.traced_rows.specs.declared.evidence.Lemma.{Lemma}
 use Rattle.cancel_rules.specs.declared.cancellation.Item.{Item}
@@ -9,7 +8,6 @@ use Rattle.cancel_rules.specs.declared.cancellation.Cancellation.{Cancellation}
 use Rattle.block_text.specs.declared.fault.Flaw.{Flaw}
 use Rattle.block_text.specs.Letters.{number_within}
 use Rattle.block_text.specs.Lines.{Line, begins, is_end, claim_of, number_limit, integer_of}
-use Rattle.block_text.specs.Tokens.{begins_comment}
 use Rattle.block_text.proofs.Bounds.{bound_of}
 use Rattle.block_text.proofs.Owed.{Begins, IsWhole, IsReader, reader_by_head}
 use Rattle.block_text.proofs.Results.{by_test, bind_ok}
@@ -22,7 +20,7 @@ use Rattle.cancellation_text.specs.declared.place.Stage.{Stage}
 use Rattle.cancellation_text.specs.declared.place.Stage.TheVariants as at
 use Rattle.cancellation_text.specs.Blocks.{CalledTokens, CancelTokens, ItemTokens, lemma, cancel, CancellationTokens, known_letter}
 use Rattle.cancellation_text.specs.Bounds.{Bound, names, bounds, flaw_of, IsItemOf, IsCancelOf, IsCancellationOf}
-use Rattle.cancellation_text.specs.Cancellations.{other_words, cancellation_kind}
+use Rattle.cancellation_text.specs.Cancellations.{cancellation_kind}
 use Rattle.cancellation_text.specs.Reading.{called_tokens, begun, with_item, resized, proof_of, calling, in_lemma, next, finish, cancellation_steps}
 use Rattle.cancel_rules.specs.declared.cancellation.Side.TheVariants.{Left, Right}
 use Rattle.cancellation_text.proofs.FlawedLines.{stops_at}
@@ -123,7 +121,6 @@ module _ (ds : List Declaration) where
 
   pub reader : IsReader (cancellation_kind ds) (cancellation_steps ds)
   reader =
-      reader_by_head (cancellation_kind ds) (cancellation_steps ds) (IsOpen ds) told (refl, refl) refl
-      (All-from_recursion (λ word. begins_comment word ≡ false) other_words (refl, (refl, (refl, tt))))
+      reader_by_head (cancellation_kind ds) (cancellation_steps ds) (IsOpen ds) told (refl, refl) refl refl
       (codes "cancellation") (codes "1") at.Headed (λ line. refl) refl refl goes goes_on ends
       (λ s front line flaw here more read. stops_at ds flaw front line s here read) (λ K t is keeps. block_meets K ds t is keeps) same_proof

@@ -1,5 +1,5 @@
 -- Sums of rows over the letters of a quiver have words over these letters alone, and so do the polynomials of lemmas.
-use Rattle.std.proofs.Common.{ltb-true, lt-ltb, ◌≡◌, ◌≢◌, inl, inr, ℕ, zero, suc, ◌<◌, ℤ, pos, ◌+ℤ◌, ◌*ℤ◌, Bool, true, false, List, [], ◌∷◌, ◌++◌, map, int_div, refl, sym, ap, ap₂, subst, ◌∙◌, get_or, ltb}
+use Rattle.std.proofs.Common.{ltb-true, lt-ltb, ◌≡◌, ◌≢◌, inl, inr, ℕ, zero, suc, ℤ, pos, ◌+ℤ◌, ◌*ℤ◌, Bool, true, false, List, [], ◌∷◌, ◌++◌, refl, sym, ap, ap₂, subst, ◌∙◌, get_or, ltb}
 use Rattle.std.proofs.lemmas.Bool.{and_parts, and_from}
 use Rattle.std.proofs.lemmas.Bool.Decides.{Decides-int_eq}
 use Rattle.std.proofs.lemmas.List.Elements.{All-head, All-tail, All-map}
@@ -23,7 +23,6 @@ use Rattle.nc_polynomial.proofs.CollectedTerms.{coefficient_of-collected, descen
 use Rattle.nc_polynomial.proofs.Distinct.{distinct-descending, words_listed}
 use Rattle.quiver.specs.Declarations.{letter_count, quiver_of}
 use Rattle.quiver.proofs.Counts.{letters-quiver_of}
-use Rattle.traced_rows.specs.declared.evidence.LemmaRow.{LemmaRow}
 use Rattle.traced_rows.specs.declared.evidence.Lemma.{Lemma}
 use Rattle.adjoint_rules.specs.declared.problem.Problem.{Problem}
 use Rattle.adjoint_rules.specs.Problem.{polynomials}

@@ -3,7 +3,7 @@ use Rattle.std.proofs.Common.{◌≡◌, suc, ◌+◌, ◌<◌, ℤ, pos, negsuc
 use Rattle.std.specs.List.{range_with_len}
 use Rattle.std.proofs.lemmas.Int.{ints}
 use Rattle.std.proofs.lemmas.List.{append-nil, append_assoc}
-use Rattle.std.proofs.lemmas.List.Elements.{filter-append}
+use Rattle.std.proofs.lemmas.List.Elements.{All-nil, filter-append}
 use Rattle.std.proofs.Math.Seq.{take-append_seam, take-append-add}
 use Rattle.definitions.specs.Poly.{Term, coefficient_of}
 use Rattle.definitions.proofs.Coefficients.{coefficient_of-multiple}
@@ -63,7 +63,7 @@ module _ (problem : Problem) (c : Certificate) where
   last_is_zero accepted =
       let steps : List CertRow = steps_of problem c in
       let whole = steps_add_up problem c accepted in
-      sym (line_is problem c steps [] tt tt (λ w. sym (less_at problem c steps w
+      sym (line_is problem c steps [] tt (All-nil _) (λ w. sym (less_at problem c steps w
       ∙ ap (λ k. c.denominator *ℤ coefficient_of (claim_in problem c) w +ℤ negsuc 0 *ℤ k) (whole.sum.at w ∙ coefficient_of-multiple c.denominator (claim_in problem c) w)
       ∙ nothing (c.denominator *ℤ coefficient_of (claim_in problem c) w))))
     where

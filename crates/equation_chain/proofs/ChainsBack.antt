@@ -219,4 +219,4 @@ module _ (ds : List Declaration) (declared : IsDeclared ds) (known : IsTrue (lis
     chain_written = written_by c.lines refl readable.lines readable.long
 
 pub chains_are_read_back : ChainsAreReadBack
-chains_are_read_back ds declared known = are_read_back (chain_kind ds) (text_of ds) (IsReadable ds) (All-nil _) (chain_written ds declared known)
+chains_are_read_back ds declared known = are_read_back (chain_kind ds) (text_of ds) (IsReadable ds) refl (chain_written ds declared known)

@@ -1,7 +1,6 @@
 -- Refusals of bases name letters of the quiver alone.
 use Rattle.std.proofs.Common.{◌≡◌, ℕ, List, Result, Ok, Err, refl, subst}
 use Rattle.std.specs.List.{All}
-use Rattle.std.proofs.lemmas.List.Elements.{All-from_recursion, recursion_from_All}
 use Rattle.definitions.specs.Poly.{Term}
 use Rattle.definitions.specs.Combination.{generator_at}
 use Rattle.word_core.specs.Letters.{IsOver}
@@ -19,12 +18,11 @@ use Rattle.ambiguities.proofs.OverLetters.{reduced_over}
 use Rattle.adjoint_rules.specs.declared.problem.Problem.{Problem}
 use Rattle.adjoint_rules.specs.Problem.{polynomials}
 use Rattle.adjoint_rules.specs.declared.basis.Basis.{Basis}
-use Rattle.quiver.specs.Over.{IsPolyOver}
 use Rattle.closed_checker.specs.declared.part.Part.TheVariants as part
 use Rattle.closed_checker.specs.declared.refusal.ClosedRefusal.{ClosedRefusal}
 use Rattle.closed_checker.specs.declared.refusal.ClosedRefusal.TheVariants as refusal
 use Rattle.closed_checker.specs.Limits.{step_limit}
-use Rattle.closed_checker.specs.Rests.{order_of, rules_of, rest_in, rest_by, rest_of, claim_of, MayBeRule}
+use Rattle.closed_checker.specs.Rests.{order_of, rules_of, rest_in, rest_by, rest_of, claim_of}
 use Rattle.closed_checker.specs.Closed.{IsReadableBasis, HasRules, Refuses}
 use Rattle.closed_checker.proofs.BasisRules.{rules_from-are}
 use Rattle.closed_checker.proofs.ByNumber.{generator_over, claim_over}
@@ -42,9 +40,7 @@ module _ (problem : Problem) (b : Basis) (readable : IsReadableBasis problem.par
   AreBelow p = All (λ t. IsOver letters t.1) p
 
   are_rules : All (IsRule letters (order_of problem)) (rules_of problem b)
-  are_rules = All-from_recursion (IsRule letters (order_of problem)) (rules_of problem b)
-      (rules_from-are (order_of problem) letters b.rules (recursion_from_All (MayBeRule (order_of problem)) b.rules has.rules)
-      (recursion_from_All (IsPolyOver problem.parts.quiver) b.rules readable.over.rules))
+  are_rules = rules_from-are (order_of problem) letters b.rules has.rules readable.over.rules
 
   -- what is left of a polynomial
   rest_below : (p rest : List Term) → AreBelow p → rest_by (order_of problem) (rules_of problem b) (Ok p) ≡ Ok rest → AreBelow rest

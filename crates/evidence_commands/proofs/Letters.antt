@@ -1,18 +1,17 @@
 -- A word at which sums of rows and multiples of claims differ, or that a scale doesn't divide, has letters of the quiver alone.
-use Rattle.std.proofs.Common.{◌≡◌, ℕ, ℤ, true, List, [], ◌∷◌, inl, inr, Result, Err, IfErr, sym, subst}
-use Rattle.std.specs.List.{AllByRecursion}
-use Rattle.std.proofs.lemmas.List.Elements.{recursion_from_All}
-use Rattle.definitions.specs.Combination.{generator_at, row_sum}
+use Rattle.std.proofs.Common.{◌≡◌, ℕ, ℤ, true, List, [], inl, inr, Result, Err, IfErr, sym, subst}
+use Rattle.std.specs.List.{All}
+use Rattle.std.proofs.lemmas.List.Elements.{All-map, All-weaker}
+use Rattle.definitions.specs.Combination.{Row, generator_at, row_sum}
 use Rattle.word_core.specs.Letters.{IsOver}
 use Rattle.quiver.specs.Declarations.{letter_count}
 use Rattle.traced_rows.specs.declared.certificate.CertRow.{CertRow}
 use Rattle.traced_rows.specs.declared.certificate.Certificate.{Certificate}
-use Rattle.traced_rows.specs.declared.evidence.LemmaRow.{LemmaRow}
 use Rattle.traced_rows.specs.declared.evidence.Lemma.{Lemma}
 use Rattle.traced_rows.specs.declared.evidence.LemmaCertificate.{LemmaCertificate}
 use Rattle.traced_rows.specs.declared.evidence.Evidence.{Evidence}
 use Rattle.traced_rows.specs.declared.evidence.Evidence.TheVariants.{Plain, Lemmas}
-use Rattle.traced_rows.specs.Rows.{rows_of}
+use Rattle.traced_rows.specs.Rows.{row_of, rows_of}
 use Rattle.cofactor_checker.specs.declared.refusal.Refusal.{Refusal}
 use Rattle.cofactor_checker.specs.Acceptance.{Refuses}
 use Rattle.cofactor_checker.specs.declared.refusal.Refusal.TheVariants as refusal
@@ -22,7 +21,7 @@ use Rattle.cofactor_checker.specs.Evidence.{RefusesEvidence}
 use Rattle.cofactor_checker.proofs.LetterSums.{is_over, AreOver, IsLemmaOver, Stays, sum_stays, difference_is_over, plain_stays, lemmas_stay, indivisible_is_over, drawn, word_over, over_word, generators_stay, claim_stays}
 use Rattle.adjoint_rules.specs.declared.problem.Problem.{Problem}
 use Rattle.adjoint_rules.specs.Problem.{polynomials}
-use Rattle.certificate_text.specs.Evidence.{IsRowOver, IsLemmaRowOver, IsCheckable, IsCheckableLemma, IsCheckableByLemmas, IsCheckableEvidence}
+use Rattle.certificate_text.specs.Evidence.{IsRowOver, IsCheckable, IsCheckableLemma, IsCheckableByLemmas, IsCheckableEvidence}
 use Rattle.evidence_commands.specs.Causes.{HasLetters}
 
 -- a refusal that `?` returns
@@ -32,14 +31,15 @@ handed_on {A} {E} P result e is holds = let F : Result A E → Type 0 = λ r. If
 -- the words that refusals name
 module _ (problem : Problem) where
   -- of a certificate of rows over generators alone
-  rows_over : (rows : List CertRow) → AllByRecursion (IsRowOver problem.parts.quiver) rows → AreOver (drawn problem) (rows_of rows)
-  rows_over [] all = tt
-  rows_over (r ∷ rows) all = ((word_over problem r.left all.0.left, word_over problem r.right all.0.right), rows_over rows all.1)
+  rows_over : (rows : List CertRow) → All (IsRowOver problem.parts.quiver) rows → AreOver (drawn problem) (rows_of rows)
+  rows_over rows all =
+      All-map (λ (r : Row). (is_over (drawn problem) r.left ≡ true) × (is_over (drawn problem) r.right ≡ true)) row_of rows
+      (λ k r below. let over = all k r below in (word_over problem _ over.left, word_over problem _ over.right))
 
   module _ (c : Certificate) (checkable : IsCheckable problem.parts.quiver c) where
     certificate_letters : (r : Refusal) → Refuses (polynomials problem.parts.claims) (polynomials problem.generators) c r → HasLetters problem.parts.quiver r
     certificate_letters (refusal.Differs word want got) because =
-        let rows : AreOver (drawn problem) (rows_of c.rows) = rows_over c.rows (recursion_from_All (IsRowOver problem.parts.quiver) c.rows checkable.letters) in
+        let rows : AreOver (drawn problem) (rows_of c.rows) = rows_over c.rows checkable.letters in
         let sum : List (ℤ × List ℕ) = row_sum (polynomials problem.generators) (rows_of c.rows) in
         over_word problem word
         (difference_is_over (drawn problem) c.denominator (generator_at (polynomials problem.parts.claims) c.claim) sum word want got (claim_stays problem c.claim) (sum_stays (drawn problem) (polynomials problem.generators) (rows_of c.rows) (generators_stay problem) rows)
@@ -48,20 +48,12 @@ module _ (problem : Problem) where
     certificate_letters other because = tt
 
   -- of a certificate with lemmas
-  lemma_rows_over : (rows : List LemmaRow) → AllByRecursion (IsLemmaRowOver problem.parts.quiver) rows → AllByRecursion (λ r. (is_over (drawn problem) r.left ≡ true) × (is_over (drawn problem) r.right ≡ true)) rows
-  lemma_rows_over [] all = tt
-  lemma_rows_over (r ∷ rows) all = ((word_over problem r.left all.0.left, word_over problem r.right all.0.right), lemma_rows_over rows all.1)
-
   lemma_over : (l : Lemma) → IsCheckableLemma problem.parts.quiver l → IsLemmaOver (drawn problem) l
-  lemma_over l checkable = lemma_rows_over l.rows (recursion_from_All (IsLemmaRowOver problem.parts.quiver) l.rows checkable.letters)
-
-  lemmas_over : (lemmas : List Lemma) → AllByRecursion (IsCheckableLemma problem.parts.quiver) lemmas → AllByRecursion (IsLemmaOver (drawn problem)) lemmas
-  lemmas_over [] all = tt
-  lemmas_over (l ∷ lemmas) all = (lemma_over l all.0, lemmas_over lemmas all.1)
+  lemma_over l checkable = λ k r below. let over = checkable.letters k r below in (word_over problem _ over.left, word_over problem _ over.right)
 
   module _ (c : LemmaCertificate) (checkable : IsCheckableByLemmas problem.parts.quiver c) where
-    over : AllByRecursion (IsLemmaOver (drawn problem)) c.lemmas
-    over = lemmas_over c.lemmas (recursion_from_All (IsCheckableLemma problem.parts.quiver) c.lemmas checkable.lemmas)
+    over : All (IsLemmaOver (drawn problem)) c.lemmas
+    over = All-weaker (IsCheckableLemma problem.parts.quiver) (IsLemmaOver (drawn problem)) lemma_over c.lemmas checkable.lemmas
 
     goal_stays : Stays (drawn problem) (plain_sum (polynomials problem.generators) (all_polynomials (polynomials problem.generators) c) c.goal.rows)
     goal_stays =

@@ -1,7 +1,6 @@
 -- Shifts are read, and read back where they are written.
-use Rattle.std.proofs.Common.{arith, ◌≡◌, ◌<◌, ℕ, false, List, Option, Some, None, Result, IfSome, IfOk, IsTrue, refl, sym, subst, codes}
+use Rattle.std.proofs.Common.{arith, ◌≡◌, ◌<◌, ℕ, List, Option, Some, None, Result, IfSome, IfOk, IsTrue, refl, sym, subst, codes}
 use Rattle.std.specs.List.{All, list_all}
-use Rattle.std.proofs.lemmas.List.Elements.{All-from_recursion}
 use Rattle.word_core.specs.declared.letter.Letter.{Letter}
 use Rattle.quiver.specs.Declarations.{Declaration, letter_count, IsDeclared}
 use Rattle.block_text.specs.declared.fault.CertFault.{CertFault}
@@ -10,7 +9,6 @@ use Rattle.block_text.specs.Fault.{ReadsText}
 use Rattle.block_text.specs.Laws.{AreTold, AreReadBack}
 use Rattle.block_text.specs.Lines.{number_limit}
 use Rattle.block_text.specs.Steps.{all_values}
-use Rattle.block_text.specs.Tokens.{begins_comment}
 use Rattle.block_text.proofs.Bounds.{bound_of}
 use Rattle.block_text.proofs.EachText.{read_values_are}
 use Rattle.block_text.proofs.Owed.{IsReader}
@@ -33,7 +31,7 @@ module _ (ds : List Declaration) where
       block_read flaw_of bounds (codes "shift") (codes "1") other_words shift_of
       (line_read flaw_of bounds (letter_reader (codes "letter") flaw_of bounds names ds refl refl)
       (line_read flaw_of bounds (number_read flaw_of bounds numbers (codes "by") number_limit refl) (none_read flaw_of bounds)))
-      told (refl, refl) (All-from_recursion (λ word. begins_comment word ≡ false) other_words (refl, (refl, (refl, tt)))) refl
+      told (refl, refl) refl refl
 
   pub shifts_are_told : AreTold (IsShifts ds) (IsFirstFault ds)
   shifts_are_told = are_told (shift_kind ds) (shift_steps ds) reader

@@ -1,10 +1,11 @@
 -- In a model the linear assumptions are zero exactly where all linear generators are: adjoints are zero with what they are the adjoints of, and the relations of
 -- identities are zero anyway.
-use Rattle.std.proofs.Common.{◌≡◌, ◌≢◌, ℕ, ◌+◌, ◌<◌, ◌≤◌, ℤ, negsuc, pos, Bool, true, false, cond, ◌||◌, nat_eq, nat_le, List, [], ◌∷◌, ◌++◌, length, filter, refl, sym, ap, ap₂, subst, ◌∙◌, arith, eqb-true, eq-eqb, true≢false}
-use Rattle.std.specs.List.{AllByRecursion, AllZip, flat_map, list_all, list_any}
-use Rattle.std.proofs.lemmas.Bool.{and_from, le-leb}
+use Rattle.std.proofs.Common.{◌≡◌, ◌≢◌, ℕ, ◌+◌, ◌<◌, ◌≤◌, ℤ, negsuc, pos, Bool, true, false, cond, ◌||◌, nat_eq, nat_le, List, [], ◌∷◌, ◌++◌, length, get_or, filter, refl, sym, ap, ap₂, subst, ◌∙◌, arith, eqb-true, eq-eqb, true≢false}
+use Rattle.std.specs.List.{All, AllByRecursion, AllZip, flat_map, list_all, list_any}
+use Rattle.std.proofs.lemmas.Bool.{le-leb}
 use Rattle.std.proofs.lemmas.List.{length-append}
 use Rattle.std.proofs.lemmas.List.Elements.{filter-append}
+use Rattle.std.proofs.lemmas.List.Sums.{list_all-from_AllPass}
 use Rattle.definitions.specs.Poly.{SamePolynomial, coefficient_of, poly_eq, poly_multiple, word_eq}
 use Rattle.definitions.specs.Quiver.{Quiver, IsQuiver, letters, star}
 use Rattle.definitions.specs.Generators.{adjoint_word, adjoint_poly, new_adjoint, units}
@@ -68,11 +69,9 @@ module _ (q : Quiver) (quiver : IsQuiver q) (solved : List Letter) where
   pub linear_poly : (p : Poly) → is_linear q solved p ≡ true → IsLinear p.terms
   linear_poly p is = linear_from_words p.terms (few_words q solved 1 p.terms is)
 
-  all_few : (p : List (ℤ × List ℕ)) → AllByRecursion (λ t. solved_count q solved t.1 ≤ 1) p
+  all_few : (p : List (ℤ × List ℕ)) → All (λ t. solved_count q solved t.1 ≤ 1) p
       → list_all (λ t. nat_le (solved_count q solved t.1) 1) p ≡ true
-  all_few [] few = refl
-  all_few (t ∷ p) few = and_from (nat_le (solved_count q solved t.1) 1) (list_all (λ r. nat_le (solved_count q solved r.1) 1) p)
-      (le-leb (solved_count q solved t.1) 1 few.0) (all_few p few.1)
+  all_few p few = list_all-from_AllPass (λ (t : ℤ × List ℕ). nat_le (solved_count q solved t.1) 1) p (λ k t inside. le-leb (solved_count q solved (get_or p k t).1) 1 (few k t inside))
 
   pub poly_linear : (p : Poly) → IsLinear p.terms → is_linear q solved p ≡ true
   poly_linear p linear = all_few p.terms

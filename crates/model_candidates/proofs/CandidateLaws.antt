@@ -3,7 +3,6 @@ use Rattle.std.proofs.Common.{◌≡◌, ℕ, zero, suc, ◌<◌, Bool, true, fa
 use Rattle.std.specs.List.{AllByRecursion}
 use Rattle.std.proofs.lemmas.Bool.{cases_eq, false≢true}
 use Rattle.std.proofs.lemmas.List.{take_all}
-use Rattle.std.proofs.lemmas.List.Elements.{All-from_recursion, recursion_from_All}
 use Rattle.definitions.specs.Quiver.{Quiver}
 use Rattle.definitions.specs.Representation.{value_at}
 use Rattle.definitions.specs.Soundness.{HasSignature}
@@ -21,7 +20,8 @@ use Rattle.model_checker.specs.Representations.{representation_of}
 use Rattle.model_candidates.specs.Candidates.{entries_of, model_by, is_exhaustive, digits, draws, is_linear, IsShapeOf, IsSolution, CanBegin, CanTake, IsGreedy, IsCandidate}
 use Rattle.model_candidates.specs.Unknowns.{solved_flags}
 use Rattle.model_checker.proofs.Values.{zero_from_value}
-use Rattle.lists.proofs.Decided.{IsDecided, decided_by, both_decided, lt_decided, all_decided}
+use Rattle.lists.proofs.Decided.{IsDecided, decided_by, both_decided, lt_decided}
+use Rattle.lists.proofs.FirstFailure.{each_decided}
 use Rattle.model_checker.proofs.Decided.{matrix_decided}
 use Rattle.model_candidates.proofs.SolvedEntries.{IsAsDrawn}
 use Rattle.model_candidates.proofs.DrawnEntries.{drawn_by_flags, drawn_by_entries}
@@ -158,23 +158,17 @@ module _ (problem : Problem) (s : Shape) (drawn : List ℕ) where
       let q = quiver_of problem.parts.quiver in
       let maps = problem.parts.solved in
       let flags = solved_flags q s maps in
-      let below = all_decided (λ value. value < s.modulus) (λ value. lt_decided value s.modulus) values in
+      let below = each_decided (λ value. value < s.modulus) (λ value. lt_decided value s.modulus) values in
       let zero = kept_zero_decided problem (model_by q s 0 values) (is_linear q maps) problem.generators
       (generators_have_signatures problem.parts problem.posed problem.generators problem.closed) in
       decided_by
       (λ h. record {
         one_each = h.0;
-        below = All-from_recursion (λ value. value < s.modulus) values h.1.0;
+        below = h.1.0;
         as_drawn = drawn_by_entries q s maps drawn values h.1.1.0;
         zero = h.1.1.1;
       })
-      (λ solution. (
-        solution.one_each,
-        (
-          recursion_from_All (λ value. value < s.modulus) values solution.below,
-          (drawn_by_flags q s maps drawn values solution.as_drawn, solution.zero),
-        ),
-      ))
+      (λ solution. (solution.one_each, (solution.below, (drawn_by_flags q s maps drawn values solution.as_drawn, solution.zero))))
       (both_decided (cases_eq (length values) entry_number) (both_decided below (both_decided (as_drawn_decided flags drawn values) zero)))
 
   abbrev BeginsSolution : List ℕ → Type 0

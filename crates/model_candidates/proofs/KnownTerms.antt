@@ -1,8 +1,8 @@
 -- The terms of an assumption that are made in a known model fit its value.
-use Rattle.std.proofs.Common.{◌≡◌, ◌<◌, ℕ, List, Some, get_or, length, slice_get, refl, sym, ap, subst, ◌∙◌}
+use Rattle.std.proofs.Common.{◌≡◌, ℕ, List, Some, get_or, slice_get, refl, sym, ap, subst, ◌∙◌}
 use Rattle.nc_polynomial.specs.declared.poly.Poly.{Poly}
 use Rattle.model_candidates.specs.Residues.{residues}
-use Rattle.std.proofs.lemmas.List.{get_or-map, length-map}
+use Rattle.std.proofs.lemmas.List.{get_or-map}
 use Rattle.std.proofs.lemmas.Option.{get_or_from_slice_get, slice_get_within}
 use Rattle.std.specs.List.{All}
 use Rattle.std.proofs.lemmas.List.Elements.{All-weaker, All-from_recursion}
@@ -84,9 +84,6 @@ module _ (k : Known) (is : IsKnown k) (place : ℕ) where
 
   abbrev of : Poly → List ℕ
   of p = residues k.given.shape.now.modulus p.terms
-
-  pub coefficients_long : place < length assumptions → place < length k.coefficients.now
-  coefficients_long inside = subst (λ n. place < n) (sym (ap length is.coefficients ∙ length-map assumptions of)) inside
 
   pub coefficients_there : (p : Poly) → slice_get assumptions place ≡ Some p → (found : List ℕ) → found ≡ get_or k.coefficients.now place found
       → found ≡ residues k.given.shape.now.modulus p.terms

@@ -4,7 +4,7 @@ use Rattle.std.specs.List.{All, AllByRecursion, position, range_with_len}
 use Rattle.std.proofs.lemmas.Bool.{cases_lt, le-leb}
 use Rattle.std.proofs.lemmas.Option.{none-some}
 use Rattle.std.proofs.lemmas.List.{take-append-drop, length-replicate}
-use Rattle.std.proofs.lemmas.List.Elements.{All-from_recursion, All-from_get_or}
+use Rattle.std.proofs.lemmas.List.Elements.{All-nil, All-cons, All-from_get_or}
 use Rattle.std.proofs.lemmas.List.FromFn.{get_or-map-range_with_len, length-map-range_with_len}
 use Rattle.std.proofs.lemmas.List.Quantifiers.{position-Some}
 use Rattle.std.proofs.Math.Seq.{drop-cons}
@@ -32,16 +32,13 @@ use Rattle.model_candidates.proofs.LetterEntries.{IsDeclared, itself, adjoint, n
 use Rattle.model_candidates.proofs.WordProducts.{FitLetter, fit_letter, product_is_arrow}
 
 -- the letters of a path
-letters_by : (q : Quiver) (u v : ℕ) (w : List ℕ) → leads q u v w ≡ true → AllByRecursion (λ a. a < letters q) w
-letters_by q u v [] path = tt
-letters_by q u v (a ∷ w) path = let first = step q u v a w path in (first.letter, letters_by q u (source q a) w first.rest)
-
-path_letters : (q : Quiver) (u v : ℕ) (w : List ℕ) → is_path q u v w ≡ true → AllByRecursion (λ a. a < letters q) w
-path_letters q u v [] path = absurd (cc)
-path_letters q u v (a ∷ w) path = letters_by q u v (a ∷ w) path
+letters_by : (q : Quiver) (u v : ℕ) (w : List ℕ) → leads q u v w ≡ true → All (λ a. a < letters q) w
+letters_by q u v [] path = All-nil (λ a. a < letters q)
+letters_by q u v (a ∷ w) path = let first = step q u v a w path in All-cons (λ b. b < letters q) a w first.letter (letters_by q u (source q a) w first.rest)
 
 pub path_over : (q : Quiver) (u v : ℕ) (w : List ℕ) → is_path q u v w ≡ true → All (λ a. a < letters q) w
-path_over q u v w path = All-from_recursion (λ a. a < letters q) w (path_letters q u v w path)
+path_over q u v [] path = absurd (cc)
+path_over q u v (a ∷ w) path = letters_by q u v (a ∷ w) path
 
 -- The letter at this place is solved, and what stands before and behind it fits it.
 pub record SolvedAt (q : Quiver) (solved : List Letter) (u v : ℕ) (w : List ℕ) (place : ℕ) : Type 0 where

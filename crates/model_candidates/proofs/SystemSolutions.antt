@@ -108,17 +108,6 @@ module _ (problem : Problem) (s : Shape) (shape : IsShape (object_count problem.
   pub zero_below : All (λ x. x < s.modulus) (unit n)
   zero_below = unit_numbers_below n
 
-  pub units_below : All (λ u. All (λ x. x < s.modulus) u) units
-  units_below = All-map (λ u. All (λ x. x < s.modulus) u) unit (range_with_len 0 n)
-      (All-from_get_or (λ k. All (λ x. x < s.modulus) (unit k)) (range_with_len 0 n) 0
-      (λ k inside. unit_numbers_below (get_or (range_with_len 0 n) k 0)))
-
-  pub units_alike : All (λ u. length u ≡ length (unit n)) units
-  units_alike = All-map (λ u. length u ≡ length (unit n)) unit (range_with_len 0 n)
-      (All-from_get_or (λ k. length (unit k) ≡ length (unit n)) (range_with_len 0 n) 0 (λ k inside.
-      length-entries problem s shape drawn count drawn_below gs linear (unit_values n (get_or (range_with_len 0 n) k 0))
-      (unit_values n n) (unit_below (get_or (range_with_len 0 n) k 0)) (unit_below n)))
-
   pub are_values : (values : List ℕ) → length values ≡ n → All (λ value. value < s.modulus) values → AreValues system values
   are_values values one_each below = record { one_each = one_each ∙ sym unit_of_each; below = below }
 

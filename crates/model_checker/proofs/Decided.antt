@@ -1,8 +1,8 @@
 -- Whether a matrix is another, and whether it is one of a modulus, can be told.
 use Rattle.std.proofs.Common.{◌≡◌, ℕ, ◌*◌, ◌<◌, List, [], ◌∷◌, length, ◌⊎◌, inl, inr, refl, ap}
 use Rattle.std.proofs.lemmas.Bool.{cases_eq}
-use Rattle.std.proofs.lemmas.List.Elements.{All-from_recursion, recursion_from_All}
-use Rattle.lists.proofs.Decided.{IsDecided, decided_by, both_decided, le_decided, lt_decided, all_decided}
+use Rattle.lists.proofs.Decided.{IsDecided, decided_by, both_decided, le_decided, lt_decided}
+use Rattle.lists.proofs.FirstFailure.{each_decided}
 use Rattle.matrix_models.specs.Limits.{modulus_limit, side_limit}
 use Rattle.matrix_models.specs.Matrix.{Matrix, IsModulus, IsSide, HasShape, IsMatrix}
 
@@ -32,9 +32,9 @@ side_decided n =
 pub is_matrix_decided : (m : ℕ) (a : Matrix) → IsDecided (IsMatrix m a)
 is_matrix_decided m a =
     decided_by
-    (λ h. record { is_modulus = h.0; modulus_is = h.1.0; shape = h.1.1.0; entries_below = All-from_recursion (λ entry. entry < m) a.entries h.1.1.1 })
-    (λ is. (is.is_modulus, (is.modulus_is, (is.shape, recursion_from_All (λ entry. entry < m) a.entries is.entries_below))))
-    (both_decided modulus (both_decided (cases_eq a.modulus m) (both_decided shape (all_decided (λ entry. entry < m) (λ entry. lt_decided entry m) a.entries))))
+    (λ h. record { is_modulus = h.0; modulus_is = h.1.0; shape = h.1.1.0; entries_below = h.1.1.1 })
+    (λ is. (is.is_modulus, (is.modulus_is, (is.shape, is.entries_below))))
+    (both_decided modulus (both_decided (cases_eq a.modulus m) (both_decided shape (each_decided (λ entry. entry < m) (λ entry. lt_decided entry m) a.entries))))
   where
     modulus : IsDecided (IsModulus m)
     modulus =

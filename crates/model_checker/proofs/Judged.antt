@@ -1,5 +1,5 @@
 -- Each model has exactly one outcome: it refutes its claim, or one of the tests is the first that fails.
-use Rattle.std.proofs.Common.{◌≡◌, ℕ, suc, ◌+◌, ◌-◌, ◌<◌, List, [], length, take, get_or, All, Some, None, slice_get, ◌⊎◌, inl, inr, refl, sym, subst, ap, ◌∙◌, arith}
+use Rattle.std.proofs.Common.{◌≡◌, ℕ, suc, ◌+◌, ◌-◌, ◌<◌, List, [], length, take, get_or, Some, None, slice_get, ◌⊎◌, inl, inr, refl, sym, subst, ap, ◌∙◌, arith}
 use Rattle.std.specs.List.{AllByRecursion}
 use Rattle.std.proofs.lemmas.Bool.{cases_eq}
 use Rattle.std.proofs.lemmas.List.{length-map}
@@ -183,7 +183,7 @@ module _ (problem : Problem) (m : Model) where
       ((e ≡ refusal.NoSuchClaim) × (IsNamed → ⊥))
       ⊎ (IsNamed × (RefusesMap (quiver_of problem.parts.quiver) m e
       ⊎ (Maps × (((first : FirstNot IsZero assumptions) × (e ≡ refusal.NotZero (first.before + 1)))
-      ⊎ (All IsZero assumptions × ((e ≡ refusal.ClaimZero) × (IsOther → ⊥)))))))
+      ⊎ (AllByRecursion IsZero assumptions × ((e ≡ refusal.ClaimZero) × (IsOther → ⊥)))))))
 
   of_map : IsNamed → (e : ModelRefusal) → RefusesMap (quiver_of problem.parts.quiver) m e → RefusesModel problem m e
   of_map named (refusal.MissingMap letter) h = (named, h)
@@ -199,7 +199,7 @@ module _ (problem : Problem) (m : Model) where
   told_all e (inr (named, inr (maps, inr (all, (is, fails))))) = subst (RefusesModel problem m) (sym is) (by (claim_decided named))
     where
       by : IsDecided (IsZero (claim_polynomial problem m.claim)) → RefusesModel problem m refusal.ClaimZero
-      by (inl zero) = record { assumptions = record { fitting = record { claim = named; maps = maps }; zero = recursion_from_All IsZero assumptions all }; claim = zero }
+      by (inl zero) = record { assumptions = record { fitting = record { claim = named; maps = maps }; zero = all }; claim = zero }
       by (inr other) = absurd (fails other)
 
   tells_all : (e : ModelRefusal) → RefusesModel problem m e → (IsMemory e → ⊥) → TellsAll e
@@ -210,7 +210,7 @@ module _ (problem : Problem) (m : Model) where
   tells_all (refusal.NotZero number) h not = inr (h.0.claim, inr (h.0.maps, inl (from_first number h.1)))
   tells_all refusal.ClaimZero h not =
       let fitting = h.assumptions.fitting in
-      inr (fitting.claim, inr (fitting.maps, inr (All-from_recursion IsZero assumptions h.assumptions.zero, (refl, λ other. other h.claim))))
+      inr (fitting.claim, inr (fitting.maps, inr (h.assumptions.zero, (refl, λ other. other h.claim))))
   tells_all (refusal.Memory failed) h not = absurd (not tt)
 
   not_decided : {P : Type 0} → IsDecided P → IsDecided (P → ⊥)
@@ -220,13 +220,13 @@ module _ (problem : Problem) (m : Model) where
   model_outcome : HasOneOutcome IsMemory (Refutes problem m) (RefusesModel problem m)
   model_outcome =
       reworded memory_decided
-      (λ h. record { assumptions = record { fitting = record { claim = h.0; maps = h.1.0 }; zero = recursion_from_All IsZero assumptions h.1.1.0 }; claim = h.1.1.1 })
-      (λ h. let a = h.assumptions in (a.fitting.claim, (a.fitting.maps, (All-from_recursion IsZero assumptions a.zero, h.claim)))) (λ e h not. told_all e h) tells_all
+      (λ h. record { assumptions = record { fitting = record { claim = h.0; maps = h.1.0 }; zero = h.1.1.0 }; claim = h.1.1.1 })
+      (λ h. let a = h.assumptions in (a.fitting.claim, (a.fitting.maps, (a.zero, h.claim)))) (λ e h not. told_all e h) tells_all
       (then_test
       (one_test refusal.NoSuchClaim (λ none. none)
       (decided_by (λ h. record { least = h.0; most = h.1 }) (λ is. (is.least, is.most)) (both_decided (le_decided 1 m.claim) (le_decided m.claim (length problem.parts.claims)))))
       (λ named. then_test (maps_outcome (quiver_of problem.parts.quiver) m)
-      (λ maps. then_test (each_test IsZero refusal.NotZero (λ n none. none) assumptions assumption_decided)
+      (λ maps. then_test (reworded memory_decided (recursion_from_All IsZero assumptions) (All-from_recursion IsZero assumptions) (λ e h not. h) (λ e h not. h) (each_test IsZero refusal.NotZero (λ n none. none) assumptions assumption_decided))
       (λ all. one_test refusal.ClaimZero (λ none. none) (not_decided (claim_decided named))))))
 
 pub each_model_is_judged : EachModelIsJudged

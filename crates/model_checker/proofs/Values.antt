@@ -2,7 +2,6 @@
 use Rattle.std.proofs.Common.{◌≡◌, ℕ, ◌<◌, ◌≤◌, ℤ, true, List, [], ◌∷◌, length, get_or, Option, Some, ◌⊎◌, inl, inr, sym, refl, ap, subst, ◌∙◌, arith}
 use Rattle.std.proofs.lemmas.Bool.{cases_lt}
 use Rattle.std.proofs.lemmas.List.{get_or_past}
-use Rattle.std.proofs.lemmas.List.Elements.{recursion_from_All}
 use Rattle.std.proofs.lemmas.List.FromFn.{get_or-map-range_with_len, length-map-range_with_len}
 use Rattle.std.proofs.lemmas.Option.{get_or_from_slice_get, slice_get-get_or}
 use Rattle.definitions.specs.Category.{Structure, IsArrow}
@@ -33,7 +32,7 @@ one_signature q (t ∷ p) u v x y canonical some typed other =
     some_is (u, v) (x, y) (sym (signature_from_path q u v t.1 (first u v typed)) ∙ signature_from_path q x y t.1 (first x y other))
   where
     first : (a b : ℕ) → IsTyped q a b (t ∷ p) → is_path q a b t.1 ≡ true
-    first a b is = (recursion_from_All (λ r. is_path q a b r.1 ≡ true) (t ∷ p) (words_are_paths q a b (t ∷ p) canonical is)).0
+    first a b is = words_are_paths q a b (t ∷ p) canonical is 0 t (omega arith)
 
 pub zero_from_value : {Object Arrow : Type 0} (s : Structure Object Arrow) (q : Quiver) (f : Representation Object Arrow)
     (p : List (ℤ × List ℕ)) → IsCanonical p

@@ -3,7 +3,7 @@ use Rattle.std.proofs.Common.{◌≡◌, ◌<◌, ◌≤◌, ◌-◌, ℕ, Bool,
 use Rattle.std.specs.List.{All, AllZip, flat_map, range_with_len}
 use Rattle.std.proofs.lemmas.Bool.{and_parts}
 use Rattle.std.proofs.lemmas.Bool.Decides.{nat_tests}
-use Rattle.std.proofs.lemmas.List.Elements.{All-nil, All-cons, All-head, All-tail, All-from_recursion, All-append}
+use Rattle.std.proofs.lemmas.List.Elements.{All-nil, All-cons, All-head, All-tail, All-append, All-replicate}
 use Rattle.quiver.specs.declared.named.Named.{Named}
 use Rattle.quiver.specs.declared.named.Named.TheVariants.{Object, Map}
 use Rattle.quiver.specs.Declarations.{Declaration, named_in, object_count, letter_count}
@@ -75,12 +75,15 @@ module _ (ds : List Declaration) (m : ℕ) where
   side_judged name number (Some (Object v)) true named_is small_is =
       fine (entry.Side v (value_of number)) (rw (named_is, small_is) refl) (keeps_all (side name number) (v, named_is) tt (grind (arith, nat_tests, small_is)))
   side_judged name number (Some (Object v)) false named_is small_is =
-      fails sizes (rw (named_is, small_is) refl) (All-from_recursion (λ k. KeepsEntry ds m k (side name number)) (before sizes) ((v, named_is), (tt, tt)))
+      fails sizes (rw (named_is, small_is) refl) (All-cons (λ k. KeepsEntry ds m k (side name number)) names (numbers ∷ []) (v, named_is) (All-replicate (λ k. KeepsEntry ds m k (side name number)) 1 numbers tt))
       (λ within. grind (arith, nat_tests, small_is, within))
 
   module _ (some : 1 ≤ m) (name : List ℕ) (first : Line) (rest : List Line) where
     abbrev flat : Line
     flat = flat_map (λ row. row) (first ∷ rest)
+
+    abbrev Kept : Bound → Type 0
+    Kept bound = KeepsEntry ds m bound (matrix name first rest)
 
     abbrev is_small : Bool
     is_small = nat_le (length (first ∷ rest)) side_limit && nat_le (length first) side_limit
@@ -91,7 +94,7 @@ module _ (ds : List Declaration) (m : ℕ) where
     map_judged (Some (Object v)) values small named_is values_is small_is =
         fails names (rw named_is refl) (All-nil (λ k. KeepsEntry ds m k (matrix name first rest))) (λ known. let is = known.1 in absurd (cc))
     map_judged (Some (Map a)) None small named_is values_is small_is =
-        fails numbers (rw (named_is, values_is) refl) (All-from_recursion (λ k. KeepsEntry ds m k (matrix name first rest)) (before numbers) ((a, named_is), tt))
+        fails numbers (rw (named_is, values_is) refl) (All-replicate Kept 1 names (a, named_is))
         (λ below. let there = values_there m flat some (flat_from (λ t. value_of t < m) (first ∷ rest) below) in absurd (cc))
     map_judged (Some (Map a)) (Some vs) true named_is values_is small_is =
         let found = are_values m flat vs some values_is in
@@ -102,7 +105,7 @@ module _ (ds : List Declaration) (m : ℕ) where
     map_judged (Some (Map a)) (Some vs) false named_is values_is small_is =
         let found = are_values m flat vs some values_is in
         let below : IsBelow m (matrix name first rest) = flat_to (λ t. value_of t < m) (first ∷ rest) found.numbers_below in
-        fails sizes (rw (named_is, values_is, small_is) refl) (All-from_recursion (λ k. KeepsEntry ds m k (matrix name first rest)) (before sizes) ((a, named_is), (below, tt)))
+        fails sizes (rw (named_is, values_is, small_is) refl) (All-cons Kept names (numbers ∷ []) (a, named_is) (All-replicate Kept 1 numbers below))
         (λ small.
         let tall : nat_le (length (first ∷ rest)) side_limit ≡ true = grind (arith, nat_tests, small.0) in
         let wide : nat_le (length first) side_limit ≡ true = grind (arith, nat_tests, small.1) in

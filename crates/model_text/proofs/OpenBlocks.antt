@@ -5,7 +5,7 @@ use Rattle.std.specs.Str.{bytes_eq}
 use Rattle.std.proofs.lemmas.Bool.{and_parts}
 use Rattle.std.proofs.lemmas.Bool.Decides.{nat_tests}
 use Rattle.std.proofs.lemmas.List.{map-append, append-nil}
-use Rattle.std.proofs.lemmas.List.Elements.{All-nil, All-push, All-from_recursion}
+use Rattle.std.proofs.lemmas.List.Elements.{All-nil, All-push, All-replicate}
 use Rattle.std.proofs.lemmas.Option.{cond_some}
 use Rattle.quiver.specs.Declarations.{Declaration}
 use Rattle.block_text.specs.declared.fault.Flaw.{Flaw}
@@ -77,7 +77,7 @@ module _ (ds : List Declaration) where
 
   -- without bounds on numbers
   shortest_names : (claim modulus : List ℕ) → All (λ bound. KeepsOne ds bound (shortest claim modulus)) (before numbers)
-  shortest_names claim modulus = All-from_recursion (λ bound. KeepsOne ds bound (shortest claim modulus)) (before numbers) (All-nil (HasName ds), tt)
+  shortest_names claim modulus = All-replicate (λ bound. KeepsOne ds bound (shortest claim modulus)) 1 names (All-nil (HasName ds))
 
   begin_shortest : (within : List Bound) (claim modulus : List ℕ) → IsTrue (is_number claim) → IsTrue (is_modulus modulus) → All (λ bound. KeepsOne ds bound (shortest claim modulus)) within
       → Begins (model_kind ds) within (head_line ∷ claim_line claim ∷ modulus_line modulus ∷ [])

@@ -1,12 +1,10 @@
 -- A reader of models is a reader of blocks.
 use Rattle.std.proofs.Common.{◌≡◌, ◌++◌, ◌∷◌, [], false, List, Some, Ok, Err, refl, sym, ◌∙◌, subst, codes}
-use Rattle.std.proofs.lemmas.List.Elements.{All-from_recursion}
 use Rattle.quiver.specs.Declarations.{Declaration}
 use Rattle.matrix_models.specs.declared.model.Model.{Model}
 use Rattle.block_text.specs.declared.fault.Flaw.{Flaw}
 use Rattle.block_text.specs.declared.fault.Flaw.TheVariants.{BadLine}
 use Rattle.block_text.specs.Fault.{asked}
-use Rattle.block_text.specs.Tokens.{begins_comment}
 use Rattle.block_text.specs.Lines.{Line, is_end, claim_of}
 use Rattle.block_text.proofs.Bounds.{bound_of}
 use Rattle.block_text.proofs.Owed.{Begins, IsWhole, IsStopped, IsReader, reader_by_head}
@@ -14,7 +12,7 @@ use Rattle.block_text.proofs.Results.{bind_ok, bind_err, asked_ok}
 use Rattle.model_text.specs.declared.place.Stage.{Stage}
 use Rattle.model_text.specs.declared.place.Stage.TheVariants as at
 use Rattle.model_text.specs.ModelBounds.{Bound, names, bounds, flaw_of}
-use Rattle.model_text.specs.Models.{other_words, model_kind}
+use Rattle.model_text.specs.Models.{model_kind}
 use Rattle.model_text.specs.Reading.{entry_tokens, modulus_of, begun_of, grown, next, finish, model_of, model_steps}
 use Rattle.model_text.proofs.EntryValues.{model_is}
 use Rattle.model_text.proofs.OpenBlocks.{IsOpen, begin_headed, begin_claimed, begin_inside, next_headed, next_claimed, next_entry, stopped_headed, stopped_claimed, stopped_inside}
@@ -66,7 +64,6 @@ module _ (ds : List Declaration) where
 
   pub reader : IsReader (model_kind ds) (model_steps ds)
   reader =
-      reader_by_head (model_kind ds) (model_steps ds) (IsOpen ds) told (refl, refl) refl
-      (All-from_recursion (λ word. begins_comment word ≡ false) other_words (refl, (refl, tt)))
+      reader_by_head (model_kind ds) (model_steps ds) (IsOpen ds) told (refl, refl) refl refl
       (codes "model") (codes "1") at.Headed (λ line. refl) refl refl goes goes_on ends stops (λ K t is keeps. model_meets K ds t is keeps)
       (λ t v w one two. one ∙ sym two)

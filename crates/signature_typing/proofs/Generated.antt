@@ -1,6 +1,7 @@
 -- What is asked of the parts of a statement has generators.
-use Rattle.std.proofs.Common.{◌≡◌, ℕ, pos, negsuc, Bool, ◌||◌, eqb, leb, List, [], ◌∷◌, ◌++◌, length, refl, sym, ap, subst, arith}
+use Rattle.std.proofs.Common.{◌≡◌, ◌≤◌, ℕ, ℤ, pos, negsuc, Bool, ◌||◌, eqb, leb, List, [], ◌∷◌, ◌++◌, length, refl, sym, ap, subst, arith}
 use Rattle.std.proofs.lemmas.Bool.{cond_both}
+use Rattle.std.proofs.lemmas.List.Elements.{All-cons, All-replicate}
 use Rattle.std.specs.List.{AllByRecursion, AllZip, flat_map, range_with_len}
 use Rattle.std.specs.declared.cmp.Ordering.TheVariants.{Greater}
 use Rattle.word_core.specs.Canonical.{word_cmp}
@@ -12,6 +13,7 @@ use Rattle.definitions.proofs.UnitSound.{all-append, all-flat_map}
 use Rattle.nc_polynomial.specs.declared.poly.Poly as made
 use Rattle.nc_polynomial.specs.Collected.{collected}
 use Rattle.nc_polynomial.specs.Shape.{IsCanonical}
+use Rattle.nc_polynomial.proofs.Shapes.{IsNonzero, IsInRange, IsBelow, descends_one}
 use Rattle.nc_polynomial.proofs.CollectedTerms.{coefficient_of-collected}
 use Rattle.signature_typing.specs.Types.{Parts}
 use Rattle.adjoint_rules.specs.Problem.{polynomials, numbers, IsPosed, IsClosed, generators_in}
@@ -37,8 +39,11 @@ canonical_polynomials (p ∷ ps) = (p.canonical, canonical_polynomials ps)
 -- the relations of identities
 canonical-unit : (u : List ℕ) (a : ℕ) → length u ≡ 2 → word_cmp u (a ∷ []) ≡ Greater → IsCanonical ((pos 1, u) ∷ (negsuc 0, a ∷ []) ∷ [])
 canonical-unit u a two above =
-    canonical_by ((pos 1, u) ∷ (negsuc 0, a ∷ []) ∷ []) ((above, tt), (tt, tt)) ((λ e. cc), ((λ e. cc), tt))
-    (omega arith, (omega arith, tt)) (omega (arith, two), (omega arith, tt)) (omega arith)
+    let first : ℤ × List ℕ = (pos 1, u) in
+    let last : ℤ × List ℕ = (negsuc 0, a ∷ []) in
+    let short : ℤ × List ℕ → Type 0 = λ t. length t.1 ≤ 500 in
+    canonical_by (first ∷ last ∷ []) (All-replicate (IsBelow u) 1 last above, descends_one last) (All-cons IsNonzero first (last ∷ []) (λ e. cc) (All-replicate IsNonzero 1 last (λ e. cc)))
+    (All-cons IsInRange first (last ∷ []) (omega arith) (All-replicate IsInRange 1 last (omega arith))) (All-cons short first (last ∷ []) (omega (arith, two)) (All-replicate short 1 last (omega arith))) (omega arith)
 
 canonical-left : (v a : ℕ) → IsCanonical (left_unit v a)
 canonical-left v a = canonical-unit (v ∷ a ∷ []) a refl refl

@@ -1,7 +1,7 @@
 -- The parts of a file without a fault can be made a problem.
 use Rattle.std.proofs.Common.{◌≡◌, ◌≢◌, List, [], ◌∷◌, ◌++◌, length, Some, None, refl, sym, ap, ap₂, subst, ◌∙◌, append-nil, arith, map-id}
 use Rattle.std.specs.List.{All, AllByRecursion, AllZip}
-use Rattle.std.proofs.lemmas.List.{length-map}
+use Rattle.std.proofs.lemmas.List.{get_or-map, length-map}
 use Rattle.std.proofs.lemmas.List.Elements.{All-from_recursion, recursion_from_All, All-weaker, All-head}
 use Rattle.definitions.specs.Poly.{Poly}
 use Rattle.nc_polynomial.specs.declared.poly.Poly as made
@@ -19,7 +19,6 @@ use Rattle.signature_typing.specs.Fault.{told_signature, told_polynomial, no_cla
 use Rattle.signature_typing.specs.Typing.{signature_in, polynomial_in, signatures_of, polynomials_of, equations_in}
 use Rattle.signature_typing.specs.Typing.{wrong_signature, wrong_polynomial, wrong_claims, ArePartsOf}
 use Rattle.signature_typing.specs.Named.{AreNamed}
-use Rattle.statement_names.proofs.Each.{Each-unmap}
 use Rattle.signature_typing.proofs.Each.{each_part, each_with_both}
 use Rattle.signature_typing.proofs.Ends.{signature_has_objects}
 use Rattle.signature_typing.proofs.InPlay.{IsCounted, assumptions_counted, claims_counted, letter_in_play}
@@ -58,7 +57,7 @@ module _ (typed : EquationsAreTyped) (written : LettersAreWritten) (ds : List De
   abbrev IsKnown : Equation → Type 0
   IsKnown e = HasNames ds e × IsCounted ds statements e
 
-  module _ (es : List Equation) (known : AllByRecursion IsKnown es) (have_signatures : AreValues (signature_in ds) es) (have_polynomials : AreValues (polynomial_in ds) es)
+  module _ (es : List Equation) (known : All IsKnown es) (have_signatures : AreValues (signature_in ds) es) (have_polynomials : AreValues (polynomial_in ds) es)
       (ps : List made.Poly) (are : polynomials ps ≡ polynomials_of ds es) where
     equations_typed : AllZip (IsTypedOf ds) ps (signatures_of ds es)
     equations_typed =
@@ -67,8 +66,8 @@ module _ (typed : EquationsAreTyped) (written : LettersAreWritten) (ds : List De
 
     equation_ends : All (HasObjects ds) (signatures_of ds es)
     equation_ends =
-        All-from_recursion (HasObjects ds) (signatures_of ds es) (each_value (signature_in ds) IsKnown (HasObjects ds)
-        (λ e s is sig. signature_has_objects ds ready.declared e.left e.right s is.0.left is.0.right sig) es known have_signatures)
+        each_value (signature_in ds) IsKnown (HasObjects ds)
+        (λ e s is sig. signature_has_objects ds ready.declared e.left e.right s is.0.left is.0.right sig) es known have_signatures
 
     -- the terms have letters in play
     abbrev IsPlayed : Poly → Type 0
@@ -76,11 +75,13 @@ module _ (typed : EquationsAreTyped) (written : LettersAreWritten) (ds : List De
 
     equation_letters : All (HasLettersInPlay ds (is_starred statements) (numbers (marked_of ds statements))) ps
     equation_letters =
-        All-from_recursion (HasLettersInPlay ds (is_starred statements) (numbers (marked_of ds statements))) ps (Each-unmap IsPlayed (λ p. p.terms) ps
-        (subst (AllByRecursion IsPlayed) (sym are) (each_value (polynomial_in ds) IsKnown IsPlayed
+        unmapped (subst (All IsPlayed) (sym are) (each_value (polynomial_in ds) IsKnown IsPlayed
         (λ e p is poly. All-weaker (λ t. All (IsWritten ds e.left e.right) t.1) _
         (λ t letters. All-weaker (IsWritten ds e.left e.right) _ (λ a wrote. letter_in_play ds statements e a is.1 wrote) t.1 letters) p
-        (written ds e.left e.right p ready.declared ready.objects_first is.0.left is.0.right poly)) es known have_polynomials)))
+        (written ds e.left e.right p ready.declared ready.objects_first is.0.left is.0.right poly)) es known have_polynomials))
+      where
+        unmapped : All IsPlayed (polynomials ps) → All (λ p. IsPlayed p.terms) ps
+        unmapped each k p below = subst IsPlayed (get_or-map (λ q. q.terms) ps k p p.terms below) (each k p.terms (omega (arith, below, length-map ps (λ q. q.terms))))
 
     equation_count : length ps ≡ length es
     equation_count = sym (length-map ps (λ p. p.terms)) ∙ ap length are ∙ length-values (polynomial_in ds) es have_polynomials
@@ -105,8 +106,8 @@ posed typed written statements p parts ready no_signature no_polynomial =
     let polys = have_polynomials ds statements no_signature no_polynomial in
     let assumed = assumptions_of ds statements in
     let claimed = claims_of statements in
-    let known_assumed = each_with_both (HasNames ds) (IsCounted ds statements) assumed (recursion_from_All (HasNames ds) assumed ready.assumptions) (assumptions_counted ds statements) in
-    let known_claimed = each_with_both (HasNames ds) (IsCounted ds statements) claimed (recursion_from_All (HasNames ds) claimed ready.claims) (claims_counted ds statements) in
+    let known_assumed = each_with_both (HasNames ds) (IsCounted ds statements) assumed ready.assumptions (assumptions_counted ds statements) in
+    let known_claimed = each_with_both (HasNames ds) (IsCounted ds statements) claimed ready.claims (claims_counted ds statements) in
     record {
       declared = ready.declared;
       objects_first = ready.objects_first;

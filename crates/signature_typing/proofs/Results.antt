@@ -1,7 +1,7 @@
 -- The polynomial of an equation is within the limits, and the fault of its arithmetic is no want of memory.
 use Rattle.std.proofs.Common.{◌≡◌, ◌≢◌, ℕ, zero, suc, ◌≤◌, ℤ, pos, negsuc, Bool, true, false, cond, List, [], ◌∷◌, ◌++◌, length, replicate, nat_lt, Option, Some, None, Result, Ok, Err, refl, sym, ◌∙◌, arith}
-use Rattle.std.specs.List.{AllByRecursion}
-use Rattle.std.proofs.lemmas.List.Elements.{All-from_recursion}
+use Rattle.std.specs.List.{All, AllByRecursion}
+use Rattle.std.proofs.lemmas.List.Elements.{All-replicate}
 use Rattle.coef_int.specs.declared.Overflow.{Overflow}
 use Rattle.coef_int.specs.Range.{IsCoefficient}
 use Rattle.coef_int.specs.Operations.{first_overflow}
@@ -22,7 +22,7 @@ use Rattle.nc_polynomial.proofs.Around.{shaped-between}
 use Rattle.nc_polynomial.proofs.Chains.{or_first, first-append}
 use Rattle.nc_polynomial.proofs.OneTerm.{canonical_none}
 use Rattle.nc_polynomial.proofs.Products.{canonical_sized}
-use Rattle.nc_polynomial.proofs.Shapes.{Descends, IsDescending-from_recursion, shaped-scaled, shaped-added}
+use Rattle.nc_polynomial.proofs.Shapes.{Descends, IsNonzero, IsInRange, descends_one, IsDescending-from_recursion, shaped-scaled, shaped-added}
 use Rattle.quiver.specs.Declarations.{Declaration, quiver_of, identity_in}
 use Rattle.expressions.specs.Results.{◌>>=◌}
 use Rattle.abbreviations.specs.Names.{letter_of, object_of}
@@ -39,16 +39,16 @@ pub gives-bind : {A B : Type 0} (P : A → Type 0) (Q : B → Type 0) (r : Resul
 gives-bind P Q (Ok x) f h k = k x h
 gives-bind P Q (Err e) f h k = h
 
--- within the limits, by recursion on the terms
-pub canonical_by : (p : Poly) → Descends p → AllByRecursion (λ (t : term). t.0 ≢ pos 0) p → AllByRecursion (λ (t : term). IsCoefficient t.0) p
-    → AllByRecursion (λ (t : term). length t.1 ≤ 500) p → length p ≤ 20000 → IsCanonical p
+-- within the limits
+pub canonical_by : (p : Poly) → Descends p → All (λ (t : term). t.0 ≢ pos 0) p → All (λ (t : term). IsCoefficient t.0) p
+    → All (λ (t : term). length t.1 ≤ 500) p → length p ≤ 20000 → IsCanonical p
 canonical_by p descends nonzero in_range short few = record {
   shaped = record {
     descending = IsDescending-from_recursion p descends;
-    nonzero = All-from_recursion (λ (t : term). t.0 ≢ pos 0) p nonzero;
-    in_range = All-from_recursion (λ (t : term). IsCoefficient t.0) p in_range;
+    nonzero = nonzero;
+    in_range = in_range;
   };
-  short = All-from_recursion (λ (t : term). length t.1 ≤ 500) p short;
+  short = short;
   few = few;
 }
 
@@ -138,7 +138,9 @@ module _ (ds : List Declaration) (quiver : IsQuiver (quiver_of ds)) where
       gives-bind IsCanonical IsCanonical (mark_poly (quiver_of ds) m p) (marked_poly (quiver_of ds) marks) (mark-gives m p h) (marked-gives marks)
 
   letter-gives : (a : ℕ) → IsCanonical (letter_poly a)
-  letter-gives a = canonical_by (letter_poly a) (tt, tt) ((λ e. cc), tt) (omega arith, tt) (omega arith, tt) (omega arith)
+  letter-gives a =
+      let one : term = (pos 1, a ∷ []) in
+      canonical_by (letter_poly a) (descends_one one) (All-replicate IsNonzero 1 one (λ e. cc)) (All-replicate IsInRange 1 one (omega arith)) (All-replicate (λ (t : term). length t.1 ≤ 500) 1 one (omega arith)) (omega arith)
 
   -- the parts of an expression
   abbrev AreCanonical : List Summand → Type 0

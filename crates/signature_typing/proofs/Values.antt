@@ -1,6 +1,7 @@
 -- Results of which none is a fault, and their values.
 use Rattle.std.proofs.Common.{◌≡◌, List, [], ◌∷◌, ◌++◌, length, map, suc, Option, Some, None, Result, Ok, Err, refl, sym, ap, subst, ◌∙◌}
-use Rattle.std.specs.List.{AllByRecursion, AllZip, flat_map}
+use Rattle.std.specs.List.{All, AllByRecursion, AllZip, flat_map}
+use Rattle.std.proofs.lemmas.List.Elements.{All-nil, All-cons, All-head, All-tail}
 use Rattle.std.specs.Option.{option_or}
 use Rattle.signature_typing.specs.Types.{TypeFault}
 use Rattle.signature_typing.specs.First.{first_among}
@@ -62,25 +63,26 @@ module _ {A X E : Type 0} (f : A → Result X E) where
       ap length (first_value e es found.0 found.1) ∙ ap (λ n. suc n) (length-values es fine.1)
 
   -- what holds of each value, where something holds of each element
-  pub each_value : (H : A → Type 0) (Q : X → Type 0) → ((e : A) (x : X) → H e → f e ≡ Ok x → Q x) → (es : List A) → AllByRecursion H es → AreValues es → AllByRecursion Q (values es)
-  each_value H Q gives [] each fine = tt
+  pub each_value : (H : A → Type 0) (Q : X → Type 0) → ((e : A) (x : X) → H e → f e ≡ Ok x → Q x) → (es : List A) → All H es → AreValues es → All Q (values es)
+  each_value H Q gives [] each fine = All-nil Q
   each_value H Q gives (e ∷ es) each fine =
       let found = value_of (f e) fine.0 in
-      subst (AllByRecursion Q) (sym (first_value e es found.0 found.1)) (gives e found.0 each.0 found.1, each_value H Q gives es each.1 fine.1)
+      subst (All Q) (sym (first_value e es found.0 found.1))
+      (All-cons Q found.0 (values es) (gives e found.0 (All-head H e es each) found.1) (each_value H Q gives es (All-tail H e es each) fine.1))
 
 -- what holds of the values of two functions at each element, where the first ones are those of other things
 module _ {A P X Y E F : Type 0} (f : A → Result X E) (g : A → Result Y F) (view : P → X) (H : A → Type 0) (R : P → Y → Type 0)
     (gives : (e : A) (p : P) (y : Y) → H e → f e ≡ Ok (view p) → g e ≡ Ok y → R p y) where
-  pub zipped : (es : List A) (ps : List P) → AllByRecursion H es → AreValues f es → AreValues g es → map view ps ≡ values f es → AllZip R ps (values g es)
+  pub zipped : (es : List A) (ps : List P) → All H es → AreValues f es → AreValues g es → map view ps ≡ values f es → AllZip R ps (values g es)
   zipped [] [] each fine_f fine_g are = tt
   zipped [] (p ∷ ps) each fine_f fine_g are = absurd cc
   zipped (e ∷ es) ps each fine_f fine_g are =
       let found = value_of (f e) fine_f.0 in
       let other = value_of (g e) fine_g.0 in
       subst (AllZip R ps) (sym (first_value g e es other.0 other.1))
-      (go found.0 other.0 found.1 other.1 (λ qs is. zipped es qs each.1 fine_f.1 fine_g.1 is) ps (are ∙ first_value f e es found.0 found.1))
+      (go found.0 other.0 found.1 other.1 (λ qs is. zipped es qs (All-tail H e es each) fine_f.1 fine_g.1 is) ps (are ∙ first_value f e es found.0 found.1))
     where
       go : (x : X) (y : Y) → f e ≡ Ok x → g e ≡ Ok y → ((qs : List P) → map view qs ≡ values f es → AllZip R qs (values g es))
           → (qs : List P) → map view qs ≡ x ∷ values f es → AllZip R qs (y ∷ values g es)
       go x y is_x is_y rest [] is = absurd cc
-      go x y is_x is_y rest (q ∷ qs) is = let same : x ≡ view q = cc in (gives e q y each.0 (is_x ∙ ap Ok same) is_y, rest qs cc)
+      go x y is_x is_y rest (q ∷ qs) is = let same : x ≡ view q = cc in (gives e q y (All-head H e es each) (is_x ∙ ap Ok same) is_y, rest qs cc)

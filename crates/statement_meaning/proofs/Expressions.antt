@@ -69,7 +69,7 @@ module _ {Object Arrow : Type 0} (r : Reading Object Arrow) (laws : PreadditiveL
       record {
         source_below = in_u;
         target_below = in_v;
-        paths = All-replicate _ 1 _ path;
+        paths = All-replicate (λ (t : ℤ × List ℕ). is_path q u v t.1 ≡ true) 1 (pos 1, a ∷ []) path;
         same = ap Some (sym (value-term laws q f rep u v in_u in_v (pos 1, a ∷ []) [] path ∙ ap (λ x. s.add x none) is_zero ∙ is_zero));
       }
 

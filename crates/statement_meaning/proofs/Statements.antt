@@ -1,7 +1,6 @@
 -- The assumptions and the claims of a statement are zero exactly where its equations hold.
 use Rattle.std.proofs.Common.{◌≡◌, true, ◌↔◌, List, [], ◌∷◌, Option, Some, None, Result, Ok, Err, refl, sym, ap, subst, ◌∙◌, true≢false}
-use Rattle.std.proofs.lemmas.List.Elements.{recursion_from_All}
-use Rattle.std.specs.List.{AllByRecursion, AllZip}
+use Rattle.std.specs.List.{All, AllByRecursion, AllZip}
 use Rattle.std.specs.Option.{option_or, option_map}
 use Rattle.definitions.specs.Category.{Structure, PreadditiveLaws}
 use Rattle.definitions.specs.Representation.{Representation, Represents}
@@ -65,7 +64,7 @@ module _ {Object Arrow : Type 0} {s : Structure Object Arrow} (laws : Preadditiv
           rep (λ mark. adjoints (known.0.1.starred mark))
       go (Err x) sig fine = absurd fine
 
-  all : (es : List Equation) (ps : List made.Poly) → AllByRecursion (HasNames ds) es → AllByRecursion (IsCounted ds statements) es → AreValues (signature_in ds) es → AreValues (polynomial_in ds) es
+  all : (es : List Equation) (ps : List made.Poly) → All (HasNames ds) es → AllByRecursion (IsCounted ds statements) es → AreValues (signature_in ds) es → AreValues (polynomial_in ds) es
       → polynomials ps ≡ polynomials_of ds es → AreRead s involution ds f ps es
   all es ps names counted have_signatures have_polynomials are =
       subst (AllZip Reads ps) (values-itself es)
@@ -83,8 +82,8 @@ module _ {Object Arrow : Type 0} {s : Structure Object Arrow} (laws : Preadditiv
   file_is_read problem same assumed claimed no_signature no_polynomial =
       let signatures = all_values (signature_in ds) (λ t. told_signature ds) (equations_of ds) (λ t. claims_in t.kind) statements no_signature in
       let polys = all_values (polynomial_in ds) (λ t. told_polynomial t.at) (equations_of ds) (λ t. claims_in t.kind) statements no_polynomial in (
-        all (assumptions_of ds statements) problem.parts.assumptions (recursion_from_All (HasNames ds) (assumptions_of ds statements) ready.assumptions) (assumptions_counted ds statements) signatures.0 polys.0 assumed,
-        all (claims_of statements) problem.parts.claims (recursion_from_All (HasNames ds) (claims_of statements) ready.claims) (claims_counted ds statements) signatures.1 polys.1 claimed,
+        all (assumptions_of ds statements) problem.parts.assumptions ready.assumptions (assumptions_counted ds statements) signatures.0 polys.0 assumed,
+        all (claims_of statements) problem.parts.claims ready.claims (claims_counted ds statements) signatures.1 polys.1 claimed,
       )
 
 -- what is known of a file without a fault

@@ -1,10 +1,10 @@
 -- The value of a sum is the sum of the values of its terms.
-use Rattle.std.proofs.Common.{◌≡◌, ℕ, ◌<◌, Bool, true, false, cond, List, [], ◌∷◌, ◌++◌, Option, Some, None, Ok, Err, ◌⊎◌, inl, inr, sym, refl, ap, subst, ◌∙◌}
+use Rattle.std.proofs.Common.{◌≡◌, ◌<◌, Bool, true, false, cond, List, [], ◌∷◌, ◌++◌, Option, Some, None, Ok, Err, ◌⊎◌, inl, inr, sym, refl, ap, subst, ◌∙◌}
 use Rattle.std.proofs.lemmas.List.{append-nil, append_assoc}
 use Rattle.std.proofs.lemmas.List.Elements.{All-nil, All-append}
 use Rattle.definitions.specs.Category.{Structure, PreadditiveLaws}
 use Rattle.definitions.specs.Poly.{Poly, SamePolynomial}
-use Rattle.definitions.specs.Quiver.{Quiver}
+use Rattle.definitions.specs.Quiver.{Quiver, is_path}
 use Rattle.definitions.specs.Representation.{Representation, Represents}
 use Rattle.definitions.proofs.Coefficients.{Same_refl, Same_trans, SamePolynomial-append}
 use Rattle.nc_polynomial.specs.Terms.{negated}
@@ -73,7 +73,7 @@ module _ {Object Arrow : Type 0} {s : Structure Object Arrow} (laws : Preadditiv
     added p r a b h m = record {
       source_below = in_u;
       target_below = in_v;
-      paths = All-append _ p r h.paths m.paths;
+      paths = All-append (λ t. is_path q e.source.0 e.target.0 t.1 ≡ true) p r h.paths m.paths;
       same = ap (λ x. plus s x b) h.same ∙ go m.same;
     }
       where
