@@ -82,8 +82,8 @@ pub const BLOCKS: &[LimitRow] = &[
     ),
 ];
 
-/// Each limit but those on the bytes of a file.
-pub const LIMITS: &[LimitRow] = &[
+/// The limits on names and on their numbers.
+pub const NAMED: &[LimitRow] = &[
     // letters of a name
     (
         CHECK,
@@ -155,6 +155,10 @@ pub const LIMITS: &[LimitRow] = &[
         EMPTY,
         &[Plain("3 # refused S8 line 2 column 897 limit 200\n")],
     ),
+];
+
+/// The limits on assumptions, claims, shapes and words.
+pub const STATED: &[LimitRow] = &[
     // assumptions
     (
         CHECK,
@@ -229,6 +233,10 @@ pub const LIMITS: &[LimitRow] = &[
         EMPTY,
         &[Plain("3 # refused S14 line 3 column 1\n")],
     ),
+];
+
+/// The limits on rows and terms.
+pub const ROWS: &[LimitRow] = &[
     // terms that rows make of a generator of 20,000, and terms of an assumption
     (
         CHECK,
@@ -294,6 +302,10 @@ pub const LIMITS: &[LimitRow] = &[
         ],
         &[Plain("7 # refused K5 line 1005 limit 1000000\n")],
     ),
+];
+
+/// The limits on blocks of certificates, and on models.
+pub const MODELS: &[LimitRow] = &[
     // blocks
     (
         CHECK,

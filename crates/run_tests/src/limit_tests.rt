@@ -1,10 +1,30 @@
-//! Runs over files at each limit and one past it, which are put together from parts.
-use crate::limit_rows::{BLOCKS, LIMITS, SIZES};
+//! Runs over files at each limit and one past it, which are put together from parts. What a test costs grows with the square of its
+//! rows.
+use crate::limit_rows::{BLOCKS, MODELS, NAMED, ROWS, SIZES, STATED};
 use crate::telling::tell_limits;
 
 #[test]
-fn limits_are_where_they_are_said(rt: HostRuntime) {
-    tell_limits(&rt, rt.alloc(), LIMITS);
+fn names_are_limited(rt: HostRuntime) {
+    tell_limits(&rt, rt.alloc(), NAMED);
+}
+
+#[test]
+fn statements_are_limited(rt: HostRuntime) {
+    tell_limits(&rt, rt.alloc(), STATED);
+}
+
+#[test]
+fn rows_are_limited(rt: HostRuntime) {
+    tell_limits(&rt, rt.alloc(), ROWS);
+}
+
+#[test]
+fn models_are_limited(rt: HostRuntime) {
+    tell_limits(&rt, rt.alloc(), MODELS);
+}
+
+#[test]
+fn blocks_of_models_and_words_of_certificates_are_limited(rt: HostRuntime) {
     tell_limits(&rt, rt.alloc(), BLOCKS);
 }
 

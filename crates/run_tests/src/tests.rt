@@ -20,14 +20,34 @@ pub const CHECK: &[&str] = &["check", "s", "c"];
 pub const MODEL: &[&str] = &["model", "s", "c"];
 
 #[test]
-fn each_run_has_its_status_and_report(rt: HostRuntime) {
+fn examples_have_their_status_and_report(rt: HostRuntime) {
     tell_all(&rt, rt.alloc(), CHECK, EXAMPLES);
-    tell_all(&rt, rt.alloc(), CHECK, JUDGED);
-    tell_all(&rt, rt.alloc(), CHECK, LEMMAS);
-    tell_all(&rt, rt.alloc(), CHECK, REFUSED);
-    tell_all(&rt, rt.alloc(), MODEL, MODELS);
-    tell_all(&rt, rt.alloc(), MODEL, FAULTS);
     tell_words(&rt, rt.alloc(), CALLS, SOUND.0, SOUND.1);
+}
+
+#[test]
+fn certificates_are_judged(rt: HostRuntime) {
+    tell_all(&rt, rt.alloc(), CHECK, JUDGED);
+}
+
+#[test]
+fn certificates_with_lemmas_are_judged(rt: HostRuntime) {
+    tell_all(&rt, rt.alloc(), CHECK, LEMMAS);
+}
+
+#[test]
+fn faulty_files_are_refused(rt: HostRuntime) {
+    tell_all(&rt, rt.alloc(), CHECK, REFUSED);
+}
+
+#[test]
+fn models_are_judged(rt: HostRuntime) {
+    tell_all(&rt, rt.alloc(), MODEL, MODELS);
+}
+
+#[test]
+fn faulty_models_are_refused(rt: HostRuntime) {
+    tell_all(&rt, rt.alloc(), MODEL, FAULTS);
 }
 
 /// Asserts that the words of each row are answered so over its statement, in both languages.
