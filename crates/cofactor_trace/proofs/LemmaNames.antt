@@ -34,10 +34,10 @@ module _ (count : ℕ) (made : List Made) (target : Made) (records : AreRecords 
   rows_within done rest all (r ∷ rows) known up_to =
       All-cons (λ (l : LemmaRow). IsWithin count (length done) l.from) (lemma_row (naming_of made target) r) (map (lemma_row (naming_of made target)) rows)
       (by_source made target records is_record (λ o x. IsUpTo count o → IsWithin count (length done) x.from) done rest all
-          (λ n h. h)
-          (λ n m x positive item e h. direct_within (length done) m x e (all_at (NamesUpTo count) made (n - 1) m item rules))
-          (λ n listed h. (number_positive n (done ++ rest), number_within n done rest listed))
-          r.from known.0 (All-head (λ (s : Row). IsUpTo count s.from) r rows up_to))
+      (λ n h. h)
+      (λ n m x positive item e h. direct_within (length done) m x e (all_at (NamesUpTo count) made (n - 1) m item rules))
+      (λ n listed h. (number_positive n (done ++ rest), number_within n done rest listed))
+      r.from known.0 (All-head (λ (s : Row). IsUpTo count s.from) r rows up_to))
       (rows_within done rest all rows known.1 (All-tail (λ (s : Row). IsUpTo count s.from) r rows up_to))
 
   name_earlier : (done rest : List Numbered) → done ++ rest ≡ lemma_rules made target → AllByRecursion (IsEntry made target records is_record) rest

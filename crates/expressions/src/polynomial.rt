@@ -11,8 +11,8 @@ ghost use Rattle.expressions.specs.Polynomials.{term_poly, factor_poly, primary_
 
 use crate::added::add;
 use crate::powers::with_marks;
-use coef_int::Overflow;
 use abbreviations::{letter_of, object_of};
+use coef_int::Overflow;
 use lists::Listing;
 use nc_polynomial::{Poly, PolyFault, RunningSum, WORD_LIMIT, negate_terms};
 use quiver::{OBJECT_LIMIT, Quiver};

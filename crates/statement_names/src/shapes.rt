@@ -11,8 +11,8 @@ ghost use Rattle.statement_names.specs.Numbered.{declarations_of};
 ghost use Rattle.statement_names.specs.Shapes.{shape, sides_of, shapes_of};
 
 use crate::literal::value_of;
-use adjoint_rules::Shape;
 use abbreviations::object_of;
+use adjoint_rules::Shape;
 use lists::Listing;
 use quiver::Quiver;
 use statement_syntax::{Name, Number, Statement, StatementKind};
