@@ -84,7 +84,7 @@ fn put_inverse(
     ends: (&str, &str),
     out: &mut Listing<Equation>,
 ) -> Result<(), AllocError>
-    ensures { OnOk result (out.new ≡ out.old ++ inverse_equations at a.now x.now ends.0.now ends.1.now) }
+    ensures { OnOk result (out.new ≡ out.old ++ inverse_equations at a.now x.now ends.entry.0.now ends.entry.1.now) }
 {
     let (source, target) = ends;
     put_identity(alloc, at, &[a, x], target, out)?;

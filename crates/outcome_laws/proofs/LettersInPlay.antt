@@ -2,7 +2,7 @@
 use Rattle.std.proofs.Common.{◌≡◌, ℕ, Bool, true, false, cond, List, [], ◌∷◌, ◌∙◌, arith, ltb, ltb-true}
 use Rattle.std.specs.List.{All, AllZip, AllByRecursion, filter, list_all, range_with_len}
 use Rattle.std.proofs.lemmas.Bool.{and_parts}
-use Rattle.std.proofs.lemmas.List.Elements.{All-nil, All-cons, All-head, All-tail}
+use Rattle.std.proofs.lemmas.List.Elements.{All-nil, All-cons, All-head, All-tail, All-from_recursion}
 use Rattle.definitions.specs.Poly.{Term, SamePolynomial}
 use Rattle.quiver.specs.Declarations.{letter_count, quiver_of}
 use Rattle.rule_reduce.specs.KeptWords.{IsInPlay as AreInPlay}
@@ -46,7 +46,7 @@ module _ (problem : Problem) where
       source = is.typed.source;
       target = is.typed.target;
       typed = is.typed.typed;
-      in_play = record { at = λ w some. words_with_coefficients (AreInPlay problem_play) g each w (λ none. some (same.at w ∙ none)) };
+      in_play = record { at = λ w some. words_with_coefficients (AreInPlay problem_play) g (All-from_recursion (λ (t : Term). AreInPlay problem_play t.1) g each) w (λ none. some (same.at w ∙ none)) };
     };
   }
 

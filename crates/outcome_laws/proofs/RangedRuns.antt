@@ -61,7 +61,7 @@ signed_in_range false rows each = each
 -- the content of a polynomial divides its first coefficient
 scale_in_range : (p : List Term) (k : ℤ) → IsShaped p → IsContent p k → pos 0 <ℤ k → IsCoefficient k
 scale_in_range [] k shaped content positive =
-    let none : k ≡ pos 0 = (content-zero [] k tt content).1 refl in
+    let none : k ≡ pos 0 = (content-zero [] k shaped.nonzero content).1 refl in
     absurd (omega (arith, ints, none, positive))
 scale_in_range (t ∷ p) k shaped content positive =
     let divides = All-head (λ (u : Term). unsigned_abs k ∣ unsigned_abs u.0) t p content.divides in
