@@ -1,5 +1,5 @@
 -- The polynomial of an expression says its value.
-use Rattle.std.proofs.Common.{◌≡◌, ℕ, ◌<◌, ℤ, pos, negsuc, Bool, true, false, ◌||◌, List, [], ◌∷◌, Option, Some, None, Ok, refl, sym, ap, ap₂, subst, ◌∙◌}
+use Rattle.std.proofs.Common.{◌≡◌, ℕ, ◌<◌, ℤ, pos, negsuc, Bool, true, false, ◌||◌, List, [], ◌∷◌, Option, Some, None, Ok, refl, sym, ap, ap₂, subst, ◌∙◌, arith}
 use Rattle.std.proofs.lemmas.Bool.{and_parts}
 use Rattle.std.proofs.lemmas.List.Elements.{All-replicate}
 use Rattle.std.specs.List.{list_any}
@@ -151,7 +151,7 @@ module _ {Object Arrow : Type 0} (r : Reading Object Arrow) (laws : PreadditiveL
   -- the sum is the polynomial of the terms one after another
   denotes-total : (o : Option Sig) (ss : List Summand) (x : Poly) (a : Option Arrow) → Words (IsPathOf q o) x → Denotes s q f o (summed ss) a → polynomials.total ss ≡ Ok x → Denotes s q f o x a
   denotes-total None ss [] a h d e = (refl, d.1)
-  denotes-total None ss (t ∷ x) a h d e = absurd h.0
+  denotes-total None ss (t ∷ x) a h d e = absurd (h 0 t (omega arith))
   denotes-total (Some i) ss x a h d e = record {
     source_below = d.source_below;
     target_below = d.target_below;

@@ -4,7 +4,7 @@ use Rattle.std.specs.Option.{option_map}
 use Rattle.std.specs.List.{list_any}
 use Rattle.definitions.specs.Category.{Structure, IsArrow, PreadditiveLaws}
 use Rattle.definitions.specs.Poly.{Poly, SamePolynomial}
-use Rattle.definitions.specs.Quiver.{Quiver, IsQuiver}
+use Rattle.definitions.specs.Quiver.{Quiver, IsQuiver, is_path}
 use Rattle.definitions.specs.Generators.{adjoint_poly}
 use Rattle.definitions.specs.Representation.{Representation, Represents, value_at}
 use Rattle.definitions.proofs.Adjoints.{is_path-adjoint_word}
@@ -50,7 +50,7 @@ module _ {Object Arrow : Type 0} (r : Reading Object Arrow) (laws : PreadditiveL
   denotes-turned adjoints (Some i) p x a d e = record {
     source_below = d.target_below;
     target_below = d.source_below;
-    paths = words-collection (λ w. _) (adjoint_poly q p) x (words-adjoint (λ w. _) (λ w. _) q (λ w. is_path-adjoint_word q quiver i.source.0 i.target.0 w) p d.paths) e;
+    paths = words-collection (λ w. is_path q i.target.0 i.source.0 w ≡ true) (adjoint_poly q p) x (words-adjoint (λ w. _) (λ w. is_path q i.target.0 i.source.0 w ≡ true) q (λ w. is_path-adjoint_word q quiver i.source.0 i.target.0 w) p d.paths) e;
     same =
         ap (option_map r.involution) d.same
         ∙ ap Some (sym (adjoints i.source.0 i.target.0 d.source_below d.target_below p d.paths))

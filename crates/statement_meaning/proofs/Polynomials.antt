@@ -121,4 +121,4 @@ module _ {Object Arrow : Type 0} {s : Structure Object Arrow} (laws : Preadditiv
         ∙ ap₂ s.add (value-row t.0 t.1 r path m) (value-product p r (All-tail (λ t. is_path q k v t.1 ≡ true) t p h) m)
         ∙ ap (λ a. s.add a (s.compose y z)) (sym (additive-times H (group u v in_u in_v) (λ a. s.compose a z) (λ a i. after_in a i z z_in) (λ a b i j. laws.compose_add_left (f.object u) (f.object k) (f.object v) a b z i j z_in) t.0 x x_in))
         ∙ sym (laws.compose_add_left (f.object u) (f.object k) (f.object v) (times_at k v t.0 x) y z (times_in H t.0 x x_in) y_in z_in)
-        ∙ ap (λ a. s.compose a z) (sym (value-term k v in_k in_v t p h.0))
+        ∙ ap (λ a. s.compose a z) (sym (value-term k v in_k in_v t p path))

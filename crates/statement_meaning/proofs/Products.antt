@@ -2,7 +2,7 @@
 use Rattle.std.proofs.Common.{◌≡◌, ℕ, Bool, true, false, cond, nat_eq, List, [], ◌∷◌, Option, Some, None, Ok, Err, sym, refl, ap, ap₂, subst, ◌∙◌, eqb-true}
 use Rattle.definitions.specs.Category.{Structure, IsArrow, PreadditiveLaws}
 use Rattle.definitions.specs.Poly.{Poly}
-use Rattle.definitions.specs.Quiver.{Quiver}
+use Rattle.definitions.specs.Quiver.{Quiver, is_path}
 use Rattle.definitions.specs.Representation.{Representation, Represents}
 use Rattle.nc_polynomial.specs.Product.{product_result}
 use Rattle.nc_polynomial.proofs.Products.{product_value}
@@ -44,7 +44,7 @@ module _ {Object Arrow : Type 0} {s : Structure Object Arrow} (laws : Preadditiv
       record {
         source_below = m.source_below;
         target_below = h.target_below;
-        paths = words-product (λ w. _) (λ w. _) (λ w. _) (λ x y. path-append q u k v x y) p r product h.paths r_paths e;
+        paths = words-product (λ w. _) (λ w. _) (λ w. is_path q u v w ≡ true) (λ x y. path-append q u k v x y) p r product h.paths r_paths e;
         same =
             ap₂ (after s) h.same m.same
             ∙ ap (λ x. Some (s.compose (value_of s q f left p) x)) (ap (λ x. value_of s q f (from_to u x) r) (sym meet))
