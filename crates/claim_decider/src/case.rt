@@ -1,11 +1,11 @@
 //! A claim before it has its outcome, and after.
-ghost use Rattle.std.specs.Prelude.{◌≡◌, ◌<◌, ◌≤◌, ◌-◌, length, IfOk};
+ghost use Rattle.std.specs.Prelude.{◌≡◌, ◌<◌, ◌≤◌, ◌-◌, length, IfOk, OnOk};
 ghost use Rattle.std.specs.List.{All, AllZip};
 ghost use Rattle.traced_completion.specs.declared.budget.Budget.{Budget};
 ghost use Rattle.traced_completion.specs.PlainRun.{start, setting_of};
 ghost use Rattle.traced_completion.specs.Completions.{IsCompletionOf, state_of};
 ghost use Rattle.adjoint_rules.specs.Claims.{claim_at};
-ghost use Rattle.claim_decider.specs.Cases.{IsJudged, StandingFollows, IsCase, IsNumber, HasRounds};
+ghost use Rattle.claim_decider.specs.Cases.{IsJudged, Follows, IsCase, IsNumber, IsOfProblem, HasRounds};
 
 use crate::Outcome;
 use crate::causes::halted;
@@ -15,6 +15,7 @@ use cofactor_trace::{Format, Made, Place};
 use lists::Duplicate;
 use nc_polynomial::Poly;
 use std::alloc::{AllocError, Global};
+use std::mem;
 use traced_completion::{Completion, Step, reduction_cause};
 
 /// The state of a claim.
@@ -92,29 +93,32 @@ fn judge(
     Ok(Standing::Settled(outcome))
 }
 
-// The state of a claim after a step of the completion.
+// The claim takes a step of the completion.
 pub(crate) fn follow(
     alloc: Global,
     problem: &Problem,
     format: Format,
     completion: &Completion,
     step: &Step,
-    number: u32,
-    standing: Standing,
-) -> Result<Standing, AllocError>
-    requires number { IsNumber problem.now number }
+    case: &mut Case,
+) -> Result<(), AllocError>
+    requires number { IsOfProblem problem.now case.old }
     requires of_problem { IsCompletionOf problem.now completion.now }
     requires some_round { HasRounds step.now completion.now.rounds }
-    ensures { IfOk result (StandingFollows (setting_of problem.now completion.now.budget) format number (claim_at problem.now number)
-        (completion.now.rounds - 1) (state_of completion.now) step.now standing) }
+    ensures { OnOk result (Follows format problem.now completion.now step.now case.old case.new) }
 {
+    let standing = mem::replace(&mut case.standing, Standing::Open(Poly::zero(alloc)));
     let rest = match standing {
         Standing::Open(rest) => rest,
-        Standing::Settled(outcome) => return Ok(Standing::Settled(outcome)),
+        Standing::Settled(outcome) => {
+            case.standing = Standing::Settled(outcome);
+            return Ok(());
+        }
     };
-    match step {
-        Step::Went => judge(alloc, problem, format, completion, number),
-        Step::Closed => Ok(Standing::Settled(Outcome::Closed { rest })),
-        Step::Stopped(halt) => Ok(Standing::Settled(Outcome::Halted(halt.duplicate()?))),
-    }
+    case.standing = match step {
+        Step::Went => judge(alloc, problem, format, completion, case.number)?,
+        Step::Closed => Standing::Settled(Outcome::Closed { rest }),
+        Step::Stopped(halt) => Standing::Settled(Outcome::Halted(halt.duplicate()?)),
+    };
+    Ok(())
 }

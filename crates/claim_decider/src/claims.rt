@@ -18,7 +18,6 @@ use lists::Listing;
 use nc_polynomial::Poly;
 use rule_reduce::Rule;
 use std::alloc::{AllocError, Global};
-use std::mem;
 use std::thread::Threads;
 use traced_completion::{Budget, Completion, Step};
 
@@ -185,16 +184,7 @@ fn follow_all(
 {
     let step = &step;
     for case in cases.iter_mut() {
-        let standing = mem::replace(&mut case.standing, Standing::Open(Poly::zero(alloc)));
-        case.standing = follow(
-            alloc,
-            problem,
-            format,
-            completion,
-            step,
-            case.number,
-            standing,
-        )?;
+        follow(alloc, problem, format, completion, step, case)?;
     }
     Ok(())
 }
