@@ -20,6 +20,13 @@ use quiver::Quiver;
 use std::alloc::{AllocError, Global};
 use word_core::Letter;
 
+/// Values of all entries, and the place of the first of a map.
+#[derive(Clone, Copy)]
+pub(crate) struct MapValues<'a> {
+    pub all: &'a [u32],
+    pub first: usize,
+}
+
 /// The model with this claim and these values of the entries.
 pub(crate) fn model_with(
     alloc: Global,
@@ -77,10 +84,11 @@ fn matrix_with(
     let ends = quiver.signature_of(letter);
     let rows = side_at(shape, ends.target);
     let columns = side_at(shape, ends.source);
+    let map_values = MapValues { all: values, first };
     let mut entries = Listing::new(alloc);
     for place in 0..rows * columns {
         let (row, column) = (place / columns, place % columns);
-        entries.push(value_shown(quiver, shape, letter, values, first, row, column))?;
+        entries.push(value_shown(quiver, shape, letter, map_values, row, column))?;
     }
     matrix_of_entries(alloc, shape.modulus, rows, columns, entries.as_slice())
 }
@@ -90,8 +98,7 @@ pub(crate) fn value_shown(
     quiver: &Quiver,
     shape: &Shape,
     letter: Letter,
-    values: &[u32],
-    first: usize,
+    values: MapValues,
     row: u32,
     column: u32,
 ) -> u32
@@ -99,17 +106,17 @@ pub(crate) fn value_shown(
     requires declared { is_declared_map (quiver_of quiver.now) letter.0 ≡ true }
     requires quiver { IsQuiver (quiver_of quiver.now) }
     requires shape { IsShape (object_count quiver.now) shape.now }
-    requires one_each { length values.now ≡ length (entries_of (quiver_of quiver.now) shape.now) }
-    requires first { first ≡ length (entries_before (quiver_of quiver.now) shape.now letter.0) }
+    requires one_each { length values.all.now ≡ length (entries_of (quiver_of quiver.now) shape.now) }
+    requires first { values.first ≡ length (entries_before (quiver_of quiver.now) shape.now letter.0) }
     requires row { row < side_in shape.now (target (quiver_of quiver.now) letter.0) }
     requires column { column < side_in shape.now (source (quiver_of quiver.now) letter.0) }
-    ensures { result ≡ value_of_entry (quiver_of quiver.now) shape.now values.now (entry_shown (quiver_of quiver.now) letter.0 row column) }
+    ensures { result ≡ value_of_entry (quiver_of quiver.now) shape.now values.entry.all.now (entry_shown (quiver_of quiver.now) letter.0 row column) }
 {
     let selfmade = quiver.star_of(letter) == letter;
     if selfmade && column < row {
-        value_kept(quiver, shape, letter, values, first, column, row)
+        value_kept(quiver, shape, letter, values, column, row)
     } else {
-        value_kept(quiver, shape, letter, values, first, row, column)
+        value_kept(quiver, shape, letter, values, row, column)
     }
 }
 
@@ -118,8 +125,7 @@ fn value_kept(
     quiver: &Quiver,
     shape: &Shape,
     letter: Letter,
-    values: &[u32],
-    first: usize,
+    values: MapValues,
     row: u32,
     column: u32,
 ) -> u32
@@ -127,16 +133,16 @@ fn value_kept(
     requires declared { is_declared_map (quiver_of quiver.now) letter.0 ≡ true }
     requires quiver { IsQuiver (quiver_of quiver.now) }
     requires shape { IsShape (object_count quiver.now) shape.now }
-    requires one_each { length values.now ≡ length (entries_of (quiver_of quiver.now) shape.now) }
-    requires first { first ≡ length (entries_before (quiver_of quiver.now) shape.now letter.0) }
+    requires one_each { length values.all.now ≡ length (entries_of (quiver_of quiver.now) shape.now) }
+    requires first { values.first ≡ length (entries_before (quiver_of quiver.now) shape.now letter.0) }
     requires row { row < side_in shape.now (target (quiver_of quiver.now) letter.0) }
     requires column { column < side_in shape.now (source (quiver_of quiver.now) letter.0) }
     requires kept { is_kept (is_self (quiver_of quiver.now) letter.0) row column ≡ true }
-    ensures { result ≡ value_of_entry (quiver_of quiver.now) shape.now values.now (entry letter.0 row column) }
+    ensures { result ≡ value_of_entry (quiver_of quiver.now) shape.now values.entry.all.now (entry letter.0 row column) }
 {
     let columns = side_at(shape, quiver.signature_of(letter).source);
     let selfmade = quiver.star_of(letter) == letter;
-    values[first + place_in_map(selfmade, columns, row, column) as usize]
+    values.all[values.first + place_in_map(selfmade, columns, row, column) as usize]
 }
 
 // The place of an entry among those of its map.

@@ -9,7 +9,7 @@ ghost use Rattle.model_candidates.specs.LetterNumbers.{letter_value, letter_valu
 ghost use Rattle.model_candidates.specs.Unknowns.{solved_flags, unknown_numbers};
 
 use crate::entries::{entries_before, side_at};
-use crate::given_values::value_shown;
+use crate::given_values::{MapValues, value_shown};
 use crate::plan::is_solved;
 use adjoint_rules::{Problem, Shape};
 use lists::Listing;
@@ -62,10 +62,11 @@ pub(crate) fn letter_values(
     let columns = side_at(shape, ends.source);
     let map = map_behind(quiver, letter);
     let first = entries_before(quiver, shape, u32::from(map.0)) as usize;
+    let map_values = MapValues { all: values, first };
     let mut list = Listing::new(alloc);
     for place in 0..rows * columns {
         let (row, column) = (place / columns, place % columns);
-        list.push(letter_value(quiver, shape, letter, values, first, row, column))?;
+        list.push(letter_value(quiver, shape, letter, map_values, row, column))?;
     }
     Ok(list)
 }
@@ -84,13 +85,12 @@ fn map_behind(quiver: &Quiver, letter: Letter) -> Letter
     }
 }
 
-// The value in this row and column. The first entry of the map has the value at the place `first`.
+// The value in this row and column, by those of the map.
 fn letter_value(
     quiver: &Quiver,
     shape: &Shape,
     letter: Letter,
-    values: &[u32],
-    first: usize,
+    values: MapValues,
     row: u32,
     column: u32,
 ) -> u32
@@ -98,16 +98,16 @@ fn letter_value(
     requires declared { is_declared_map (quiver_of quiver.now) (map_behind (quiver_of quiver.now) letter.0) ≡ true }
     requires quiver { IsQuiver (quiver_of quiver.now) }
     requires shape { IsShape (object_count quiver.now) shape.now }
-    requires one_each { length values.now ≡ length (entries_of (quiver_of quiver.now) shape.now) }
-    requires first { first ≡ length (entries_before (quiver_of quiver.now) shape.now (map_behind (quiver_of quiver.now) letter.0)) }
+    requires one_each { length values.all.now ≡ length (entries_of (quiver_of quiver.now) shape.now) }
+    requires first { values.first ≡ length (entries_before (quiver_of quiver.now) shape.now (map_behind (quiver_of quiver.now) letter.0)) }
     requires row { row < side_in shape.now (target (quiver_of quiver.now) letter.0) }
     requires column { column < side_in shape.now (source (quiver_of quiver.now) letter.0) }
-    ensures { result ≡ letter_value (quiver_of quiver.now) shape.now values.now letter.0 row column }
+    ensures { result ≡ letter_value (quiver_of quiver.now) shape.now values.entry.all.now letter.0 row column }
 {
     let adjoint = quiver.star_of(letter);
     if letter.0 <= adjoint.0 {
-        value_shown(quiver, shape, letter, values, first, row, column)
+        value_shown(quiver, shape, letter, values, row, column)
     } else {
-        value_shown(quiver, shape, adjoint, values, first, column, row)
+        value_shown(quiver, shape, adjoint, values, column, row)
     }
 }

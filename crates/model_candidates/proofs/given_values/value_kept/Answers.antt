@@ -24,8 +24,8 @@ module _ (d : List Declaration) (s : Shape) (a row column : ℕ) where
       → is_kept (is_self (quiver_of d) a) row column ≡ true → entry_place < length (entries_of (quiver_of d) s)
   place_inside letter = kept_inside (quiver_of d) s a row column (omega (arith, letter, letters-quiver_of d))
 
-pub bounds-values-first : goal.bounds-values-first
-bounds-values-first c =
+pub bounds-values-values : goal.bounds-values-values
+bounds-values-values c =
     let place_is = place_read c.args.quiver.now c.args.shape.now c.args.letter.0 c.args.row c.args.column c.requires.first c.signature_of.ensures.source
     c.side_at-columns.ensures.value c.star_of.ensures.star c.eq-selfmade.ensures c.place_in_map.ensures in
     let inside = place_inside c.args.quiver.now c.args.shape.now c.args.letter.0 c.args.row c.args.column c.requires.letter c.requires.declared c.requires.row c.requires.column c.requires.kept in
@@ -38,8 +38,8 @@ overflow_add-result c =
     let inside = place_inside c.args.quiver.now c.args.shape.now c.args.letter.0 c.args.row c.args.column c.requires.letter c.requires.declared c.requires.row c.requires.column c.requires.kept in
     omega (arith, place_is, inside, c.requires.one_each)
 
-pub offset_bounds-values-first : goal.offset_bounds-values-first
-offset_bounds-values-first c =
+pub offset_bounds-values-values : goal.offset_bounds-values-values
+offset_bounds-values-values c =
     let place_is = place_read c.args.quiver.now c.args.shape.now c.args.letter.0 c.args.row c.args.column c.requires.first c.signature_of.ensures.source
     c.side_at-columns.ensures.value c.star_of.ensures.star c.eq-selfmade.ensures c.place_in_map.ensures in
     let inside = place_inside c.args.quiver.now c.args.shape.now c.args.letter.0 c.args.row c.args.column c.requires.letter c.requires.declared c.requires.row c.requires.column c.requires.kept in
@@ -53,7 +53,7 @@ returns c =
     let letter : a < letters q = omega (arith, c.requires.letter, letters-quiver_of c.args.quiver.now) in
     let place_is = place_read c.args.quiver.now c.args.shape.now c.args.letter.0 c.args.row c.args.column c.requires.first c.signature_of.ensures.source
     c.side_at-columns.ensures.value c.star_of.ensures.star c.eq-selfmade.ensures c.place_in_map.ensures in
-    ap (λ n. get_or c.args.values.now n 0) place_is ∙ sym (kept_value q s c.args.values.now a c.args.row c.args.column letter c.requires.declared c.requires.row c.requires.column c.requires.kept)
+    ap (λ n. get_or c.args.values.all.now n 0) place_is ∙ sym (kept_value q s c.args.values.all.now a c.args.row c.args.column letter c.requires.declared c.requires.row c.requires.column c.requires.kept)
 
 pub place_in_map-requires-clause-row_in_range : goal.place_in_map-requires-clause-row_in_range
 place_in_map-requires-clause-row_in_range c =
