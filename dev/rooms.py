@@ -47,7 +47,8 @@ def long_functions() -> List[str]:
     found = []
     for path in files("src", ".rt"):
         for name, parameters in FUNCTION.findall(text(path)):
-            count = len([it for it in re.split(r",(?![^<(\[]*[>)\]])", parameters) if it.strip() and not it.strip().endswith("self")])
+            outer = re.sub(r"\([^()]*\)", "", parameters)
+            count = len([it for it in re.split(r",(?![^<\[]*[>\]])", outer) if it.strip() and not it.strip().endswith("self")])
             if count > 6:
                 found.append(f"{path.relative_to(CRATES).parts[0]}::{name}")
     return found
