@@ -101,25 +101,18 @@ fn best_choice<'a, O: WordOrder>(
         return first_choice(index, terms, above);
     }
     let bound = last_measure(order, last);
-    let mut best = None;
-    let mut most = 0;
+    let mut best = Best {
+        found: None,
+        measure: 0,
+    };
     for place in 0..terms.len() {
-        let (better, measure, is_last) = improve(
-            order,
-            index,
-            bound,
-            place < above,
-            best,
-            most,
-            &terms[place],
-        );
+        let (better, is_last) = improve(order, index, bound, place < above, best, &terms[place]);
         best = better;
-        most = measure;
         if is_last {
-            return best;
+            return best.found;
         }
     }
-    best
+    best.found
 }
 
 // The measure of the last word that was reduced, if there is one.
@@ -166,39 +159,45 @@ fn count_above_last(terms: &[(i128, Word)], last: Option<&Word>) -> usize
     }
 }
 
-// The better of the choice so far, whose measure is `most`, and a term behind it, the measure of the better one, and whether no
-// term behind is better still. The term's word is searched only where it is greater.
+// The choice so far, and the measure of its word.
+#[derive(Drop)]
+struct Best<'a> {
+    found: Option<Found<'a>>,
+    measure: u32,
+}
+
+// The better of the choice so far and a term behind it, and whether no term behind is better still. The term's word is searched
+// only where it is greater.
 fn improve<'a, O: WordOrder>(
     order: &O,
     index: &Index,
     bound: Option<u32>,
     is_above: bool,
-    best: Option<Found<'a>>,
-    most: u32,
+    best: Best<'a>,
     term: &'a (i128, Word),
-) -> (Option<Found<'a>>, u32, bool)
+) -> (Best<'a>, bool)
     requires short { length term.now.1 ≤ measured_letters }
     requires settled { IfSome bound (λ b. Passes b (O.measure_of order.now term.now.1) is_above → match_of index.now term.now.1 ≡ None) }
-    requires most { IfSome best (λ c. most ≡ O.measure_of order.now c.word) }
-    requires behind { IfSome best (λ c. word_cmp c.word term.now.1 ≡ Greater) }
-    ensures better { result.0 ≡ better_choice (O.compare order.now) index.now best.entry term.now }
-    ensures most { IfSome result.0 (λ c. result.1 ≡ O.measure_of order.now c.word) }
-    ensures last { IsTrue result.2 → IsSomeAnd bound (λ b. IsSomeAnd result.0 (λ c. b ≤ O.measure_of order.now c.word)) }
+    requires most { IfSome best.found (λ c. best.measure ≡ O.measure_of order.now c.word) }
+    requires behind { IfSome best.found (λ c. word_cmp c.word term.now.1 ≡ Greater) }
+    ensures better { result.0.found ≡ better_choice (O.compare order.now) index.now best.entry.found term.now }
+    ensures most { IfSome result.0.found (λ c. result.0.measure ≡ O.measure_of order.now c.word) }
+    ensures last { IsTrue result.1 → IsSomeAnd bound (λ b. IsSomeAnd result.0.found (λ c. b ≤ O.measure_of order.now c.word)) }
 {
     let measure = order.measure(&term.1);
-    if best.is_some() && measure <= most {
-        return (best, most, false);
+    if best.found.is_some() && measure <= best.measure {
+        return (best, false);
     }
     match first_match(index, bound, is_above, measure, &term.1) {
         Some((number, place)) => {
-            let found = Found {
+            let found = Some(Found {
                 term,
                 number,
                 place,
-            };
-            (Some(found), measure, reaches(measure, bound))
+            });
+            (Best { found, measure }, reaches(measure, bound))
         }
-        None => (best, most, false),
+        None => (best, false),
     }
 }
 

@@ -18,7 +18,7 @@ use Rattle.rule_index.specs.Matches.{match_of}
 use Rattle.std.specs.Option.{option_map}
 use Rattle.word_orders.specs.Limits.{measured_letters}
 use Rattle.rule_reduce.specs.declared.state.Choice.{Choice}
-use Rattle.rule_reduce.specs.Choices.{better_choice, choice_from, IsSettled}
+use Rattle.rule_reduce.specs.Choices.{better_choice, choice_from, choice_of, IsSettled}
 use Rattle.rule_reduce.specs.Passing.{Passes}
 use Rattle.rule_reduce.proofs.BetterChoices.{holds-better}
 use Rattle.rule_reduce.proofs.Measures.{ends_search, passes_greater}
@@ -76,7 +76,7 @@ improve-better-requires-clause-behind g c =
     let i = c.loop-place.place in
     let t : Term = c.index-terms-place.result in
     let back : drop i p ≡ t ∷ drop (i + 1) p = drop_next p i t c.loop-place-test.true c.index-terms-place.is in
-    IfSome_then c.loop-place.best c.loop-place.invariant.behind (λ b below. subst (λ q. IsBehind q b) back below 0 t (omega arith))
+    IfSome_then c.loop-place.best.found c.loop-place.invariant.behind (λ b below. subst (λ q. IsBehind q b) back below 0 t (omega arith))
 
 pub improve-better-requires-clause-short : goal.improve-better-requires-clause-short
 improve-better-requires-clause-short g c =
@@ -134,26 +134,26 @@ loop-place-preserved g c =
     let is = c.index-terms-place.is in
     let at = c.loop-place.invariant in
     let canonical = c.requires.canonical in
-    let next = c.improve-better.result.0 in
+    let next = c.improve-better.result.0.found in
     let back : drop i p ≡ t ∷ drop (i + 1) p = drop_next p i t inside is in
-    let exact : next ≡ better_choice compare entries c.loop-place.best t = search rules in
+    let exact : next ≡ better_choice compare entries c.loop-place.best.found t = search rules in
     record {
       within = omega (arith, inside);
-      best_in = kept_by (λ b. IsCoefficient b.coefficient) compare entries t c.loop-place.best next exact (λ m. in_range_there letters p t i inside is canonical) at.best_in;
-      best_over = kept_by (λ b. IsOver letters b.word) compare entries t c.loop-place.best next exact (λ m. over_there letters p t i inside is canonical c.requires.over) at.best_over;
-      best_short = kept_by (λ b. length b.word ≤ measured_letters) compare entries t c.loop-place.best next exact (λ m. short_there letters p t i inside is canonical) at.best_short;
+      best_in = kept_by (λ b. IsCoefficient b.coefficient) compare entries t c.loop-place.best.found next exact (λ m. in_range_there letters p t i inside is canonical) at.best_in;
+      best_over = kept_by (λ b. IsOver letters b.word) compare entries t c.loop-place.best.found next exact (λ m. over_there letters p t i inside is canonical c.requires.over) at.best_over;
+      best_short = kept_by (λ b. length b.word ≤ measured_letters) compare entries t c.loop-place.best.found next exact (λ m. short_there letters p t i inside is canonical) at.best_short;
       most = search rules;
-      behind = next_behind letters p t i inside is canonical compare entries c.loop-place.best next exact at.descends at.behind;
+      behind = next_behind letters p t i inside is canonical compare entries c.loop-place.best.found next exact at.descends at.behind;
       descends = (subst Descends back at.descends).1;
-      same = next_choice compare entries p t i c.loop-place.best next _ back exact at.same;
+      same = next_choice compare entries p t i c.loop-place.best.found next (choice_of compare entries p) back exact at.same;
     }
 
 pub returns-then-is_last-clause-in_range : goal.returns-then-is_last-clause-in_range
 returns-then-is_last-clause-in_range g c =
     let compare = g.O.WordOrder.compare c.args.order.now in
     let t : Term = c.index-terms-place.result in
-    let exact : c.improve-better.result.0 ≡ better_choice compare c.args.index.now c.loop-place.best t = search rules in
-    kept_by (λ b. IsCoefficient b.coefficient) compare c.args.index.now t c.loop-place.best c.improve-better.result.0 exact
+    let exact : c.improve-better.result.0.found ≡ better_choice compare c.args.index.now c.loop-place.best.found t = search rules in
+    kept_by (λ b. IsCoefficient b.coefficient) compare c.args.index.now t c.loop-place.best.found c.improve-better.result.0.found exact
     (λ m. in_range_there 0 c.args.terms.now t c.loop-place.place c.loop-place-test.true c.index-terms-place.is c.requires.canonical) c.loop-place.invariant.best_in
 
 pub returns-then-is_last-clause-over : goal.returns-then-is_last-clause-over
@@ -161,16 +161,16 @@ returns-then-is_last-clause-over g c =
     let compare = g.O.WordOrder.compare c.args.order.now in
     let letters = g.O.WordOrder.letters c.args.order.now in
     let t : Term = c.index-terms-place.result in
-    let exact : c.improve-better.result.0 ≡ better_choice compare c.args.index.now c.loop-place.best t = search rules in
-    kept_by (λ b. IsOver letters b.word) compare c.args.index.now t c.loop-place.best c.improve-better.result.0 exact
+    let exact : c.improve-better.result.0.found ≡ better_choice compare c.args.index.now c.loop-place.best.found t = search rules in
+    kept_by (λ b. IsOver letters b.word) compare c.args.index.now t c.loop-place.best.found c.improve-better.result.0.found exact
     (λ m. over_there letters c.args.terms.now t c.loop-place.place c.loop-place-test.true c.index-terms-place.is c.requires.canonical c.requires.over) c.loop-place.invariant.best_over
 
 pub returns-then-is_last-clause-short : goal.returns-then-is_last-clause-short
 returns-then-is_last-clause-short g c =
     let compare = g.O.WordOrder.compare c.args.order.now in
     let t : Term = c.index-terms-place.result in
-    let exact : c.improve-better.result.0 ≡ better_choice compare c.args.index.now c.loop-place.best t = search rules in
-    kept_by (λ b. length b.word ≤ measured_letters) compare c.args.index.now t c.loop-place.best c.improve-better.result.0 exact
+    let exact : c.improve-better.result.0.found ≡ better_choice compare c.args.index.now c.loop-place.best.found t = search rules in
+    kept_by (λ b. length b.word ≤ measured_letters) compare c.args.index.now t c.loop-place.best.found c.improve-better.result.0.found exact
     (λ m. short_there 0 c.args.terms.now t c.loop-place.place c.loop-place-test.true c.index-terms-place.is c.requires.canonical) c.loop-place.invariant.best_short
 
 pub returns-then-is_last-clause-exact : goal.returns-then-is_last-clause-exact
@@ -185,17 +185,17 @@ returns-then-is_last-clause-exact g c =
     let inside = c.loop-place-test.true in
     let is = c.index-terms-place.is in
     let at = c.loop-place.invariant in
-    let next = c.improve-better.result.0 in
+    let next = c.improve-better.result.0.found in
     let back : drop i p ≡ t ∷ drop (i + 1) p = drop_next p i t inside is in
-    let exact : next ≡ better_choice compare entries c.loop-place.best t = search rules in
-    let behind = next_behind 0 p t i inside is c.requires.canonical compare entries c.loop-place.best next exact at.descends at.behind in
+    let exact : next ≡ better_choice compare entries c.loop-place.best.found t = search rules in
+    let behind = next_behind 0 p t i inside is c.requires.canonical compare entries c.loop-place.best.found next exact at.descends at.behind in
     let settled = IfSome_then c.args.last c.requires.settled
     (λ w all. All-drop (λ u. IsSettled compare entries w.now u.1) (i + 1) p all) in
     let bound : c.last_measure-bound.result ≡ option_map (λ w. measure w.now) c.args.last = search rules in
     let told : IsSomeAnd c.last_measure-bound.result (λ m. IsSomeAnd next (λ b. m ≤ measure b.word)) = search rules in
     let reached = subst (λ o. IsSomeAnd o (λ m. IsSomeAnd next (λ b. m ≤ measure b.word))) bound told in
     let stays = ends_search compare measure (λ u v. g.met.O.WordOrder.by_measure order u v) entries (λ w. w.now) c.args.last next (drop (i + 1) p) reached settled behind in
-    sym stays ∙ next_choice compare entries p t i c.loop-place.best next _ back exact at.same
+    sym stays ∙ next_choice compare entries p t i c.loop-place.best.found next (choice_of compare entries p) back exact at.same
 
 pub first_choice-requires-clause-settled : goal.first_choice-requires-clause-settled
 first_choice-requires-clause-settled g c =

@@ -21,14 +21,14 @@ choice_stays compare entries (Some best) t none =
     any_order Equal = refl
     any_order Greater = refl
 
-pub returns-then-measure-most-clause-better : goal.returns-then-measure-most-clause-better
-returns-then-measure-most-clause-better g c =
+pub returns-then-measure-best-clause-better : goal.returns-then-measure-best-clause-better
+returns-then-measure-best-clause-better g c =
     let order = c.args.order.now in
     let measure = g.O.WordOrder.measure_of order in
-    let some : IsSome c.args.best = search rules in
-    let less : measure c.args.term.now.1 ≤ c.args.most = search rules in
-    keeps_choice (g.O.WordOrder.compare order) measure (λ u v. g.met.O.WordOrder.by_measure order u v) c.args.index.now c.args.best c.args.term.now c.args.most some less c.requires.most c.requires.behind
+    let some : IsSome c.args.best.found = search rules in
+    let less : measure c.args.term.now.1 ≤ c.args.best.measure = search rules in
+    keeps_choice (g.O.WordOrder.compare order) measure (λ u v. g.met.O.WordOrder.by_measure order u v) c.args.index.now c.args.best.found c.args.term.now c.args.best.measure some less c.requires.most c.requires.behind
 
 pub returns-in-None-clause-better : goal.returns-in-None-clause-better
 returns-in-None-clause-better g c =
-    choice_stays (g.O.WordOrder.compare c.args.order.now) c.args.index.now c.args.best (c.args.term.now.0, c.args.term.now.1) (sym c.first_match.ensures ∙ c.in-None.is)
+    choice_stays (g.O.WordOrder.compare c.args.order.now) c.args.index.now c.args.best.found (c.args.term.now.0, c.args.term.now.1) (sym c.first_match.ensures ∙ c.in-None.is)
