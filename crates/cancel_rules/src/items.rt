@@ -38,44 +38,36 @@ fn rows_in(item: &Item) -> u32
     }
 }
 
-// A letter that comes off at an end of each word of an earlier item.
-#[derive(Clone, Copy)]
-struct Cut {
-    letter: Letter,
-    side: Side,
-    item: u32,
-}
-
 // The polynomial of a cancellation behind these polynomials, before which so many rows stand, or what is told of it.
 fn cancel(
-    alloc: Global,
     problem: &Problem,
     marks: &Marks,
     before: &[Poly],
-    cut: Cut,
+    letter: Letter,
+    side: Side,
+    item: u32,
 ) -> Result<Poly, CancelRefusal>
     requires few { length before.now < 4294967295 }
-    requires letter { IsLetterOf problem.now.parts.quiver cut.letter }
+    requires letter { IsLetterOf problem.now.parts.quiver letter }
     requires letters { All (IsPolyOver problem.now.parts.quiver) before.now }
-    ensures polynomial { IfOk result (λ p. p.terms ≡ stripped cut.side (generator_at (polynomials before.now) cut.item)) }
+    ensures polynomial { IfOk result (λ p. p.terms ≡ stripped side (generator_at (polynomials before.now) item)) }
     ensures letters { IfOk result (IsPolyOver problem.now.parts.quiver) }
     ensures comes_off { (proof : Cancellation) → MarksDeclared proof marks.now
-        → OnOk result (ComesOff (quiver_of problem.now.parts.quiver) proof (polynomials before.now) cut.letter cut.side cut.item) }
+        → OnOk result (ComesOff (quiver_of problem.now.parts.quiver) proof (polynomials before.now) letter side item) }
     ensures refused { (proof : Cancellation) (rows : ℕ) → MarksDeclared proof marks.now
-        → IfErr result (RefusesCancel (quiver_of problem.now.parts.quiver) proof (polynomials before.now) rows
-        cut.letter cut.side cut.item) }
+        → IfErr result (RefusesCancel (quiver_of problem.now.parts.quiver) proof (polynomials before.now) rows letter side item) }
 {
     let number = before.len() as u32 + 1;
-    let Some(whole) = numbered(before, cut.item) else {
+    let Some(whole) = numbered(before, item) else {
         return Err(CancelRefusal::NoSuchItem { item: number });
     };
-    if !marks.has(cut.letter, cut.side) {
+    if !marks.has(letter, side) {
         return Err(CancelRefusal::NotDeclared { item: number });
     }
     if !is_typed(&problem.parts.quiver, whole) {
         return Err(CancelRefusal::NotTyped { item: number });
     }
-    let stripped = strip(alloc, whole, cut.letter, cut.side)?;
+    let stripped = strip(whole, letter, side)?;
     match stripped {
         Some(polynomial) => Ok(polynomial),
         None => Err(CancelRefusal::NotStripped { item: number }),
@@ -110,12 +102,7 @@ fn make_item(
             Ok(make_polynomial(alloc, generators, before, lemma, number, rows)?)
         }
         Item::Cancel { letter, side, item } => {
-            let cut = Cut {
-                letter: *letter,
-                side: *side,
-                item: *item,
-            };
-            cancel(alloc, problem, marks, before, cut)
+            cancel(problem, marks, before, *letter, *side, *item)
         }
     }
 }

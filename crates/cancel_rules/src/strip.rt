@@ -10,7 +10,7 @@ use crate::Side;
 use lists::Listing;
 use nc_polynomial::Poly;
 use quiver::Quiver;
-use std::alloc::{AllocError, Global};
+use std::alloc::AllocError;
 use word_core::{Letter, Word};
 
 /// Whether the polynomial is typed. Zero is, of any two objects.
@@ -50,16 +50,11 @@ fn rest_of(word: &Word, letter: Letter, side: Side) -> Result<Option<Word>, Allo
 
 /// The polynomial without the letter at that end of each word; `None` exactly where a word doesn't have it there, or has
 /// no other. The words stay in their order.
-pub(crate) fn strip(
-    alloc: Global,
-    poly: &Poly,
-    letter: Letter,
-    side: Side,
-) -> Result<Option<Poly>, AllocError>
+pub(crate) fn strip(poly: &Poly, letter: Letter, side: Side) -> Result<Option<Poly>, AllocError>
     ensures { IfOk result (λ rest. MatchOption rest (All (λ t. HasAtEnd side letter.0 t.1) poly.now.terms → ⊥)
         (λ p. All (λ t. HasAtEnd side letter.0 t.1) poly.now.terms × (p.terms ≡ stripped side poly.now.terms))) }
 {
-    let mut terms = Listing::new(alloc);
+    let mut terms = Listing::new(poly.terms.allocator());
     for term in poly.terms.as_slice() {
         let Some(rest) = rest_of(&term.1, letter, side)? else {
             return Ok(None);

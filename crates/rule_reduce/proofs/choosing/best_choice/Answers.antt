@@ -136,13 +136,13 @@ loop-place-preserved g c =
     let canonical = c.requires.canonical in
     let next = c.improve-better.result.0.found in
     let back : drop i p ≡ t ∷ drop (i + 1) p = drop_next p i t inside is in
-    let exact : next ≡ better_choice compare entries c.loop-place.best.found t = search rules in
+    let exact : next ≡ better_choice compare entries c.loop-place.best.found t = c.improve-better.ensures.better in
     record {
       within = omega (arith, inside);
       best_in = kept_by (λ b. IsCoefficient b.coefficient) compare entries t c.loop-place.best.found next exact (λ m. in_range_there letters p t i inside is canonical) at.best_in;
       best_over = kept_by (λ b. IsOver letters b.word) compare entries t c.loop-place.best.found next exact (λ m. over_there letters p t i inside is canonical c.requires.over) at.best_over;
       best_short = kept_by (λ b. length b.word ≤ measured_letters) compare entries t c.loop-place.best.found next exact (λ m. short_there letters p t i inside is canonical) at.best_short;
-      most = search rules;
+      most = c.improve-better.ensures.most;
       behind = next_behind letters p t i inside is canonical compare entries c.loop-place.best.found next exact at.descends at.behind;
       descends = (subst Descends back at.descends).1;
       same = next_choice compare entries p t i c.loop-place.best.found next (choice_of compare entries p) back exact at.same;
@@ -152,7 +152,7 @@ pub returns-then-is_last-clause-in_range : goal.returns-then-is_last-clause-in_r
 returns-then-is_last-clause-in_range g c =
     let compare = g.O.WordOrder.compare c.args.order.now in
     let t : Term = c.index-terms-place.result in
-    let exact : c.improve-better.result.0.found ≡ better_choice compare c.args.index.now c.loop-place.best.found t = search rules in
+    let exact : c.improve-better.result.0.found ≡ better_choice compare c.args.index.now c.loop-place.best.found t = c.improve-better.ensures.better in
     kept_by (λ b. IsCoefficient b.coefficient) compare c.args.index.now t c.loop-place.best.found c.improve-better.result.0.found exact
     (λ m. in_range_there 0 c.args.terms.now t c.loop-place.place c.loop-place-test.true c.index-terms-place.is c.requires.canonical) c.loop-place.invariant.best_in
 
@@ -161,7 +161,7 @@ returns-then-is_last-clause-over g c =
     let compare = g.O.WordOrder.compare c.args.order.now in
     let letters = g.O.WordOrder.letters c.args.order.now in
     let t : Term = c.index-terms-place.result in
-    let exact : c.improve-better.result.0.found ≡ better_choice compare c.args.index.now c.loop-place.best.found t = search rules in
+    let exact : c.improve-better.result.0.found ≡ better_choice compare c.args.index.now c.loop-place.best.found t = c.improve-better.ensures.better in
     kept_by (λ b. IsOver letters b.word) compare c.args.index.now t c.loop-place.best.found c.improve-better.result.0.found exact
     (λ m. over_there letters c.args.terms.now t c.loop-place.place c.loop-place-test.true c.index-terms-place.is c.requires.canonical c.requires.over) c.loop-place.invariant.best_over
 
@@ -169,7 +169,7 @@ pub returns-then-is_last-clause-short : goal.returns-then-is_last-clause-short
 returns-then-is_last-clause-short g c =
     let compare = g.O.WordOrder.compare c.args.order.now in
     let t : Term = c.index-terms-place.result in
-    let exact : c.improve-better.result.0.found ≡ better_choice compare c.args.index.now c.loop-place.best.found t = search rules in
+    let exact : c.improve-better.result.0.found ≡ better_choice compare c.args.index.now c.loop-place.best.found t = c.improve-better.ensures.better in
     kept_by (λ b. length b.word ≤ measured_letters) compare c.args.index.now t c.loop-place.best.found c.improve-better.result.0.found exact
     (λ m. short_there 0 c.args.terms.now t c.loop-place.place c.loop-place-test.true c.index-terms-place.is c.requires.canonical) c.loop-place.invariant.best_short
 
@@ -187,12 +187,12 @@ returns-then-is_last-clause-exact g c =
     let at = c.loop-place.invariant in
     let next = c.improve-better.result.0.found in
     let back : drop i p ≡ t ∷ drop (i + 1) p = drop_next p i t inside is in
-    let exact : next ≡ better_choice compare entries c.loop-place.best.found t = search rules in
+    let exact : next ≡ better_choice compare entries c.loop-place.best.found t = c.improve-better.ensures.better in
     let behind = next_behind 0 p t i inside is c.requires.canonical compare entries c.loop-place.best.found next exact at.descends at.behind in
     let settled = IfSome_then c.args.last c.requires.settled
     (λ w all. All-drop (λ u. IsSettled compare entries w.now u.1) (i + 1) p all) in
-    let bound : c.last_measure-bound.result ≡ option_map (λ w. measure w.now) c.args.last = search rules in
-    let told : IsSomeAnd c.last_measure-bound.result (λ m. IsSomeAnd next (λ b. m ≤ measure b.word)) = search rules in
+    let bound : c.last_measure-bound.result ≡ option_map (λ w. measure w.now) c.args.last = c.last_measure-bound.ensures in
+    let told : IsSomeAnd c.last_measure-bound.result (λ m. IsSomeAnd next (λ b. m ≤ measure b.word)) = c.improve-better.ensures.last c.if-is_last.true in
     let reached = subst (λ o. IsSomeAnd o (λ m. IsSomeAnd next (λ b. m ≤ measure b.word))) bound told in
     let stays = ends_search compare measure (λ u v. g.met.O.WordOrder.by_measure order u v) entries (λ w. w.now) c.args.last next (drop (i + 1) p) reached settled behind in
     sym stays ∙ next_choice compare entries p t i c.loop-place.best.found next (choice_of compare entries p) back exact at.same
