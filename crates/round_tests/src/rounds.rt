@@ -253,25 +253,26 @@ fn write_state(
     text.push('\n').expect(rt, "memory");
 }
 
-// So many calls of `round`: a line on each.
+// The lines of so many calls of `round`.
 fn write_rounds<R: Threads + Sync + Abort>(
     rt: &R,
     alloc: Global,
-    text: &mut String,
     problem: &Problem,
     completion: &mut Completion,
     workers: u32,
     calls: u32,
-)
+) -> String
     requires started { IsCompletionOf problem.now completion.old }
     requires some_worker { 0 < workers }
     requires few_workers { workers ≤ worker_limit }
 {
+    let mut text = String::new(alloc);
     for _ in 0..calls {
         let step = completion.round(rt, alloc, problem, workers, &OpenGate);
         let step = step.expect(rt, "memory");
-        write_state(rt, text, &problem.parts.quiver, &step, completion);
+        write_state(rt, &mut text, &problem.parts.quiver, &step, completion);
     }
+    text
 }
 
 // Writes a line on each rule.
@@ -280,25 +281,6 @@ fn write_rules(rt: &impl Abort, text: &mut String, quiver: &Quiver, completion: 
     for (rule, made) in rules.iter().zip(completion.made()) {
         write_rule(rt, text, quiver, &rule.poly, made);
     }
-}
-
-// Writes the story of a completion from its start.
-fn write_story<R: Threads + Sync + Abort>(
-    rt: &R,
-    alloc: Global,
-    text: &mut String,
-    problem: &Problem,
-    budget: Budget,
-    workers: u32,
-    calls: u32,
-)
-    requires budget { IsBudget budget }
-    requires some_worker { 0 < workers }
-    requires few_workers { workers ≤ worker_limit }
-{
-    let mut completion = Completion::start(alloc, problem, budget).expect(rt, "memory");
-    write_rounds(rt, alloc, text, problem, &mut completion, workers, calls);
-    write_rules(rt, text, &problem.parts.quiver, &completion);
 }
 
 /// A budget, which must be one.
@@ -320,38 +302,25 @@ pub fn problem_of(rt: &impl Abort, alloc: Global, statement: &[u8]) -> Problem {
     elaborate(alloc, &tree).expect(rt, "a problem")
 }
 
-// Asserts that the story of the problem is this.
-fn tell_story<R: Threads + Sync + Abort>(
-    rt: &R,
-    alloc: Global,
-    problem: &Problem,
-    budget: Budget,
-    workers: u32,
-    calls: u32,
-    want: &str,
-)
-    requires budget { IsBudget budget }
+// Asserts that the story of a statement from its start is as its row says, by so many workers.
+fn tell_story<R: Threads + Sync + Abort>(rt: &R, alloc: Global, row: &Row, workers: u32)
     requires some_worker { 0 < workers }
     requires few_workers { workers ≤ worker_limit }
 {
-    let mut text = String::new(alloc);
-    write_story(rt, alloc, &mut text, problem, budget, workers, calls);
-    equal(rt, &text.as_str(), &want, want);
-}
-
-// Asserts that the story of a statement is as its row says, by one worker and by two.
-fn tell_row<R: Threads + Sync + Abort>(rt: &R, alloc: Global, row: &Row) {
     let (statement, (pairs, steps), calls, want) = row;
-    let budget = budget_of(rt, *pairs, *steps);
     let problem = problem_of(rt, alloc, statement);
-    for workers in 1..3 {
-        tell_story(rt, alloc, &problem, budget, workers, *calls, want);
-    }
+    let budget = budget_of(rt, *pairs, *steps);
+    let mut completion = Completion::start(alloc, &problem, budget).expect(rt, "memory");
+    let mut text = write_rounds(rt, alloc, &problem, &mut completion, workers, *calls);
+    write_rules(rt, &mut text, &problem.parts.quiver, &completion);
+    equal(rt, &text.as_str(), want, want);
 }
 
 #[test]
 fn rounds_go_as_worked_out(rt: HostRuntime) {
     for row in ROWS {
-        tell_row(&rt, rt.alloc(), row);
+        for workers in 1..3 {
+            tell_story(&rt, rt.alloc(), row, workers);
+        }
     }
 }
