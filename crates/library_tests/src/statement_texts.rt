@@ -4,6 +4,7 @@ ghost use Rattle.std.specs.List.{All};
 ghost use Rattle.word_core.specs.Letters.{IsOver};
 
 use crate::comparing::{equal, halves};
+use crate::letters::is_over;
 use crate::name_rows::{NAMES, NUMBERS};
 use crate::problem_rows::{ARITHMETIC, LATE, PROBLEMS, SIGNATURES};
 use crate::statement_rows::{
@@ -18,7 +19,6 @@ use signature_typing::{TypeFault, elaborate};
 use statement_syntax::{read_tree, write_tree};
 use std::alloc::Global;
 use std::process::Abort;
-use word_core::Word;
 
 // The text that is written back, or the first fault.
 fn written(rt: &impl Abort, alloc: Global, text: &[u8]) -> String {
@@ -61,28 +61,12 @@ fn a_text_is_written_back_or_its_first_fault_told(rt: HostRuntime) {
     }
 }
 
-// Whether each letter of the word has a number below this one.
-fn is_over(word: &Word, letters: u32) -> bool
-    ensures { IsTrue result → IsOver letters word.now }
-{
-    for place in 0..word.len() {
-        if u32::from(word.letter(place).0) >= letters {
-            return false;
-        }
-    }
-    true
-}
-
-// The same of each word of the polynomial.
+// Whether each letter of the polynomial has a number below this one.
 fn all_over(poly: &Poly, letters: u32) -> bool
     ensures { IsTrue result → All (λ t. IsOver letters t.1) poly.now.terms }
 {
-    for place in 0..poly.terms() {
-        if !is_over(poly.term(place).1, letters) {
-            return false;
-        }
-    }
-    true
+    let mut terms = poly.terms.as_slice().iter();
+    terms.all(|term| is_over(&term.1, letters))
 }
 
 fn push_poly(rt: &impl Abort, alloc: Global, text: &mut String, quiver: &Quiver, poly: &Poly) {
