@@ -121,7 +121,7 @@ pub const MODELS: &[Row] = &[
     ),
 ];
 
-/// Texts that are no models, each with its first fault.
+/// Texts that are no models: not UTF-8, cut off, or with a line that is out of place.
 pub const FAULTS: &[Row] = &[
     (MAPS, b"", "7 # refused K7\n"),
     (MAPS, b"certificate 1\nend\n", "7 # refused K7\n"),
@@ -274,6 +274,10 @@ pub const FAULTS: &[Row] = &[
         b"model 1\nclaim 1\nmodulus 3\nside nnnnnnnnnnnnnnnnnnnnnnnnnnnnnnnnn 1\n",
         "7 # refused K2 line 4\n",
     ),
+];
+
+/// Texts of models with names that are not declared, numbers past their bounds, and several faults.
+pub const FAULTS_OF_VALUES: &[Row] = &[
     // names that are not declared, or are of the other kind
     (
         MAPS,

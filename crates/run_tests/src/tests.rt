@@ -6,7 +6,7 @@ use crate::decided_rows::{
 };
 use crate::gallery_rows::GALLERY;
 use crate::lemma_rows::LEMMAS;
-use crate::model_rows::{FAULTS, MODELS};
+use crate::model_rows::{FAULTS, FAULTS_OF_VALUES, MODELS};
 use crate::telling::{tell, tell_all, tell_twice, tell_words};
 use crate::test_rows::{CALLS, EXAMPLES, JUDGED, REFUSED, SOUND};
 use std::alloc::Global;
@@ -48,6 +48,11 @@ fn models_are_judged(rt: HostRuntime) {
 #[test]
 fn faulty_models_are_refused(rt: HostRuntime) {
     tell_all(&rt, rt.alloc(), MODEL, FAULTS);
+}
+
+#[test]
+fn models_with_faulty_values_are_refused(rt: HostRuntime) {
+    tell_all(&rt, rt.alloc(), MODEL, FAULTS_OF_VALUES);
 }
 
 /// Asserts that the words of each row are answered so over its statement, in both languages.
@@ -137,13 +142,17 @@ fn tell_reports<R: Threads + Sync + Abort>(
     }
 }
 
-// The report of a proved claim is evidence that is accepted, that of a claim that isn't derivable has none, and that of a refuted
-// claim is a text of models, the first of which is confirmed.
 #[test]
-fn reports_are_evidence(rt: HostRuntime) {
+fn reports_of_proved_claims_are_accepted(rt: HostRuntime) {
     let accepted = "0 # block 1 accepted claim 1 denominator ";
     tell_reports(&rt, rt.alloc(), CHECK, PROVED, "", accepted);
     tell_reports(&rt, rt.alloc(), CHECK, PROVED_PLAINLY, "", accepted);
+}
+
+// The report of a claim that isn't derivable has no evidence, and that of a refuted claim is a text of models, the first of which is
+// confirmed.
+#[test]
+fn reports_of_other_claims_are_evidence(rt: HostRuntime) {
     let closed = "10 # claim 1 not derivable";
     tell_reports(&rt, rt.alloc(), CHECK, OTHERS, closed, "7 # refused K7\n");
     let confirmed = "0 # block 1 confirmed claim ";
