@@ -1,3 +1,2 @@
 mod Below
-mod Loops
 mod ShiftLaws

@@ -6,19 +6,13 @@ mod block_tests;
 #[cfg(test)]
 mod cancellation_rows;
 #[cfg(test)]
-mod categories;
-#[cfg(test)]
 mod comparing;
 #[cfg(test)]
 mod evidence_rows;
 #[cfg(test)]
-mod flows;
-#[cfg(test)]
 mod letters;
 #[cfg(test)]
 mod matching;
-#[cfg(test)]
-mod matrices;
 #[cfg(test)]
 mod name_rows;
 #[cfg(test)]
@@ -35,10 +29,6 @@ mod rules;
 mod shift_test_rows;
 pub mod shifts;
 #[cfg(test)]
-mod solving;
-#[cfg(test)]
 mod statement_rows;
 #[cfg(test)]
 mod statement_texts;
-#[cfg(test)]
-mod values;

@@ -1,6 +1,6 @@
 use Rattle.std.proofs.Common.{rules, ◌≡◌, [], ◌∷◌, ◌++◌, ap, ◌∙◌}
-use Rattle.library_tests.proofs.Loops.{represents_loops, pushed_once, pushed_thrice, difference_typed}
-use Rattle.library_tests.proofs.values.value_at_loops.Goals as goal
+use Rattle.round_tests.proofs.Loops.{represents_loops, pushed_once, pushed_thrice, difference_typed}
+use Rattle.round_tests.proofs.values.value_at_loops.Goals as goal
 
 pub value_of-requires-clause-represented : goal.value_of-requires-clause-represented
 value_of-requires-clause-represented g c =
