@@ -176,6 +176,8 @@ def archive(checkout: Checkout) -> str:
               "share/opprove/python/opprove/checkers/check.py", "share/opprove/python/opprove/translations/chain.py",
               "share/doc/opprove/docs/FORMATS.md", "share/doc/opprove/library/block_matrices/woodbury.op",
               "share/doc/opprove/licences/clap/LICENSE-MIT", "share/doc/opprove/licences/strsim/LICENSE-MIT"]  # fmt: skip
+    if "\nstatic none\n" in inside["share/doc/opprove/PROVED"].decode():
+        wanted.remove("lib/opprove/opprove-static")
     missing = [name for name in wanted if name not in inside and not (checkout.is_real and "strsim" in name)]
     odd = [name for name in inside if re.search(r"__pycache__|/try(_\w+)?\.py|\.rt$|\.antt$|/dev/|/tests/", name)]
     need(not missing and not odd, (missing, odd))
@@ -197,6 +199,12 @@ def answers(checkout: Checkout) -> str:
             done = subprocess.run([str(program), *call], env=environment, capture_output=True, timeout=120)
             found.append((done.returncode, done.stdout))
         need(len({*found}) == 1 and found[0][1] != b"", (call, found))
+    if checkout.is_real:
+        page = packed / "share" / "doc" / "opprove" / "docs" / "COMMANDS.md"
+        hidden = page.rename(page.with_suffix(".hidden"))
+        done = subprocess.run([str(programs[0]), *calls[0]], env=environment, capture_output=True, timeout=120)
+        hidden.rename(page)
+        need(done.stdout != b"" and not done.stderr, done)
     if programs[2].exists():
         answer = run("ldd", programs[2])
         need("not a dynamic executable" in answer.out + answer.error, answer)
@@ -351,7 +359,7 @@ def owners(checkout: Checkout) -> str:
     need(found["LICENSE"] == b"Of this test.\n" and found["CITATION.cff"] == cited.read_bytes(), {*found})
     line = f"licence {sha256(found['LICENSE']).hexdigest()} share/doc/opprove/LICENSE\n"
     told = found["PROVED"].decode()
-    need(line in told and "none" not in told, told)
+    need(line in told and "licence none" not in told, told)
     return "with a licence and an author both are in the release, and PROVED names the licence"
 
 
