@@ -51,8 +51,8 @@ fn names_are_declared_once_and_loops_alone_are_their_own_adjoints(rt: HostRuntim
     assert!(rt; matches!(again, Err(QuiverStop::Fault(QuiverFault::DoubleName))));
 }
 
-/// Whether each letter of the word has a number below this one.
-pub fn is_over(word: &Word, letters: u32) -> bool
+// Whether each letter of the word has a number below this one.
+fn is_over(word: &Word, letters: u32) -> bool
     ensures { IsTrue result → IsOver letters word.now }
 {
     for place in 0..word.len() {

@@ -2,19 +2,11 @@
 #![tactic(auto)]
 
 #[cfg(test)]
-mod block_tests;
-#[cfg(test)]
-mod cancellation_rows;
-#[cfg(test)]
 mod comparing;
-#[cfg(test)]
-mod evidence_rows;
 #[cfg(test)]
 mod letters;
 #[cfg(test)]
 mod matching;
-#[cfg(test)]
-mod name_rows;
 #[cfg(test)]
 mod notation;
 #[cfg(test)]
@@ -22,11 +14,11 @@ mod orders;
 #[cfg(test)]
 mod overlapping;
 #[cfg(test)]
-mod problem_rows;
-#[cfg(test)]
 mod rules;
 #[cfg(test)]
 mod shift_test_rows;
+#[cfg(test)]
+mod shift_tests;
 pub mod shifts;
 #[cfg(test)]
 mod statement_rows;

@@ -1,9 +1,7 @@
 //! Texts of shifts, each with what is written back of it or its first fault.
-use crate::block_tests::Map;
-use crate::evidence_rows::Row;
 
-/// The maps between the objects U and V.
-pub const MAPS: &[Map] = &[("a", 0, 1, false), ("p", 1, 1, true)];
+/// A text, and what is told of it.
+pub type Row = (&'static str, &'static str);
 
 const ONE: &str = "shift 1\nletter a\nby 3\nend\n";
 

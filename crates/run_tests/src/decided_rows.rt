@@ -231,52 +231,10 @@ pub const BROKEN: &[CallRow] = &[
         BRAID,
         BROKEN_BRAID,
     ),
-    (REFUTE, BRAID, BROKEN_BRAID),
     (
         PROVE,
         LARGE,
         "11 # claim 1 refuted\nmodel 1\nclaim 1\nmodulus 2\nside V 1\nmap a = 1\nmap b = 1\nend\n",
-    ),
-    // a matrix of side 1 with a power that is zero is zero; one of side 2 needn't be
-    (
-        &["prove", "s", "--pairs", "32"],
-        POWER,
-        "11 # claim 1 refuted\nmodel 1\nclaim 1\nmodulus 2\nside U 2\nmap a = 0 1 ; 0 0\nend\n",
-    ),
-    // 2 does not cancel modulo 2: the claim is proved with denominator 2, and broken there
-    (
-        REFUTE,
-        DOUBLED,
-        "11 # claim 1 refuted\nmodel 1\nclaim 1\nmodulus 2\nside U 1\nmap x = 1\nend\n",
-    ),
-    // the adjoint is the transpose, and the columns of 1 0 ; 1 0 are orthogonal modulo 2
-    (
-        REFUTE,
-        b"object U\nmap a : U -> U\nassume a' a = 0\nclaim a = 0\nmodel 2 U 2\n",
-        "11 # claim 1 refuted\nmodel 1\nclaim 1\nmodulus 2\nside U 2\nmap a = 1 0 ; 1 0\nend\n",
-    ),
-    // no map: one candidate a shape, in which nothing is but identities
-    (
-        REFUTE,
-        b"object U\nclaim [U] = 0\nmodel 3 U 1\n",
-        "11 # claim 1 refuted\nmodel 1\nclaim 1\nmodulus 3\nside U 1\nend\n",
-    ),
-    (
-        REFUTE,
-        b"object U\nclaim [U] = [U]\nmodel 3 U 1\n",
-        "13 # claim 1 not refuted candidates 1\n",
-    ),
-    // two claims, of which one is broken
-    (
-        REFUTE,
-        b"object U\nmap a : U -> U\nclaim a = a\nclaim a = 0\nmodel 2 U 1\n",
-        "13 # claim 1 not refuted candidates 2\n# claim 2 refuted\nmodel 1\nclaim 2\nmodulus 2\nside U 1\nmap a = 1\nend\n",
-    ),
-    // 2 of side 1 and 16 of side 2
-    (
-        REFUTE,
-        REFLEXIVE,
-        "13 # claim 1 not refuted candidates 18\n",
     ),
     (
         REFUTE,
@@ -293,19 +251,6 @@ pub const BROKEN: &[CallRow] = &[
         TWO_CANDIDATES,
         "13 # claim 1 not refuted candidates 2\n",
     ),
-    // a proved claim beside one that is broken
-    (
-        &["prove", "s", "--pairs", "1"],
-        b"object V\nmap a b : V -> V\nassume b a b = a b a\nclaim b a b = a b a\nclaim a = b\n",
-        "11 # claim 1 proved denominator 1 rows 1\ncertificate 2\nclaim 1\ndenominator 1\ngoal scale 1\nrow 1 () 1 ()\nend\n\
-         # claim 2 refuted\nmodel 1\nclaim 2\nmodulus 2\nside V 1\nmap a = 1\nmap b = 0\nend\n",
-    ),
-    // no candidate breaks what is true
-    (
-        &["prove", "s", "--steps", "1"],
-        b"object U\nmap a : U -> U\nassume a a = a\nclaim a a a = a\n",
-        "12 # claim 1 undecided steps 1 at claim after round 0\n",
-    ),
 ];
 
 /// Runs of `bench`, and words that are not taken.
@@ -317,16 +262,32 @@ pub const WITHOUT_FILES: &[CallRow] = &[
     ),
     (&["bench", "40", "--workers", "1"], b"", BENCH),
     (&["bench", "40", "--workers", "7"], b"", BENCH),
-    (&["bench", "0"], b"", USAGE),
     (&["bench", "61"], b"", USAGE),
     (&["prove", "s", "--pairs", "0"], b"", USAGE),
-    (&["prove", "s", "--workers", "65"], b"", USAGE),
-    (&["prove", "s", "--format", "3"], b"", USAGE),
     (&["--help"], b"", USAGE),
-    (&["prove", "--help"], b"", USAGE),
-    (&["-h"], b"", USAGE),
-    (&["--version"], b"", USAGE),
-    (&["-V"], b"", USAGE),
-    (&["prove"], b"", USAGE),
     (&["prove", "f"], b"", "4 # load failed f\n"),
+];
+
+/// One file of each language, and two faults.
+pub const BEGINNINGS: &[CallRow] = &[
+    (
+        PROVE,
+        b"language 2\nobject V\nmap a b : V -> V\neliminate b\nassume a^2 = b\nclaim b^2 = a^4\n",
+        "0 # claim 1 proved denominator 1 rows 2\ncertificate 2\nclaim 1\ndenominator 1\ngoal scale 1\nrow -1 () 1 (b)\nrow -1 (a a) 1 ()\nend\n",
+    ),
+    (
+        PROVE,
+        b"object V\nmap a b : V -> V\nassume a^2 = b\nclaim a = a\n",
+        "3 # refused S2 line 3 column 9\n",
+    ),
+    (
+        PROVE,
+        b"language 2\nobject U V\nmap a : U -> V\nclaim a^2 = a\n",
+        "3 # refused S10 line 4 column 8 left U -> V right U -> V\n",
+    ),
+    (
+        PROVE,
+        b"language 2\nobject U\nmap a : U -> U\nclaim a^501 = a\n",
+        "3 # refused S16 line 4 column 9\n",
+    ),
 ];

@@ -1,5 +1,5 @@
 //! Tests of whole runs: rows of words and files with the status and the report, devices that fail, gates that see threads, and files
-//! at each limit.
+//! at each limit. Further rows, which need no failing device, stand in python/tests; test_rows.py asks them of the program.
 #![tactic(auto)]
 
 #[cfg(test)]
@@ -7,31 +7,15 @@ mod answers;
 #[cfg(test)]
 mod call_tests;
 #[cfg(test)]
-mod cancel_rows;
-#[cfg(test)]
-mod cancel_tests;
+mod check_rows;
 #[cfg(test)]
 mod comparing;
 #[cfg(test)]
-mod confirm_rows;
-#[cfg(test)]
-mod confirm_tests;
-#[cfg(test)]
 mod decided_rows;
 #[cfg(test)]
-mod explain_rows;
-#[cfg(test)]
-mod explain_tests;
-#[cfg(test)]
-mod gallery_rows;
+mod evidence_rows;
 #[cfg(test)]
 mod gate_tests;
-#[cfg(test)]
-mod language_rows;
-#[cfg(test)]
-mod language_tests;
-#[cfg(test)]
-mod lemma_rows;
 #[cfg(test)]
 mod limit_rows;
 #[cfg(test)]
@@ -44,7 +28,5 @@ mod parts;
 mod steady_tests;
 #[cfg(test)]
 mod telling;
-#[cfg(test)]
-mod test_rows;
 #[cfg(test)]
 mod tests;

@@ -1,18 +1,18 @@
 //! Files at each limit and one past it: what they are put together from, and the status with the report.
 use crate::parts::LimitRow;
-use crate::parts::Part::{self, Identity, LongRows, Numbers, Padding, Plain, Times};
+use crate::parts::Part::{self, LongRows, Numbers, Padding, Plain, Times};
 
 const CHECK: &[&str] = &["check", "s", "c"];
 
 const MODEL: &[&str] = &["model", "s", "c"];
+
+const PROVE: &[&str] = &["prove", "s"];
 
 const TWO_MAPS: Part = Plain("object U\nmap a b : U -> U\n");
 
 const ONE_TEXT: &str = "object U\nmap a b : U -> U\nassume a = b\nclaim a = b\n";
 
 const ONE: &[Part] = &[Plain(ONE_TEXT)];
-
-const ZERO: &[Part] = &[Plain("object U\nmap a : U -> U\nclaim a = 0\n")];
 
 const ZERO_BETWEEN: &[Part] = &[Plain("object U V\nmap a : U -> V\nclaim a = 0\n")];
 
@@ -41,46 +41,12 @@ const MODULUS: Part = Plain("model 1\nclaim 1\nmodulus 2\n");
 
 const ACCEPTED: &[Part] = &[Plain("0 # block 1 accepted claim 1 denominator 1\n")];
 
+// Of a claim both sides of which are the same polynomial.
+const PROVED: &[Part] = &[Plain(
+    "0 # claim 1 proved denominator 1 rows 0\ncertificate 2\nclaim 1\ndenominator 1\ngoal scale 1\nend\n",
+)];
+
 const CONFIRMED: &[Part] = &[Plain("0 # block 1 confirmed claim 1\n")];
-
-const DOUBLED: &[Part] = &[Plain("object U\nmap x : U -> U\nassume 2 x = 0\nclaim x = 0\n")];
-
-const MODEL_BLOCK: &str = "model 1\nclaim 1\nmodulus 2\nside U 1\nmap x = 1\nend\n";
-
-/// The limits on blocks of models, and on the letters of a word that a certificate makes.
-pub const BLOCKS: &[LimitRow] = &[
-    // models, beside which a block of another kind isn't counted
-    (
-        MODEL,
-        DOUBLED,
-        &[Times(MODEL_BLOCK, 100), Plain("certificate 1\nend\n")],
-        &[
-            Plain("0 "),
-            Numbers("# block ", 1, 100, " confirmed claim 1\n", ""),
-        ],
-    ),
-    (
-        MODEL,
-        DOUBLED,
-        &[
-            Times(MODEL_BLOCK, 100),
-            Plain("certificate 1\nend\n"),
-            Plain(MODEL_BLOCK),
-        ],
-        &[Plain("7 # refused K5 line 603 limit 100\n")],
-    ),
-    // a word of 500 letters in front of a generator makes one of 501
-    (
-        CHECK,
-        DOUBLED,
-        &[
-            Plain("certificate 2\nclaim 1\ndenominator 1\nlemma 1 scale 1\nrow 1 ("),
-            Times("x ", 500),
-            Plain(") 1 ()\ngoal scale 1\nend\n"),
-        ],
-        &[Plain("7 # block 1 refused C9 lemma 1\n")],
-    ),
-];
 
 /// The limits on names and on their numbers.
 pub const NAMED: &[LimitRow] = &[
@@ -322,28 +288,39 @@ pub const MODELS: &[LimitRow] = &[
         &[Times(GOOD, 101)],
         &[Plain("7 # refused K5 line 501 limit 100\n")],
     ),
-    // sides
+    // sides, and columns of a matrix
     (
         MODEL,
-        ZERO,
+        ZERO_BETWEEN,
         &[
             MODULUS,
             Plain("side U 64\nmap a = "),
-            Identity(64),
+            Times("1 ", 64),
             Plain("\nend\n"),
         ],
         CONFIRMED,
     ),
     (
         MODEL,
-        ZERO,
+        ZERO_BETWEEN,
         &[
             MODULUS,
             Plain("side U 65\nmap a = "),
-            Identity(65),
+            Times("1 ", 65),
             Plain("\nend\n"),
         ],
         &[Plain("7 # refused K5 line 4 limit 64\n")],
+    ),
+    (
+        MODEL,
+        ZERO_BETWEEN,
+        &[
+            MODULUS,
+            Plain("side U 64\nmap a = "),
+            Times("1 ", 65),
+            Plain("\nend\n"),
+        ],
+        &[Plain("7 # refused K5 line 5 limit 64\n")],
     ),
     // rows of a matrix
     (
@@ -368,32 +345,9 @@ pub const MODELS: &[LimitRow] = &[
         ],
         &[Plain("7 # refused K5 line 5 limit 64\n")],
     ),
-    // columns of a matrix
-    (
-        MODEL,
-        ZERO_BETWEEN,
-        &[
-            MODULUS,
-            Plain("side U 64\nmap a = "),
-            Times("1 ", 64),
-            Plain("\nend\n"),
-        ],
-        CONFIRMED,
-    ),
-    (
-        MODEL,
-        ZERO_BETWEEN,
-        &[
-            MODULUS,
-            Plain("side U 64\nmap a = "),
-            Times("1 ", 65),
-            Plain("\nend\n"),
-        ],
-        &[Plain("7 # refused K5 line 5 limit 64\n")],
-    ),
 ];
 
-/// The limits on the bytes of a file, and which of two files is told of.
+/// The limits on the bytes of a file.
 pub const SIZES: &[LimitRow] = &[
     // bytes of a statement
     (
@@ -416,30 +370,50 @@ pub const SIZES: &[LimitRow] = &[
         &[Plain(GOOD), Padding(67_108_865)],
         &[Plain("4 # too long c limit 67108864\n")],
     ),
-    // bytes of models
+];
+
+/// The limits of maps of both languages.
+pub const MAP_LIMITS: &[LimitRow] = &[
     (
-        MODEL,
-        ZERO,
-        &[MODULUS, Plain("map a = 1\nend\n"), Padding(67_108_864)],
-        CONFIRMED,
-    ),
-    (
-        MODEL,
-        ZERO,
-        &[MODULUS, Plain("map a = 1\nend\n"), Padding(67_108_865)],
-        &[Plain("4 # too long c limit 67108864\n")],
-    ),
-    // a file that is too long before one that is missing, and the other way around
-    (
-        &["check", "s", "g"],
-        &[Plain(ONE_TEXT), Padding(1_048_577)],
+        PROVE,
+        &[
+            Plain("object U\nmap "),
+            Numbers("k", 1, 201, "", " "),
+            Plain(" : U -> U\n"),
+        ],
         &[],
-        &[Plain("4 # too long s limit 1048576\n")],
+        &[Plain("3 # refused S8 line 2 column 897 limit 200\n")],
     ),
     (
-        &["check", "g", "c"],
-        ONE,
-        &[Plain(GOOD), Padding(67_108_865)],
-        &[Plain("4 # load failed g\n")],
+        PROVE,
+        &[
+            Plain("language 2\nobject U\nmap "),
+            Numbers("k", 1, 201, "", " "),
+            Plain(" : U -> U\nclaim k201 = k201\n"),
+        ],
+        &[],
+        PROVED,
+    ),
+    (
+        PROVE,
+        &[
+            Plain("language 2\nobject U\nmap "),
+            Numbers("k", 1, 1000, "", " "),
+            Plain(" : U -> U\neliminate k1000\nassume k1000 = k1\nclaim k1000^2 = k1^2\n"),
+        ],
+        &[],
+        &[Plain(
+            "0 # claim 1 proved denominator 1 rows 2\ncertificate 2\nclaim 1\ndenominator 1\ngoal scale 1\nrow 1 () 1 (k1000)\nrow 1 (k1) 1 ()\nend\n",
+        )],
+    ),
+    (
+        PROVE,
+        &[
+            Plain("language 2\nobject U\nmap "),
+            Numbers("k", 1, 1001, "", " "),
+            Plain(" : U -> U\n"),
+        ],
+        &[],
+        &[Plain("3 # refused S8 line 3 column 4898 limit 1000\n")],
     ),
 ];

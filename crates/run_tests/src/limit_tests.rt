@@ -1,6 +1,6 @@
 //! Runs over files at each limit and one past it, which are put together from parts. What a test costs grows with the square of its
 //! rows.
-use crate::limit_rows::{BLOCKS, MODELS, NAMED, ROWS, SIZES, STATED};
+use crate::limit_rows::{MAP_LIMITS, MODELS, NAMED, ROWS, SIZES, STATED};
 use crate::telling::tell_limits;
 
 #[test]
@@ -24,8 +24,8 @@ fn models_are_limited(rt: HostRuntime) {
 }
 
 #[test]
-fn blocks_of_models_and_words_of_certificates_are_limited(rt: HostRuntime) {
-    tell_limits(&rt, rt.alloc(), BLOCKS);
+fn maps_are_limited_by_the_language(rt: HostRuntime) {
+    tell_limits(&rt, rt.alloc(), MAP_LIMITS);
 }
 
 #[test]

@@ -24,14 +24,14 @@ pub fn tell<R: Threads + Sync + Abort>(
     );
 }
 
-/// The same statement behind the line that names the second language.
+/// The same statement after the line that names the second language.
 pub fn renamed(rt: &impl Abort, alloc: Global, statement: &[u8]) -> Vec<u8> {
     let mut text = b"language 2\n".to_vec(alloc).expect(rt, "memory");
     text.extend_from_slice(statement).expect(rt, "memory");
     text
 }
 
-/// Asserts that the words are answered so over the texts, and the same behind the line that names the second language, which moves
+/// Asserts that the words are answered so over the texts, and the same after the line that names the second language, which moves
 /// the places of faults of the statement.
 pub fn tell_twice<R: Threads + Sync + Abort>(
     rt: &R,
@@ -86,7 +86,7 @@ pub fn tell_limits<R: Threads + Sync + Abort>(rt: &R, alloc: Global, rows: &[Lim
     }
 }
 
-/// Asserts that the report of the first words over the statement, behind this status, is evidence to which the second words answer so.
+/// Asserts that the report of the first words over the statement, after this status, is evidence to which the second words answer so.
 pub fn tell_report<R: Threads + Sync + Abort>(
     rt: &R,
     alloc: Global,
