@@ -1,11 +1,12 @@
-"""Rows of `cancel`, `confirm` and `explain` that were worked out by hand, asked of the program alone, so that the gate has the time for it.
-test_cancel.py, test_confirm.py and test_explain.py ask the second programs too."""
+"""Rows of `prove`, `refute`, `cancel`, `confirm` and `explain` that were worked out by hand, asked of the program alone, so that the gate
+has the time for it. test_cancel.py, test_confirm.py and test_explain.py ask the second programs too."""
 from __future__ import annotations
 
 from pathlib import Path
 from typing import Callable, Iterable, List, Tuple
 
 import cancel_rows
+import completion_rows
 import confirm_rows
 import explain_rows
 from opprove.checkers import check
@@ -30,6 +31,15 @@ def cancel(folder: Path) -> str:
     return asked(folder, "cancel", cancel_rows.runs())
 
 
+def completion(folder: Path) -> str:
+    program, statement, runs = built(), folder / "asked.op", completion_rows.runs()
+    for row in runs:
+        statement.write_text(row.statement, encoding="utf-8")
+        answer = run(program, *row.words.split(), statement)
+        need(answer == Answer(row.status, row.report, ""), (row, answer))
+    return f"{len(runs)} runs of prove and refute are answered as they were worked out by hand"
+
+
 def confirm(folder: Path) -> str:
     return asked(folder, "confirm", (row[:4] for row in confirm_rows.runs()))
 
@@ -38,4 +48,4 @@ def explain(folder: Path) -> str:
     return asked(folder, "explain", ((row.name, row.statement, row.evidence, row.report) for row in explain_rows.runs() if not row.prove_format))
 
 
-CHECKS: List[Callable[[Path], str]] = [cancel, confirm, explain]
+CHECKS: List[Callable[[Path], str]] = [cancel, completion, confirm, explain]
