@@ -4,6 +4,35 @@ use matrix_models::{Matrices, Matrix};
 use std::alloc::Global;
 use std::process::Abort;
 
+// The zero with the ends of an arrow.
+fn zero_beside<C: Involutive>(
+    rt: &impl Abort,
+    alloc: Global,
+    category: &C,
+    arrow: &C::Arrow,
+) -> C::Arrow
+    requires { (C.structure category.now).is_arrow arrow.now }
+    ensures { (C.structure category.now).is_arrow result }
+{
+    let source = category.source(alloc, arrow).expect(rt, "memory");
+    let target = category.target(alloc, arrow).expect(rt, "memory");
+    category.zero(alloc, &source, &target).expect(rt, "memory")
+}
+
+// a - a
+fn sum_with_negative<C: Involutive>(
+    rt: &impl Abort,
+    alloc: Global,
+    category: &C,
+    arrow: &C::Arrow,
+) -> C::Arrow
+    requires { (C.structure category.now).is_arrow arrow.now }
+    ensures { (C.structure category.now).is_arrow result }
+{
+    let negative = category.negate(alloc, arrow).expect(rt, "memory");
+    category.add(alloc, arrow, &negative).expect(rt, "memory")
+}
+
 // Whether a - a is zero, and a is not.
 fn has_negative<C: Involutive>(
     rt: &impl Abort,
@@ -13,12 +42,36 @@ fn has_negative<C: Involutive>(
 ) -> bool
     requires { (C.structure category.now).is_arrow arrow.now }
 {
-    let source = category.source(alloc, arrow).expect(rt, "memory");
-    let target = category.target(alloc, arrow).expect(rt, "memory");
-    let zero = category.zero(alloc, &source, &target).expect(rt, "memory");
-    let negative = category.negate(alloc, arrow).expect(rt, "memory");
-    let sum = category.add(alloc, arrow, &negative).expect(rt, "memory");
+    let zero = zero_beside(rt, alloc, category, arrow);
+    let sum = sum_with_negative(rt, alloc, category, arrow);
     category.same(&sum, &zero) && !category.same(arrow, &zero)
+}
+
+// The composite of the identity after a.
+fn composite<C: Involutive>(
+    rt: &impl Abort,
+    alloc: Global,
+    category: &C,
+    arrow: &C::Arrow,
+) -> C::Arrow
+    requires { (C.structure category.now).is_arrow arrow.now }
+    ensures { (C.structure category.now).is_arrow result }
+{
+    let target = category.target(alloc, arrow).expect(rt, "memory");
+    let identity = category.identity(alloc, &target).expect(rt, "memory");
+    category.compose(alloc, &identity, arrow).expect(rt, "memory")
+}
+
+fn adjoint_of<C: Involutive>(
+    rt: &impl Abort,
+    alloc: Global,
+    category: &C,
+    arrow: &C::Arrow,
+) -> C::Arrow
+    requires { (C.structure category.now).is_arrow arrow.now }
+    ensures { (C.structure category.now).is_arrow result }
+{
+    category.adjoint(alloc, arrow).expect(rt, "memory")
 }
 
 // Whether the adjoint of the composite of the identity after a is that of a.
@@ -30,12 +83,9 @@ fn has_adjoint<C: Involutive>(
 ) -> bool
     requires { (C.structure category.now).is_arrow arrow.now }
 {
-    let target = category.target(alloc, arrow).expect(rt, "memory");
-    let identity = category.identity(alloc, &target).expect(rt, "memory");
-    let composite = category.compose(alloc, &identity, arrow);
-    let composite = composite.expect(rt, "memory");
-    let adjoint = category.adjoint(alloc, &composite).expect(rt, "memory");
-    let want = category.adjoint(alloc, arrow).expect(rt, "memory");
+    let composite = composite(rt, alloc, category, arrow);
+    let adjoint = adjoint_of(rt, alloc, category, &composite);
+    let want = adjoint_of(rt, alloc, category, arrow);
     category.same(&adjoint, &want)
 }
 

@@ -6,8 +6,6 @@ mod categories;
 #[cfg(test)]
 mod comparing;
 #[cfg(test)]
-mod direct;
-#[cfg(test)]
 mod flows;
 #[cfg(test)]
 mod matrices;
