@@ -59,7 +59,9 @@ fn composite<C: Involutive>(
 {
     let target = category.target(alloc, arrow).expect(rt, "memory");
     let identity = category.identity(alloc, &target).expect(rt, "memory");
-    category.compose(alloc, &identity, arrow).expect(rt, "memory")
+    category
+        .compose(alloc, &identity, arrow)
+        .expect(rt, "memory")
 }
 
 fn adjoint_of<C: Involutive>(

@@ -86,7 +86,12 @@ fn tell_pending(rt: &impl Abort, alloc: Global, completion: &Completion, row: &R
     assert!(rt; completion.pending() > 0, "nothing is pending");
     let (first, word) = completion.pending_at(0);
     assert!(rt; matches!(first.kind, Kind::Overlap), "no overlap");
-    equal(rt, &(first.i, first.j, first.place), &(1, 1, *place), "i, j, place");
+    equal(
+        rt,
+        &(first.i, first.j, first.place),
+        &(1, 1, *place),
+        "i, j, place",
+    );
     tell_word(rt, alloc, word, letters);
 }
 
@@ -127,8 +132,7 @@ fn decided<R: Threads + Sync + Abort>(rt: &R, alloc: Global, problem: &Problem) 
 
 // Whether the one outcome is that the claim follows from one rule.
 fn is_derived(decided: &Decided) -> bool {
-    decided.rules.len() == 1
-        && matches!(decided.outcomes.as_slice(), [Outcome::Derived(_)])
+    decided.rules.len() == 1 && matches!(decided.outcomes.as_slice(), [Outcome::Derived(_)])
 }
 
 #[test]

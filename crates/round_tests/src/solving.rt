@@ -13,7 +13,13 @@ use std::process::Abort;
 type Equation = (&'static [u32], u32);
 
 // A modulus, the number of unknowns, equations, preferred values, and the greedy solution, or None.
-type Row = (u32, u32, &'static [Equation], &'static [u32], Option<&'static [u32]>);
+type Row = (
+    u32,
+    u32,
+    &'static [Equation],
+    &'static [u32],
+    Option<&'static [u32]>,
+);
 
 const ROWS: &[Row] = &[
     (7, 2, &[(&[1, 1], 3)], &[1, 5], Some(&[1, 2])),
