@@ -9,6 +9,7 @@ import cancel_limits
 import cancel_rows
 import check_limits
 import check_rows
+import completion_rows
 import confirm_limits
 import confirm_rows
 import decided_rows
@@ -99,6 +100,14 @@ def decided(folder: Path) -> str:
     return f"{asked.count} runs of prove, refute and bench are answered as they were worked out by hand"
 
 
+def completion(folder: Path) -> str:
+    asked = Asked(folder)
+    for row in completion_rows.runs():
+        command, _, options = row.words.partition(" ")
+        asked.row(f"{command} s {options}", row.statement, "", f"{row.status} {row.report}")
+    return f"{asked.count} runs on rules and candidates are answered as they were worked out by hand"
+
+
 def certified(statement: str, generators: List[str]) -> Tuple[str, str]:
     """The statement with a claim for each generator, and certificates by which generator N is the claim's polynomial, and no more."""
     first = sum(line.startswith("claim ") for line in statement.splitlines()) + 1
@@ -165,4 +174,4 @@ def explain(folder: Path) -> str:
     return f"{asked.count} runs of explain are answered as they were worked out by hand"
 
 
-CHECKS: List[Callable[[Path], str]] = [judged, limits, languages, decided, statements, texts, cancel, confirm, explain]
+CHECKS: List[Callable[[Path], str]] = [judged, limits, languages, decided, completion, statements, texts, cancel, confirm, explain]

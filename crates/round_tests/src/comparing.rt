@@ -1,11 +1,6 @@
-//! Comparisons of what came with what a row says.
+//! A comparison of what came with what a row says.
 use std::fmt::Debug;
 use std::process::Abort;
-
-/// Ends the test where the text that came is not the one that is wanted, and tells both with the name of the row.
-pub fn same(rt: &impl Abort, got: &str, want: &str, row: &str) {
-    assert_eq!(rt; got, want, "{row}");
-}
 
 /// Ends the test where what came is not what is wanted, and tells both with the name of the row.
 pub fn equal<T: PartialEq + Debug>(rt: &impl Abort, got: &T, want: &T, row: &str) {

@@ -11,6 +11,18 @@ use std::process::Abort;
 use std::rt::Files;
 use std::sync::atomic::{AtomicU64, Ordering};
 
+// Why a load of so many bytes at most gave no file.
+fn told(fault: &ShelfFault, most: usize) -> &'static str
+    requires { most < usize.MAX }
+{
+    match fault {
+        ShelfFault::Failed => "failed",
+        ShelfFault::TooLong { got } if *got == most + 1 => "too long",
+        ShelfFault::TooLong { .. } => "longer",
+        ShelfFault::Memory(_) => "memory",
+    }
+}
+
 // Asserts that the file, of which so many bytes are read at most, gives these bytes or this fault.
 fn tell_load<S: Shelf>(
     rt: &impl Abort,
@@ -18,22 +30,13 @@ fn tell_load<S: Shelf>(
     alloc: Global,
     name: &str,
     most: usize,
-    want: (&[u8], &str),
+    want: Result<&[u8], &str>,
 )
     requires { most < usize.MAX }
 {
     match shelf.load(alloc, name, most) {
-        Ok(bytes) => equal(rt, &(bytes.as_slice(), ""), &want, name),
-        Err(ShelfFault::Failed) => equal(rt, &(b"".as_slice(), "failed"), &want, name),
-        Err(ShelfFault::TooLong { got }) => {
-            let fault = if got == most + 1 {
-                "too long"
-            } else {
-                "longer"
-            };
-            equal(rt, &(b"".as_slice(), fault), &want, name);
-        }
-        Err(ShelfFault::Memory(_)) => equal(rt, &(b"".as_slice(), "memory"), &want, name),
+        Ok(bytes) => equal(rt, &Ok(bytes.as_slice()), &want, name),
+        Err(fault) => equal(rt, &Err(told(&fault, most)), &want, name),
     }
 }
 
@@ -47,10 +50,10 @@ fn files_of_the_machine_are_read_whole(rt: HostRuntime) {
     fs::write(&rt, NAME, BYTES).expect(&rt, "a file");
     let alloc = rt.alloc();
     let mut shelf = RealShelf::new(&rt);
-    tell_load(&rt, &mut shelf, alloc, NAME, 20, (BYTES, ""));
-    tell_load(&rt, &mut shelf, alloc, NAME, 19, (b"", "too long"));
+    tell_load(&rt, &mut shelf, alloc, NAME, 20, Ok(BYTES));
+    tell_load(&rt, &mut shelf, alloc, NAME, 19, Err("too long"));
     fs::remove_file(&rt, NAME).expect(&rt, "no file");
-    tell_load(&rt, &mut shelf, alloc, NAME, 20, (b"", "failed"));
+    tell_load(&rt, &mut shelf, alloc, NAME, 20, Err("failed"));
 }
 
 #[test]
@@ -207,6 +210,6 @@ impl Files for BrokenFiles {
 #[test]
 fn a_read_that_fails_in_mid_stream_is_no_file(rt: HostRuntime) {
     let mut shelf = RealShelf::new(BrokenFiles);
-    tell_load(&rt, &mut shelf, rt.alloc(), "f", 9, (b"", "failed"));
-    tell_load(&rt, &mut shelf, rt.alloc(), "f", 2, (b"", "too long"));
+    tell_load(&rt, &mut shelf, rt.alloc(), "f", 9, Err("failed"));
+    tell_load(&rt, &mut shelf, rt.alloc(), "f", 2, Err("too long"));
 }

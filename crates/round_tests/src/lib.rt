@@ -1,12 +1,11 @@
-//! Tests of jobs on threads, of rounds of completions, of calls that no run makes, and of matrices, categories, shelves and sinks.
+//! Tests of jobs on threads, of what is pending in a completion, of a claim that is decided alone, and of matrices, categories, shelves and
+//! sinks.
 #![tactic(auto)]
 
 #[cfg(test)]
 mod categories;
 #[cfg(test)]
 mod comparing;
-#[cfg(test)]
-mod direct;
 #[cfg(test)]
 mod flows;
 #[cfg(test)]

@@ -2,31 +2,37 @@
 ghost use Rattle.std.specs.Prelude.{◌<◌, All, IsTrue};
 ghost use Rattle.matrix_models.specs.Systems.{IsEquation, IsSystem, AreValues};
 
-use crate::comparing::same;
+use crate::comparing::equal;
 use adjoint_rules::is_field_modulus;
 use lists::Listing;
 use matrix_models::{LinearRow, System, solve};
-use std::alloc::{AllocError, Global};
+use std::alloc::Global;
 use std::process::Abort;
 
 // The factors of an equation, and its right side.
 type Equation = (&'static [u32], u32);
 
-// A modulus, the number of unknowns, equations, preferred values, and the greedy solution.
-type Row = (u32, u32, &'static [Equation], &'static [u32], &'static str);
+// A modulus, the number of unknowns, equations, preferred values, and the greedy solution, or None.
+type Row = (
+    u32,
+    u32,
+    &'static [Equation],
+    &'static [u32],
+    Option<&'static [u32]>,
+);
 
 const ROWS: &[Row] = &[
-    (7, 2, &[(&[1, 1], 3)], &[1, 5], "[1, 2]"),
-    (5, 1, &[(&[2], 4)], &[0], "[2]"),
-    (2, 2, &[], &[1, 0], "[1, 0]"),
-    (7, 1, &[(&[0], 1)], &[0], "none"),
+    (7, 2, &[(&[1, 1], 3)], &[1, 5], Some(&[1, 2])),
+    (5, 1, &[(&[2], 4)], &[0], Some(&[2])),
+    (2, 2, &[], &[1, 0], Some(&[1, 0])),
+    (7, 1, &[(&[0], 1)], &[0], None),
     // the same equation twice, and one that contradicts it
-    (5, 2, &[(&[1, 2], 3), (&[2, 4], 1)], &[4, 0], "[4, 2]"),
-    (5, 2, &[(&[1, 2], 3), (&[2, 4], 2)], &[4, 0], "none"),
+    (5, 2, &[(&[1, 2], 3), (&[2, 4], 1)], &[4, 0], Some(&[4, 2])),
+    (5, 2, &[(&[1, 2], 3), (&[2, 4], 2)], &[4, 0], None),
     // no unknowns
-    (3, 0, &[], &[], "[]"),
-    (3, 0, &[(&[], 0)], &[], "[]"),
-    (3, 0, &[(&[], 2)], &[], "none"),
+    (3, 0, &[], &[], Some(&[])),
+    (3, 0, &[(&[], 0)], &[], Some(&[])),
+    (3, 0, &[(&[], 2)], &[], None),
 ];
 
 // Whether all values are below the modulus.
@@ -67,45 +73,46 @@ fn are_values(system: &System, values: &[u32]) -> bool
     values.len() == system.unknowns as usize && are_below(system.modulus, values)
 }
 
-fn equation_of(alloc: Global, equation: &Equation) -> Result<LinearRow, AllocError> {
-    let factors = Listing::from_vec(equation.0.to_vec(alloc)?);
-    Ok(LinearRow {
-        factors,
-        right: equation.1,
-    })
-}
-
-// The system of a row.
-fn system_of(alloc: Global, row: &Row) -> Result<System, AllocError> {
-    let (modulus, unknowns, equations, _, _) = row;
-    let mut rows = Listing::new(alloc);
-    for equation in *equations {
-        rows.push(equation_of(alloc, equation)?)?;
+fn equation_of(rt: &impl Abort, alloc: Global, equation: &Equation) -> LinearRow {
+    let (factors, right) = equation;
+    LinearRow {
+        factors: Listing::from_vec(factors.to_vec(alloc).expect(rt, "memory")),
+        right: *right,
     }
-    Ok(System {
-        modulus: *modulus,
-        unknowns: *unknowns,
-        rows,
-    })
 }
 
-// The greedy solution of a row, or none.
-fn told(rt: &impl Abort, alloc: Global, row: &Row) -> String {
-    let system = system_of(alloc, row).expect(rt, "memory");
-    assert!(rt;
-        is_system(&system) && are_values(&system, row.3),
-        "no system with values"
-    );
-    let told = match solve(alloc, &system, row.3).expect(rt, "memory") {
-        Some(values) => format!(in alloc; "{:?}", values.as_slice()),
-        None => String::from_str(alloc, "none"),
+fn equations_of(rt: &impl Abort, alloc: Global, equations: &[Equation]) -> Listing<LinearRow> {
+    let mut rows = Listing::new(alloc);
+    for equation in equations {
+        let row = equation_of(rt, alloc, equation);
+        rows.push(row).expect(rt, "memory");
+    }
+    rows
+}
+
+// Ends the test where the solution of a row's equations isn't the row's.
+fn tell_solution(rt: &impl Abort, alloc: Global, system: &System, row: &Row) {
+    let (_, _, _, preferred, want) = row;
+    let is_posed = is_system(system) && are_values(system, preferred);
+    assert!(rt; is_posed, "no system with values");
+    match solve(alloc, system, preferred).expect(rt, "memory") {
+        Some(values) => equal(rt, &Some(values.as_slice()), want, "a solution"),
+        None => equal(rt, &None, want, "no solution"),
+    }
+}
+
+fn tell(rt: &impl Abort, alloc: Global, row: &Row) {
+    let system = System {
+        modulus: row.0,
+        unknowns: row.1,
+        rows: equations_of(rt, alloc, row.2),
     };
-    told.expect(rt, "memory")
+    tell_solution(rt, alloc, &system, row);
 }
 
 #[test]
 fn preferred_values_are_taken_in_order(rt: HostRuntime) {
     for row in ROWS {
-        same(&rt, told(&rt, rt.alloc(), row).as_str(), row.4, row.4);
+        tell(&rt, rt.alloc(), row);
     }
 }

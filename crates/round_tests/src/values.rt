@@ -55,6 +55,37 @@ fn difference(rt: &impl Abort, alloc: Global) -> Poly
     Poly::from_terms(alloc, &[(2, product), (-1, single)]).expect(rt, "a polynomial")
 }
 
+// The list of three items.
+fn three<T: Drop>(rt: &impl Abort, alloc: Global, x: T, y: T, z: T) -> Listing<T>
+    ensures { result ≡ x ∷ y ∷ z ∷ [] }
+{
+    let mut items = Listing::new(alloc);
+    items.push(x).expect(rt, "memory");
+    items.push(y).expect(rt, "memory");
+    items.push(z).expect(rt, "memory");
+    items
+}
+
+// The object with its identity and these arrows from it to itself.
+fn loops_at<C: Category>(
+    rt: &impl Abort,
+    alloc: Global,
+    category: &C,
+    object: C::Object,
+    a: C::Arrow,
+    b: C::Arrow,
+) -> Representation<C>
+    requires object_in { (C.structure category.now).is_object object }
+    ensures objects { result.objects ≡ object ∷ [] }
+    ensures arrows { result.arrows ≡ (C.structure category.now).identity object ∷ a ∷ b ∷ [] }
+{
+    let identity = category.identity(alloc, &object).expect(rt, "memory");
+    let arrows = three(rt, alloc, identity, a, b);
+    let mut objects = Listing::new(alloc);
+    objects.push(object).expect(rt, "memory");
+    Representation { objects, arrows }
+}
+
 // The value of 2 a b - a where a and b are these arrows from the object to itself.
 fn value_at_loops<C: Category>(
     rt: &impl Abort,
@@ -69,18 +100,11 @@ fn value_at_loops<C: Category>(
     requires b_in { IsArrow (C.structure category.now) object object b }
     ensures { (C.structure category.now).is_arrow result }
 {
-    let identity = category.identity(alloc, &object).expect(rt, "memory");
-    let mut objects = Listing::new(alloc);
-    objects.push(object).expect(rt, "memory");
-    let mut arrows = Listing::new(alloc);
-    arrows.push(identity).expect(rt, "memory");
-    arrows.push(a).expect(rt, "memory");
-    arrows.push(b).expect(rt, "memory");
-    let representation = Representation { objects, arrows };
     let sig = Sig {
         source: Object(0),
         target: Object(0),
     };
+    let representation = loops_at(rt, alloc, category, object, a, b);
     let quiver = loops(rt, alloc);
     let poly = difference(rt, alloc);
     value_of(alloc, category, &quiver, &representation, &poly, sig).expect(rt, "a value")

@@ -1,5 +1,5 @@
 use Rattle.traced_completion.specs.Completions.{IsCompletionOf}
-use Rattle.round_tests.proofs.rounds.write_rounds.Given as goal
+use Rattle.round_tests.proofs.rounds.tell_rounds.Given as goal
 
 -- the completion is the problem's
 abbrev pub invariant-loop : goal.invariant-loop
