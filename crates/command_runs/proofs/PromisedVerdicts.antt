@@ -25,6 +25,7 @@ use Rattle.report_text.specs.declared.verdict.Verdict.TheVariants as verdict
 use Rattle.report_text.specs.Heads.{row_count, said_of}
 use Rattle.stated_problem.specs.Stated.{IsStated}
 use Rattle.prove_command.specs.Says.{VerdictMeans}
+use Rattle.evidence_commands.proofs.Certificates.{positive_denominator}
 use Rattle.command_runs.specs.Promises.Lines.{HasLineBefore, claim_line, block_line, number_limit}
 use Rattle.command_runs.specs.Promises.Proved.{IsProved, SaysProved}
 use Rattle.command_runs.specs.Promises.Refuted.{IsRefuted, IsNext}
@@ -34,7 +35,7 @@ use Rattle.command_runs.specs.Promises.Undecided.{IsUndecided}
 use Rattle.command_runs.specs.Promises.{LinesAreMeant}
 use Rattle.command_runs.proofs.PromisedFiles.{has_no_fault}
 use Rattle.command_runs.proofs.PromisedGenerators.{is_not_derivable}
-use Rattle.command_runs.proofs.QuietTexts.{lacks, LineAt}
+use Rattle.evidence_commands.proofs.QuietTexts.{lacks, LineAt}
 use Rattle.command_runs.proofs.ReportLines.{at_start, claim_said, IsOfVerdict}
 
 -- the text of a verdict begins with a blank
@@ -49,13 +50,8 @@ said_is ds rules (verdict.Undecided h) = refl
 said_is ds rules (verdict.NotRefuted candidates) = refl
 
 -- characters at one place of two texts
-differ : (place m n : ℕ) (one other : List ℕ) → one ≡ other → get_or one place 0 ≡ m → get_or other place 0 ≡ n → m ≢ n → ⊥
+pub differ : (place m n : ℕ) (one other : List ℕ) → one ≡ other → get_or one place 0 ≡ m → get_or other place 0 ≡ n → m ≢ n → ⊥
 differ place m n one other same first second apart = apart (sym first ∙ ap (λ (t : List ℕ). get_or t place 0) same ∙ second)
-
--- the denominator of evidence that adds up
-pub positive_denominator : (problem : Problem) (number : ℕ) (e : Evidence) → EvidenceAddsUp problem number e → pos 0 <ℤ denominator_of e
-positive_denominator problem number (evidence.Plain c) sum = sum.combination.positive
-positive_denominator problem number (evidence.Lemmas c) sum = sum.evidence.positive
 
 module _ {Object Arrow : Type 0} {s : Structure Object Arrow} (equations : SaysEquations s) (budget : Budget) (bytes : List ℕ) (problem : Problem) (stated : IsStated bytes problem) where
   -- a claim that is proved by this denominator, and one that a model refutes
