@@ -1,8 +1,8 @@
 -- What a command of evidence puts means what it says: what is said of blocks is meant, whatever the command.
-use Rattle.std.proofs.Common.{◌≡◌, ◌≢◌, ◌⊎◌, inl, inr, ◌<◌, ◌<ℤ◌, ◌≤◌, ◌+◌, ◌==◌, ℕ, pos, zero, suc, ℤ, Bool, true, false, not, List, [], ◌∷◌, ◌++◌, Some, arith, refl, sym, ap, subst, ◌∙◌, length, map, drop, get_or, slice_get, codes, IsTrue}
+use Rattle.std.proofs.Common.{◌≡◌, ◌≢◌, ◌⊎◌, inl, inr, ◌<◌, ◌≤◌, ◌+◌, ◌==◌, ℕ, zero, suc, ℤ, Bool, true, false, not, List, [], ◌∷◌, ◌++◌, Some, arith, refl, sym, ap, subst, ◌∙◌, length, map, drop, get_or, slice_get, codes}
 use Rattle.std.specs.Prelude.{decimal}
 use Rattle.std.specs.Fmt.{signed_decimal}
-use Rattle.std.specs.List.{All, AllByRecursion, list_all}
+use Rattle.std.specs.List.{All, AllByRecursion}
 use Rattle.std.proofs.lemmas.Fmt.{decimal_injective}
 use Rattle.std.proofs.lemmas.Bool.{and_parts}
 use Rattle.std.proofs.lemmas.List.{append_assoc, append-nil, length-map}
@@ -13,26 +13,18 @@ use Rattle.definitions.specs.Soundness.{IsSound, HasValueZero}
 use Rattle.representations.specs.Evidence.{IsEvidenceSound}
 use Rattle.nc_polynomial.specs.declared.poly.Poly.{Poly}
 use Rattle.quiver.specs.Declarations.{Declaration, quiver_of}
-use Rattle.traced_rows.specs.declared.evidence.Evidence.{Evidence}
-use Rattle.traced_rows.specs.declared.evidence.Evidence.TheVariants.{Plain, Lemmas}
-use Rattle.traced_rows.specs.LemmaRows.{denominator_of}
 use Rattle.adjoint_rules.specs.declared.problem.Problem.{Problem}
 use Rattle.traced_completion.specs.declared.budget.Budget.{Budget}
 use Rattle.adjoint_rules.specs.Problem.{polynomials}
 use Rattle.adjoint_rules.specs.Claims.{claim_at}
 use Rattle.matrix_models.specs.declared.model.Model.{Model}
-use Rattle.adjoint_rules.specs.declared.basis.Basis.{Basis}
-use Rattle.cancel_rules.specs.declared.cancellation.Cancellation.{Cancellation}
 use Rattle.cancel_rules.specs.Meaning.{IsCancellationSound}
 use Rattle.statement_names.specs.Numbered.{declarations_of}
 use Rattle.abbreviations.specs.Written.{assumptions_of}
-use Rattle.block_text.specs.Back.{is_named}
 use Rattle.block_text.specs.Lines.{block_limit}
 use Rattle.block_text.specs.Blocks.{own_in, on_block, on_count, Keeps}
 use Rattle.block_text.proofs.Zips.{zip_length}
 use Rattle.model_text.specs.Models.{model_kind}
-use Rattle.cofactor_checker.specs.ProvedMeans.{MeansZero}
-use Rattle.closed_checker.specs.Rests.{rules_of}
 use Rattle.statement_meaning.specs.Claims.{read_in, AssumptionsHold, IsClaim, ClaimHolds}
 use Rattle.statement_meaning.specs.Laws.{reading, IsRead}
 use Rattle.statement_meaning.specs.Meanings.{SaysEquations}
@@ -40,19 +32,15 @@ use Rattle.statement_meaning.proofs.Claims.{claim_there}
 use Rattle.statement_meaning.proofs.Meanings.{zeros_from_held, claim_is_read}
 use Rattle.command_shape.specs.Ending.{Ending}
 use Rattle.stated_problem.specs.Stated.{IsStated}
-use Rattle.normal_category.specs.Tests.{is_sharp}
 use Rattle.normal_forms.specs.SharpMeans.{SharpMeans, StarSharpMeans}
-use Rattle.equation_chain.specs.Steps.{steps_of}
 use Rattle.evidence_commands.specs.Kind.{Kind, AnswersText}
 use Rattle.evidence_commands.specs.CalledLetters.{letters_text}
 use Rattle.command_runs.specs.Promises.Lines.{HasLineBefore, HasLine, claim_line, block_line, number_limit}
-use Rattle.command_runs.specs.Promises.Proved.{IsProved, SaysExplained, ProvedIsMeant}
-use Rattle.command_runs.specs.Promises.Accepted.{ProvesClaimWith, SaysAccepted, AcceptedIsMeant}
-use Rattle.command_runs.specs.Promises.Refuted.{RefutedIsMeant}
-use Rattle.command_runs.specs.Promises.Confirmed.{IsBlock, SaysConfirmed, ConfirmedIsMeant}
-use Rattle.command_runs.specs.Promises.NotDerivable.{SaysClosed, NotDerivableIsMeant}
-use Rattle.command_runs.specs.Promises.Sharp.{IsSharp, SharpIsMeant}
-use Rattle.command_runs.specs.Promises.Undecided.{UndecidedIsMeant}
+use Rattle.command_runs.specs.Promises.Proved.{SaysExplained}
+use Rattle.command_runs.specs.Promises.Accepted.{ProvesClaimWith, SaysAccepted}
+use Rattle.command_runs.specs.Promises.Confirmed.{IsBlock, SaysConfirmed}
+use Rattle.command_runs.specs.Promises.NotDerivable.{SaysClosed}
+use Rattle.command_runs.specs.Promises.Sharp.{IsSharp}
 use Rattle.command_runs.specs.Promises.{LinesAreMeant}
 use Rattle.command_runs.proofs.PromisedFiles.{has_no_fault}
 use Rattle.command_runs.proofs.PromisedGenerators.{is_not_derivable}

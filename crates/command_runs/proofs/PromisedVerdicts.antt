@@ -1,5 +1,5 @@
 -- What is put of verdicts means what it says.
-use Rattle.std.proofs.Common.{◌≡◌, ◌<◌, ◌<ℤ◌, ◌≤◌, ◌+◌, ◌≢◌, ℕ, pos, true, List, ◌∷◌, ◌++◌, arith, refl, sym, ap, subst, ◌∙◌, length, drop, get_or, codes, IsTrue}
+use Rattle.std.proofs.Common.{◌≡◌, ◌<◌, ◌≤◌, ◌+◌, ◌≢◌, ℕ, true, List, ◌∷◌, ◌++◌, arith, refl, sym, ap, subst, ◌∙◌, length, drop, get_or, codes, IsTrue}
 use Rattle.std.specs.Prelude.{decimal}
 use Rattle.std.specs.Fmt.{signed_decimal}
 use Rattle.std.specs.List.{list_all}
@@ -8,7 +8,6 @@ use Rattle.std.proofs.lemmas.List.{append_assoc}
 use Rattle.definitions.specs.Category.{Structure}
 use Rattle.traced_rows.specs.LemmaRows.{denominator_of}
 use Rattle.traced_rows.specs.declared.evidence.Evidence.{Evidence}
-use Rattle.traced_rows.specs.declared.evidence.Evidence.TheVariants as evidence
 use Rattle.nc_polynomial.specs.declared.poly.Poly.{Poly}
 use Rattle.quiver.specs.Declarations.{Declaration}
 use Rattle.adjoint_rules.specs.declared.problem.Problem.{Problem}
@@ -16,7 +15,7 @@ use Rattle.traced_completion.specs.declared.budget.Budget.{Budget}
 use Rattle.matrix_models.specs.declared.model.Model.{Model}
 use Rattle.model_text.specs.Written.{model_text}
 use Rattle.block_text.specs.Back.{is_named}
-use Rattle.cofactor_checker.specs.ProvedMeans.{EvidenceAddsUp, ProvedMeans}
+use Rattle.cofactor_checker.specs.ProvedMeans.{ProvedMeans}
 use Rattle.model_checker.specs.RefutedMeans.{RefutedMeans}
 use Rattle.statement_meaning.specs.Meanings.{SaysEquations}
 use Rattle.statement_meaning.proofs.Claims.{claim_there}
