@@ -1,5 +1,5 @@
--- What is put of blocks of evidence means what it says.
-use Rattle.std.proofs.Common.{◌≡◌, ◌≢◌, ◌⊎◌, inl, inr, ◌+◌, ℕ, zero, suc, Bool, true, false, cond, ◌==◌, List, [], ◌∷◌, ◌++◌, Some, arith, refl, ap, subst, ◌∙◌, get_or, slice_get, codes}
+-- What the line on a block of evidence says, whatever the command, and that no line is on a claim.
+use Rattle.std.proofs.Common.{◌≡◌, ◌≢◌, ◌⊎◌, inl, inr, ◌+◌, ℕ, zero, suc, Bool, true, false, cond, ◌==◌, List, [], ◌∷◌, ◌++◌, Some, arith, refl, ap, subst, get_or, slice_get, codes}
 use Rattle.std.specs.Prelude.{decimal}
 use Rattle.std.specs.List.{All}
 use Rattle.std.proofs.lemmas.List.Elements.{All-head, All-tail}
@@ -14,10 +14,13 @@ use Rattle.cancel_rules.specs.Meaning.{IsCancellationSound}
 use Rattle.stated_problem.specs.Stated.{IsStated}
 use Rattle.evidence_commands.specs.Kind.{Kind, AnswersText}
 use Rattle.evidence_commands.proofs.Owed.{IsJudged}
+use Rattle.evidence_commands.proofs.Parts.{told_is_part}
+use Rattle.evidence_commands.proofs.Said.{Said, said_text, SaidMeans, IsTold}
 use Rattle.command_runs.specs.Promises.Lines.{HasLineBefore, claim_line, block_line}
-use Rattle.command_runs.proofs.QuietTexts.{lacks, LineAt, first_or_later, no_line}
-use Rattle.command_runs.proofs.QuietBlocks.{lacks-append, number_is_part}
-use Rattle.command_runs.proofs.ReportLines.{at_start, block_said, other_head, IsTold, IsOnBlock, accepts, refuses_one, line_of_blocks}
+use Rattle.evidence_commands.proofs.QuietTexts.{lacks, LineAt, first_or_later, no_line}
+use Rattle.evidence_commands.proofs.QuietBlocks.{lacks-append, number_is_part}
+use Rattle.command_runs.proofs.Promised.{known}
+use Rattle.command_runs.proofs.ReportLines.{at_start, block_said, other_head, IsOnBlock, accepts, refuses_one, line_of_blocks}
 
 -- an element at a place has what all have
 at_place : {X : Type 0} (P : X → Type 0) (xs : List X) (place : ℕ) (x : X) → All P xs → slice_get xs place ≡ Some x → P x
@@ -46,27 +49,33 @@ fault_is_part : (code n limit : ℕ) → lacks 10 (evidence_fault code n limit) 
 fault_is_part code n limit =
     lacks-append 10 (codes "# refused K") (decimal code ++ (line_text n ++ limit_text limit)) refl (lacks-append 10 (decimal code) (line_text n ++ limit_text limit) (number_is_part code) (lacks-append 10 (line_text n) (limit_text limit) (line_is_part n) (limit_is_part limit)))
 
+-- The line is on an accepted block with this number, and says this of it, which means what it says.
+pub record Found {Object Arrow : Type 0} (s : Structure Object Arrow) (problem : Problem) (evidence : List ℕ) (block : ℕ) (told : List ℕ) : Type 0 where
+  pub place : ℕ
+  pub numbered : decimal block ≡ decimal (1 + place)
+  pub said : Said
+  pub says : told ≡ said_text problem.parts.quiver said
+  pub means : SaidMeans s problem evidence place said
+
 module _ {Block Refusal : Type 0} (kind : Kind Block Refusal) (judged : IsJudged kind) {Object Arrow : Type 0} {s : Structure Object Arrow} (laws : PreadditiveLaws s) (sound : IsSound s)
-    (with_lemmas : IsEvidenceSound s) (cancelling : IsCancellationSound s) (bytes : List ℕ) (problem : Problem) (stated : IsStated bytes problem) (evidence : List ℕ)
-    (told : (b : Block) → kind.Passes problem b → IsTold (kind.shows problem b)) (caused : (r : Refusal) (cause : List ℕ) → kind.cause problem.parts.quiver r ≡ Some cause → lacks 10 cause ≡ true)
-    (second : ℕ) (seconds : (b : Block) (holds : kind.Passes problem b) → get_or (told b holds).first 1 0 ≡ second) where
-  -- The line is on an accepted block with this number, and says this of it; and the block means what it means.
-  pub record Found (block : ℕ) (said : List ℕ) : Type 0 where
-    pub blocks : List Block
-    pub read : kind.AreBlocks problem.parts.quiver evidence blocks
-    pub place : ℕ
-    pub found : Block
-    pub at : slice_get blocks place ≡ Some found
-    pub holds : kind.Passes problem found
-    pub means : kind.Means Object Arrow s problem found
-    pub numbered : decimal block ≡ decimal (1 + place)
-    pub says : said ≡ (told found holds).first
+    (with_lemmas : IsEvidenceSound s) (cancelling : IsCancellationSound s) (bytes : List ℕ) (problem : Problem) (stated : IsStated bytes problem) (evidence : List ℕ) where
+  abbrev first : Block → List ℕ
+  first b = said_text problem.parts.quiver (judged.said problem b)
+
+  abbrev refuses : Block → List ℕ → Type 0
+  refuses = RefusesBlock (kind.IsRefused problem) (kind.cause problem.parts.quiver)
+
+  abbrev told : (b : Block) → kind.Passes problem b → IsTold (first b) (kind.shows problem b)
+  told = judged.told problem (known bytes problem stated)
+
+  abbrev caused : (b : Block) (cause : List ℕ) → refuses b cause → lacks 10 cause ≡ true
+  caused b cause is = told_is_part (kind.cause problem.parts.quiver is.refusal) cause (judged.caused problem.parts.quiver (known bytes problem stated) is.refusal) is.says
 
   abbrev Ends : Ending → Type 0
   Ends ending = AnswersText kind evidence problem ending
 
   abbrev On : List Block → List ℕ → Type 0
-  On blocks l = IsOnBlock (kind.Passes problem) (kind.shows problem) (RefusesBlock (kind.IsRefused problem) (kind.cause problem.parts.quiver)) told (λ b cause is. caused is.refusal cause is.says) 1 blocks l
+  On blocks l = IsOnBlock (kind.Passes problem) first (kind.shows problem) refuses told caused 1 blocks l
 
   -- what an ending has a line for: a fault of the text, or a block
   data Way (line : List ℕ) : Type 0 where
@@ -84,47 +93,34 @@ module _ {Block Refusal : Type 0} (kind : Kind Block Refusal) (judged : IsJudged
       one_line fault.code fault.line fault.limit l after (first_or_later text [] (35 ∷ l) after (fault_is_part fault.code fault.line fault.limit) has.one at)
   way ending (read blocks are judges) l after has =
       by_block blocks are
-      (line_of_blocks (kind.Passes problem) (kind.shows problem) (RefusesBlock (kind.IsRefused problem) (kind.cause problem.parts.quiver)) told (λ b cause is. caused is.refusal cause is.says) 1 blocks ending.report
-      ending.status judges l after has.one (at_start ending.report (35 ∷ l) after has))
+      (line_of_blocks (kind.Passes problem) first (kind.shows problem) refuses told caused 1 blocks ending.report ending.status judges l after has.one (at_start ending.report (35 ∷ l) after has))
 
   module _ (ending : Ending) (ends : Ends ending) where
     -- no line is on a claim
-    no_claim : (number : ℕ) (said after : List ℕ) → HasLineBefore ending.report (claim_line number said) after → ⊥
+    pub no_claim : (number : ℕ) (said after : List ℕ) → HasLineBefore ending.report (claim_line number said) after → ⊥
     no_claim number said after has = by (way ending ends _ after has)
       where
         by : Way (claim_line number said) → ⊥
         by (by_fault code n limit is) = let third : 99 ≡ 114 = ap (λ (t : List ℕ). get_or t 2 0) is in omega (arith, third)
-        by (by_block blocks are (accepts place b holds at is)) = other_head number (1 + place) said (told b holds).first is
+        by (by_block blocks are (accepts place b holds at is)) = other_head number (1 + place) said (first b) is
         by (by_block blocks are (refuses_one block cause is)) = other_head number block said (codes "refused " ++ cause) is
 
     -- the block of which this is said, where it begins as no refusal does
-    pub found : (block : ℕ) (said after : List ℕ) → HasLineBefore ending.report (block_line block said) after → get_or said 1 0 ≢ 101 → Found block said
+    pub found : (block : ℕ) (said after : List ℕ) → HasLineBefore ending.report (block_line block said) after → get_or said 1 0 ≢ 101 → Found s problem evidence block said
     found block said after has apart = by (way ending ends _ after has)
       where
-        by : Way (block_line block said) → Found block said
+        by : Way (block_line block said) → Found s problem evidence block said
         by (by_fault code n limit is) = let third : 98 ≡ 114 = ap (λ (t : List ℕ). get_or t 2 0) is in absurd (omega (arith, third))
         by (by_block blocks are (accepts place b holds at is)) =
-            let both = block_said block (1 + place) said (told b holds).first is in
+            let both = block_said block (1 + place) said (first b) is in
             let readable = at_place (judged.IsReadable problem.parts.quiver) blocks place b (judged.readable problem.parts.quiver evidence blocks are) at in
             record {
-              blocks = blocks;
-              read = are;
               place = place;
-              found = b;
-              at = at;
-              holds = holds;
-              means = judged.means laws sound with_lemmas cancelling problem b readable holds;
               numbered = both.0;
+              said = judged.said problem b;
               says = both.1;
+              means = judged.meant problem evidence place b (record { blocks = blocks; read = are; at = at }) holds (judged.means laws sound with_lemmas cancelling problem b readable holds);
             }
         by (by_block blocks are (refuses_one other cause is)) =
             let both = block_said block other said (codes "refused " ++ cause) is in
             absurd (apart (ap (λ (t : List ℕ). get_or t 1 0) both.1))
-
-    -- what other commands say is said of no block
-    pub absent : (block : ℕ) (said after : List ℕ) → HasLineBefore ending.report (block_line block said) after → get_or said 1 0 ≢ 101 → get_or said 1 0 ≢ second → ⊥
-    absent block said after has apart other = let is = found block said after has apart in other (ap (λ (t : List ℕ). get_or t 1 0) is.says ∙ seconds is.found is.holds)
-
-    -- no line says anything of a claim
-    pub nothing_proved : (number : ℕ) (text after : List ℕ) → HasLineBefore ending.report (claim_line number text) after → ⊥
-    nothing_proved number text after has = no_claim number text after has

@@ -10,12 +10,12 @@ use Rattle.statement_meaning.specs.Meanings.{SaysEquations}
 use Rattle.command_shape.specs.declared.call.Call.{Call}
 use Rattle.command_shape.specs.declared.call.Call.TheVariants.{Prove, Refute, Bench, Evidence}
 use Rattle.command_shape.specs.declared.evidence.EvidenceCommand.{EvidenceCommand}
-use Rattle.command_shape.specs.declared.evidence.EvidenceCommand.TheVariants.{Check, Model, Confirm, Explain, Cancel}
 use Rattle.command_shape.specs.Ending.{Ending}
 use Rattle.stated_problem.specs.Statement.{OverStatement, faulty, stated}
 use Rattle.stated_problem.specs.Stated.{IsStated}
 use Rattle.prove_command.specs.Answers.{asked_by}
-use Rattle.evidence_commands.specs.Commands.{AnswersEvidence}
+use Rattle.evidence_commands.specs.Commands.{judged_by, AnswersEvidence}
+use Rattle.evidence_commands.proofs.EachCommand.{are_judged, answers_judged}
 use Rattle.command_runs.specs.CallFiles.{statement_of, evidence_of}
 use Rattle.command_runs.specs.Answers.{AnswersOver, Answers}
 use Rattle.command_runs.specs.Says.{SaysOver}
@@ -23,17 +23,14 @@ use Rattle.command_runs.specs.Promises.Undecided.{budget_of}
 use Rattle.command_runs.specs.Promises.{LinesAreMeant}
 use Rattle.command_runs.proofs.Commands.{answers_say}
 use Rattle.command_runs.proofs.Promised.{prove_is_meant, bench_is_meant, refute_is_meant}
-use Rattle.command_runs.proofs.PromisedEvidence.{check_is_meant, model_is_meant, confirm_is_meant, explain_is_meant, cancel_is_meant}
+use Rattle.command_runs.proofs.PromisedEvidence.{text_is_meant}
 
 module _ {Object Arrow : Type 0} {s : Structure Object Arrow} (laws : PreadditiveLaws s) (sound : IsSound s) (with_lemmas : IsEvidenceSound s) (cancelling : IsCancellationSound s) (equations : SaysEquations s) where
   -- over the problem of a statement
   evidence_is_meant : (budget : Budget) (command : EvidenceCommand) (statement evidence : List ℕ) (problem : Problem) → IsStated statement problem → (ending : Ending) → AnswersEvidence command evidence problem ending
       → LinesAreMeant s budget statement evidence ending.report
-  evidence_is_meant budget Check statement evidence problem is = check_is_meant laws sound with_lemmas cancelling equations budget statement problem is evidence
-  evidence_is_meant budget Model statement evidence problem is = model_is_meant laws sound with_lemmas cancelling equations budget statement problem is evidence
-  evidence_is_meant budget Confirm statement evidence problem is = confirm_is_meant laws sound with_lemmas cancelling equations budget statement problem is evidence
-  evidence_is_meant budget Explain statement evidence problem is = explain_is_meant laws sound with_lemmas cancelling equations budget statement problem is evidence
-  evidence_is_meant budget Cancel statement evidence problem is = cancel_is_meant laws sound with_lemmas cancelling equations budget statement problem is evidence
+  evidence_is_meant budget command statement evidence problem is ending ends =
+      text_is_meant (judged_by command).kind (are_judged command) laws sound with_lemmas cancelling equations budget statement problem is evidence ending (answers_judged command evidence problem ending ends)
 
   -- a statement without a fault
   over : (budget : Budget) (statement evidence : List ℕ) (next : Problem → Ending → Type 0) (ending : Ending) → ending.status ≢ 3 → OverStatement statement next ending

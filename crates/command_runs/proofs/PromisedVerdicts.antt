@@ -1,5 +1,5 @@
 -- What is put of verdicts means what it says.
-use Rattle.std.proofs.Common.{◌≡◌, ◌<◌, ◌<ℤ◌, ◌≤◌, ◌+◌, ◌≢◌, ℕ, pos, true, List, ◌∷◌, ◌++◌, arith, refl, sym, ap, subst, ◌∙◌, length, drop, get_or, codes, IsTrue}
+use Rattle.std.proofs.Common.{◌≡◌, ◌<◌, ◌≤◌, ◌+◌, ◌≢◌, ℕ, true, List, ◌∷◌, ◌++◌, arith, refl, sym, ap, subst, ◌∙◌, length, drop, get_or, codes, IsTrue}
 use Rattle.std.specs.Prelude.{decimal}
 use Rattle.std.specs.Fmt.{signed_decimal}
 use Rattle.std.specs.List.{list_all}
@@ -8,7 +8,6 @@ use Rattle.std.proofs.lemmas.List.{append_assoc}
 use Rattle.definitions.specs.Category.{Structure}
 use Rattle.traced_rows.specs.LemmaRows.{denominator_of}
 use Rattle.traced_rows.specs.declared.evidence.Evidence.{Evidence}
-use Rattle.traced_rows.specs.declared.evidence.Evidence.TheVariants as evidence
 use Rattle.nc_polynomial.specs.declared.poly.Poly.{Poly}
 use Rattle.quiver.specs.Declarations.{Declaration}
 use Rattle.adjoint_rules.specs.declared.problem.Problem.{Problem}
@@ -16,7 +15,7 @@ use Rattle.traced_completion.specs.declared.budget.Budget.{Budget}
 use Rattle.matrix_models.specs.declared.model.Model.{Model}
 use Rattle.model_text.specs.Written.{model_text}
 use Rattle.block_text.specs.Back.{is_named}
-use Rattle.cofactor_checker.specs.ProvedMeans.{EvidenceAddsUp, ProvedMeans}
+use Rattle.cofactor_checker.specs.ProvedMeans.{ProvedMeans}
 use Rattle.model_checker.specs.RefutedMeans.{RefutedMeans}
 use Rattle.statement_meaning.specs.Meanings.{SaysEquations}
 use Rattle.statement_meaning.proofs.Claims.{claim_there}
@@ -25,6 +24,7 @@ use Rattle.report_text.specs.declared.verdict.Verdict.TheVariants as verdict
 use Rattle.report_text.specs.Heads.{row_count, said_of}
 use Rattle.stated_problem.specs.Stated.{IsStated}
 use Rattle.prove_command.specs.Says.{VerdictMeans}
+use Rattle.evidence_commands.proofs.Certificates.{positive_denominator}
 use Rattle.command_runs.specs.Promises.Lines.{HasLineBefore, claim_line, block_line, number_limit}
 use Rattle.command_runs.specs.Promises.Proved.{IsProved, SaysProved}
 use Rattle.command_runs.specs.Promises.Refuted.{IsRefuted, IsNext}
@@ -34,7 +34,7 @@ use Rattle.command_runs.specs.Promises.Undecided.{IsUndecided}
 use Rattle.command_runs.specs.Promises.{LinesAreMeant}
 use Rattle.command_runs.proofs.PromisedFiles.{has_no_fault}
 use Rattle.command_runs.proofs.PromisedGenerators.{is_not_derivable}
-use Rattle.command_runs.proofs.QuietTexts.{lacks, LineAt}
+use Rattle.evidence_commands.proofs.QuietTexts.{lacks, LineAt}
 use Rattle.command_runs.proofs.ReportLines.{at_start, claim_said, IsOfVerdict}
 
 -- the text of a verdict begins with a blank
@@ -49,13 +49,8 @@ said_is ds rules (verdict.Undecided h) = refl
 said_is ds rules (verdict.NotRefuted candidates) = refl
 
 -- characters at one place of two texts
-differ : (place m n : ℕ) (one other : List ℕ) → one ≡ other → get_or one place 0 ≡ m → get_or other place 0 ≡ n → m ≢ n → ⊥
+pub differ : (place m n : ℕ) (one other : List ℕ) → one ≡ other → get_or one place 0 ≡ m → get_or other place 0 ≡ n → m ≢ n → ⊥
 differ place m n one other same first second apart = apart (sym first ∙ ap (λ (t : List ℕ). get_or t place 0) same ∙ second)
-
--- the denominator of evidence that adds up
-pub positive_denominator : (problem : Problem) (number : ℕ) (e : Evidence) → EvidenceAddsUp problem number e → pos 0 <ℤ denominator_of e
-positive_denominator problem number (evidence.Plain c) sum = sum.combination.positive
-positive_denominator problem number (evidence.Lemmas c) sum = sum.evidence.positive
 
 module _ {Object Arrow : Type 0} {s : Structure Object Arrow} (equations : SaysEquations s) (budget : Budget) (bytes : List ℕ) (problem : Problem) (stated : IsStated bytes problem) where
   -- a claim that is proved by this denominator, and one that a model refutes

@@ -4,12 +4,7 @@ use Rattle.std.specs.Prelude.{decimal}
 use Rattle.std.specs.Fmt.{signed_decimal}
 use Rattle.std.specs.List.{AllZip, list_all, range_with_len}
 use Rattle.std.proofs.lemmas.List.{append_assoc, append-nil}
-use Rattle.coef_int.specs.declared.Overflow.{Overflow}
-use Rattle.nc_polynomial.specs.Limits.{word_limit, term_limit}
 use Rattle.nc_polynomial.specs.declared.poly.Poly.{Poly}
-use Rattle.cofactor_trace.specs.Limits.{row_limit, letter_limit}
-use Rattle.cofactor_trace.specs.declared.halt.Cause.{Cause}
-use Rattle.cofactor_trace.specs.declared.halt.Cause.TheVariants as cause
 use Rattle.cofactor_trace.specs.declared.halt.Place.{Place}
 use Rattle.cofactor_trace.specs.declared.halt.Place.TheVariants as place
 use Rattle.traced_rows.specs.LemmaRows.{denominator_of}
@@ -18,13 +13,14 @@ use Rattle.block_text.specs.Written.{word_text}
 use Rattle.block_text.specs.Back.{is_named}
 use Rattle.report_text.specs.declared.verdict.Verdict.{Verdict}
 use Rattle.report_text.specs.declared.verdict.Verdict.TheVariants as verdict
-use Rattle.report_text.specs.Heads.{row_count, denominator_text, cause_text, overflow_text, place_text, least_text, said_of, head_line}
+use Rattle.report_text.specs.Heads.{row_count, denominator_text, cause_text, place_text, least_text, said_of, head_line}
 use Rattle.report_text.specs.Report.{block_text, report_from, heads_from}
 use Rattle.command_shape.specs.Ending.{line}
 use Rattle.command_shape.specs.Blocks.{block_text as on_block, refused_text, AcceptsBlock, JudgesFrom, accepted, refused}
+use Rattle.evidence_commands.proofs.Said.{IsTold}
 use Rattle.command_runs.specs.Promises.Lines.{AreLines, HasLineBefore, claim_line, block_line}
-use Rattle.command_runs.proofs.QuietTexts.{lacks, cut, ends_line, LineAt, past_quiet, first_or_later, no_line}
-use Rattle.command_runs.proofs.QuietBlocks.{lacks-append, decimal_lacks, number_is_part, integer_is_part, word_is_part, AreQuiet, evidence_is_quiet, basis_is_quiet, model_is_quiet}
+use Rattle.evidence_commands.proofs.QuietTexts.{lacks, cut, ends_line, LineAt, past_quiet, first_or_later, no_line}
+use Rattle.evidence_commands.proofs.QuietBlocks.{lacks-append, decimal_lacks, number_is_part, integer_is_part, cause_is_part, word_is_part, AreQuiet, evidence_is_quiet, basis_is_quiet, model_is_quiet}
 
 -- a line of what was put
 ends : (start : Bool) (most : List ℕ) → ends_line start (most ++ 10 ∷ []) ≡ true
@@ -64,20 +60,6 @@ IsPart text = lacks 10 text ≡ true
 
 numbered : (label : List ℕ) (n : ℕ) → IsPart label → IsPart (label ++ decimal n)
 numbered label n is = lacks-append 10 label (decimal n) is (number_is_part n)
-
-overflow_is_part : (o : Overflow) → IsPart (overflow_text o)
-overflow_is_part o =
-    lacks-append 10 (signed_decimal o.left ++ cond o.product (codes " times ") (codes " plus ")) (signed_decimal o.right) (lacks-append 10 (signed_decimal o.left) (cond o.product (codes " times ") (codes " plus ")) (integer_is_part o.left) (either IsPart o.product (codes " times ") (codes " plus ") refl refl))
-    (integer_is_part o.right)
-
-pub cause_is_part : (c : Cause) → IsPart (cause_text c)
-cause_is_part (cause.Pairs spent) = numbered (codes "pairs ") spent refl
-cause_is_part (cause.Steps limit) = numbered (codes "steps ") limit refl
-cause_is_part (cause.Size letters) =
-    either IsPart letters (codes "size letters " ++ decimal word_limit) (codes "size terms " ++ decimal term_limit) (numbered (codes "size letters ") word_limit refl) (numbered (codes "size terms ") term_limit refl)
-cause_is_part (cause.Rows letters) =
-    either IsPart letters (codes "rows letters " ++ decimal letter_limit) (codes "rows " ++ decimal row_limit) (numbered (codes "rows letters ") letter_limit refl) (numbered (codes "rows ") row_limit refl)
-cause_is_part (cause.Overflow o) = lacks-append 10 (codes "overflow ") (overflow_text o) refl (overflow_is_part o)
 
 place_is_part : (p : Place) → IsPart (place_text p)
 place_is_part place.Run = refl
@@ -169,27 +151,15 @@ module _ (ds : List Declaration) (known : IsTrue (list_all is_named ds)) where
       of_verdict P (length rules) (λ claim v. []) (λ claim v. record { quiet = refl; ends = refl }) (heads_from ds (length rules)) (λ claim. refl)
       (λ claim v others. ap (λ t. t ++ heads_from ds (length rules) (suc claim) others) (sym (append-nil (head_line ds (length rules) claim v)))) 1 vs each l after inner at
 
--- The text about a block: its first line, and lines after it that don't begin with #.
-pub record IsTold (text : List ℕ) : Type 0 where
-  pub first : List ℕ
-  pub rest : List ℕ
-  pub splits : text ++ 10 ∷ [] ≡ first ++ 10 ∷ rest
-  pub one : lacks 10 first ≡ true
-  pub quiet : AreQuiet rest
-
--- one line
-abbrev pub line_is_told : (text : List ℕ) → lacks 10 text ≡ true → IsTold text
-line_is_told text one = record { first = text; rest = []; splits = refl; one = one; quiet = record { quiet = refl; ends = refl } }
-
-module _ {Block : Type 0} (passes : Block → Type 0) (shows : Block → List ℕ) (refuses : Block → List ℕ → Type 0) (told : (b : Block) → passes b → IsTold (shows b)) (caused : (b : Block) (cause : List ℕ) → refuses b cause → lacks 10 cause ≡ true) where
+module _ {Block : Type 0} (passes : Block → Type 0) (first shows : Block → List ℕ) (refuses : Block → List ℕ → Type 0) (told : (b : Block) → passes b → IsTold (first b) (shows b)) (caused : (b : Block) (cause : List ℕ) → refuses b cause → lacks 10 cause ≡ true) where
   -- A line on a block: it is accepted, and this is the first line of the text about it, or it is refused.
   pub data IsOnBlock (number : ℕ) (blocks : List Block) (l : List ℕ) : Type 0 where
-    accepts : (place : ℕ) (b : Block) (holds : passes b) → slice_get blocks place ≡ Some b → l ≡ on_block (number + place) (told b holds).first → IsOnBlock number blocks l
+    accepts : (place : ℕ) (b : Block) (holds : passes b) → slice_get blocks place ≡ Some b → l ≡ on_block (number + place) (first b) → IsOnBlock number blocks l
     refuses_one : (block : ℕ) (cause : List ℕ) → l ≡ refused_text block cause → IsOnBlock number blocks l
 
   deeper : (number : ℕ) (b : Block) (blocks : List Block) (l : List ℕ) → IsOnBlock (number + 1) blocks l → IsOnBlock number (b ∷ blocks) l
   deeper number b blocks l (accepts place a holds at says) =
-      accepts (suc place) a holds at (says ∙ ap (λ n. on_block n (told a holds).first) (let same : (number + 1) + place ≡ number + suc place = omega arith in same))
+      accepts (suc place) a holds at (says ∙ ap (λ n. on_block n (first a)) (let same : (number + 1) + place ≡ number + suc place = omega arith in same))
   deeper number b blocks l (refuses_one block cause says) = refuses_one block cause says
 
   on_block_is_part : (number : ℕ) (text : List ℕ) → lacks 10 text ≡ true → lacks 10 (on_block number text) ≡ true
@@ -206,9 +176,9 @@ module _ {Block : Type 0} (passes : Block → Type 0) (shows : Block → List �
       ap (λ x. x ++ more) moved ∙ append_assoc (on_block number first) (10 ∷ rest) more
 
   accepted_line : (number : ℕ) (b : Block) (blocks : List Block) (holds : passes b) (more l after : List ℕ)
-      → (((35 ∷ l) ≡ on_block number (told b holds).first) × (after ≡ (told b holds).rest ++ more)) ⊎ LineAt true ((told b holds).rest ++ more) (35 ∷ l) after
+      → (((35 ∷ l) ≡ on_block number (first b)) × (after ≡ (told b holds).rest ++ more)) ⊎ LineAt true ((told b holds).rest ++ more) (35 ∷ l) after
       → (LineAt true more (35 ∷ l) after → IsOnBlock (number + 1) blocks (35 ∷ l)) → IsOnBlock number (b ∷ blocks) (35 ∷ l)
-  accepted_line number b blocks holds more l after (inl is) later = accepts 0 b holds refl (is.0 ∙ ap (λ n. on_block n (told b holds).first) (let same : number ≡ number + 0 = omega arith in same))
+  accepted_line number b blocks holds more l after (inl is) later = accepts 0 b holds refl (is.0 ∙ ap (λ n. on_block n (first b)) (let same : number ≡ number + 0 = omega arith in same))
   accepted_line number b blocks holds more l after (inr at) later =
       let t = told b holds in
       deeper number b blocks (35 ∷ l) (later (subst (λ (e : Bool). LineAt e more (35 ∷ l) after) t.quiet.ends (past_quiet true t.rest more l after t.quiet.quiet at)))
@@ -223,10 +193,10 @@ module _ {Block : Type 0} (passes : Block → Type 0) (shows : Block → List �
   line_of_blocks number [] lines status judges l after inner at = absurd (no_line true (35 ∷ l) after (subst (λ (t : List ℕ). LineAt true t (35 ∷ l) after) judges.0 at))
   line_of_blocks number (b ∷ blocks) lines status (accepted text holds rest next is) l after inner at =
       let t = told b holds.holds in
-      let lines_are : lines ≡ on_block number t.first ++ 10 ∷ (t.rest ++ rest) =
-      is ∙ ap (λ x. line (on_block number x) ++ rest) holds.says ∙ split_line number (shows b) t.first t.rest rest t.splits in
+      let lines_are : lines ≡ on_block number (first b) ++ 10 ∷ (t.rest ++ rest) =
+      is ∙ ap (λ x. line (on_block number x) ++ rest) holds.says ∙ split_line number (shows b) (first b) t.rest rest t.splits in
       accepted_line number b blocks holds.holds rest l after
-      (first_or_later (on_block number t.first) (t.rest ++ rest) (35 ∷ l) after (on_block_is_part number t.first t.one) inner (subst (λ (x : List ℕ). LineAt true x (35 ∷ l) after) lines_are at))
+      (first_or_later (on_block number (first b)) (t.rest ++ rest) (35 ∷ l) after (on_block_is_part number (first b) t.one) inner (subst (λ (x : List ℕ). LineAt true x (35 ∷ l) after) lines_are at))
       (λ later. line_of_blocks (number + 1) blocks rest status next l after inner later)
   line_of_blocks number (b ∷ blocks) lines status (refused cause because is seven) l after inner at =
       refused_line number b blocks cause l after

@@ -41,6 +41,7 @@ impl EvidenceCommand {
 }
 
 /// The command of this name.
+#[tactic(auto, using(crate::proofs::Members::last_named))]
 pub(crate) fn evidence_command(name: &str) -> EvidenceCommand
     requires { IsEvidenceName name.now }
     ensures { name.now ≡ name_of result }

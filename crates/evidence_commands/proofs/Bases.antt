@@ -1,11 +1,19 @@
 -- Bases are judged, and what a closed one means, by its rules.
-use Rattle.std.proofs.Common.{◌≡◌, ℕ, List, ◌++◌, Bool, true, false, Some, Result, Ok, Err, MatchResult, IfOk, get_or, codes, refl, sym, ap, subst, arith}
-use Rattle.std.specs.List.{All}
+use Rattle.std.proofs.Common.{◌≡◌, ℕ, List, ◌++◌, Bool, true, false, Some, Result, Ok, Err, MatchResult, IfOk, get_or, codes, refl, sym, ap, subst, arith, IsTrue}
+use Rattle.std.specs.Option.{IfSome}
+use Rattle.std.specs.List.{All, list_all}
 use Rattle.definitions.specs.Poly.{Term}
 use Rattle.definitions.specs.Combination.{InRationalIdeal}
 use Rattle.rule_reduce.specs.RuleLists.{polynomials_of}
 use Rattle.block_text.specs.declared.fault.CertFault.{CertFault}
 use Rattle.block_text.specs.Fault.{ExplainsBy}
+use Rattle.block_text.specs.Back.{is_named}
+use Rattle.nc_polynomial.specs.declared.poly.Poly.{Poly}
+use Rattle.ambiguities.specs.declared.ambiguity.Kind as ambiguity
+use Rattle.ambiguities.specs.declared.ambiguity.Kind.TheVariants.{Overlap, Inclusion}
+use Rattle.ambiguities.specs.declared.ambiguity.Ambiguity.{Ambiguity}
+use Rattle.closed_checker.specs.declared.part.Part.{Part}
+use Rattle.closed_checker.specs.declared.part.Part.TheVariants as part
 use Rattle.adjoint_rules.specs.declared.problem.Problem.{Problem}
 use Rattle.adjoint_rules.specs.Problem.{polynomials}
 use Rattle.quiver.specs.Declarations.{Declaration}
@@ -27,8 +35,11 @@ use Rattle.normal_category.specs.Faults.{AreSharp}
 use Rattle.normal_category.specs.Tests.{is_sharp}
 use Rattle.normal_category.proofs.Problems.{problem_is_sharp}
 use Rattle.normal_category.proofs.Tested.{sharp_rules_are_told}
-use Rattle.evidence_commands.specs.Confirm.{refusal_text, closed_text, BasisMeans, bases}
+use Rattle.evidence_commands.specs.Confirm.{kind_text, ambiguity_text, part_text, left_text, refusal_text, closed_text, BasisMeans, bases}
 use Rattle.evidence_commands.proofs.Owed.{IsJudged}
+use Rattle.evidence_commands.proofs.QuietBlocks.{cause_is_part}
+use Rattle.evidence_commands.proofs.Parts.{IsPart, lit, then, num, poly}
+use Rattle.evidence_commands.proofs.Said.{says_closed, line_is_told, closed_is_part}
 
 -- tests that hold alike are the same
 pub same_test : (a b : Bool) → (a ≡ true → b ≡ true) → (b ≡ true → a ≡ true) → a ≡ b
@@ -89,6 +100,36 @@ told : (ds : List Declaration) (r : ClosedRefusal) (cause : List ℕ) → refusa
 told ds (refusal.Memory failed) cause is memory = absurd cc
 told ds other cause is memory = memory
 
+-- the texts are lines
+module _ (ds : List Declaration) (known : IsTrue (list_all is_named ds)) where
+  kind : (k : ambiguity.Kind) → IsPart (kind_text k)
+  kind Overlap = lit (codes "overlap") refl
+  kind Inclusion = lit (codes "inclusion") refl
+
+  blank : IsPart (codes " ")
+  blank = lit (codes " ") refl
+
+  on_ambiguity : (a : Ambiguity) → IsPart (ambiguity_text a)
+  on_ambiguity a = then (kind a.kind) (then blank (then (num a.i) (then blank (then (num a.j) (then blank (num a.place))))))
+
+  on_part : (p : Part) → IsPart (part_text p)
+  on_part (part.Generator number) = then (lit (codes "generator ") refl) (num number)
+  on_part (part.Ambiguity a) = on_ambiguity a
+  on_part part.Claim = lit (codes "claim") refl
+
+  left : (code : List ℕ) (p : Part) (rest : Poly) → IsPart code → IsPart (left_text ds code p rest)
+  left code p rest is = then is (then (on_part p) (then (lit (codes " rest ") refl) (poly ds known rest)))
+
+  caused : (r : ClosedRefusal) → IfSome (refusal_text ds r) IsPart
+  caused refusal.NoSuchClaim = lit (codes "B1") refl
+  caused (refusal.NotRule rule) = then (lit (codes "B2 rule ") refl) (num rule)
+  caused (refusal.GeneratorLeft number rest) = left (codes "B3 ") (part.Generator number) rest (lit (codes "B3 ") refl)
+  caused (refusal.AmbiguityLeft a rest) = left (codes "B4 ") (part.Ambiguity a) rest (lit (codes "B4 ") refl)
+  caused (refusal.OtherRest got) = then (lit (codes "B5 got ") refl) (poly ds known got)
+  caused refusal.ZeroRest = lit (codes "B6") refl
+  caused (refusal.Stopped p c) = then (lit (codes "B7 ") refl) (then (on_part p) (then blank (record { is = cause_is_part c })))
+  caused (refusal.Memory failed) = tt
+
 -- no cause begins as the text of a closed basis
 other_text : (problem : Problem) (b : Basis) (cause more : List ℕ) → codes "refused " ++ cause ≡ closed_text problem b ++ more → ⊥
 other_text problem b cause more same =
@@ -116,4 +157,15 @@ bases_are_judged = record {
   readable = bases_are_readable;
   shown = basis_means;
   means = λ laws sound with_lemmas cancelling. basis_means;
+  caused = caused;
+  said = λ problem b. says_closed b.claim (is_sharp problem.parts (polynomials b.rules));
+  told = λ problem known b holds. line_is_told (closed_text problem b) (closed_is_part problem.parts.quiver known b.claim (is_sharp problem.parts (polynomials b.rules)));
+  meant = λ problem text place b at holds means.
+      record {
+        names = record { least = holds.has_rules.claim.least; most = holds.has_rules.claim.most };
+        outside = means.closed.outside;
+        rules = rules_of problem b;
+        sharp_means = means.sharp;
+        star_sharp = means.star_sharp;
+      };
 }

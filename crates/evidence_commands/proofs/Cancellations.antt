@@ -1,6 +1,7 @@
 -- Proofs that cancel letters are judged, and what an accepted one means, by the main theorem of cancelling.
-use Rattle.std.proofs.Common.{◌≡◌, ◌<◌, ℕ, false, List, ◌++◌, Some, get_or, codes, refl, ap, sym, subst, arith}
-use Rattle.std.specs.List.{All}
+use Rattle.std.proofs.Common.{◌≡◌, ◌<◌, ℕ, false, List, ◌++◌, Some, get_or, codes, refl, ap, sym, subst, arith, IsTrue}
+use Rattle.std.specs.Option.{IfSome}
+use Rattle.std.specs.List.{All, list_all}
 use Rattle.definitions.specs.Category.{Structure, PreadditiveLaws}
 use Rattle.definitions.specs.Poly.{Term}
 use Rattle.definitions.specs.Quiver.{Quiver, letters}
@@ -11,6 +12,7 @@ use Rattle.adjoint_rules.specs.Problem.{polynomials, generators_in}
 use Rattle.adjoint_rules.proofs.Generators.{posed_quiver, generators_have_signatures, generators_are_zero, zero_along}
 use Rattle.adjoint_rules.specs.Claims.{claim_at}
 use Rattle.definitions.proofs.StarSound.{star_sound}
+use Rattle.block_text.specs.Back.{is_named}
 use Rattle.cofactor_checker.specs.declared.refusal.Refusal.TheVariants as common
 use Rattle.cofactor_checker.proofs.ProvedMeans.{claim_typed, plain_generators}
 use Rattle.cancel_rules.specs.declared.cancellation.Side.{Side}
@@ -29,6 +31,8 @@ use Rattle.cancellation_text.proofs.Readable.{proofs_are_readable}
 use Rattle.evidence_commands.specs.Cancel.{accepted_text, refusal_text, HasRefusalLetters, MakesZeroByStar, CancelledMeans, cancellations}
 use Rattle.evidence_commands.proofs.Causes as causes
 use Rattle.evidence_commands.proofs.Owed.{IsJudged}
+use Rattle.evidence_commands.proofs.Parts.{IsPart, lit, then, num}
+use Rattle.evidence_commands.proofs.Said.{says_accepted, line_is_told, accepted_is_part}
 
 -- the letters that a proof declares are letters of the quiver
 declared_in : (ds : List Declaration) (p : Cancellation) → IsReadableCancellation ds p
@@ -101,6 +105,15 @@ told : (ds : List Declaration) (r : CancelRefusal) (cause : List ℕ) → refusa
 told ds (refusal.Common e) cause is memory = causes.told ds e cause is memory
 told ds other cause is memory = memory
 
+-- the texts are lines
+module _ (ds : List Declaration) (known : IsTrue (list_all is_named ds)) where
+  caused : (r : CancelRefusal) → IfSome (refusal_text ds r) IsPart
+  caused (refusal.Common e) = causes.caused ds known e
+  caused (refusal.NoSuchItem item) = then (lit (codes "X1 item ") refl) (num item)
+  caused (refusal.NotDeclared item) = then (lit (codes "X2 item ") refl) (num item)
+  caused (refusal.NotTyped item) = then (lit (codes "X3 item ") refl) (num item)
+  caused (refusal.NotStripped item) = then (lit (codes "X4 item ") refl) (num item)
+
 -- no cause begins as the text of an accepted proof
 other_text : (ds : List Declaration) (p : Cancellation) (cause more : List ℕ) → codes "refused " ++ cause ≡ accepted_text ds p ++ more → ⊥
 other_text ds p cause more same =
@@ -139,4 +152,13 @@ cancellations_are_judged = record {
   readable = proofs_are_readable;
   shown = λ problem p readable accepted. (all_items (polynomials problem.generators) p, shows problem p readable accepted);
   means = λ laws sound with_lemmas cancelling problem p readable accepted. cancelled_means problem p readable accepted laws cancelling;
+  caused = caused;
+  said = λ problem p. says_accepted p.claim p.denominator p.monic p.epic;
+  told = λ problem known p holds. line_is_told (accepted_text problem.parts.quiver p) (accepted_is_part problem.parts.quiver known p.claim p.denominator p.monic p.epic);
+  meant = λ problem text place p at holds means. record {
+    names = holds.items.begins.shares.posed.claim;
+    positive = means.shows.positive;
+    by_star = means.by_star.zero;
+    plain = λ unstarred. (means.plain unstarred).zero;
+  };
 }

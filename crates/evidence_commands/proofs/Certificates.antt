@@ -1,7 +1,7 @@
 -- Certificates are judged, and what an accepted one means.
-use Rattle.std.proofs.Common.{◌≡◌, ℕ, List, [], ◌∷◌, ◌++◌, length, get_or, codes, refl, ap, arith}
-use Rattle.std.specs.List.{flat_map}
-use Rattle.std.proofs.lemmas.List.{length-append}
+use Rattle.std.proofs.Common.{◌≡◌, ◌<ℤ◌, ℕ, pos, List, [], ◌∷◌, ◌++◌, length, get_or, codes, refl, sym, ap, arith, IsTrue}
+use Rattle.std.specs.List.{flat_map, list_all}
+use Rattle.std.proofs.lemmas.List.{length-append, append-nil}
 use Rattle.definitions.specs.Category.{Structure, PreadditiveLaws}
 use Rattle.definitions.specs.Soundness.{IsSound}
 use Rattle.representations.specs.Evidence.{IsEvidenceSound}
@@ -11,6 +11,8 @@ use Rattle.traced_rows.specs.declared.evidence.LemmaRow.{LemmaRow}
 use Rattle.traced_rows.specs.declared.evidence.Evidence.{Evidence}
 use Rattle.traced_rows.specs.declared.evidence.Evidence.TheVariants.{Plain, Lemmas}
 use Rattle.traced_rows.specs.declared.evidence.Format.TheVariants as format
+use Rattle.traced_rows.specs.LemmaRows.{denominator_of}
+use Rattle.block_text.specs.Back.{is_named}
 use Rattle.cofactor_checker.specs.Acceptance.{IsMemory}
 use Rattle.cofactor_checker.specs.Rows.{IsNumberUpTo}
 use Rattle.cofactor_checker.specs.Lemmas.{row_count}
@@ -25,7 +27,9 @@ use Rattle.adjoint_rules.specs.Problem.{polynomials}
 use Rattle.certificate_text.specs.Evidence.{IsCheckableLemma, IsCheckableEvidence}
 use Rattle.certificate_text.proofs.EachText.{each_text_is_read, evidence_is_unique, first_fault_is_unique, evidence_has_no_fault}
 use Rattle.evidence_commands.specs.Check.{claim_number, IsAccepted, named_text, AcceptedMeans, certificates}
-use Rattle.evidence_commands.proofs.Causes.{told, refusal_text}
+use Rattle.evidence_commands.proofs.Causes.{told, refusal_text, caused}
+use Rattle.evidence_commands.proofs.QuietBlocks.{nothing_is_quiet}
+use Rattle.evidence_commands.proofs.Said.{Said, says_accepted, said_text, AcceptedSaid, IsTold, accepted_is_part}
 use Rattle.evidence_commands.proofs.Owed.{IsJudged}
 
 -- what a reader gives can be checked
@@ -79,6 +83,32 @@ accepted_means laws sound with_lemmas problem e accepted =
     let named = names problem e accepted in
     proved_means laws sound with_lemmas problem (claim_number e) e named.least named.most (adds_up problem e accepted)
 
+-- with a positive denominator
+pub positive_denominator : (problem : Problem) (number : ℕ) (e : Evidence) → EvidenceAddsUp problem number e → pos 0 <ℤ denominator_of e
+positive_denominator problem number (Plain c) sum = sum.combination.positive
+positive_denominator problem number (Lemmas c) sum = sum.evidence.positive
+
+-- its line says so, and calls no letters
+abbrev said_of : Evidence → Said
+said_of e = says_accepted (claim_number e) (denominator_of e) [] []
+
+named_is_told : (ds : List Declaration) → IsTrue (list_all is_named ds) → (e : Evidence) → IsTold (said_text ds (said_of e)) (named_text e)
+named_is_told ds known e = record {
+  rest = [];
+  splits = ap (λ t. t ++ 10 ∷ []) (sym (append-nil (named_text e)));
+  one = (accepted_is_part ds known (claim_number e) (denominator_of e) [] []).is;
+  quiet = nothing_is_quiet;
+}
+
+accepted_said : {Object Arrow : Type 0} {s : Structure Object Arrow} (problem : Problem) (e : Evidence) → IsAccepted problem e → AcceptedMeans s problem e
+    → AcceptedSaid s problem (claim_number e) (denominator_of e) [] []
+accepted_said problem e holds means = record {
+  names = names problem e holds;
+  positive = positive_denominator problem (claim_number e) e means.sum;
+  by_star = λ adjoint involution f rep cancels monic epic. means.means.by_star.zero adjoint involution f rep cancels;
+  plain = λ unstarred f rep cancels monic epic. (means.means.plain unstarred).zero f rep cancels;
+}
+
 pub certificates_are_judged : IsJudged certificates
 certificates_are_judged = record {
   IsMemory = IsMemory;
@@ -102,4 +132,8 @@ certificates_are_judged = record {
   readable = λ ds text es are k d below. tt;
   shown = λ problem e readable. adds_up problem e;
   means = λ laws sound with_lemmas cancelling problem e readable. accepted_means laws sound with_lemmas problem e;
+  caused = caused;
+  said = λ problem e. said_of e;
+  told = λ problem known e holds. named_is_told problem.parts.quiver known e;
+  meant = λ problem text place e at. accepted_said problem e;
 }

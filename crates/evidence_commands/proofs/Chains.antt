@@ -1,6 +1,10 @@
 -- Certificates are explained or refused, and what an explained one means.
-use Rattle.std.proofs.Common.{◌≡◌, ◌⊎◌, inl, inr, ℕ, pos, List, [], ◌∷◌, ◌++◌, Some, get_or, codes, refl, ap, arith}
-use Rattle.std.specs.List.{AllByRecursion}
+use Rattle.std.proofs.Common.{◌≡◌, ◌⊎◌, inl, inr, ℕ, pos, List, [], ◌∷◌, ◌++◌, Some, length, get_or, codes, refl, ap, arith, IsTrue}
+use Rattle.std.specs.Prelude.{decimal}
+use Rattle.std.specs.Option.{IfSome}
+use Rattle.std.specs.Fmt.{signed_decimal}
+use Rattle.std.specs.List.{AllByRecursion, list_all}
+use Rattle.std.proofs.lemmas.List.{append_assoc}
 use Rattle.definitions.specs.Category.{Structure, PreadditiveLaws}
 use Rattle.definitions.specs.Poly.{Term}
 use Rattle.definitions.specs.Soundness.{HasSignature, IsSound, MakesZero}
@@ -18,7 +22,11 @@ use Rattle.cofactor_checker.specs.ProvedMeans.{MeansZero}
 use Rattle.cofactor_checker.proofs.ProvedMeans.{means_zero}
 use Rattle.equation_chain.specs.declared.fault.ChainFault.{ChainFault}
 use Rattle.equation_chain.specs.declared.fault.ChainFault.TheVariants as fault
+use Rattle.block_text.specs.Back.{is_named}
+use Rattle.equation_chain.specs.Limits.{letter_limit}
+use Rattle.equation_chain.specs.Steps.{steps_of}
 use Rattle.equation_chain.specs.Lines.{lines_of}
+use Rattle.equation_chain.specs.Written.{chain_text}
 use Rattle.equation_chain.specs.Faults as chain
 use Rattle.equation_chain.proofs.Chains.{lines_are_a_chain}
 use Rattle.equation_chain.proofs.Letters.{lines_have_signatures}
@@ -32,8 +40,11 @@ use Rattle.evidence_commands.specs.Explain.{IsExplained, IsRefused, IsMemory, fa
 use Rattle.evidence_commands.specs.Explain.{explained_text, ExplainedMeans, IsChained, BlockMeans, chains}
 use Rattle.evidence_commands.proofs.Causes as causes
 use Rattle.evidence_commands.proofs.Letters.{refused_letters}
-use Rattle.evidence_commands.proofs.Certificates.{accepted_means}
+use Rattle.evidence_commands.proofs.Certificates.{names, accepted_means}
 use Rattle.evidence_commands.proofs.Owed.{IsJudged}
+use Rattle.evidence_commands.proofs.QuietBlocks.{chain_is_quiet}
+use Rattle.evidence_commands.proofs.Parts.{IsPart, lit, then, num, overflow}
+use Rattle.evidence_commands.proofs.Said.{Said, says_explained, said_text, SaidMeans, IsTold, explained_is_part}
 
 -- one outcome for each block
 module _ (problem : Problem) where
@@ -79,6 +90,19 @@ told : (ds : List Declaration) (r : ExplainRefusal) (cause : List ℕ) → refus
 told ds HasLemmas cause is memory = memory
 told ds (HasFault f) cause is memory = fault_told ds f cause is memory
 
+-- the texts are lines
+module _ (ds : List Declaration) (known : IsTrue (list_all is_named ds)) where
+  fault_caused : (f : ChainFault) → IfSome (fault_text ds f) IsPart
+  fault_caused (fault.Refused r) = causes.caused ds known r
+  fault_caused (fault.Overflow row o) = overflow (codes "E2 row ") row o (lit (codes "E2 row ") refl)
+  fault_caused (fault.Size row) = then (lit (codes "E3 row ") refl) (num row)
+  fault_caused (fault.Long row) = then (lit (codes "E4 row ") refl) (then (num row) (then (lit (codes " limit ") refl) (num letter_limit)))
+  fault_caused (fault.Memory failed) = tt
+
+  caused : (r : ExplainRefusal) → IfSome (refusal_text ds r) IsPart
+  caused HasLemmas = lit (codes "E1") refl
+  caused (HasFault f) = fault_caused f
+
 -- no cause begins as the text of an explained block
 differ : (cause more : List ℕ) → codes "refused " ++ cause ≡ 101 ∷ more → ⊥
 differ cause more same =
@@ -119,6 +143,32 @@ chained : (problem : Problem) (e : Evidence) → IsExplained problem e → IsCha
 chained problem (Plain c) explained = lines_are_a_chain problem c explained
 chained problem (Lemmas c) explained = absurd explained
 
+-- the text about an explained block: the line on it, and its chain
+abbrev said_of : Problem → Evidence → Said
+said_of problem (Plain c) = says_explained c.claim c.denominator (length (steps_of problem c))
+said_of problem (Lemmas c) = says_explained c.claim c.denominator 0
+
+moved : (claim d steps more : List ℕ) → (((codes "explained claim " ++ (claim ++ (codes " denominator " ++ (d ++ (codes " steps " ++ (steps ++ codes "\n")))))) ++ more) ++ 10 ∷ [])
+    ≡ (codes "explained claim " ++ (claim ++ (codes " denominator " ++ (d ++ (codes " steps " ++ steps))))) ++ 10 ∷ (more ++ codes "\n")
+moved claim d steps more = simp append_assoc refl
+
+explained_is_told : (problem : Problem) → IsTrue (list_all is_named problem.parts.quiver) → (e : Evidence) → IsExplained problem e
+    → IsTold (said_text problem.parts.quiver (said_of problem e)) (explained_text problem e)
+explained_is_told problem known (Plain c) holds =
+    let steps = length (steps_of problem c) in
+    record {
+      rest = chain_text problem.parts.quiver c.claim c.denominator (steps_of problem c) (lines_of problem c) ++ codes "\n";
+      splits = moved (decimal c.claim) (signed_decimal c.denominator) (decimal steps) (chain_text problem.parts.quiver c.claim c.denominator (steps_of problem c) (lines_of problem c));
+      one = (explained_is_part problem.parts.quiver known c.claim c.denominator steps).is;
+      quiet = chain_is_quiet problem.parts.quiver known c.claim c.denominator (steps_of problem c) (lines_of problem c);
+    }
+explained_is_told problem known (Lemmas c) holds = absurd holds
+
+explained_said : {Object Arrow : Type 0} (s : Structure Object Arrow) (problem : Problem) (text : List ℕ) (place : ℕ) (e : Evidence) → IsExplained problem e → BlockMeans s problem e
+    → SaidMeans s problem text place (said_of problem e)
+explained_said s problem text place (Plain c) holds means = record { names = names problem (Plain c) holds.accepted; positive = means.sum.positive; means = means.means }
+explained_said s problem text place (Lemmas c) holds means = absurd holds
+
 pub chains_are_judged : IsJudged chains
 chains_are_judged = record {
   IsMemory = IsMemory;
@@ -140,4 +190,8 @@ chains_are_judged = record {
   readable = λ ds text es are k d below. tt;
   shown = λ problem e readable. chained problem e;
   means = λ laws sound with_lemmas cancelling problem e readable. block_means laws sound with_lemmas problem e;
+  caused = caused;
+  said = said_of;
+  told = explained_is_told;
+  meant = λ problem text place e at. explained_said _ problem text place e;
 }

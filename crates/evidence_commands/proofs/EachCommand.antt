@@ -2,9 +2,12 @@
 use Rattle.std.proofs.Common.{ℕ, List}
 use Rattle.command_shape.specs.declared.evidence.EvidenceCommand.{EvidenceCommand}
 use Rattle.command_shape.specs.declared.evidence.EvidenceCommand.TheVariants.{Check, Model, Confirm, Explain, Cancel}
+use Rattle.adjoint_rules.specs.declared.problem.Problem.{Problem}
+use Rattle.command_shape.specs.Ending.{Ending}
 use Rattle.stated_problem.specs.Statement.{OverStatement}
 use Rattle.stated_problem.proofs.Owed.{OwesEnding}
 use Rattle.evidence_commands.specs.Commands.{judged_by, AnswersEvidence, SaysEvidence}
+use Rattle.evidence_commands.specs.Kind.{AnswersText}
 use Rattle.evidence_commands.specs.Check.{certificates}
 use Rattle.evidence_commands.specs.Model.{models}
 use Rattle.evidence_commands.specs.Confirm.{bases}
@@ -31,3 +34,11 @@ evidence_owes Model = owes models models_are_judged
 evidence_owes Confirm = owes bases bases_are_judged
 evidence_owes Explain = owes chains chains_are_judged
 evidence_owes Cancel = owes cancellations cancellations_are_judged
+
+-- it ends as what it judges
+pub answers_judged : (command : EvidenceCommand) (text : List ℕ) (problem : Problem) (ending : Ending) → AnswersEvidence command text problem ending → AnswersText (judged_by command).kind text problem ending
+answers_judged Check text problem ending ends = ends
+answers_judged Model text problem ending ends = ends
+answers_judged Confirm text problem ending ends = ends
+answers_judged Explain text problem ending ends = ends
+answers_judged Cancel text problem ending ends = ends

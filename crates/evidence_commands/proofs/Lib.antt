@@ -1,3 +1,7 @@
+pub mod QuietTexts
+pub mod QuietBlocks
+pub mod Parts
+pub mod Said
 pub mod Owed
 pub mod Causes
 pub mod Letters

@@ -1,5 +1,7 @@
 -- Models are judged, and what a confirmed one means.
-use Rattle.std.proofs.Common.{◌≡◌, ◌<◌, ℕ, List, ◌++◌, Some, get_or, codes, refl, ap, subst, sym, ◌∙◌, arith}
+use Rattle.std.proofs.Common.{◌≡◌, ◌<◌, ℕ, List, ◌++◌, Some, get_or, codes, refl, ap, subst, sym, ◌∙◌, arith, IsTrue}
+use Rattle.std.specs.Option.{IfSome}
+use Rattle.std.specs.List.{list_all}
 use Rattle.quiver.specs.Declarations.{Declaration, quiver_of}
 use Rattle.quiver.proofs.Counts.{letters-quiver_of}
 use Rattle.matrix_models.specs.declared.model.Model.{Model}
@@ -14,8 +16,12 @@ use Rattle.model_checker.proofs.RefutedMeans.{refuted_means}
 use Rattle.model_text.specs.Models.{IsModel}
 use Rattle.model_text.proofs.EachText.{each_text_is_read, models_are_unique, first_fault_is_unique, models_have_no_fault}
 use Rattle.model_text.proofs.ModelValues.{models_are_models}
-use Rattle.evidence_commands.specs.Model.{model_cause, HasModelLetter, claim_confirmed, ConfirmedMeans, models}
+use Rattle.block_text.specs.Back.{is_named}
+use Rattle.evidence_commands.specs.Model.{map_cause, model_cause, HasModelLetter, claim_confirmed, ConfirmedMeans, models}
 use Rattle.evidence_commands.proofs.Owed.{IsJudged}
+use Rattle.evidence_commands.proofs.QuietBlocks.{name_is_part}
+use Rattle.evidence_commands.proofs.Parts.{IsPart, lit, then, num}
+use Rattle.evidence_commands.proofs.Said.{says_confirmed, line_is_told, confirmed_is_part}
 
 -- they are models in the words of the search
 pub readable : (ds : List Declaration) (m : Model) → IsModel ds m → search.IsModel (quiver_of ds) m
@@ -50,6 +56,20 @@ told ds (refusal.NotSymmetric letter) cause is memory = memory
 told ds (refusal.NotZero number) cause is memory = memory
 told ds refusal.ClaimZero cause is memory = memory
 
+-- which are lines
+module _ (ds : List Declaration) (known : IsTrue (list_all is_named ds)) where
+  on_map : (code : List ℕ) (map : ℕ) → IsPart code → IsPart (map_cause ds code map)
+  on_map code map is = then is (then (lit (codes " map ") refl) (record { is = name_is_part ds known _ }))
+
+  caused : (r : ModelRefusal) → IfSome (model_cause ds r) IsPart
+  caused refusal.NoSuchClaim = lit (codes "M1") refl
+  caused (refusal.MissingMap letter) = on_map (codes "M2") letter.0 (lit (codes "M2") refl)
+  caused (refusal.BadShape letter) = on_map (codes "M3") letter.0 (lit (codes "M3") refl)
+  caused (refusal.NotZero number) = then (lit (codes "M4 assumption ") refl) (num number)
+  caused refusal.ClaimZero = lit (codes "M5") refl
+  caused (refusal.NotSymmetric letter) = on_map (codes "M6") letter.0 (lit (codes "M6") refl)
+  caused (refusal.Memory failed) = tt
+
 -- no cause begins as the text of a confirmed model
 other_text : (m : Model) (cause more : List ℕ) → codes "refused " ++ cause ≡ claim_confirmed m.claim ++ more → ⊥
 other_text m cause more same =
@@ -81,4 +101,8 @@ models_are_judged = record {
   readable = models_are_models;
   shown = confirmed_means;
   means = λ laws sound with_lemmas cancelling. confirmed_means;
+  caused = caused;
+  said = λ problem m. says_confirmed m;
+  told = λ problem known m holds. line_is_told (claim_confirmed m.claim) (confirmed_is_part problem.parts.quiver known m);
+  meant = λ problem text place m at holds means. record { names = holds.assumptions.fitting.claim; means = means; at = at };
 }

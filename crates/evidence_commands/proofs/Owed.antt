@@ -1,6 +1,7 @@
 -- What a kind of evidence owes, and what follows for its command.
-use Rattle.std.proofs.Common.{◌≡◌, ◌⊎◌, inl, inr, ℕ, List, [], ◌∷◌, ◌++◌, refl, sym, subst, ◌∙◌, arith}
-use Rattle.std.specs.List.{All, AllByRecursion}
+use Rattle.std.proofs.Common.{◌≡◌, ◌⊎◌, inl, inr, ℕ, List, [], ◌∷◌, ◌++◌, refl, sym, subst, ◌∙◌, arith, IsTrue}
+use Rattle.std.specs.Option.{IfSome}
+use Rattle.std.specs.List.{All, AllByRecursion, list_all}
 use Rattle.std.proofs.lemmas.List.{append-nil}
 use Rattle.std.proofs.lemmas.List.Elements.{All-head, All-tail}
 use Rattle.definitions.specs.Category.{Structure, PreadditiveLaws}
@@ -9,6 +10,7 @@ use Rattle.representations.specs.Evidence.{IsEvidenceSound}
 use Rattle.cancel_rules.specs.Meaning.{IsCancellationSound}
 use Rattle.quiver.specs.Declarations.{Declaration}
 use Rattle.adjoint_rules.specs.declared.problem.Problem.{Problem}
+use Rattle.block_text.specs.Back.{is_named}
 use Rattle.command_shape.specs.Ending.{Ending}
 use Rattle.command_shape.proofs.BlockTexts.{IsKind, text_answered, text_answered_once, text_status, passing_answered, zero_answered, first_answered, all_first}
 use Rattle.stated_problem.specs.Statement.{faulty, stated}
@@ -16,6 +18,8 @@ use Rattle.stated_problem.proofs.Statements.{stated_leads, over_problem}
 use Rattle.stated_problem.proofs.Owed.{OwesEnding, owed_over, zero_or_past}
 use Rattle.evidence_commands.specs.Kind.{Kind, AnswersText, AnswersBoth, Says}
 use Rattle.evidence_commands.specs.Laws.{PassingAreAnswered, ZeroIsPassing, ZeroMeans, FaultsAreAnswered, ThreeIsFaulty}
+use Rattle.evidence_commands.proofs.Parts.{IsPart}
+use Rattle.evidence_commands.proofs.Said.{Said, said_text, SaidMeans, IsBlockAt, IsTold}
 
 pub record IsJudged {Block Refusal : Type 0} (kind : Kind Block Refusal) : Type 1 where
   -- blocks are read in one way, and each passes or is refused for one test
@@ -30,6 +34,15 @@ pub record IsJudged {Block Refusal : Type 0} (kind : Kind Block Refusal) : Type 
   pub shown : (problem : Problem) (block : Block) → IsReadable problem.parts.quiver block → kind.Passes problem block → kind.Shown problem block
   pub means : {Object Arrow : Type 0} {s : Structure Object Arrow} → PreadditiveLaws s → IsSound s → IsEvidenceSound s → IsCancellationSound s
       → (problem : Problem) (block : Block) → IsReadable problem.parts.quiver block → kind.Passes problem block → kind.Means Object Arrow s problem block
+  -- where each declaration has a name of the language, a cause is a line, and so is what is said of a block that passes, before lines that don't begin with #
+  pub caused : (ds : List Declaration) → IsTrue (list_all is_named ds) → (refusal : Refusal) → IfSome (kind.cause ds refusal) IsPart
+  pub said : Problem → Block → Said
+  pub told : (problem : Problem) → IsTrue (list_all is_named problem.parts.quiver) → (block : Block) → kind.Passes problem block
+      → IsTold (said_text problem.parts.quiver (said problem block)) (kind.shows problem block)
+  -- which means what it says
+  pub meant : {Object Arrow : Type 0} {s : Structure Object Arrow} → (problem : Problem) (text : List ℕ) (place : ℕ) (block : Block)
+      → IsBlockAt (kind.AreBlocks problem.parts.quiver text) place block → kind.Passes problem block → kind.Means Object Arrow s problem block
+      → SaidMeans s problem text place (said problem block)
 
 each_passing : {Block : Type 0} (Readable Passes Holds : Block → Type 0) → ((block : Block) → Readable block → Passes block → Holds block)
     → (blocks : List Block) → All Readable blocks → AllByRecursion Passes blocks → AllByRecursion Holds blocks

@@ -9,6 +9,11 @@ use Rattle.std.proofs.lemmas.Bool.{and_parts, lt-ltb, ne_eqb}
 use Rattle.std.proofs.lemmas.List.Folds.{list_all-append}
 use Rattle.definitions.specs.Poly.{Poly, Term}
 use Rattle.nc_polynomial.specs.declared.poly.Poly as made
+use Rattle.coef_int.specs.declared.Overflow.{Overflow}
+use Rattle.nc_polynomial.specs.Limits.{word_limit, term_limit}
+use Rattle.cofactor_trace.specs.Limits.{row_limit, letter_limit}
+use Rattle.cofactor_trace.specs.declared.halt.Cause.{Cause}
+use Rattle.cofactor_trace.specs.declared.halt.Cause.TheVariants as cause
 use Rattle.traced_rows.specs.declared.certificate.CertRow.{CertRow}
 use Rattle.traced_rows.specs.declared.evidence.CertFrom.{CertFrom}
 use Rattle.traced_rows.specs.declared.evidence.CertFrom.TheVariants as over
@@ -31,8 +36,9 @@ use Rattle.certificate_text.specs.Written.{opening_text, evidence_text, lemmas_t
 use Rattle.block_lines.specs.Written.{rule_line, basis_text}
 use Rattle.model_text.specs.Written as model
 use Rattle.model_text.specs.Written.{model_text, numbered_text, sides_text, maps_text}
+use Rattle.report_text.specs.Heads.{overflow_text, cause_text}
 use Rattle.equation_chain.specs.Written.{line_text, use_text, steps_text, lines_text, chain_text}
-use Rattle.command_runs.proofs.QuietTexts.{lacks, is_quiet, ends_line, IsQuiet, quiet-append, inside_is_quiet, quiet-flat_map}
+use Rattle.evidence_commands.proofs.QuietTexts.{lacks, is_quiet, ends_line, IsQuiet, quiet-append, inside_is_quiet, quiet-flat_map}
 
 -- texts without line ends
 pub lacks-append : (stop : ℕ) (xs ys : List ℕ) → lacks stop xs ≡ true → lacks stop ys ≡ true → lacks stop (xs ++ ys) ≡ true
@@ -70,6 +76,24 @@ number_is_part n = decimal_lacks 10 (omega arith) n
 pub integer_is_part : (z : ℤ) → IsPart (signed_decimal z)
 integer_is_part (pos n) = number_is_part n
 integer_is_part (negsuc n) = lacks-append 10 (45 ∷ []) (decimal (suc n)) refl (number_is_part (suc n))
+
+-- why a search or a test stops
+numbered : (label : List ℕ) (n : ℕ) → IsPart label → IsPart (label ++ decimal n)
+numbered label n is = lacks-append 10 label (decimal n) is (number_is_part n)
+
+overflow_is_part : (o : Overflow) → IsPart (overflow_text o)
+overflow_is_part o =
+    lacks-append 10 (signed_decimal o.left ++ cond o.product (codes " times ") (codes " plus ")) (signed_decimal o.right) (lacks-append 10 (signed_decimal o.left) (cond o.product (codes " times ") (codes " plus ")) (integer_is_part o.left) (either IsPart o.product (codes " times ") (codes " plus ") refl refl))
+    (integer_is_part o.right)
+
+pub cause_is_part : (c : Cause) → IsPart (cause_text c)
+cause_is_part (cause.Pairs spent) = numbered (codes "pairs ") spent refl
+cause_is_part (cause.Steps limit) = numbered (codes "steps ") limit refl
+cause_is_part (cause.Size letters) =
+    either IsPart letters (codes "size letters " ++ decimal word_limit) (codes "size terms " ++ decimal term_limit) (numbered (codes "size letters ") word_limit refl) (numbered (codes "size terms ") term_limit refl)
+cause_is_part (cause.Rows letters) =
+    either IsPart letters (codes "rows letters " ++ decimal letter_limit) (codes "rows " ++ decimal row_limit) (numbered (codes "rows letters ") letter_limit refl) (numbered (codes "rows ") row_limit refl)
+cause_is_part (cause.Overflow o) = lacks-append 10 (codes "overflow ") (overflow_text o) refl (overflow_is_part o)
 
 -- names, words and polynomials, where each declaration has a name of the language
 module _ (ds : List Declaration) (known : IsTrue (list_all is_named ds)) where
