@@ -2,8 +2,7 @@
 use Rattle.std.proofs.Common.{◌≡◌, ℕ, ◌≤◌, ◌&&◌, true, false, zero, suc, List, [], ◌∷◌, ◌++◌, length, Option}
 use Rattle.std.proofs.Common.{Some, None, Result, Ok, Err, refl, sym, ap, subst, ◌∙◌, append_assoc, append-nil, length-append, arith, inl, inr}
 use Rattle.std.proofs.lemmas.Bool.{and_right}
-use Rattle.statement_tokens.specs.Types.{Spot, Token, TokenKind as kind, ScanFault, BadToken, Placed, Scanner, ScanError}
-use Rattle.statement_tokens.specs.Types.{ScanError as error}
+use Rattle.statement_tokens.specs.Types.{Spot, Token, TokenKind as kind, Fault, BadToken, Placed, Scanner, Stop, stop}
 use Rattle.statement_tokens.specs.Language.{is_language_word, is_two, language_of}
 use Rattle.statement_tokens.specs.Pieces.{Piece, line_feed, name, literal}
 use Rattle.statement_tokens.specs.Pieces.{sign, sign_text, piece_text, pieces_text, is_some, is_piece, IsLongest, BeginsNone}
@@ -71,7 +70,7 @@ reads before more (piece ∷ pieces) rest at past good =
     ∙ fronts here later (tokens_from ((before ++ here) ++ later) rest 0 (place_behind pieces to) (past_after pieces to end))
     ∙ ap (λ front. with_front (here ++ later) (tokens_from front rest 0 (place_behind pieces to) (past_after pieces to end))) (append_assoc before here later)
 
-stops_at : (before : List Token) (rest : List ℕ) (at : Spot) (past : ℕ) (f : ScanFault) → Begins (language_of before) rest f
+stops_at : (before : List Token) (rest : List ℕ) (at : Spot) (past : ℕ) (f : Fault) → Begins (language_of before) rest f
     → tokens_from before rest 0 at past ≡ Err (record { fault = f; at = at })
 stops_at before rest at past f (inl (piece, later, text, is, faulty)) =
     ap (λ cs. tokens_from before cs 0 at past) text ∙ reads_piece before piece later at past is ∙ ap (outcome at _) faulty
@@ -113,7 +112,7 @@ module _ (before : List Token) (at : Spot) (past : ℕ) (text : List ℕ) where
   abbrev HasRead : Type 0
   HasRead = (read : Read) × TellsBehind before at past text read
 
-  fails_here : (f : ScanFault) → Begins (language_of before) text f → HasRead
+  fails_here : (f : Fault) → Begins (language_of before) text f → HasRead
   fails_here f begins = (
     Err (record { fault = f; at = at }),
     record {
@@ -156,7 +155,7 @@ module _ (before : List Token) (at : Spot) (past : ℕ) (text : List ℕ) where
           place = first.place;
         }
 
-    judged : (later : (read : Read) × TellsLater read) (o : Option ScanFault) → fault_of (language_of before) l.piece ≡ o → HasRead
+    judged : (later : (read : Read) × TellsLater read) (o : Option Fault) → fault_of (language_of before) l.piece ≡ o → HasRead
     judged later None good = (with_front here later.0, one_more good later.0 later.1)
     judged later (Some f) faulty = fails_here f (inl (l.piece, l.later, l.cut, l.is, faulty))
 
@@ -195,21 +194,21 @@ token_hands before old token rest at past is read tells =
     (is ∙ ap (with_front (token ∷ [])) (behind_is (before ++ token ∷ []) at past rest read tells))
 
 -- what is returned, by the scanner's function
-pub handed : (before : List Token) (old : Scanner) (out : Result (Option Token) ScanError) (new : Scanner) → Hands before old out new
+pub handed : (before : List Token) (old : Scanner) (out : Result (Option Token) (Stop Placed)) (new : Scanner) → Hands before old out new
     → HandsRead before old out new
 handed before old (Ok (Some token)) new is =
     let rest = unread (before ++ token ∷ []) new in
     unread_is before old (with_front (token ∷ []) rest) (is rest (leaves_unread (before ++ token ∷ []) new))
 handed before old (Ok None) new is = (unread_is before old (Ok []) is.0, unread_is before new (Ok []) is.1)
-handed before old (Err (error.Fault placed)) new is = unread_is before old (Err placed) is
-handed before old (Err error.Memory) new is = tt
+handed before old (Err (stop.Fault placed)) new is = unread_is before old (Err placed) is
+handed before old (Err (stop.Memory error)) new is = tt
 
-pub hands : (before : List Token) (old : Scanner) (out : Result (Option Token) ScanError) (new : Scanner) → HandsRead before old out new
+pub hands : (before : List Token) (old : Scanner) (out : Result (Option Token) (Stop Placed)) (new : Scanner) → HandsRead before old out new
     → Hands before old out new
 hands before old (Ok (Some token)) new is = token_hands before old token new.text.now new.at new.past is
 hands before old (Ok None) new is = (leaves before old (Ok []) is.0, leaves before new (Ok []) is.1)
-hands before old (Err (error.Fault placed)) new is = leaves before old (Err placed) is
-hands before old (Err error.Memory) new is = tt
+hands before old (Err (stop.Fault placed)) new is = leaves before old (Err placed) is
+hands before old (Err (stop.Memory error)) new is = tt
 
 -- of a whole text
 pub each_text_has_tokens_or_fault : EachTextHasTokensOrFault
