@@ -10,9 +10,6 @@ bind_ok (Err d) f y e = absurd cc
 pub ok_is : {A : Type 0} (x y : A) → (let r : Result A Fault = Ok x in r) ≡ Ok y → x ≡ y
 ok_is x y p = cc
 
-pub ok_differs : {A : Type 0} (x : A) (f : Fault) → (let r : Result A Fault = Ok x in r) ≡ Err f → ⊥
-ok_differs x f p = absurd cc
-
 -- runs
 module _ {S : Type 0} (step : S → Token → Result S Fault) where
   pub one_step : (st next : S) (t : Token) (rest : List Token) → step st t ≡ Ok next → run step st (t ∷ rest) ≡ run step next rest
@@ -76,7 +73,7 @@ run_upto step st front next rest (inr (f, p)) = inr (f, run_fails step st front 
 -- the result of a run is the one that was meant, if it is Ok
 pub upto_ok : {S : Type 0} {F : Type 0} (r : Result S Fault) (meant next : S) → Upto F r (Ok meant) → r ≡ Ok next → F × (meant ≡ next)
 upto_ok r meant next (inl (f, p)) given = (f, ok_is _ _ (sym p ∙ given))
-upto_ok r meant next (inr (f, p)) given = absurd (ok_differs next TooDeep (sym given ∙ p))
+upto_ok r meant next (inr (f, p)) given = absurd cc
 
 -- one run inside another, whose steps do the same wherever the token is one that is expected
 module _ {S T : Type 0} (inner : S → Token → Result S Fault) (outer : T → Token → Result T Fault) (wrap : S → T)
@@ -90,9 +87,9 @@ module _ {S T : Type 0} (inner : S → Token → Result S Fault) (outer : T → 
       by : (r : Result S Fault) → inner s t ≡ r → (r >>= λ x. run inner x ts) ≡ read
           → ((x : S) → run inner x ts ≡ read → (read ≡ Err Expected → ⊥) → run outer (wrap x) ts ≡ (read >>= λ x. Ok (wrap x)))
           → run outer (wrap s) (t ∷ ts) ≡ (read >>= λ x. Ok (wrap x))
-      by (Ok x) is runs go = one_step outer (wrap s) (wrap x) t ts (alike s t (Ok x) is (ok_differs x Expected)) ∙ go x runs fits
+      by (Ok x) is runs go = one_step outer (wrap s) (wrap x) t ts (alike s t (Ok x) is (λ e. absurd cc)) ∙ go x runs fits
       by (Err f) is runs go = failing outer (wrap s) t ts f (alike s t (Err f) is (λ e. fits (sym runs ∙ e))) ∙ ap (λ r. r >>= λ x. Ok (wrap x)) runs
 
   pub inside_upto : {F : Type 0} (ts : List Token) (s end : S) → Upto F (run inner s ts) (Ok end) → Upto F (run outer (wrap s) ts) (Ok (wrap end))
-  inside_upto ts s end (inl (f, p)) = inl (f, inside ts s (Ok end) p (ok_differs end Expected))
+  inside_upto ts s end (inl (f, p)) = inl (f, inside ts s (Ok end) p (λ e. absurd cc))
   inside_upto ts s end (inr (f, p)) = inr (f, inside ts s (Err TooDeep) p (λ e. absurd cc))

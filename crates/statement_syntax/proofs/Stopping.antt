@@ -162,11 +162,8 @@ module _ (ts : List Token) (refused : SyntaxFault) (loop : StoppedAt ts refused)
   tells_by bytes Expected utf8 read is = (
     fault.Expected,
     refl,
-    (misfit_of bytes utf8 read, λ on. not_deep (sym is ∙ (stuck on.0 on.1 (subst (λ l. IsFileOf l on.1) (sym (ap language_of all)) on.2) on.3).1)),
+    (misfit_of bytes utf8 read, λ on. let deep = (stuck on.0 on.1 (subst (λ l. IsFileOf l on.1) (sym (ap language_of all)) on.2) on.3).1 in absurd cc),
   )
-    where
-      not_deep : (let f : Fault = Expected in f) ≡ TooDeep → ⊥
-      not_deep e = absurd cc
   tells_by bytes TooDeep utf8 read is = (fault.TooDeep, refl, (misfit_of bytes utf8 read, subst (λ l. GoesOn l (front ++ loop.token ∷ [])) (ap language_of all) (deeper TooDeep is)))
   tells_by bytes f utf8 read is = absurd (deeper f is)
 
@@ -188,7 +185,7 @@ no_misfit bytes lines at m is =
     let language : language_of (m.front ++ m.token ∷ m.rest) ≡ is.language = ap language_of all ∙ file_language is.language lines is.speaks in
     m.there (m.rest, lines, subst (λ l. IsFileOf l lines) (sym language) is.speaks, is.fits, append_assoc m.front (m.token ∷ []) m.rest ∙ all)
 
-no_first : (bytes : List ℕ) (lines : List StatedLine) (f : Fault) (at : Spot) → IsFirstFault bytes f at → IsStatements bytes lines → ⊥
+pub no_first : (bytes : List ℕ) (lines : List StatedLine) (f : Fault) (at : Spot) → IsFirstFault bytes f at → IsStatements bytes lines → ⊥
 no_first bytes lines fault.NotUtf8 at first is = first.0 is.utf8
 no_first bytes lines fault.BadToken at first is = tokens_have_no_fault (chars bytes) _ _ at is.tokens first.1
 no_first bytes lines fault.LiteralTooLarge at first is = tokens_have_no_fault (chars bytes) _ _ at is.tokens first.1

@@ -144,6 +144,6 @@ pub deep : (front : List Token) (r : Reading) (t : Token) (f : Fault) → ExprRe
 deep front r t f ran fails =
     let read = run_reads (fresh []) front r ran in
     if_deep f (deep_reads read.0 t f (ap (λ s. reading_step s t) (sym read.1) ∙ fails)) (λ wider.
-        let on = ends wider.0.levels wider.0.head wider.0.part wider.0.focus in
-        let e = found wider.0 on.0 on.1 on.2 on.3 on.4 in
-        (on.0, e.0, sym (append_assoc front (t ∷ []) on.0) ∙ ap (λ (x : List Token). x ++ on.0) (sym (wider.1 ∙ ap (λ x. x ++ t ∷ []) read.2)) ∙ e.2))
+    let on = ends wider.0.levels wider.0.head wider.0.part wider.0.focus in
+    let e = found wider.0 on.0 on.1 on.2 on.3 on.4 in
+    (on.0, e.0, sym (append_assoc front (t ∷ []) on.0) ∙ ap (λ (x : List Token). x ++ on.0) (sym (wider.1 ∙ ap (λ x. x ++ t ∷ []) read.2)) ∙ e.2))

@@ -1,5 +1,5 @@
 -- The steps of the reader of expressions, one token after another.
-use Rattle.std.specs.Prelude.{◌≡◌, ℤ, zero, Bool, true, false, List, [], ◌∷◌, ◌++◌, length, Option, Some, None, Result, Ok, Err, pos, nat_lt, if◌then◌else◌}
+use Rattle.std.specs.Prelude.{ℤ, zero, Bool, true, false, List, [], ◌∷◌, ◌++◌, length, Option, Some, None, Result, Ok, Err, pos, nat_lt, if◌then◌else◌}
 use Rattle.statement_syntax.specs.Types.{Spot, Token, TokenKind, TokenKind as kind, Name, Number, Mark, Adjoint, Power, Primary, Letter, Identity, Bracket}
 use Rattle.statement_syntax.specs.Types.{Term, out-Term, Head, Level, Reading, Focus, Focus as focus, Fault, Expected, TooDeep}
 use Rattle.statement_syntax.specs.Types.{Sum, Part, Nothing, Scaled, Product}

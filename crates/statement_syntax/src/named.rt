@@ -118,12 +118,7 @@ fn pair_kind(word: PairWord, first: Name, second: Name) -> StatementKind
 }
 
 /// One of the two names of `pinv`, `inverse` or `inner`.
-pub fn pair_step(
-    word: PairWord,
-    at: Spot,
-    first: Option<Name>,
-    token: Token,
-) -> Result<Line, Fault>
+pub fn pair_step(word: PairWord, at: Spot, first: Option<Name>, token: Token) -> Result<Line, Fault>
     ensures { result ≡ pair_step word at first token.kind token.at }
 {
     let name = name_in(token)?;

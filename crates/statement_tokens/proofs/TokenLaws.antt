@@ -1,10 +1,10 @@
 -- Each text has one list of tokens or one first fault, and the scanner reads them.
 use Rattle.std.proofs.Common.{◌≡◌, ℕ, ◌≤◌, ◌&&◌, Bool, true, false, zero, suc, List, [], ◌∷◌, ◌++◌, length, Option}
 use Rattle.std.proofs.Common.{Some, None, Result, Ok, Err, refl, sym, ap, subst, ◌∙◌, append_assoc, append-nil, length-append, arith, inl, inr}
-use Rattle.std.specs.Prelude.{◌^◌, nat_le, nat_lt, if◌then◌else◌}
+use Rattle.std.specs.Prelude.{◌^◌, nat_le, nat_lt, if◌then◌else◌, IfSome}
 use Rattle.std.specs.Str.{encode_utf8_all}
 use Rattle.std.proofs.lemmas.Bool.{and_right}
-use Rattle.statement_tokens.specs.Types.{Spot, Token, TokenKind, TokenKind as kind, Language, First, Fault, BadToken, LiteralTooLarge, Placed, Scanner}
+use Rattle.statement_tokens.specs.Types.{Spot, Token, TokenKind as kind, Language, First, Fault, BadToken, LiteralTooLarge, Placed, Scanner}
 use Rattle.statement_tokens.specs.Types.{Stop, stop}
 use Rattle.statement_tokens.specs.Limits.{name_limit}
 use Rattle.statement_tokens.specs.Language.{is_language_word, is_two, language_of}
@@ -45,22 +45,18 @@ IsScanFault BadToken = Unit {0}
 IsScanFault LiteralTooLarge = Unit {0}
 IsScanFault f = ⊥
 
-by_test : (b : Bool) (wanted f : Fault) → IsScanFault wanted → (if b then None else Some wanted) ≡ Some f → IsScanFault f
-by_test true wanted f is has = absurd cc
-by_test false wanted f is has = let same : wanted ≡ f = cc in subst IsScanFault same is
+by_test : (b : Bool) (f : Fault) → IsScanFault f → IfSome (if b then None else Some f) IsScanFault
+by_test true f is = tt
+by_test false f is = is
 
-sign_scanned : (k : TokenKind) (language : Language) (f : Fault) → sign_fault k language ≡ Some f → IsScanFault f
-sign_scanned kind.Caret First f has = by_test false BadToken f tt has
-sign_scanned k language f has = absurd cc
-
-fault_scanned : (language : Language) (piece : Piece) (f : Fault) → fault_of language piece ≡ Some f → IsScanFault f
-fault_scanned language (name cs) f has = by_test (nat_le (length (encode_utf8_all cs)) name_limit) BadToken f tt has
-fault_scanned language (literal cs) f has = by_test (nat_lt (value_from 0 cs) (2 ^ 127)) LiteralTooLarge f tt has
-fault_scanned language (sign k) f has = sign_scanned k language f has
-fault_scanned language piece f has = absurd cc
+fault_scanned : (piece : Piece) (language : Language) → IfSome (fault_of language piece) IsScanFault
+fault_scanned (name cs) language = by_test (nat_le (length (encode_utf8_all cs)) name_limit) BadToken tt
+fault_scanned (literal cs) language = by_test (nat_lt (value_from 0 cs) (2 ^ 127)) LiteralTooLarge tt
+fault_scanned (sign kind.Caret) First = tt
+fault_scanned piece language = tt
 
 pub begins_scanned : (language : Language) (text : List ℕ) (f : Fault) → Begins language text f → IsScanFault f
-begins_scanned language text f (inl (piece, rest, cut, longest, has)) = fault_scanned language piece f has
+begins_scanned language text f (inl (piece, rest, cut, longest, has)) = subst (λ o. IfSome o IsScanFault) has (fault_scanned piece language)
 begins_scanned language text f (inr (c, rest, cut, none, is)) = rw is tt
 
 abbrev past_after : List Piece → Spot → ℕ → ℕ
