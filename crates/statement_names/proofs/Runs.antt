@@ -2,11 +2,11 @@
 use Rattle.std.proofs.Common.{◌≡◌, ℕ, ◌+◌, ◌<◌, List, [], ◌∷◌, ◌++◌, length, drop, get_or, Option, Some, None, Result, Ok, Err, refl, sym, ap, ◌∙◌}
 use Rattle.std.specs.Result.{result_err}
 use Rattle.std.specs.List.{flat_map}
-use Rattle.statement_names.specs.Types.{NameFault, NameStop, stop, Survey}
+use Rattle.statement_names.specs.Types.{NameFault, Stop, stop, Survey}
 use Rattle.statement_names.specs.Occurrences.{Occurrence}
-use Rattle.statement_names.specs.Faults.{Explains}
+use Rattle.lists.specs.Stop.{Explains, Gives}
 use Rattle.statement_names.proofs.Items.{rest_is}
-use Rattle.statement_names.specs.Survey.{fault_at, behind, goes_on, run, Ends}
+use Rattle.statement_names.specs.Survey.{fault_at, behind, goes_on, run}
 
 -- some occurrences and then others
 abbrev pub then_run : Result Survey NameFault → List Occurrence → Result Survey NameFault
@@ -33,8 +33,8 @@ module _ {A : Type 0} (of : A → List Occurrence) (items : List A) (i : ℕ) (x
   items_on first s found so_far is =
       sym (ap (λ xs. run s (flat_map of xs)) (rest_is items i x below at) ∙ run_on s (of x) (flat_map of (drop (i + 1) items)) found is) ∙ so_far
 
-  pub items_end : (first s t : Survey) (why : NameStop) → run s (flat_map of (drop i items)) ≡ run first (flat_map of items)
-      → Ends {A = Unit {0}} (run s (of x)) t (Err why)
-      → Explains (result_err (run first (flat_map of items))) why
+  pub items_end : (first s t : Survey) (why : Stop NameFault) → run s (flat_map of (drop i items)) ≡ run first (flat_map of items)
+      → Gives {X = Unit {0}} (λ done. t) (Err why) (run s (of x))
+      → Explains (λ fault. result_err (run first (flat_map of items)) ≡ Some fault) why
   items_end first s t (stop.Fault fault) so_far is = ap result_err (sym (items_on first s (Err fault) so_far is))
   items_end first s t (stop.Memory e) so_far is = tt

@@ -6,7 +6,7 @@ use Rattle.std.specs.Map.{lookup}
 use Rattle.std.specs.Option.{option_or}
 use Rattle.std.specs.Str.{bytes_eq}
 use Rattle.definitions.specs.Moduli.{is_field_modulus}
-use Rattle.statement_names.specs.Types.{Name, Statement, NameFault, Unknown, Double, TooMany, NotSquare, BadNumber, NameStop, stop, Kind, Object, Map}
+use Rattle.statement_names.specs.Types.{Name, Statement, NameFault, Unknown, Double, TooMany, NotSquare, BadNumber, Kind, Object, Map}
 use Rattle.statement_names.specs.Occurrences.{Occurrence, declares_object, declares_map, uses, lists, counts, modulus, begins_order}
 use Rattle.statement_names.specs.Occurrences.{begins_assumptions, begins_claim, begins_shape, occurrences_of}
 use Rattle.quiver.specs.Limits.{object_limit}
@@ -140,12 +140,3 @@ kind_within statements = kind_in (declared_in (occurrences_of statements))
 -- the first fault of the file
 abbrev pub name_fault_of : List Statement → Option NameFault
 name_fault_of statements = first_fault (map_limit_of statements) (kind_within statements) [] (occurrences_of statements)
-
--- the fault is the first one, or memory was short
-abbrev pub Explains : Option NameFault → NameStop → Type 0
-Explains found (stop.Fault fault) = found ≡ Some fault
-Explains found (stop.Memory e) = Unit {0}
-
-abbrev pub IsMemory : NameStop → Type 0
-IsMemory (stop.Fault fault) = ⊥
-IsMemory (stop.Memory e) = Unit {0}

@@ -1,7 +1,7 @@
 -- How the program finds the first fault: occurrence by occurrence, with how much more of each there may be.
 use Rattle.std.specs.Prelude.{◌≡◌, ℕ, ◌+◌, ◌-◌, if◌then◌else◌, is_some, List, [], ◌∷◌, ◌++◌, map, fold, take}
 use Rattle.std.specs.Prelude.{Option, Some, None, Result, Ok, Err}
-use Rattle.statement_names.specs.Types.{NameFault, NameStop, stop, Kind, Object, Map, Survey, Name, StatementKind, statement}
+use Rattle.statement_names.specs.Types.{NameFault, Kind, Object, Map, Survey, Name, StatementKind, statement}
 use Rattle.statement_names.specs.Occurrences.{Occurrence, declares_object, declares_map, begins_order, begins_assumptions, begins_claim, begins_shape}
 use Rattle.statement_names.specs.Faults.{kind_in, Counted, Objects, Maps, Orders, Assumptions, Claims, Shapes, fault_of}
 use Rattle.quiver.specs.Limits.{object_limit}
@@ -67,12 +67,6 @@ run s (o ∷ os) = goes_on (fault_at s o) (run (behind s o) os)
 abbrev pub outcome : {A : Type 0} → Survey → Result A NameFault → Result Survey NameFault
 outcome s (Ok x) = Ok s
 outcome s (Err fault) = Err fault
-
--- the same, unless memory was short
-abbrev pub Ends : {A : Type 0} → Result Survey NameFault → Survey → Result A NameStop → Type 0
-Ends found s (Ok x) = found ≡ Ok s
-Ends found s (Err (stop.Fault fault)) = found ≡ Err fault
-Ends found s (Err (stop.Memory e)) = Unit {0}
 
 -- the names of a list of declarations
 abbrev pub names_in : List (List ℕ × Kind) → List (List ℕ)

@@ -19,7 +19,7 @@ pub use Rattle.abbreviations.specs.declared.written.Equation.{Equation}
 pub use Rattle.adjoint_rules.specs.declared.parts.Shape.{Shape}
 pub use Rattle.statement_names.specs.declared.fault.NameFault.{NameFault}
 pub use Rattle.statement_names.specs.declared.fault.NameFault.TheVariants.{Unknown, Double, TooMany, NotSquare, BadNumber}
-pub use Rattle.statement_names.specs.declared.fault.NameStop.{NameStop, NameStop as stop}
+pub use Rattle.lists.specs.declared.stop.Stop.{Stop, Stop as stop}
 pub use Rattle.statement_names.specs.declared.kinds.Kind.{Kind}
 pub use Rattle.statement_names.specs.declared.kinds.Kind.TheVariants.{Object, Map}
 pub use Rattle.statement_names.specs.declared.survey.Survey.{Survey}

@@ -1,15 +1,17 @@
 //! The names, literals and first words of a statement, kind by kind.
 
 ghost use Rattle.std.specs.Prelude.{◌≡◌, ◌∷◌, [], ◌++◌, map};
+ghost use Rattle.lists.specs.Stop.{Gives};
 ghost use Rattle.statement_names.specs.Occurrences.{declares_map, begins_assumptions, used_names, kind_occurrences, statement_occurrences};
-ghost use Rattle.statement_names.specs.Survey.{run, outcome, Ends};
+ghost use Rattle.statement_names.specs.Survey.{run, outcome};
 ghost use Rattle.statement_names.specs.Uses.{use_of};
 
-use crate::fault::{NameFault, NameStop};
+use crate::fault::NameFault;
 use crate::kinds::Kind;
 use crate::literal::check_modulus;
 use crate::survey::Survey;
 use adjoint_rules::SHAPE_SIDE_LIMIT;
+use lists::Stop;
 use statement_syntax::{Name, Number, Statement, StatementKind, Sum};
 use statement_tokens::Spot;
 use std::alloc::Global;
@@ -17,8 +19,8 @@ use word_orders::WEIGHT_LIMIT;
 
 impl Survey {
     // All names, literals and first words of a statement.
-    pub(crate) fn statement(&mut self, alloc: Global, statement: &Statement) -> Result<(), NameStop>
-        ensures { Ends (run self.old (statement_occurrences statement.now)) self.new result }
+    pub(crate) fn statement(&mut self, alloc: Global, statement: &Statement) -> Result<(), Stop<NameFault>>
+        ensures { Gives (λ done. self.new) result (run self.old (statement_occurrences statement.now)) }
     {
         let at = statement.at;
         match &statement.kind {
@@ -110,16 +112,16 @@ impl Survey {
         alloc: Global,
         at: Spot,
         weights: &[(Name, Number)],
-    ) -> Result<(), NameStop>
-        ensures { Ends (run self.old (kind_occurrences at (StatementKind.Weight weights.now))) self.new result }
+    ) -> Result<(), Stop<NameFault>>
+        ensures { Gives (λ done. self.new) result (run self.old (kind_occurrences at (StatementKind.Weight weights.now))) }
     {
         self.order(at)?;
         self.pairs(alloc, weights, Kind::Map, WEIGHT_LIMIT)
     }
 
     // An order by the maps that are eliminated.
-    fn eliminated(&mut self, alloc: Global, at: Spot, names: &[Name]) -> Result<(), NameStop>
-        ensures { Ends (run self.old (kind_occurrences at (StatementKind.Eliminate names.now))) self.new result }
+    fn eliminated(&mut self, alloc: Global, at: Spot, names: &[Name]) -> Result<(), Stop<NameFault>>
+        ensures { Gives (λ done. self.new) result (run self.old (kind_occurrences at (StatementKind.Eliminate names.now))) }
     {
         self.order(at)?;
         self.names(alloc, names)
@@ -132,8 +134,8 @@ impl Survey {
         at: Spot,
         modulus: &Number,
         sides: &[(Name, Number)],
-    ) -> Result<(), NameStop>
-        ensures { Ends (run self.old (kind_occurrences at (StatementKind.Shape modulus.now sides.now))) self.new result }
+    ) -> Result<(), Stop<NameFault>>
+        ensures { Gives (λ done. self.new) result (run self.old (kind_occurrences at (StatementKind.Shape modulus.now sides.now))) }
     {
         self.shape(at)?;
         check_modulus(modulus)?;

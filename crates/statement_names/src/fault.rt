@@ -1,11 +1,10 @@
 //! What can be wrong with a name, a literal or a statement.
 
 ghost use Rattle.std.specs.Prelude.{◌≡◌};
-ghost use Rattle.statement_names.specs.Faults.{IsMemory};
-ghost use Rattle.statement_names.specs.declared.fault.NameStop.TheVariants as stop;
+ghost use Rattle.lists.specs.declared.stop.Stop.TheVariants as stop;
 
+use lists::Stop;
 use statement_tokens::Spot;
-use std::alloc::{AllocError, AllocFailed};
 use thiserror::Error;
 
 /// The fault of a name, a literal or a statement, with its place.
@@ -28,37 +27,10 @@ pub enum NameFault {
     BadNumber { at: Spot },
 }
 
-/// Why the names of a file are not read: their first fault, or want of memory.
-#[derive(Debug, Drop, Error)]
-pub enum NameStop {
-    /// A name, a literal or a statement has a fault.
-    #[error(transparent)]
-    Fault(NameFault),
-    /// Memory is short.
-    #[error(transparent)]
-    Memory(AllocError),
-}
-
-impl From<NameFault> for NameStop {
+impl From<NameFault> for Stop<NameFault> {
     ghost from_gives = { λ fault stopped. stopped ≡ stop.Fault fault };
 
-    fn from(fault: NameFault) -> NameStop {
-        NameStop::Fault(fault)
-    }
-}
-
-impl From<AllocError> for NameStop {
-    ghost from_gives = { λ _ stopped. IsMemory stopped };
-
-    fn from(error: AllocError) -> NameStop {
-        NameStop::Memory(error)
-    }
-}
-
-impl<T: Drop> From<AllocFailed<T>> for NameStop {
-    ghost from_gives = { λ _ stopped. IsMemory stopped };
-
-    fn from(_error: AllocFailed<T>) -> NameStop {
-        NameStop::Memory(AllocError)
+    fn from(fault: NameFault) -> Stop<NameFault> {
+        Stop::Fault(fault)
     }
 }

@@ -16,7 +16,7 @@ mod starred;
 mod survey;
 mod used;
 
-pub use fault::{NameFault, NameStop};
+pub use fault::NameFault;
 pub use names::{Names, read_names};
 pub use survey::FIRST_MAP_LIMIT;
 pub use used::EXPONENT_LIMIT;

@@ -1,7 +1,8 @@
 //! What the names of a file stand for, or their first fault.
 
-ghost use Rattle.std.specs.Prelude.{◌≡◌, IfOk, IfErr, OnOk, None};
-ghost use Rattle.statement_names.specs.Faults.{name_fault_of, Explains};
+ghost use Rattle.std.specs.Prelude.{◌≡◌, IfOk, IfErr, OnOk, Some, None};
+ghost use Rattle.lists.specs.Stop.{Explains};
+ghost use Rattle.statement_names.specs.Faults.{name_fault_of};
 ghost use Rattle.statement_names.specs.Numbered.{declarations_of};
 ghost use Rattle.statement_names.specs.Ordered.{order_of};
 ghost use Rattle.statement_names.specs.Solved.{solved_of};
@@ -11,7 +12,7 @@ ghost use Rattle.statement_names.specs.Shapes.{shapes_of};
 ghost use Rattle.statement_names.specs.Ready.{IsReady};
 
 use crate::declarations::declare_all;
-use crate::fault::NameStop;
+use crate::fault::NameFault;
 use crate::marked::read_marked;
 use crate::order::read_order;
 use crate::shapes::read_shapes;
@@ -19,7 +20,7 @@ use crate::solved::read_solved;
 use crate::starred::is_starred;
 use crate::survey::check_names;
 use adjoint_rules::Shape;
-use lists::Listing;
+use lists::{Listing, Stop};
 use quiver::Quiver;
 use statement_syntax::{Statement, Tree};
 use std::alloc::{AllocError, Global};
@@ -44,9 +45,9 @@ pub struct Names {
 }
 
 /// What the names of a file stand for, or their first fault.
-pub fn read_names(alloc: Global, tree: &Tree) -> Result<Names, NameStop>
+pub fn read_names(alloc: Global, tree: &Tree) -> Result<Names, Stop<NameFault>>
     ensures sound { OnOk result (name_fault_of tree.now.statements ≡ None) }
-    ensures fault { IfErr result (Explains (name_fault_of tree.now.statements)) }
+    ensures fault { IfErr result (Explains (λ fault. name_fault_of tree.now.statements ≡ Some fault)) }
     ensures quiver { IfOk result (λ names. names.quiver ≡ declarations_of tree.now.statements) }
     ensures order { IfOk result (λ names. names.order ≡ order_of names.quiver tree.now.statements) }
     ensures starred { IfOk result (λ names. names.starred ≡ is_starred tree.now.statements) }
@@ -70,7 +71,7 @@ pub fn read_names(alloc: Global, tree: &Tree) -> Result<Names, NameStop>
         }),
         Err(failed) => {
             drop(quiver);
-            Err(NameStop::Memory(failed))
+            Err(Stop::Memory(failed))
         }
     }
 }

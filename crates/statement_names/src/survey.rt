@@ -1,15 +1,17 @@
 //! The search for the first fault: each name, literal and first word of the file, in reading order.
 
-ghost use Rattle.std.specs.Prelude.{◌≡◌, ◌-◌, None, OnOk, OnErr, IfErr};
+ghost use Rattle.std.specs.Prelude.{◌≡◌, ◌-◌, Some, None, OnOk, OnErr, IfErr};
 ghost use Rattle.std.specs.Result.{result_err};
-ghost use Rattle.statement_names.specs.Faults.{name_fault_of, short_of, Explains};
+ghost use Rattle.lists.specs.Stop.{Explains};
+ghost use Rattle.statement_names.specs.Faults.{name_fault_of, short_of};
 ghost use Rattle.statement_names.specs.Limits.{map_limit_of};
 ghost use Rattle.statement_names.specs.Occurrences.{begins_order, begins_assumptions, begins_claim, begins_shape};
 ghost use Rattle.statement_names.specs.Survey.{fault_at, behind};
 
-use crate::fault::{NameFault, NameStop};
+use crate::fault::NameFault;
 use crate::kinds::{Kinds, kinds_of};
 use adjoint_rules::{ASSUMPTION_LIMIT, CLAIM_LIMIT, SHAPE_LIMIT};
+use lists::Stop;
 use quiver::{MAP_LIMIT, OBJECT_LIMIT};
 use statement_syntax::{Statement, StatementKind};
 use statement_tokens::Spot;
@@ -33,9 +35,9 @@ pub struct Survey {
 
 /// Finds the first fault of the names, the literals and the numbers of statements.
 #[tactic(auto, using(std::proofs::lemmas::Grind::common_steps, crate::proofs::Runs::run_on))]
-pub fn check_names(alloc: Global, statements: &[Statement]) -> Result<(), NameStop>
+pub fn check_names(alloc: Global, statements: &[Statement]) -> Result<(), Stop<NameFault>>
     ensures ok { OnOk result (name_fault_of statements.now ≡ None) }
-    ensures err { IfErr result (Explains (name_fault_of statements.now)) }
+    ensures err { IfErr result (Explains (λ fault. name_fault_of statements.now ≡ Some fault)) }
 {
     let map_limit = map_limit_of(statements);
     let mut survey = Survey {

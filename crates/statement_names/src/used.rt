@@ -1,18 +1,20 @@
 //! The names that are used: whether they are declared, with the kind that is expected, and once in a list.
 
-ghost use Rattle.std.specs.Prelude.{◌≡◌, ◌∷◌, [], ◌++◌, None, OnOk, IfErr};
+ghost use Rattle.std.specs.Prelude.{◌≡◌, ◌∷◌, [], ◌++◌, Some, None, OnOk, IfErr};
 ghost use Rattle.std.specs.List.{flat_map};
 ghost use Rattle.std.specs.Result.{result_err};
-ghost use Rattle.statement_names.specs.Faults.{Explains, kind_in, is_kind, used_fault};
+ghost use Rattle.lists.specs.Stop.{Explains, Gives};
+ghost use Rattle.statement_names.specs.Faults.{kind_in, is_kind, used_fault};
 ghost use Rattle.statement_names.specs.Occurrences.{lists, names_behind, pairs_behind, used_names, mark_occurrences, primary_occurrences};
 ghost use Rattle.statement_names.specs.Occurrences.{factor_occurrences, term_occurrences, sum_occurrences, sides_occurrences};
-ghost use Rattle.statement_names.specs.Survey.{fault_at, run, outcome, Ends, names_in};
+ghost use Rattle.statement_names.specs.Survey.{fault_at, run, outcome, names_in};
 ghost use Rattle.statement_names.specs.Uses.{use_of};
 
-use crate::fault::{NameFault, NameStop};
+use crate::fault::NameFault;
 use crate::kinds::{Kind, Kinds};
 use crate::literal::check_count;
 use crate::survey::Survey;
+use lists::Stop;
 use statement_syntax::{Factor, Mark, Name, Number, Primary, Sum, Term};
 use std::alloc::Global;
 
@@ -39,23 +41,23 @@ impl Survey {
 
     // A name of a list, after those before it.
     #[tactic(auto, using(crate::proofs::KindsFound::among_names_in))]
-    pub(crate) fn listed(&self, listed: &mut Kinds, name: &Name, kind: Kind) -> Result<(), NameStop>
+    pub(crate) fn listed(&self, listed: &mut Kinds, name: &Name, kind: Kind) -> Result<(), Stop<NameFault>>
         ensures ok { OnOk result (fault_at self.now (lists (names_in listed.old) (use_of kind name.now)) ≡ None) }
         ensures after { OnOk result (names_in listed.new ≡ names_in listed.old ++ name.now.text ∷ []) }
-        ensures err { IfErr result (Explains (fault_at self.now (lists (names_in listed.old) (use_of kind name.now)))) }
+        ensures err { IfErr result (Explains (λ fault. fault_at self.now (lists (names_in listed.old) (use_of kind name.now)) ≡ Some fault)) }
     {
         self.name(name, kind)?;
         let text = name.text.as_str();
         if listed.kind_of(text).is_some() {
-            return Err(NameStop::Fault(NameFault::Double { at: name.at }));
+            return Err(Stop::Fault(NameFault::Double { at: name.at }));
         }
         listed.declare(text, kind)?;
         Ok(())
     }
 
     // A list of names of maps.
-    pub(crate) fn names(&self, alloc: Global, names: &[Name]) -> Result<(), NameStop>
-        ensures { Ends (run self.now (names_behind Kind.Map [] names.now)) self.now result }
+    pub(crate) fn names(&self, alloc: Global, names: &[Name]) -> Result<(), Stop<NameFault>>
+        ensures { Gives (λ done. self.now) result (run self.now (names_behind Kind.Map [] names.now)) }
     {
         let mut listed = Kinds::new(alloc);
         for name in names {
@@ -71,8 +73,8 @@ impl Survey {
         pairs: &[(Name, Number)],
         kind: Kind,
         most: u32,
-    ) -> Result<(), NameStop>
-        ensures { Ends (run self.now (pairs_behind kind most [] pairs.now)) self.now result }
+    ) -> Result<(), Stop<NameFault>>
+        ensures { Gives (λ done. self.now) result (run self.now (pairs_behind kind most [] pairs.now)) }
     {
         let mut listed = Kinds::new(alloc);
         for pair in pairs {
@@ -82,7 +84,7 @@ impl Survey {
             }
             if let Err(fault) = check_count(most, &pair.1) {
                 drop(listed);
-                return Err(NameStop::Fault(fault));
+                return Err(Stop::Fault(fault));
             }
         }
         drop(listed);

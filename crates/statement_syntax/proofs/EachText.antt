@@ -3,14 +3,14 @@ use Rattle.std.proofs.Common.{◌≡◌, ◌⊎◌, inl, inr, ℕ, Bool, true, f
 use Rattle.std.specs.Str.{IsUtf8, is_utf8, chars}
 use Rattle.std.specs.Str.Lossy.{utf8_valid_len}
 use Rattle.std.proofs.lemmas.Str.{IsUtf8-from_is_utf8, is_utf8-from_IsUtf8}
-use Rattle.statement_syntax.specs.Types.{Spot, Token, Statement, Misfit, Progress, Fault, Fault as fault}
+use Rattle.statement_syntax.specs.Types.{Spot, Token, Statement, Progress, Fault, Fault as fault}
 use Rattle.statement_syntax.specs.Steps.{run}
 use Rattle.statement_syntax.specs.Lines.{file_step}
 use Rattle.statement_tokens.specs.Language.{language_of}
 use Rattle.statement_tokens.specs.Tokens.{AreTokens}
 use Rattle.statement_tokens.specs.Laws.{HasTokensOrFault}
 use Rattle.statement_tokens.proofs.TokenLaws.{each_text_has_tokens_or_fault}
-use Rattle.statement_syntax.specs.Fault.{IsFirstFault, TellsFirstFault, fault_at, scan_fault, misfit_fault}
+use Rattle.statement_syntax.specs.Fault.{IsFirstFault, TellsFirstFault, fault_at}
 use Rattle.statement_syntax.specs.Texts.{IsTreeOf}
 use Rattle.statement_syntax.specs.Stages.{begun, left, StoppedAt, AllRead}
 use Rattle.statement_syntax.specs.Laws.{EachTextIsRead}
@@ -19,14 +19,14 @@ use Rattle.statement_syntax.proofs.Stopping.{Runs, goes_on, is_found, is_first, 
 -- all tokens are read, or one is the first that isn't
 data Comes (ts : List Token) : Type 0 where
   to_end : (statements : List Statement) → AllRead ts statements → Comes ts
-  to_misfit : (misfit : Misfit) (at : Spot) → StoppedAt ts (fault_at (misfit_fault misfit) at) → Comes ts
+  to_misfit : (misfit : Fault) (at : Spot) → StoppedAt ts (fault_at misfit at) → Comes ts
 
 comes_from : (ts front rest : List Token) (p : Progress) → left ts ≡ front ++ rest → Runs ts front p → Comes ts
 comes_from ts front [] p splits ran = to_end p.statements (p, ap (run (file_step (language_of ts)) (begun ts)) (splits ∙ append-nil front) ∙ ran, refl)
 comes_from ts front (t ∷ rest) p splits ran =
     by (file_step (language_of ts) p t) refl (λ next steps. comes_from ts (front ++ t ∷ []) rest next (splits ∙ sym (append_assoc front (t ∷ []) rest)) (goes_on ts front t p next ran steps))
   where
-    by : (next : Result Progress Misfit) → file_step (language_of ts) p t ≡ next → ((state : Progress) → file_step (language_of ts) p t ≡ Ok state → Comes ts) → Comes ts
+    by : (next : Result Progress Fault) → file_step (language_of ts) p t ≡ next → ((state : Progress) → file_step (language_of ts) p t ≡ Ok state → Comes ts) → Comes ts
     by (Ok next) steps more = more next steps
     by (Err misfit) stops more = to_misfit misfit t.at (record { front = front; token = t; rest = rest; splits = splits; progress = p; ran = ran; misfit = misfit; stops = stops; tells = refl })
 
@@ -45,11 +45,11 @@ module _ (bytes : List ℕ) (utf8 : IsUtf8 bytes) where
   read_on : (ts : List Token) → AreTokens (chars bytes) ts → Comes ts → IsRead bytes
   read_on ts read (to_end statements all) = inl (statements, is_found bytes ts statements utf8 read all)
   read_on ts read (to_misfit misfit at stopped) =
-      faulted (misfit_fault misfit) at (is_first bytes ts (fault_at (misfit_fault misfit) at) utf8 read stopped)
+      faulted misfit at (is_first bytes ts (fault_at misfit at) utf8 read stopped)
 
   by_tokens : HasTokensOrFault (chars bytes) → IsRead bytes
   by_tokens (inl (ts, are)) = read_on ts are (comes ts)
-  by_tokens (inr (f, at, first)) = faulted (scan_fault f) at (told_scanned bytes _ f at refl utf8 first)
+  by_tokens (inr (f, at, first)) = faulted f at (told_scanned bytes _ f at refl utf8 first)
 
 pub each_text_is_read : EachTextIsRead
 each_text_is_read bytes = by (is_utf8 bytes) refl

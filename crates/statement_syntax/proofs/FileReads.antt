@@ -1,13 +1,13 @@
 -- Lines are read one by one: what was read is written so, can go on, and where a token is a misfit nothing goes on with it.
 use Rattle.std.proofs.Common.{◌≡◌, List, [], ◌∷◌, ◌++◌, inl, inr, Option, Some, None, Result, Ok, Err, refl, sym, ap, subst, ◌∙◌, append_assoc}
 use Rattle.std.proofs.lemmas.List.{append-nil, map-append}
-use Rattle.statement_syntax.specs.Types.{Spot, Token, Language, TokenKind, TokenKind as kind, Name, Number, Statement, Misfit, Expected, TooDeep}
+use Rattle.statement_syntax.specs.Types.{Spot, Token, Language, TokenKind, TokenKind as kind, Name, Number, Statement, Fault, Expected, TooDeep}
 use Rattle.statement_syntax.specs.Types.{MapRest as rest, Line, Line as line, Progress}
 use Rattle.statement_syntax.specs.Steps.{◌>>=◌, run}
 use Rattle.statement_syntax.specs.Grammar.{sign_token, Stated, stated_tokens, StatedLine, AreLinesOf, file_tokens, FileFits}
 use Rattle.statement_syntax.specs.Tree.{stated_tree, file_tree}
 use Rattle.statement_syntax.specs.Lines.{Lined, pairs_by, line_step, file_step}
-use Rattle.statement_syntax.proofs.Run.{Upto, then_on, before_it, after_it, run_upto, inside_upto, one_step, failing, run_front, bind_ok, ok_is}
+use Rattle.statement_syntax.proofs.Run.{IfDeep, if_deep, Upto, then_on, before_it, after_it, run_upto, inside_upto, one_step, failing, run_front, bind_ok, ok_is}
 use Rattle.statement_syntax.proofs.Viable.{somewhere}
 use Rattle.statement_syntax.proofs.LineReads.{LineReads, Grows, line_grows}
 use Rattle.statement_syntax.proofs.LineEnds.{EndsAs, line_ends, line_on}
@@ -79,17 +79,15 @@ AreLinesOf-append language [] ms f g = g
 AreLinesOf-append language (l ∷ ls) ms f g = (f.0, AreLinesOf-append language ls ms f.1 g)
 
 module _ (language : Language) (before : List Statement) where
-  abbrev Goes : List Token → Spot → TokenKind → Result Progress Misfit → Type 0
+  abbrev Goes : List Token → Spot → TokenKind → Result Progress Fault → Type 0
   Goes ts at k (Ok p) = FileReads language before p (ts ++ sign_token k at ∷ [])
-  Goes ts at k (Err Expected) = Unit {0}
   -- a bracket that is too deep can go on to lines, if not to some within the limit
-  Goes ts at k (Err TooDeep) =
-      (more : List Token) × (lines : List StatedLine) × AreLinesOf language lines × ((ts ++ sign_token k at ∷ []) ++ more ≡ file_tokens lines)
+  Goes ts at k (Err f) =
+      IfDeep ((more : List Token) × (lines : List StatedLine) × AreLinesOf language lines × ((ts ++ sign_token k at ∷ []) ++ more ≡ file_tokens lines)) f
 
-  end_goes : (p : Progress) (ts : List Token) (t : Spot) (read : FileReads language before p ts) (r : Result Statement Misfit) → EndsAs language read.now r
+  end_goes : (p : Progress) (ts : List Token) (t : Spot) (read : FileReads language before p ts) (r : Result Statement Fault) → EndsAs language read.now r
       → Goes ts t kind.End (r >>= λ s. Ok (record { statements = p.statements ++ s ∷ []; line = line.Start }))
-  end_goes p ts t read (Err Expected) ends = tt
-  end_goes p ts t read (Err TooDeep) ends = absurd ends
+  end_goes p ts t read (Err f) ends = rw ends tt
   end_goes p ts t read (Ok s) ends = record {
     lines = read.lines ++ record { stated = ends.stated; end = t } ∷ [];
     speak = AreLinesOf-append language read.lines _ read.speak (ends.speaks, tt);
@@ -102,14 +100,13 @@ module _ (language : Language) (before : List Statement) where
 
   within_goes : (p : Progress) (ts : List Token) (t : Spot) (k : TokenKind) (read : FileReads language before p ts) (r : Lined) → Grows language read.now t k r
       → Goes ts t k (r >>= λ l. Ok (record { statements = p.statements; line = l }))
-  within_goes p ts t k read (Err Expected) grows = tt
-  within_goes p ts t k read (Err TooDeep) grows =
-      let last : StatedLine = record { stated = grows.1; end = somewhere } in (
-        grows.0 ++ sign_token kind.End somewhere ∷ [],
+  within_goes p ts t k read (Err f) grows = if_deep f grows (λ on.
+      let last : StatedLine = record { stated = on.1; end = somewhere } in (
+        on.0 ++ sign_token kind.End somewhere ∷ [],
         read.lines ++ last ∷ [],
-        AreLinesOf-append language read.lines (last ∷ []) read.speak (grows.2, tt),
-        rw (read.are, file_tokens-append, ← grows.3) (simp (append-nil, append_assoc)),
-      )
+        AreLinesOf-append language read.lines (last ∷ []) read.speak (on.2, tt),
+        rw (read.are, file_tokens-append, ← on.3) (simp (append-nil, append_assoc)),
+      ))
   within_goes p ts t k read (Ok l) grows = record {
     lines = read.lines;
     speak = read.speak;
@@ -125,9 +122,9 @@ module _ (language : Language) (before : List Statement) where
   file_goes p ts t k read = within_goes p ts t k read _ (line_grows language p.line read.now t k read.reads)
 
   -- with a bracket that is too deep it can go on to a file that is not within the limit
-  pub file_deeper : (p : Progress) (ts : List Token) (t : Token) → FileReads language before p ts → file_step language p t ≡ Err TooDeep
-      → (more : List Token) × (lines : List StatedLine) × AreLinesOf language lines × ((ts ++ t ∷ []) ++ more ≡ file_tokens lines)
-  file_deeper p ts t read fails = subst (Goes ts t.at t.kind) fails (file_goes p ts t.at t.kind read)
+  pub file_deeper : (p : Progress) (ts : List Token) (t : Token) (f : Fault) → FileReads language before p ts → file_step language p t ≡ Err f
+      → IfDeep ((more : List Token) × (lines : List StatedLine) × AreLinesOf language lines × ((ts ++ t ∷ []) ++ more ≡ file_tokens lines)) f
+  file_deeper p ts t f read fails = subst (Goes ts t.at t.kind) fails (file_goes p ts t.at t.kind read)
 
   run_reads_from : (p next : Progress) (ts us : List Token) → run (file_step language) p us ≡ Ok next → FileReads language before p ts → FileReads language before next (ts ++ us)
   unfolding run
@@ -155,12 +152,12 @@ module _ (language : Language) (before : List Statement) where
         rw (read.are, file_tokens-append, ← on.4) (simp (append-nil, append_assoc)),
       )
 
-  misfit_by : (F : Type 0) (r : Result Progress Misfit) (p : Progress) (f : Misfit) → r ≡ Err f → Upto F r (Ok p) → (F → ⊥) × (f ≡ TooDeep)
+  misfit_by : (F : Type 0) (r : Result Progress Fault) (p : Progress) (f : Fault) → r ≡ Err f → Upto F r (Ok p) → (F → ⊥) × (f ≡ TooDeep)
   misfit_by F r p f fails (inl (fits, ran)) = absurd cc
   misfit_by F r p f fails (inr (wide, ran)) = (wide, cc)
 
   -- where a token is a misfit no lines go on with it but some that are not within the limit, and that only where the misfit is a bracket that is too deep
-  pub file_misfit : (front : List Token) (p : Progress) (t : Token) (f : Misfit) → run (file_step language) (in_file before line.Start) front ≡ Ok p
+  pub file_misfit : (front : List Token) (p : Progress) (t : Token) (f : Fault) → run (file_step language) (in_file before line.Start) front ≡ Ok p
       → file_step language p t ≡ Err f → (more : List Token) (lines : List StatedLine) → AreLinesOf language lines → front ++ t ∷ more ≡ file_tokens lines
       → (FileFits lines → ⊥) × (f ≡ TooDeep)
   file_misfit front p t f ran fails more lines speak is =

@@ -1,7 +1,7 @@
 -- The tokens of a text end with the end of a line.
 use Rattle.std.proofs.Common.{◌≡◌, ℕ, zero, suc, ◌+◌, ◌≤◌, List, [], ◌∷◌, ◌++◌, ◌⊎◌, inl, inr, Result, Ok, Err, refl, ap, subst, arith, append_assoc}
 use Rattle.std.proofs.lemmas.List.{append-nil}
-use Rattle.statement_syntax.specs.Types.{Spot, Token, TokenKind as kind, Item, Item as item, ScanFault, Placed}
+use Rattle.statement_syntax.specs.Types.{Spot, Token, TokenKind as kind, Item, Item as item, Fault, Placed}
 use Rattle.statement_tokens.specs.Tokens.{end_of, right_of, below}
 use Rattle.statement_tokens.specs.Items.{item_at}
 use Rattle.statement_tokens.proofs.Reading.{◌>>=◌, tokens_from, placed}
@@ -30,7 +30,7 @@ scan_ok (Err d) f y e = absurd cc
 pub tokens_is : (x y : List Token) → (let r : Result (List Token) Placed = Ok x in r) ≡ Ok y → x ≡ y
 tokens_is x y known = cc
 
-placed_ends : (before : List Token) (r : Result Item ScanFault) (at : Spot) (past : ℕ) (next : List Token → ℕ → Spot → ℕ → Result (List Token) Placed)
+placed_ends : (before : List Token) (r : Result Item Fault) (at : Spot) (past : ℕ) (next : List Token → ℕ → Spot → ℕ → Result (List Token) Placed)
     → ((front : List Token) (skip : ℕ) (to : Spot) (end : ℕ) (us : List Token) → next front skip to end ≡ Ok us → EndsWell end us) → (ts : List Token) → placed before r at past next ≡ Ok ts → EndsWell past ts
 placed_ends before (Err e) at past next go ts known = absurd cc
 placed_ends before (Ok item.NewLine) at past next go ts known =

@@ -2,7 +2,7 @@
 use Rattle.std.proofs.Common.{◌≡◌, false, List, [], ◌∷◌, ◌++◌, Option, Some, None, Result, Ok, Err, refl, sym, ap, ap₂, ◌∙◌, append_assoc, append-nil}
 use Rattle.std.specs.Prelude.{codes, pos}
 use Rattle.statement_syntax.specs.Types.{Spot, Token, Language, TokenKind as kind, Name, Number, Sum, Statement, StatementKind as statement}
-use Rattle.statement_syntax.specs.Types.{Misfit, Expected, TooDeep, Reading, SidesWord, MapRest as rest, Line, Line as line}
+use Rattle.statement_syntax.specs.Types.{Fault, Expected, Reading, SidesWord, MapRest as rest, Line, Line as line}
 use Rattle.statement_syntax.specs.Steps.{◌>>=◌, whole_sum}
 use Rattle.statement_syntax.specs.Grammar.{expr_tokens, sign_token, name_token, number_token, word_token, names_tokens, pairs_tokens, sides_text, no_word}
 use Rattle.statement_syntax.specs.Grammar.{Stated, listed, mapped, sides, paired, projected, by_degree, by_weight, modelled, stated_tokens, StatedFits, IsOf}
@@ -29,18 +29,16 @@ pairs_on (p ∷ ps) (Some n) = (
 
 module _ (language : Language) where
   -- where a line may end its tokens are the statement's, and where it may not more is expected
-  abbrev pub EndsAs : List Token → Result Statement Misfit → Type 0
+  abbrev pub EndsAs : List Token → Result Statement Fault → Type 0
   EndsAs ts (Ok s) = WholeReads language s ts
-  EndsAs ts (Err Expected) = Unit {0}
-  EndsAs ts (Err TooDeep) = ⊥
+  EndsAs ts (Err f) = f ≡ Expected
 
   whole_reads : (s : Stated) (ts : List Token) → IsOf language s → StatedFits s → ts ≡ stated_tokens s → WholeReads language (stated_tree s) ts
   whole_reads s ts speaks fits are = record { stated = s; speaks = speaks; fits = fits; tree = refl; are = are }
 
-  second_ends : (w : SidesWord) (at : Spot) (left : Sum) (r : Reading) (ts : List Token) (res : Result Sum Misfit) → whole_sum r ≡ res
+  second_ends : (w : SidesWord) (at : Spot) (left : Sum) (r : Reading) (ts : List Token) (res : Result Sum Fault) → whole_sum r ≡ res
       → SecondSide w at left r ts → EndsAs ts (statement_by at (res >>= λ right. Ok (sides_kind w left right)))
-  second_ends w at left r ts (Err Expected) is read = tt
-  second_ends w at left r ts (Err TooDeep) is read = let same = reading_lacks r read.side TooDeep read.reads is in absurd cc
+  second_ends w at left r ts (Err f) is read = reading_lacks r read.side f read.reads is
   second_ends w at left r ts (Ok right) is read =
       let e = reading_ends r right read.side read.reads is in
       record {
@@ -57,14 +55,14 @@ module _ (language : Language) where
   weights_ends at word None (p ∷ ps) ts read =
       whole_reads (by_weight at word p ps) ts tt tt
       (read ∙ ap (λ x. word_token (codes "order") at ∷ word_token (codes "weight") word ∷ x) (append-nil (pairs_tokens (p ∷ ps))))
-  weights_ends at word half ps ts read = tt
+  weights_ends at word half ps ts read = refl
 
   shape_ends : (at : Spot) (m : Number) (ps : List (Name × Number)) (half : Option Name) (ts : List Token)
       → ts ≡ word_token (codes "model") at ∷ number_token m ∷ (pairs_tokens ps ++ half_tokens half)
       → EndsAs ts (statement_by at (pairs_end ps half >>= λ qs. Ok (statement.Shape m qs)))
   shape_ends at m ps None ts read =
       whole_reads (modelled at m ps) ts tt tt (read ∙ ap (λ x. word_token (codes "model") at ∷ number_token m ∷ x) (append-nil (pairs_tokens ps)))
-  shape_ends at m ps (Some n) ts read = tt
+  shape_ends at m ps (Some n) ts read = refl
 
   pub line_ends : (l : Line) (ts : List Token) → LineReads language l ts → EndsAs ts (line_end l)
   line_ends (line.List w at (n ∷ ns)) ts read = whole_reads (listed w at n ns) ts (list_speaks language w at n ns read.0) tt read.1
@@ -82,7 +80,7 @@ module _ (language : Language) where
   line_ends (line.Weights at p) ts read = weights_ends at read.0 p.half p.whole ts read.1
   line_ends (line.Shape at m p) ts read = shape_ends at m p.whole p.half ts read
   line_ends (line.Whole s) ts read = read
-  line_ends l ts read = tt
+  line_ends l ts read = refl
 
   -- with these tokens it is a statement within the limit
   abbrev pub LineGoesOn : List Token → Type 0

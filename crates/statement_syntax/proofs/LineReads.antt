@@ -4,8 +4,8 @@ use Rattle.std.specs.Prelude.{bytes_eq, codes}
 use Rattle.std.proofs.lemmas.List.{append-nil, map-append}
 use Rattle.std.proofs.lemmas.Grind.{flat_map-append}
 use Rattle.std.proofs.lemmas.Slice.Eq.{bytes_eq-Decides}
-use Rattle.statement_syntax.specs.Types.{Spot, Token, Language, First, Second, TokenKind, TokenKind as kind, Name, Number, Sum, Statement, Misfit, Expected}
-use Rattle.statement_syntax.specs.Types.{TooDeep, Reading, ListWord, Eliminate, SidesWord, Opening, MapRest, MapRest as rest, Pairs, Line, Line as line}
+use Rattle.statement_syntax.specs.Types.{Spot, Token, Language, First, Second, TokenKind, TokenKind as kind, Name, Number, Sum, Statement, Fault}
+use Rattle.statement_syntax.specs.Types.{Reading, ListWord, Eliminate, SidesWord, Opening, MapRest, MapRest as rest, Pairs, Line, Line as line}
 use Rattle.statement_syntax.specs.Limits.{bracket_limit}
 use Rattle.statement_syntax.specs.Steps.{◌>>=◌, run, token_step, whole_sum}
 use Rattle.statement_syntax.specs.Grammar.{Expr, expr_tokens, ExprFits, sign_token, name_token, number_token, word_token, names_tokens, pairs_tokens, list_text}
@@ -13,7 +13,7 @@ use Rattle.statement_syntax.specs.Grammar.{sides_text, pair_text, self_word, Sta
 use Rattle.statement_syntax.specs.Grammar.{StatedFits, IsOf}
 use Rattle.statement_syntax.specs.Tree.{expr_tree, stated_tree}
 use Rattle.statement_syntax.specs.Lines.{Lined, named, common_opening, opening_in, colon_after, start_reading, begun, sides_step, pairs_by, line_step}
-use Rattle.statement_syntax.proofs.Run.{run_front}
+use Rattle.statement_syntax.proofs.Run.{run_front, IfDeep, if_deep}
 use Rattle.statement_syntax.proofs.StateReads.{reading_step}
 use Rattle.statement_syntax.proofs.Viable.{ExprReads, reading_ends, reading_lacks, deep, somewhere, some_name, some_expr}
 
@@ -96,8 +96,7 @@ GoesOnDeeper language ts = (more : List Token) × (s : Stated) × IsOf language 
 
 abbrev pub After : Language → Lined → List Token → Type 0
 After language (Ok l) ts = LineReads language l ts
-After language (Err Expected) ts = Unit {0}
-After language (Err TooDeep) ts = GoesOnDeeper language ts
+After language (Err f) ts = IfDeep (GoesOnDeeper language ts) f
 
 -- a line with one token more
 abbrev pub Grows : Language → List Token → Spot → TokenKind → Lined → Type 0
@@ -153,22 +152,20 @@ unfolding run
 reading_grows r next ts k t read goes =
     run_front reading_step start_reading ts r (sign_token k t ∷ []) read ∙ ap (λ x. x >>= λ s. run reading_step s []) goes
 
-first_grows : (language : Language) (w : SidesWord) (at : Spot) (r : Reading) (ts : List Token) (t : Spot) (k : TokenKind) (res : Result Reading Misfit)
+first_grows : (language : Language) (w : SidesWord) (at : Spot) (r : Reading) (ts : List Token) (t : Spot) (k : TokenKind) (res : Result Reading Fault)
     → token_step r k t ≡ res → FirstSide w at r ts → Grows language ts t k (res >>= λ x. Ok (line.Sides w at None x))
-first_grows language w at r ts t k (Err Expected) is read = tt
-first_grows language w at r ts t k (Err TooDeep) is read =
-    let on = deep read.side r (sign_token k t) read.reads is in
+first_grows language w at r ts t k (Err f) is read =
     let last : List Token = sign_token kind.Equals somewhere ∷ name_token some_name ∷ [] in
-    (on.0 ++ last, sides w at on.1 somewhere some_expr, tt, rw (read.are, ← on.2) (simp append_assoc))
+    if_deep f (deep read.side r (sign_token k t) f read.reads is)
+    (λ on. (on.0 ++ last, sides w at on.1 somewhere some_expr, tt, rw (read.are, ← on.2) (simp append_assoc)))
 first_grows language w at r ts t k (Ok next) is read =
     record { side = read.side ++ sign_token k t ∷ []; reads = reading_grows r next read.side k t read.reads is; are = rw read.are refl }
 
 second_grows : (language : Language) (w : SidesWord) (at : Spot) (left : Sum) (r : Reading) (ts : List Token) (t : Spot) (k : TokenKind)
-    (res : Result Reading Misfit) → token_step r k t ≡ res → SecondSide w at left r ts → Grows language ts t k (res >>= λ x. Ok (line.Sides w at (Some left) x))
-second_grows language w at left r ts t k (Err Expected) is read = tt
-second_grows language w at left r ts t k (Err TooDeep) is read =
-    let on = deep read.side r (sign_token k t) read.reads is in
-    (on.0, sides w at read.expr read.equals on.1, tt, rw (read.are, ← on.2) (simp append_assoc))
+    (res : Result Reading Fault) → token_step r k t ≡ res → SecondSide w at left r ts → Grows language ts t k (res >>= λ x. Ok (line.Sides w at (Some left) x))
+second_grows language w at left r ts t k (Err f) is read =
+    if_deep f (deep read.side r (sign_token k t) f read.reads is)
+    (λ on. (on.0, sides w at read.expr read.equals on.1, tt, rw (read.are, ← on.2) (simp append_assoc)))
 second_grows language w at left r ts t k (Ok next) is read = record {
   expr = read.expr;
   fits = read.fits;
@@ -179,10 +176,9 @@ second_grows language w at left r ts t k (Ok next) is read = record {
   are = rw read.are (simp append_assoc);
 }
 
-equals_grows : (language : Language) (w : SidesWord) (at : Spot) (r : Reading) (ts : List Token) (t : Spot) (res : Result Sum Misfit) → whole_sum r ≡ res
+equals_grows : (language : Language) (w : SidesWord) (at : Spot) (r : Reading) (ts : List Token) (t : Spot) (res : Result Sum Fault) → whole_sum r ≡ res
     → FirstSide w at r ts → Grows language ts t kind.Equals (res >>= λ left. Ok (line.Sides w at (Some left) start_reading))
-equals_grows language w at r ts t (Err Expected) is read = tt
-equals_grows language w at r ts t (Err TooDeep) is read = let same = reading_lacks r read.side TooDeep read.reads is in absurd cc
+equals_grows language w at r ts t (Err f) is read = rw (reading_lacks r read.side f read.reads is) tt
 equals_grows language w at r ts t (Ok left) is read =
     let e = reading_ends r left read.side read.reads is in
     record {

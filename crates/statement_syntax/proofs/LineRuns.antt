@@ -2,7 +2,7 @@
 use Rattle.std.proofs.Common.{◌≡◌, List, [], ◌∷◌, ◌++◌, inl, Some, None, Result, Ok, Err, refl, sym, ap, ◌∙◌, append_assoc}
 use Rattle.std.specs.Prelude.{ℕ, codes}
 use Rattle.std.proofs.lemmas.List.{append-nil}
-use Rattle.statement_syntax.specs.Types.{Spot, Token, Language, First, Second, TokenKind, TokenKind as kind, Name, Number, Sum, Misfit, Expected, ListWord}
+use Rattle.statement_syntax.specs.Types.{Spot, Token, Language, First, Second, TokenKind, TokenKind as kind, Name, Number, Sum, Fault, Expected, ListWord}
 use Rattle.statement_syntax.specs.Types.{Eliminate, SidesWord, Assume, Pinv, Reading, Focus, Focus as focus, Opening, Opening as opening, MapRest as rest}
 use Rattle.statement_syntax.specs.Types.{Pairs, Line, Line as line}
 use Rattle.statement_syntax.specs.Limits.{bracket_limit}
@@ -64,12 +64,12 @@ pub no_line_sign : (r : Reading) (f : Focus) (at : Spot)
 no_line_sign r focus.Outside at = (refl, refl)
 no_line_sign r f at = (refl, refl)
 
-first_step : (language : Language) (w : SidesWord) (at : Spot) (r : Reading) (k : TokenKind) (t : Spot) (read : Result Reading Misfit) → token_step r k t ≡ read
+first_step : (language : Language) (w : SidesWord) (at : Spot) (r : Reading) (k : TokenKind) (t : Spot) (read : Result Reading Fault) → token_step r k t ≡ read
     → (read ≡ Err Expected → ⊥) → line_step language (line.Sides w at None r) k t ≡ (read >>= λ x. Ok (line.Sides w at None x))
 first_step language w at r kind.Equals t read goes other = absurd (other (sym goes ∙ (no_line_sign r r.focus t).0))
 first_step language w at r k t read goes other = ap (λ x. x >>= λ r. Ok (line.Sides w at None r)) goes
 
-second_step : (language : Language) (w : SidesWord) (at : Spot) (left : Sum) (r : Reading) (t : Token) (read : Result Reading Misfit) → reading_step r t ≡ read
+second_step : (language : Language) (w : SidesWord) (at : Spot) (left : Sum) (r : Reading) (t : Token) (read : Result Reading Fault) → reading_step r t ≡ read
     → (read ≡ Err Expected → ⊥) → by_token language (line.Sides w at (Some left) r) t ≡ (read >>= λ x. Ok (line.Sides w at (Some left) x))
 second_step language w at left r t read goes other = ap (λ x. x >>= λ r. Ok (line.Sides w at (Some left) r)) goes
 

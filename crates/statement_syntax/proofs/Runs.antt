@@ -2,7 +2,7 @@
 use Rattle.std.proofs.Common.{◌≡◌, ℕ, zero, suc, ◌+◌, List, [], ◌∷◌, ◌++◌, length, inl, inr, Option, Some, None, Result, Ok, refl, ap}
 use Rattle.std.proofs.Common.{append_assoc, arith}
 use Rattle.std.proofs.lemmas.Bool.{lt-ltb, le-ltb}
-use Rattle.statement_syntax.specs.Types.{Spot, Token, TokenKind as kind, Number, Reading, Misfit}
+use Rattle.statement_syntax.specs.Types.{Spot, Token, TokenKind as kind, Number, Reading, Fault}
 use Rattle.statement_syntax.specs.Limits.{bracket_limit}
 use Rattle.statement_syntax.specs.Steps as steps
 use Rattle.statement_syntax.specs.Steps.{◌>>=◌, run}
@@ -18,10 +18,10 @@ use Rattle.statement_syntax.proofs.Same.{add-seen, signed-seen, closed-seen}
 use Rattle.statement_syntax.proofs.StateReads.{reading_step}
 
 -- a step and a run from what is seen of a state
-abbrev goes : State → Token → Result Reading Misfit
+abbrev goes : State → Token → Result Reading Fault
 goes st t = reading_step (reading_of st) t
 
-abbrev pub runs : State → List Token → Result Reading Misfit
+abbrev pub runs : State → List Token → Result Reading Fault
 runs st ts = run reading_step (reading_of st) ts
 
 -- the state at the end of each part

@@ -1,7 +1,7 @@
 -- What the program's steps make of a state, seen without the places of signs.
 use Rattle.std.proofs.Common.{◌≡◌, zero, Bool, false, List, [], ◌∷◌, ◌++◌, Option, Some, None, Result, Ok, Err, refl, ap, ap₂, ◌∙◌}
 use Rattle.std.specs.Prelude.{ℤ, pos}
-use Rattle.statement_syntax.specs.Types.{Spot, Adjoint, Power, Bracket, Number, Term, out-Term, out-roll-Term, Part as part, Misfit, Expected}
+use Rattle.statement_syntax.specs.Types.{Spot, Adjoint, Power, Bracket, Number, Term, out-Term, out-roll-Term, Part as part, Fault, Expected}
 use Rattle.statement_syntax.specs.Grammar.{no_sign, Sign, Product, zero_alone, factors, Factors, one, beside, Prime, bracket}
 use Rattle.statement_syntax.specs.Steps as steps
 use Rattle.statement_syntax.specs.Steps.{◌>>=◌}
@@ -14,7 +14,7 @@ pub add-seen : (part : Part) (p : Prime) → steps.part_with (part_of part) (pri
 add-seen nothing p = refl
 add-seen part p = refl
 
-abbrev pub product_or : Option Product → Bool → Result Term Misfit
+abbrev pub product_or : Option Product → Bool → Result Term Fault
 product_or None negative = Err Expected
 product_or (Some t) negative = Ok (product_tree t negative)
 

@@ -1,6 +1,6 @@
 -- What the program keeps of a state, which is all but the places of signs.
 use Rattle.std.specs.Prelude.{true, false, List, [], ◌∷◌, Option, Some, None, Result, Ok, Err}
-use Rattle.statement_syntax.specs.Types.{Number, Sum, Misfit, OpenProduct, Part, Part as part, Head, Level, Reading, Focus, Focus as focus}
+use Rattle.statement_syntax.specs.Types.{Number, Sum, Fault, OpenProduct, Part, Part as part, Head, Level, Reading, Focus, Focus as focus}
 use Rattle.statement_syntax.specs.Grammar.{no_sign, lead_plus, lead_minus, Expr, Factors}
 use Rattle.statement_syntax.specs.Tree.{expr_at, expr_terms, expr_tree, is_minus, literal_or, factors_at, front_trees, last_tree}
 use Rattle.statement_syntax.proofs.Machine as machine
@@ -32,6 +32,6 @@ levels_of (level ∷ levels) = record { head = head_of level.head; part = part_o
 abbrev pub reading_of : machine.State → Reading
 reading_of st = record { levels = levels_of st.levels; head = head_of st.head; part = part_of st.part; focus = focus_of st.focus }
 
-abbrev pub tree_or : Option Expr → Misfit → Result Sum Misfit
+abbrev pub tree_or : Option Expr → Fault → Result Sum Fault
 tree_or None e = Err e
 tree_or (Some x) e = Ok (expr_tree x)

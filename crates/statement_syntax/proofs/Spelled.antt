@@ -7,7 +7,7 @@ use Rattle.std.specs.Str.{encode_utf8_all}
 use Rattle.std.proofs.Math.Utf8.{scalars}
 use Rattle.std.proofs.lemmas.Bool.{leb-true, ltb-true}
 use Rattle.unicode_ident.specs.Ident.{is_xid_continue}
-use Rattle.statement_syntax.specs.Types.{Spot, Token, TokenKind, TokenKind as kind, Item, Item as item, ScanFault, Placed, Language, First, Second}
+use Rattle.statement_syntax.specs.Types.{Spot, Token, TokenKind, TokenKind as kind, Item, Item as item, Fault, Placed, Language, First, Second}
 use Rattle.statement_tokens.specs.Language.{language_of}
 use Rattle.statement_tokens.specs.Pieces.{starts_name, is_digit}
 use Rattle.statement_tokens.specs.Tokens.{end_of, right_of, below}
@@ -67,11 +67,11 @@ scalars-take n cs given = refl
 -- one token
 module _ (language : Language) where
   -- if it is a token, then such a one
-  abbrev Makes : Result Item ScanFault → Type 0
+  abbrev Makes : Result Item Fault → Type 0
   Makes (Ok (item.Token k more)) = IsToken language k
   Makes r = Unit {0}
 
-  by_test : (b : Bool) (x y : Result Item ScanFault) → (b ≡ true → Makes x) → Makes y → Makes (cond b x y)
+  by_test : (b : Bool) (x y : Result Item Fault) → (b ≡ true → Makes x) → Makes y → Makes (cond b x y)
   by_test true x y here there = here refl
   by_test false x y here there = there
 
@@ -141,7 +141,7 @@ end_are language line (suc n) us given = (tt, given)
 shifted : (before here us : List Token) → AreBehind (before ++ here) us → AllKinds (IsFileToken (language_of (before ++ (here ++ us)))) (kinds us)
 shifted before here us given = subst (λ ts. AllKinds (IsFileToken (language_of ts)) (kinds us)) (append_assoc before here us) given
 
-placed_are : (before : List Token) (r : Result Item ScanFault) (at : Spot) (past : ℕ) (next : List Token → ℕ → Spot → ℕ → Result (List Token) Placed)
+placed_are : (before : List Token) (r : Result Item Fault) (at : Spot) (past : ℕ) (next : List Token → ℕ → Spot → ℕ → Result (List Token) Placed)
     → Makes (language_of before) r
     → ((front : List Token) (skip : ℕ) (to : Spot) (end : ℕ) (us : List Token) → next front skip to end ≡ Ok us → AreBehind front us)
     → (ts : List Token) → placed before r at past next ≡ Ok ts → AreBehind before ts

@@ -3,7 +3,7 @@ use Rattle.std.proofs.Common.{◌≡◌, zero, suc, Bool, true, false, cond, Lis
 use Rattle.std.proofs.Common.{◌∙◌, append_assoc}
 use Rattle.std.specs.Prelude.{ℤ, pos, negsuc, nat_lt}
 use Rattle.std.proofs.lemmas.List.{append-nil}
-use Rattle.statement_syntax.specs.Types.{Spot, Token, TokenKind, TokenKind as kind, Name, Number, Reading, Misfit, Expected, TooDeep}
+use Rattle.statement_syntax.specs.Types.{Spot, Token, TokenKind, TokenKind as kind, Name, Number, Reading, Fault, TooDeep}
 use Rattle.statement_syntax.specs.Limits.{bracket_limit}
 use Rattle.statement_syntax.specs.Steps as steps
 use Rattle.statement_syntax.specs.Steps.{◌>>=◌, run}
@@ -11,7 +11,7 @@ use Rattle.statement_syntax.specs.Grammar.{no_sign, lead_plus, lead_minus, Sign,
 use Rattle.statement_syntax.specs.Grammar.{identity, bracket, sign_token, name_token, number_token, signed_token, expr_tokens, product_tokens, factors_tokens}
 use Rattle.statement_syntax.specs.Grammar.{prime_tokens}
 use Rattle.statement_syntax.specs.Tree.{is_minus}
-use Rattle.statement_syntax.proofs.Run.{bind_ok}
+use Rattle.statement_syntax.proofs.Run.{bind_ok, IfDeep}
 use Rattle.statement_syntax.proofs.Machine.{Head, led, after, Part, nothing, scaled, product, Focus, outside, square, named, behind_caret, Level, State}
 use Rattle.statement_syntax.proofs.Machine.{at_outside, fresh, add, with_mark, with_power, lone_literal, whole_term, with_term, head_tokens, part_tokens}
 use Rattle.statement_syntax.proofs.Machine.{kept_tokens, focus_tokens, level_tokens, state_tokens}
@@ -19,7 +19,7 @@ use Rattle.statement_syntax.proofs.Seen.{head_of, part_of, focus_of, levels_of, 
 use Rattle.statement_syntax.proofs.Same.{add-seen, product_or, ended-seen, marked-seen, raised-seen, signed-seen, bracket-seen}
 
 -- a step of the program
-abbrev pub reading_step : Reading → Token → Result Reading Misfit
+abbrev pub reading_step : Reading → Token → Result Reading Fault
 reading_step r t = steps.token_step r t.kind t.at
 
 add-tokens : (part : Part) (p : Prime) → part_tokens (add part p) ≡ part_tokens part ++ prime_tokens p
@@ -55,10 +55,9 @@ Grows levels head part focus t next =
     state_tokens next ≡ (level_tokens levels ++ head_tokens head ++ kept_tokens part focus ++ focus_tokens focus) ++ t ∷ []
 
 -- a step leads to such a state, and so would one at a bracket that is too deep
-abbrev Reads : List Level → Head → Part → Focus → Token → Result Reading Misfit → Type 0
+abbrev Reads : List Level → Head → Part → Focus → Token → Result Reading Fault → Type 0
 Reads levels head part focus t (Ok r) = (next : State) × (r ≡ reading_of next) × Grows levels head part focus t next
-Reads levels head part focus t (Err Expected) = Unit {0}
-Reads levels head part focus t (Err TooDeep) = (next : State) × Grows levels head part focus t next
+Reads levels head part focus t (Err f) = IfDeep ((next : State) × Grows levels head part focus t next) f
 
 name_reads : (levels : List Level) (head : Head) (part : Part) (n : Name)
     → Reads levels head part outside (name_token n) (steps.outside_step (levels_of levels) (head_of head) (part_of part) (kind.Name n.text) n.at)
@@ -147,8 +146,9 @@ focus_reads levels head part (behind_caret l fs caret) (kind.Literal n) at =
 focus_reads levels head part focus k at = tt
 
 -- with a bracket that is too deep there is a state too, whatever the limit says
-pub deep_reads : (st : State) (t : Token) → reading_step (reading_of st) t ≡ Err TooDeep → (to : State) × (state_tokens to ≡ state_tokens st ++ t ∷ [])
-deep_reads st t given = subst (Reads st.levels st.head st.part st.focus t) given (focus_reads st.levels st.head st.part st.focus t.kind t.at)
+pub deep_reads : (st : State) (t : Token) (f : Fault) → reading_step (reading_of st) t ≡ Err f
+    → IfDeep ((to : State) × (state_tokens to ≡ state_tokens st ++ t ∷ [])) f
+deep_reads st t f given = subst (Reads st.levels st.head st.part st.focus t) given (focus_reads st.levels st.head st.part st.focus t.kind t.at)
 
 -- a run reads its tokens
 pub run_reads : (st : State) (ts : List Token) (r : Reading) → run reading_step (reading_of st) ts ≡ Ok r

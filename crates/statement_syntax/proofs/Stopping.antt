@@ -2,19 +2,20 @@
 use Rattle.std.proofs.Common.{◌≡◌, ℕ, List, [], ◌∷◌, ◌++◌, inl, inr, Ok, Err, refl, sym, ap, subst, ◌∙◌, append_assoc}
 use Rattle.std.proofs.lemmas.List.{append-nil, map-append}
 use Rattle.std.specs.Str.{IsUtf8, chars}
-use Rattle.statement_syntax.specs.Types.{Spot, Token, Language, TokenKind as kind, Statement, Misfit, Expected, TooDeep, Line as line, Progress, Fault}
-use Rattle.statement_syntax.specs.Types.{Fault as fault, SyntaxFault, SyntaxFault as refusal, ReadError, ReadError as error, ScanFault, ScanFault as scan}
-use Rattle.statement_syntax.specs.Steps.{run, Fails}
+use Rattle.statement_syntax.specs.Types.{Spot, Token, Language, TokenKind as kind, Statement, Expected, TooDeep, Line as line, Progress, Fault}
+use Rattle.statement_syntax.specs.Types.{Fault as fault, SyntaxFault, SyntaxFault as refusal, Stop, stop}
+use Rattle.lists.specs.Stop.{Explains}
+use Rattle.statement_syntax.specs.Steps.{run}
 use Rattle.statement_tokens.specs.Language.{language_of}
 use Rattle.statement_tokens.specs.Tokens.{AreTokens, IsFirstScanFault}
 use Rattle.statement_syntax.specs.Grammar.{sign_token, StatedLine, IsFileOf, file_tokens, FileFits}
 use Rattle.statement_syntax.specs.Tree.{stated_tree, file_tree}
 use Rattle.statement_syntax.specs.Lines.{line_end, ended, file_step}
-use Rattle.statement_syntax.specs.Fault.{GoesOn, GoesOnWithin, IsMisfit, IsFirstFault, TellsFirstFault, IsWantOfMemory, fault_at, scan_fault, misfit_fault}
+use Rattle.statement_syntax.specs.Fault.{GoesOn, GoesOnWithin, IsMisfit, IsFirstFault, TellsFirstFault, IsWantOfMemory, fault_at}
 use Rattle.statement_syntax.specs.Texts.{IsStatements, IsTreeOf}
 use Rattle.statement_syntax.specs.Stages.{first_statements, begun, left, StoppedAt, AllRead, Refused, IsRefusal}
-use Rattle.statement_tokens.proofs.TokenLaws.{read_are, tokens_are_unique, tokens_have_no_fault}
-use Rattle.statement_syntax.proofs.Run.{bind_ok, ok_is, run-append, run_front, one_step, upto_ok}
+use Rattle.statement_tokens.proofs.TokenLaws.{begins_scanned, read_are, tokens_are_unique, tokens_have_no_fault}
+use Rattle.statement_syntax.proofs.Run.{IfDeep, if_deep, bind_ok, ok_is, run-append, run_front, one_step, upto_ok}
 use Rattle.statement_syntax.proofs.LastToken.{EndsWell, ends_from, rest_ends}
 use Rattle.statement_syntax.proofs.LineReads.{LineReads}
 use Rattle.statement_syntax.proofs.FirstLine.{file_language, Divided, Behind, divided}
@@ -28,11 +29,11 @@ pub goes_on : (ts front : List Token) (t : Token) (p next : Progress) → Runs t
 unfolding run
 goes_on ts front t p next ran goes = run_front (file_step (language_of ts)) (begun ts) front p (t ∷ []) ran ∙ one_step (file_step (language_of ts)) p next t [] goes
 
-pub stops_at : (ts front : List Token) (t : Token) (rest : List Token) (p : Progress) (e : ReadError) (refused : SyntaxFault) → left ts ≡ front ++ t ∷ rest → Runs ts front p
-    → Fails e (file_step (language_of ts) p t) → IsRefusal e t.at refused → Refused ts refused
-stops_at ts front t rest p error.Memory (refusal.Memory e) splits ran fails tells = tt
-stops_at ts front t rest p error.Memory (refusal.Fault code l c) splits ran fails tells = absurd tells
-stops_at ts front t rest p (error.Misfit f) refused splits ran fails tells = subst (Refused ts) (sym tells) (record {
+pub stops_at : (ts front : List Token) (t : Token) (rest : List Token) (p : Progress) (why : Stop Fault) (refused : SyntaxFault) → left ts ≡ front ++ t ∷ rest → Runs ts front p
+    → Explains (λ fault. file_step (language_of ts) p t ≡ Err fault) why → IsRefusal why t.at refused → Refused ts refused
+stops_at ts front t rest p (stop.Memory error) (refusal.Memory e) splits ran fails tells = tt
+stops_at ts front t rest p (stop.Memory error) (refusal.Fault code l c) splits ran fails tells = absurd tells
+stops_at ts front t rest p (stop.Fault f) refused splits ran fails tells = subst (Refused ts) (sym tells) (record {
   front = front;
   token = t;
   rest = rest;
@@ -137,11 +138,11 @@ module _ (ts : List Token) (refused : SyntaxFault) (loop : StoppedAt ts refused)
       let misfit = file_misfit (language_of ts) before loop.front loop.progress loop.token loop.misfit loop.ran loop.stops more parts.others parts.speak parts.are in
       (λ fits. misfit.0 (parts.fits fits), misfit.1)
 
-  deeper : loop.misfit ≡ TooDeep → GoesOn (language_of ts) (front ++ loop.token ∷ [])
-  deeper is =
-      let on = file_deeper (language_of ts) before loop.progress loop.front loop.token read_so (loop.stops ∙ ap (λ x. Err x) is) in
+  deeper : (f : Fault) → loop.misfit ≡ f → IfDeep (GoesOn (language_of ts) (front ++ loop.token ∷ [])) f
+  deeper f is =
       let shown = append_assoc (file_tokens (own ts).lines) loop.front (loop.token ∷ []) in
-      (on.0, (own ts).lines ++ on.1, (own ts).joins on.1 on.2, ap (λ (x : List Token). x ++ on.0) shown ∙ with_first ts (loop.front ++ loop.token ∷ []) on.0 on.1 on.3)
+      if_deep f (file_deeper (language_of ts) before loop.progress loop.front loop.token f read_so (loop.stops ∙ ap (λ x. Err x) is)) (λ on.
+      (on.0, (own ts).lines ++ on.1, (own ts).joins on.1 on.2, ap (λ (x : List Token). x ++ on.0) shown ∙ with_first ts (loop.front ++ loop.token ∷ []) on.0 on.1 on.3))
 
   -- so within the language of all tokens
   misfit_of : (bytes : List ℕ) → IsUtf8 bytes → AreTokens (chars bytes) ts → IsMisfit bytes loop.token.at
@@ -156,17 +157,15 @@ module _ (ts : List Token) (refused : SyntaxFault) (loop : StoppedAt ts refused)
     there = λ on. (stuck on.0 on.1 (subst (λ l. IsFileOf l on.1) (sym (ap language_of all)) on.2) on.4).0 on.3;
   }
 
-  tells_by : (bytes : List ℕ) (f : Misfit) → IsUtf8 bytes → AreTokens (chars bytes) ts → loop.misfit ≡ f → TellsFirstFault bytes (fault_at (misfit_fault f) loop.token.at)
+  tells_by : (bytes : List ℕ) (f : Fault) → IsUtf8 bytes → AreTokens (chars bytes) ts → loop.misfit ≡ f → TellsFirstFault bytes (fault_at f loop.token.at)
   unfolding misfit_of
   tells_by bytes Expected utf8 read is = (
     fault.Expected,
     refl,
-    (misfit_of bytes utf8 read, λ on. not_deep (sym is ∙ (stuck on.0 on.1 (subst (λ l. IsFileOf l on.1) (sym (ap language_of all)) on.2) on.3).1)),
+    (misfit_of bytes utf8 read, λ on. let deep = (stuck on.0 on.1 (subst (λ l. IsFileOf l on.1) (sym (ap language_of all)) on.2) on.3).1 in absurd cc),
   )
-    where
-      not_deep : (let f : Misfit = Expected in f) ≡ TooDeep → ⊥
-      not_deep e = absurd cc
-  tells_by bytes TooDeep utf8 read is = (fault.TooDeep, refl, (misfit_of bytes utf8 read, subst (λ l. GoesOn l (front ++ loop.token ∷ [])) (ap language_of all) (deeper is)))
+  tells_by bytes TooDeep utf8 read is = (fault.TooDeep, refl, (misfit_of bytes utf8 read, subst (λ l. GoesOn l (front ++ loop.token ∷ [])) (ap language_of all) (deeper TooDeep is)))
+  tells_by bytes f utf8 read is = absurd (deeper f is)
 
 pub is_first : (bytes : List ℕ) (ts : List Token) (refused : SyntaxFault) → IsUtf8 bytes → AreTokens (chars bytes) ts → Refused ts refused → TellsFirstFault bytes refused
 is_first bytes ts (refusal.Memory e) utf8 read loop = tt
@@ -174,9 +173,10 @@ is_first bytes ts (refusal.Fault code l c) utf8 read loop =
     subst (TellsFirstFault bytes) (sym loop.tells) (tells_by ts (refusal.Fault code l c) loop bytes loop.misfit utf8 read refl)
 
 -- the first fault of the characters is that of the bytes
-pub told_scanned : (bytes : List ℕ) (told : SyntaxFault) (f : ScanFault) (at : Spot) → told ≡ fault_at (scan_fault f) at → IsUtf8 bytes → IsFirstScanFault (chars bytes) f at → TellsFirstFault bytes told
-told_scanned bytes told scan.BadToken at is utf8 first = subst (TellsFirstFault bytes) (sym is) (fault.BadToken, refl, (utf8, first))
-told_scanned bytes told scan.LiteralTooLarge at is utf8 first = subst (TellsFirstFault bytes) (sym is) (fault.LiteralTooLarge, refl, (utf8, first))
+pub told_scanned : (bytes : List ℕ) (told : SyntaxFault) (f : Fault) (at : Spot) → told ≡ fault_at f at → IsUtf8 bytes → IsFirstScanFault (chars bytes) f at → TellsFirstFault bytes told
+told_scanned bytes told fault.BadToken at is utf8 first = subst (TellsFirstFault bytes) (sym is) (fault.BadToken, refl, (utf8, first))
+told_scanned bytes told fault.LiteralTooLarge at is utf8 first = subst (TellsFirstFault bytes) (sym is) (fault.LiteralTooLarge, refl, (utf8, first))
+told_scanned bytes told f at is utf8 first = absurd (begins_scanned _ _ f first.faulty)
 
 -- statements have no fault
 no_misfit : (bytes : List ℕ) (lines : List StatedLine) (at : Spot) → IsMisfit bytes at → IsStatements bytes lines → ⊥
@@ -185,7 +185,7 @@ no_misfit bytes lines at m is =
     let language : language_of (m.front ++ m.token ∷ m.rest) ≡ is.language = ap language_of all ∙ file_language is.language lines is.speaks in
     m.there (m.rest, lines, subst (λ l. IsFileOf l lines) (sym language) is.speaks, is.fits, append_assoc m.front (m.token ∷ []) m.rest ∙ all)
 
-no_first : (bytes : List ℕ) (lines : List StatedLine) (f : Fault) (at : Spot) → IsFirstFault bytes f at → IsStatements bytes lines → ⊥
+pub no_first : (bytes : List ℕ) (lines : List StatedLine) (f : Fault) (at : Spot) → IsFirstFault bytes f at → IsStatements bytes lines → ⊥
 no_first bytes lines fault.NotUtf8 at first is = first.0 is.utf8
 no_first bytes lines fault.BadToken at first is = tokens_have_no_fault (chars bytes) _ _ at is.tokens first.1
 no_first bytes lines fault.LiteralTooLarge at first is = tokens_have_no_fault (chars bytes) _ _ at is.tokens first.1

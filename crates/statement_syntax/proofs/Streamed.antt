@@ -1,6 +1,6 @@
 -- Tokens that come one after another, and what has been read of a file that begins with them.
 use Rattle.std.proofs.Common.{◌≡◌, ◌<◌, ℕ, List, [], ◌∷◌, ◌++◌, ◌⊎◌, inl, inr, length, Some, None, Result, Ok, Err, MatchResult, refl, sym, ap, ap₂, subst, ◌∙◌, append_assoc, append-nil, length-append, ◌+◌, arith}
-use Rattle.statement_syntax.specs.Types.{Token, Language, First, Second, Placed, ScanError, ScanError as scan_error, Scanner, Statement, Line as line, Progress}
+use Rattle.statement_syntax.specs.Types.{Token, Language, First, Second, Placed, Stop, stop, Scanner, Statement, Line as line, Progress}
 use Rattle.statement_syntax.specs.Types.{SyntaxFault, SyntaxFault as refusal}
 use Rattle.statement_tokens.specs.Language.{language_of}
 use Rattle.statement_tokens.specs.Tokens.{AreTokens}
@@ -145,14 +145,14 @@ ends text old new language read r is hands told = by read is.so_far told
     by (Err e) so_far told = subst (TextRead text) (sym told) (inr (is.front, are, so_far))
 
 -- the fault that a scanner finds is returned
-pub is_fault : (whole : Result (List Token) Placed) (front : List Token) (old new : Scanner) (error : ScanError) (e : SyntaxFault)
+pub is_fault : (whole : Result (List Token) Placed) (front : List Token) (old new : Scanner) (error : Stop Placed) (e : SyntaxFault)
     → whole ≡ with_front front (unread front old) → Hands front old (Err error) new → TellsScan error e → IsFault whole e
-is_fault whole ts old new (scan_error.Fault placed) e same hands tells =
-    subst (IsFault whole) (sym tells) (placed, same ∙ ap (with_front ts) (handed ts old (Err (scan_error.Fault placed)) new hands), refl)
-is_fault whole ts old new scan_error.Memory (refusal.Memory e) same hands tells = tt
-is_fault whole ts old new scan_error.Memory (refusal.Fault code l column) same hands tells = absurd tells
+is_fault whole ts old new (stop.Fault placed) e same hands tells =
+    subst (IsFault whole) (sym tells) (placed, same ∙ ap (with_front ts) (handed ts old (Err (stop.Fault placed)) new hands), refl)
+is_fault whole ts old new (stop.Memory error) (refusal.Memory e) same hands tells = tt
+is_fault whole ts old new (stop.Memory error) (refusal.Fault code l column) same hands tells = absurd tells
 
-pub faulted : (text : List ℕ) (old new : Scanner) (language : Language) (read : Result Progress SyntaxFault) (error : ScanError) (e : SyntaxFault)
+pub faulted : (text : List ℕ) (old new : Scanner) (language : Language) (read : Result Progress SyntaxFault) (error : Stop Placed) (e : SyntaxFault)
     → FrontRead text old language read → ((before : List Token) → language_of before ≡ language → Hands before old (Err error) new)
     → TellsScan error e → TextRead text (Err e)
 faulted text old new language read error e is hands tells =
@@ -206,7 +206,7 @@ module _ (start old new : Scanner) (ts : List Token) (turns : ℕ) (few : turns 
       let none = handed ts old (Ok None) new (hands ts speaks_first) in
       (front_left start new ts (is.same ∙ ap (with_front ts) (none.0 ∙ sym none.1)), inr (leaves ts new (Ok []) none.1))
 
-  pub opening_fault : (error : ScanError) (e : SyntaxFault) → ((before : List Token) → language_of before ≡ First → Hands before old (Err error) new)
+  pub opening_fault : (error : Stop Placed) (e : SyntaxFault) → ((before : List Token) → language_of before ≡ First → Hands before old (Err error) new)
       → TellsScan error e → LeavesFault start e
   opening_fault error e hands tells =
       (unread [] start, leaves_unread [] start, is_fault (unread [] start) ts old new error e is.same (hands ts speaks_first) tells)

@@ -2,7 +2,7 @@
 use Rattle.std.proofs.Common.{◌≡◌, List, [], ◌∷◌, ◌++◌, Option, Some, None, Ok, Err, refl, sym, ap, ◌∙◌, append_assoc, arith}
 use Rattle.std.specs.Prelude.{pos}
 use Rattle.std.proofs.lemmas.List.{append-nil}
-use Rattle.statement_syntax.specs.Types.{Token, TokenKind as kind, Number, Name, Sum, Reading, Misfit, Expected, TooDeep}
+use Rattle.statement_syntax.specs.Types.{Token, TokenKind as kind, Number, Name, Sum, Reading, Fault, Expected}
 use Rattle.statement_syntax.specs.Limits.{bracket_limit}
 use Rattle.statement_syntax.specs.Steps as steps
 use Rattle.statement_syntax.specs.Steps.{run, whole_sum}
@@ -15,7 +15,7 @@ use Rattle.statement_syntax.proofs.Machine.{add, with_power, whole_term, with_te
 use Rattle.statement_syntax.proofs.Seen.{head_of, part_of, levels_of, reading_of, tree_or}
 use Rattle.statement_syntax.proofs.Same.{add-seen, raised-seen, closed-seen, whole-seen}
 use Rattle.statement_syntax.proofs.StateReads.{reading_step, with_term-tokens, whole_term-tokens, run_reads, deep_reads}
-use Rattle.statement_syntax.proofs.Run.{Upto, before_it, upto_ok, run_front, one_step}
+use Rattle.statement_syntax.proofs.Run.{IfDeep, if_deep, Upto, before_it, upto_ok, run_front, one_step}
 use Rattle.statement_syntax.proofs.Runs.{runs, end_state, expr_run}
 
 abbrev pub some_name : Name
@@ -118,12 +118,12 @@ reading_ends r s ts ran ends =
     let e = found (fresh []) ts r s ran ends in
     (e.0, (upto_ok _ (reading_of (end_state [] e.0)) r (only e.0) (ap (runs (fresh [])) (sym e.2) ∙ ran)).0, e.1, e.2)
 
-tree_or-fault : (o : Option Expr) (f : Misfit) → tree_or o Expected ≡ Err f → f ≡ Expected
+tree_or-fault : (o : Option Expr) (f : Fault) → tree_or o Expected ≡ Err f → f ≡ Expected
 tree_or-fault None f fails = cc
 tree_or-fault (Some e) f fails = absurd cc
 
 -- where it may not, that is because more is expected
-pub reading_lacks : (r : Reading) (ts : List Token) (f : Misfit) → ExprReads r ts → whole_sum r ≡ Err f → f ≡ Expected
+pub reading_lacks : (r : Reading) (ts : List Token) (f : Fault) → ExprReads r ts → whole_sum r ≡ Err f → f ≡ Expected
 reading_lacks r ts f ran fails =
     let read = run_reads (fresh []) ts r ran in
     tree_or-fault (whole read.0) f (sym (whole-seen read.0) ∙ ap whole_sum (sym read.1) ∙ fails)
@@ -139,11 +139,11 @@ viable front r ran =
     (on.0, e.0, e.1, e.3)
 
 -- with a bracket that is too deep it can go on to an expression, if not to one within the limit
-pub deep : (front : List Token) (r : Reading) (t : Token) → ExprReads r front → reading_step r t ≡ Err TooDeep
-    → (more : List Token) × (e : Expr) × (front ++ t ∷ more ≡ expr_tokens e)
-deep front r t ran fails =
+pub deep : (front : List Token) (r : Reading) (t : Token) (f : Fault) → ExprReads r front → reading_step r t ≡ Err f
+    → IfDeep ((more : List Token) × (e : Expr) × (front ++ t ∷ more ≡ expr_tokens e)) f
+deep front r t f ran fails =
     let read = run_reads (fresh []) front r ran in
-    let wider = deep_reads read.0 t (ap (λ s. reading_step s t) (sym read.1) ∙ fails) in
+    if_deep f (deep_reads read.0 t f (ap (λ s. reading_step s t) (sym read.1) ∙ fails)) (λ wider.
     let on = ends wider.0.levels wider.0.head wider.0.part wider.0.focus in
     let e = found wider.0 on.0 on.1 on.2 on.3 on.4 in
-    (on.0, e.0, sym (append_assoc front (t ∷ []) on.0) ∙ ap (λ (x : List Token). x ++ on.0) (sym (wider.1 ∙ ap (λ x. x ++ t ∷ []) read.2)) ∙ e.2)
+    (on.0, e.0, sym (append_assoc front (t ∷ []) on.0) ∙ ap (λ (x : List Token). x ++ on.0) (sym (wider.1 ∙ ap (λ x. x ++ t ∷ []) read.2)) ∙ e.2))

@@ -2,8 +2,7 @@
 use Rattle.std.specs.Prelude.{◌≡◌, ℕ, List, [], ◌∷◌, ◌++◌}
 use Rattle.std.specs.Str.{IsUtf8, chars}
 use Rattle.std.specs.Str.Lossy.{utf8_valid_len}
-use Rattle.statement_syntax.specs.Types.{Spot, Token, ScanFault, ScanFault as scan, ScanError, ScanError as scan_error, Misfit, Misfit as misfit}
-use Rattle.statement_syntax.specs.Types.{Fault, Fault as fault, SyntaxFault, SyntaxFault as refusal, Language}
+use Rattle.statement_syntax.specs.Types.{Spot, Token, Fault, Fault as fault, Placed, Stop, stop, SyntaxFault, SyntaxFault as refusal, Language}
 use Rattle.statement_tokens.specs.Language.{language_of}
 use Rattle.statement_tokens.specs.Tokens.{AreTokens, IsFirstScanFault}
 use Rattle.statement_syntax.specs.Grammar.{StatedLine, IsFileOf, file_tokens, FileFits}
@@ -39,8 +38,8 @@ pub record IsMisfit (bytes : List ℕ) (at : Spot) : Type 0 where
 abbrev pub IsFirstFault : List ℕ → Fault → Spot → Type 0
 -- the place is the number of valid bytes
 IsFirstFault bytes fault.NotUtf8 at = (IsUtf8 bytes → ⊥) × (at ≡ record { line = 0; column = utf8_valid_len bytes })
-IsFirstFault bytes fault.BadToken at = IsUtf8 bytes × IsFirstScanFault (chars bytes) scan.BadToken at
-IsFirstFault bytes fault.LiteralTooLarge at = IsUtf8 bytes × IsFirstScanFault (chars bytes) scan.LiteralTooLarge at
+IsFirstFault bytes fault.BadToken at = IsUtf8 bytes × IsFirstScanFault (chars bytes) fault.BadToken at
+IsFirstFault bytes fault.LiteralTooLarge at = IsUtf8 bytes × IsFirstScanFault (chars bytes) fault.LiteralTooLarge at
 -- no file of the language has the tokens up to this one as a prefix, whatever the limit
 IsFirstFault bytes fault.Expected at = (m : IsMisfit bytes at) × (GoesOn (language_of (m.front ++ m.token ∷ m.rest)) (m.front ++ m.token ∷ []) → ⊥)
 -- some file has, but none within the limit
@@ -59,15 +58,7 @@ IsWantOfMemory (refusal.Memory e) = Unit {0}
 abbrev pub fault_at : Fault → Spot → SyntaxFault
 fault_at f at = refusal.Fault (code_of f) at.line at.column
 
-abbrev pub scan_fault : ScanFault → Fault
-scan_fault scan.BadToken = fault.BadToken
-scan_fault scan.LiteralTooLarge = fault.LiteralTooLarge
-
-abbrev pub misfit_fault : Misfit → Fault
-misfit_fault misfit.Expected = fault.Expected
-misfit_fault misfit.TooDeep = fault.TooDeep
-
 -- the refusal has the scanner's error; want of memory is always allowed
-abbrev pub TellsScan : ScanError → SyntaxFault → Type 0
-TellsScan (scan_error.Fault placed) refused = refused ≡ fault_at (scan_fault placed.fault) placed.at
-TellsScan scan_error.Memory refused = IsWantOfMemory refused
+abbrev pub TellsScan : Stop Placed → SyntaxFault → Type 0
+TellsScan (stop.Fault placed) refused = refused ≡ fault_at placed.fault placed.at
+TellsScan (stop.Memory error) refused = IsWantOfMemory refused

@@ -1,7 +1,7 @@
 -- The step of the reader from what has been read of a line to what has been read with one more token.
 use Rattle.std.specs.Prelude.{ℕ, Bool, true, false, List, [], ◌∷◌, ◌++◌, Option, Some, None, Result, Ok, Err, bytes_eq, if◌then◌else◌, codes}
 use Rattle.statement_syntax.specs.Types.{Spot, Token, TokenKind, TokenKind as kind, Language, First, Second, Name, Number, Sum, Statement, StatementKind}
-use Rattle.statement_syntax.specs.Types.{StatementKind as statement, Misfit, Expected, Reading, Nothing, ListWord, Object, Solve, Eliminate, SidesWord, Assume}
+use Rattle.statement_syntax.specs.Types.{StatementKind as statement, Fault, Expected, Reading, Nothing, ListWord, Object, Solve, Eliminate, SidesWord, Assume}
 use Rattle.statement_syntax.specs.Types.{Claim, PairWord, Pinv, Inverse, Inner, Opening, Opening as opening, MapRest, MapRest as rest, Pairs, Line}
 use Rattle.statement_syntax.specs.Types.{Line as line, Progress}
 use Rattle.statement_syntax.specs.Steps.{◌>>=◌, outside, empty_head, token_step, whole_sum}
@@ -9,7 +9,7 @@ pub use Rattle.statement_syntax.specs.Steps.{name_in, number_in}
 use Rattle.statement_syntax.specs.Tree.{list_kind, sides_kind, pair_kind}
 
 abbrev pub Lined : Type 0
-Lined = Result Line Misfit
+Lined = Result Line Fault
 
 abbrev pub named : List ℕ → Spot → Name
 named text at = record { text = text; at = at }
@@ -113,11 +113,11 @@ pair_step w at first k t = name_in k t >>= λ n. Ok (pair_with w at first n)
 abbrev pub no_pairs : Pairs
 no_pairs = record { whole = []; half = None }
 
-abbrev pub pairs_by : List (Name × Number) → Option Name → TokenKind → Spot → Result Pairs Misfit
+abbrev pub pairs_by : List (Name × Number) → Option Name → TokenKind → Spot → Result Pairs Fault
 pairs_by ps None k t = name_in k t >>= λ n. Ok (record { whole = ps; half = Some n })
 pairs_by ps (Some n) k t = number_in k t >>= λ m. Ok (record { whole = ps ++ (n, m) ∷ []; half = None })
 
-abbrev pub pairs_step : Pairs → TokenKind → Spot → Result Pairs Misfit
+abbrev pub pairs_step : Pairs → TokenKind → Spot → Result Pairs Fault
 pairs_step p k t = pairs_by p.whole p.half k t
 
 abbrev pub order_step : Spot → TokenKind → Lined
@@ -156,39 +156,39 @@ line_step language (line.Model at) k t = number_in k t >>= λ m. Ok (line.Shape 
 line_step language (line.Shape at m ps) k t = pairs_step ps k t >>= λ p. Ok (line.Shape at m p)
 line_step language (line.Whole s) k t = Err Expected
 
-abbrev pub list_end : ListWord → List Name → Result StatementKind Misfit
+abbrev pub list_end : ListWord → List Name → Result StatementKind Fault
 list_end w [] = Err Expected
 list_end w (n ∷ ns) = Ok (list_kind w (n ∷ ns))
 
-abbrev pub map_end : List Name → MapRest → Result StatementKind Misfit
+abbrev pub map_end : List Name → MapRest → Result StatementKind Fault
 map_end names (rest.Target s t) = Ok (statement.Maps names s t false)
 map_end names r = Err Expected
 
-abbrev pub sides_end : SidesWord → Option Sum → Reading → Result StatementKind Misfit
+abbrev pub sides_end : SidesWord → Option Sum → Reading → Result StatementKind Fault
 sides_end w None r = Err Expected
 sides_end w (Some left) r = whole_sum r >>= λ right. Ok (sides_kind w left right)
 
-abbrev pub pairs_end : List (Name × Number) → Option Name → Result (List (Name × Number)) Misfit
+abbrev pub pairs_end : List (Name × Number) → Option Name → Result (List (Name × Number)) Fault
 pairs_end ps None = Ok ps
 pairs_end ps (Some n) = Err Expected
 
-abbrev pub whole_pairs : Pairs → Result (List (Name × Number)) Misfit
+abbrev pub whole_pairs : Pairs → Result (List (Name × Number)) Fault
 whole_pairs p = pairs_end p.whole p.half
 
-abbrev pub weights_by : List (Name × Number) → Result StatementKind Misfit
+abbrev pub weights_by : List (Name × Number) → Result StatementKind Fault
 weights_by [] = Err Expected
 weights_by (p ∷ ps) = Ok (statement.Weight (p ∷ ps))
 
-abbrev pub weights_end : Pairs → Result StatementKind Misfit
+abbrev pub weights_end : Pairs → Result StatementKind Fault
 weights_end p = whole_pairs p >>= weights_by
 
-abbrev pub shape_end : Number → Pairs → Result StatementKind Misfit
+abbrev pub shape_end : Number → Pairs → Result StatementKind Fault
 shape_end m p = whole_pairs p >>= λ ps. Ok (statement.Shape m ps)
 
-abbrev pub statement_by : Spot → Result StatementKind Misfit → Result Statement Misfit
+abbrev pub statement_by : Spot → Result StatementKind Fault → Result Statement Fault
 statement_by at r = r >>= λ kind. Ok (record { at = at; kind = kind })
 
-abbrev pub line_end : Line → Result Statement Misfit
+abbrev pub line_end : Line → Result Statement Fault
 line_end (line.List w at names) = statement_by at (list_end w names)
 line_end (line.Map at names r) = statement_by at (map_end names r)
 line_end (line.Sides w at left r) = statement_by at (sides_end w left r)
@@ -198,11 +198,11 @@ line_end (line.Whole s) = Ok s
 line_end l = Err Expected
 
 -- a whole file: the statements of its lines, and the line that is read
-abbrev pub ended : Progress → Result Progress Misfit
+abbrev pub ended : Progress → Result Progress Fault
 ended p = line_end p.line >>= λ s. Ok (record { statements = p.statements ++ s ∷ []; line = line.Start })
 
-abbrev pub within_line : Language → Progress → TokenKind → Spot → Result Progress Misfit
+abbrev pub within_line : Language → Progress → TokenKind → Spot → Result Progress Fault
 within_line language p k at = line_step language p.line k at >>= λ l. Ok (record { statements = p.statements; line = l })
 
-abbrev pub file_step : Language → Progress → Token → Result Progress Misfit
+abbrev pub file_step : Language → Progress → Token → Result Progress Fault
 file_step language p t = on_end (ended p) (within_line language p t.kind t.at) t.kind

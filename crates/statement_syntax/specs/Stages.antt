@@ -2,19 +2,20 @@
 use Rattle.std.specs.Prelude.{◌≡◌, ◌⊎◌, ℕ, length, List, [], ◌∷◌, ◌++◌, Result, Ok, Err, drop}
 use Rattle.std.specs.Global.{Vec}
 use Rattle.std.specs.Str.{IsUtf8, chars}
-use Rattle.statement_syntax.specs.Types.{Token, Language, First, Second, Statement, StatementKind as statement, Spot, ReadError, ReadError as error, Misfit}
+use Rattle.statement_syntax.specs.Types.{Token, Language, First, Second, Statement, StatementKind as statement, Spot, Fault, Stop, stop}
 use Rattle.statement_syntax.specs.Types.{Progress, Line as line, SyntaxFault, SyntaxFault as refusal, Scanner, Placed}
-use Rattle.statement_syntax.specs.Steps.{run, Fails}
+use Rattle.lists.specs.Stop.{Explains}
+use Rattle.statement_syntax.specs.Steps.{run}
 use Rattle.statement_syntax.specs.Lines.{file_step}
 use Rattle.statement_tokens.specs.Language.{language_of}
 use Rattle.statement_tokens.specs.Tokens.{AreTokens}
 use Rattle.statement_tokens.specs.Scanned.{Tells, Leaves, with_front}
-use Rattle.statement_syntax.specs.Fault.{TellsFirstFault, IsWantOfMemory, fault_at, scan_fault, misfit_fault}
+use Rattle.statement_syntax.specs.Fault.{TellsFirstFault, IsWantOfMemory, fault_at}
 
 -- the refusal of a step that fails at this place
-abbrev pub IsRefusal : ReadError → Spot → SyntaxFault → Type 0
-IsRefusal error.Memory at refused = IsWantOfMemory refused
-IsRefusal (error.Misfit f) at refused = refused ≡ fault_at (misfit_fault f) at
+abbrev pub IsRefusal : Stop Fault → Spot → SyntaxFault → Type 0
+IsRefusal (stop.Fault f) at refused = refused ≡ fault_at f at
+IsRefusal (stop.Memory error) at refused = IsWantOfMemory refused
 
 -- bytes to characters
 abbrev pub CharactersRead : List ℕ → Result (Vec ℕ) SyntaxFault → Type 0
@@ -47,9 +48,9 @@ pub record StoppedAt (ts : List Token) (refused : SyntaxFault) : Type 0 where
   pub splits : left ts ≡ front ++ token ∷ rest
   pub progress : Progress
   pub ran : run (file_step (language_of ts)) (begun ts) front ≡ Ok progress
-  pub misfit : Misfit
+  pub misfit : Fault
   pub stops : file_step (language_of ts) progress token ≡ Err misfit
-  pub tells : refused ≡ fault_at (misfit_fault misfit) token.at
+  pub tells : refused ≡ fault_at misfit token.at
 
 -- the loop reached the end with these statements
 abbrev pub AllRead : List Token → List Statement → Type 0
@@ -67,7 +68,7 @@ IsReadSoFar ts (Err e) = Refused ts e
 -- one more token, which changes nothing where the file was refused at an earlier one
 abbrev pub Goes : Language → Result Progress SyntaxFault → Token → Result Progress SyntaxFault → Type 0
 Goes language (Ok p) token (Ok next) = file_step language p token ≡ Ok next
-Goes language (Ok p) token (Err e) = (error : ReadError) × Fails error (file_step language p token) × IsRefusal error token.at e
+Goes language (Ok p) token (Err e) = (why : Stop Fault) × Explains (λ fault. file_step language p token ≡ Err fault) why × IsRefusal why token.at e
 Goes language (Err e) token read = read ≡ Err e
 
 -- these three tokens are before those that a scanner leaves, or are all where there are fewer
@@ -79,7 +80,7 @@ IsFront ts start scanner =
 abbrev pub IsFault : Result (List Token) Placed → SyntaxFault → Type 0
 IsFault whole (refusal.Memory e) = Unit {0}
 IsFault whole (refusal.Fault code line column) =
-    (placed : Placed) × (whole ≡ Err placed) × (refusal.Fault code line column ≡ fault_at (scan_fault placed.fault) placed.at)
+    (placed : Placed) × (whole ≡ Err placed) × (refusal.Fault code line column ≡ fault_at placed.fault placed.at)
 
 -- the fault that a scanner leaves is returned
 abbrev pub LeavesFault : Scanner → SyntaxFault → Type 0

@@ -5,10 +5,10 @@ pub use Rattle.statement_tokens.specs.declared.token.TokenKind.{TokenKind}
 pub use Rattle.statement_tokens.specs.declared.language.Language.{Language}
 pub use Rattle.statement_tokens.specs.declared.language.Language.TheVariants.{First, Second}
 pub use Rattle.statement_tokens.specs.declared.scan.Item.{Item}
-pub use Rattle.statement_tokens.specs.declared.scan.ScanFault.{ScanFault}
-pub use Rattle.statement_tokens.specs.declared.scan.ScanFault.TheVariants.{BadToken, LiteralTooLarge}
-pub use Rattle.statement_tokens.specs.declared.scan.Placed.{Placed}
-pub use Rattle.statement_tokens.specs.declared.scan.ScanError.{ScanError}
+pub use Rattle.statement_tokens.specs.declared.fault.Fault.{Fault}
+pub use Rattle.statement_tokens.specs.declared.fault.Fault.TheVariants.{BadToken, Expected, LiteralTooLarge, TooDeep}
+pub use Rattle.statement_tokens.specs.declared.fault.Placed.{Placed}
+pub use Rattle.lists.specs.declared.stop.Stop.{Stop, Stop as stop}
 pub use Rattle.statement_tokens.specs.declared.scanner.Scanner.{Scanner}
 pub use Rattle.statement_syntax.specs.declared.tree.Name.{Name}
 pub use Rattle.statement_syntax.specs.declared.tree.Number.{Number}
@@ -28,9 +28,6 @@ pub use Rattle.statement_syntax.specs.declared.expression.Focus.{Focus}
 pub use Rattle.statement_syntax.specs.declared.expression.Focus.TheVariants.{Outside}
 pub use Rattle.statement_syntax.specs.declared.expression.Level.{Level}
 pub use Rattle.statement_syntax.specs.declared.expression.Reading.{Reading}
-pub use Rattle.statement_syntax.specs.declared.expression.Misfit.{Misfit}
-pub use Rattle.statement_syntax.specs.declared.expression.Misfit.TheVariants.{Expected, TooDeep}
-pub use Rattle.statement_syntax.specs.declared.expression.ReadError.{ReadError}
 pub use Rattle.statement_syntax.specs.declared.line.ListWord.{ListWord}
 pub use Rattle.statement_syntax.specs.declared.line.ListWord.TheVariants.{Object, Solve, Eliminate}
 pub use Rattle.statement_syntax.specs.declared.line.SidesWord.{SidesWord}
@@ -42,5 +39,4 @@ pub use Rattle.statement_syntax.specs.declared.line.MapRest.{MapRest}
 pub use Rattle.statement_syntax.specs.declared.line.Pairs.{Pairs}
 pub use Rattle.statement_syntax.specs.declared.line.Line.{Line}
 pub use Rattle.statement_syntax.specs.declared.read.Progress.{Progress}
-pub use Rattle.statement_syntax.specs.declared.fault.Fault.{Fault}
 pub use Rattle.statement_syntax.specs.declared.fault.SyntaxFault.{SyntaxFault}

@@ -3,23 +3,22 @@
 ghost use Rattle.std.specs.Prelude.{◌≡◌};
 ghost use Rattle.statement_syntax.specs.Lines.{name_in, number_in, is_word};
 
-use crate::expression::Misfit;
 use crate::tree::{Name, Number};
-use statement_tokens::{Token, TokenKind};
+use statement_tokens::{Fault, Token, TokenKind};
 
 /// The name.
-pub fn name_in(token: Token) -> Result<Name, Misfit>
+pub fn name_in(token: Token) -> Result<Name, Fault>
     ensures { result ≡ name_in token.kind token.at }
 {
     let Token { at, kind } = token;
     match kind {
         TokenKind::Name(text) => Ok(Name { text, at }),
-        _ => Err(Misfit::Expected),
+        _ => Err(Fault::Expected),
     }
 }
 
 /// The literal.
-pub fn number_in(token: &Token) -> Result<Number, Misfit>
+pub fn number_in(token: &Token) -> Result<Number, Fault>
     ensures { result ≡ number_in token.now.kind token.now.at }
 {
     match &token.kind {
@@ -27,7 +26,7 @@ pub fn number_in(token: &Token) -> Result<Number, Misfit>
             value: *value,
             at: token.at,
         }),
-        _ => Err(Misfit::Expected),
+        _ => Err(Fault::Expected),
     }
 }
 

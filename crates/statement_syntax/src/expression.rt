@@ -1,20 +1,19 @@
 //! What has been read of an expression.
 
 ghost use Rattle.std.specs.Prelude.{◌≡◌, MatchResult, Ok, Err};
-ghost use Rattle.statement_syntax.specs.Steps.{Gives, Turns, empty_head, close_step, open_step, literal_step, caret_step, signed_step};
+ghost use Rattle.lists.specs.Stop.{Gives};
+ghost use Rattle.statement_syntax.specs.Steps.{empty_head, close_step, open_step, literal_step, caret_step, signed_step};
 ghost use Rattle.statement_syntax.specs.Steps.{outside_step, token_step, whole_sum};
 ghost use Rattle.statement_syntax.specs.declared.expression.Focus.TheVariants.{Outside};
-ghost use Rattle.statement_syntax.specs.declared.expression.ReadError.TheVariants as read_error;
 
 use crate::expected::{name_in, number_in};
 use crate::part::{ended_part, mark_step, part_with, sign_step, sum_with};
 use crate::stack::Stack;
 use crate::tree::{Factor, Mark, Name, Number, Primary, Sum, Term};
-use lists::Listing;
-use statement_tokens::{Spot, Token, TokenKind};
-use std::alloc::{AllocError, AllocFailed, Global};
+use lists::{Listing, Stop};
+use statement_tokens::{Fault, Spot, Token, TokenKind};
+use std::alloc::Global;
 use std::mem;
-use thiserror::Error;
 
 /// The greatest number of open round brackets.
 const BRACKET_LIMIT: usize = 64;
@@ -71,48 +70,6 @@ pub struct Reading {
     pub focus: Focus,
 }
 
-/// Why a token does not fit.
-#[derive(Clone, Copy, Debug, Error)]
-pub enum Misfit {
-    #[error("another token is expected")]
-    Expected,
-    #[error("the brackets are nested too deep")]
-    TooDeep,
-}
-
-/// Why reading stops at a token.
-#[derive(Debug, Drop, Error)]
-pub enum ReadError {
-    #[error(transparent)]
-    Misfit(Misfit),
-    #[error("memory is short")]
-    Memory,
-}
-
-impl From<Misfit> for ReadError {
-    ghost from_gives = { λ misfit e. e ≡ read_error.Misfit misfit };
-
-    fn from(misfit: Misfit) -> ReadError {
-        ReadError::Misfit(misfit)
-    }
-}
-
-impl From<AllocError> for ReadError {
-    ghost from_gives = { λ _ e. e ≡ read_error.Memory };
-
-    fn from(_failed: AllocError) -> ReadError {
-        ReadError::Memory
-    }
-}
-
-impl<T: Drop> From<AllocFailed<T>> for ReadError {
-    ghost from_gives = { λ _ e. e ≡ read_error.Memory };
-
-    fn from(_failed: AllocFailed<T>) -> ReadError {
-        ReadError::Memory
-    }
-}
-
 /// Nothing of a sum.
 pub fn empty_head(alloc: Global) -> Head
     ensures { result ≡ empty_head }
@@ -124,16 +81,16 @@ pub fn empty_head(alloc: Global) -> Head
     }
 }
 
-fn close_step(alloc: Global, reading: &mut Reading) -> Result<(), ReadError>
+fn close_step(alloc: Global, reading: &mut Reading) -> Result<(), Stop<Fault>>
     requires { reading.old.focus ≡ Outside }
-    ensures { Turns result reading.new (close_step reading.old.levels reading.old.head reading.old.part) }
+    ensures { Gives (λ done. reading.new) result (close_step reading.old.levels reading.old.head reading.old.part) }
 {
     let part = mem::replace(&mut reading.part, Part::Nothing);
     let term = ended_part(alloc, part, reading.head.negative)?;
     match reading.levels.pop() {
         None => {
             drop(term);
-            Err(ReadError::Misfit(Misfit::Expected))
+            Err(Stop::Fault(Fault::Expected))
         }
         Some(Level { head, part, at }) => {
             drop(mem::replace(&mut reading.part, part));
@@ -144,12 +101,12 @@ fn close_step(alloc: Global, reading: &mut Reading) -> Result<(), ReadError>
     }
 }
 
-fn open_step(alloc: Global, reading: &mut Reading, at: Spot) -> Result<(), ReadError>
+fn open_step(alloc: Global, reading: &mut Reading, at: Spot) -> Result<(), Stop<Fault>>
     requires { reading.old.focus ≡ Outside }
-    ensures { Turns result reading.new (open_step reading.old.levels reading.old.head reading.old.part at) }
+    ensures { Gives (λ done. reading.new) result (open_step reading.old.levels reading.old.head reading.old.part at) }
 {
     if reading.levels.len() >= BRACKET_LIMIT {
-        return Err(ReadError::Misfit(Misfit::TooDeep));
+        return Err(Stop::Fault(Fault::TooDeep));
     }
     let head = mem::replace(&mut reading.head, empty_head(alloc));
     let part = mem::replace(&mut reading.part, Part::Nothing);
@@ -157,17 +114,17 @@ fn open_step(alloc: Global, reading: &mut Reading, at: Spot) -> Result<(), ReadE
     Ok(())
 }
 
-fn literal_step(reading: &mut Reading, number: Number) -> Result<(), Misfit>
+fn literal_step(reading: &mut Reading, number: Number) -> Result<(), Fault>
     requires { reading.old.focus ≡ Outside }
     ensures { MatchResult result (λ _. literal_step reading.old.levels reading.old.head reading.old.part number ≡ Ok reading.new)
-        (λ misfit. literal_step reading.old.levels reading.old.head reading.old.part number ≡ Err misfit) }
+        (λ fault. literal_step reading.old.levels reading.old.head reading.old.part number ≡ Err fault) }
 {
     match reading.part {
         Part::Nothing => {
             drop(mem::replace(&mut reading.part, Part::Scaled(number)));
             Ok(())
         }
-        _ => Err(Misfit::Expected),
+        _ => Err(Fault::Expected),
     }
 }
 
@@ -177,17 +134,17 @@ fn signed_step(
     reading: &mut Reading,
     at: Spot,
     negative: bool,
-) -> Result<(), ReadError>
+) -> Result<(), Stop<Fault>>
     requires { reading.old.focus ≡ Outside }
-    ensures { Turns result reading.new (signed_step reading.old.levels reading.old.head reading.old.part at negative) }
+    ensures { Gives (λ done. reading.new) result (signed_step reading.old.levels reading.old.head reading.old.part at negative) }
 {
     let part = mem::replace(&mut reading.part, Part::Nothing);
     sign_step(alloc, &mut reading.head, part, at, negative)
 }
 
-fn outside_step(alloc: Global, reading: &mut Reading, token: Token) -> Result<(), ReadError>
+fn outside_step(alloc: Global, reading: &mut Reading, token: Token) -> Result<(), Stop<Fault>>
     requires { reading.old.focus ≡ Outside }
-    ensures { Turns result reading.new (outside_step reading.old.levels reading.old.head reading.old.part token.kind token.at) }
+    ensures { Gives (λ done. reading.new) result (outside_step reading.old.levels reading.old.head reading.old.part token.kind token.at) }
 {
     let Token { at, kind } = token;
     match kind {
@@ -206,28 +163,28 @@ fn outside_step(alloc: Global, reading: &mut Reading, token: Token) -> Result<()
         }
         TokenKind::Quote => mark_step(&mut reading.part, Mark::Adjoint),
         TokenKind::Caret => Ok(caret_step(reading, at)?),
-        _ => Err(ReadError::Misfit(Misfit::Expected)),
+        _ => Err(Stop::Fault(Fault::Expected)),
     }
 }
 
 // A caret after a factor. The literal is next.
-fn caret_step(reading: &mut Reading, caret: Spot) -> Result<(), Misfit>
+fn caret_step(reading: &mut Reading, caret: Spot) -> Result<(), Fault>
     requires { reading.old.focus ≡ Outside }
     ensures { MatchResult result (λ _. caret_step reading.old.levels reading.old.head reading.old.part caret ≡ Ok reading.new)
-        (λ misfit. caret_step reading.old.levels reading.old.head reading.old.part caret ≡ Err misfit) }
+        (λ fault. caret_step reading.old.levels reading.old.head reading.old.part caret ≡ Err fault) }
 {
     match mem::replace(&mut reading.part, Part::Nothing) {
         Part::Product(product) => {
             drop(mem::replace(&mut reading.focus, Focus::Raised(product, caret)));
             Ok(())
         }
-        _ => Err(Misfit::Expected),
+        _ => Err(Fault::Expected),
     }
 }
 
 /// The next token of an expression.
-pub fn token_step(alloc: Global, reading: &mut Reading, token: Token) -> Result<(), ReadError>
-    ensures { Turns result reading.new (token_step reading.old token.kind token.at) }
+pub fn token_step(alloc: Global, reading: &mut Reading, token: Token) -> Result<(), Stop<Fault>>
+    ensures { Gives (λ done. reading.new) result (token_step reading.old token.kind token.at) }
 {
     match mem::replace(&mut reading.focus, Focus::Outside) {
         Focus::Outside => outside_step(alloc, reading, token),
@@ -243,7 +200,7 @@ pub fn token_step(alloc: Global, reading: &mut Reading, token: Token) -> Result<
             }
             _ => {
                 drop((name, token));
-                Err(ReadError::Misfit(Misfit::Expected))
+                Err(Stop::Fault(Fault::Expected))
             }
         },
         Focus::Raised(product, caret) => {
@@ -260,8 +217,8 @@ pub fn token_step(alloc: Global, reading: &mut Reading, token: Token) -> Result<
 }
 
 /// The expression, where it may end here.
-pub fn whole_sum(alloc: Global, reading: Reading) -> Result<Sum, ReadError>
-    ensures { Gives result (whole_sum reading) }
+pub fn whole_sum(alloc: Global, reading: Reading) -> Result<Sum, Stop<Fault>>
+    ensures { Gives (λ read. read) result (whole_sum reading) }
 {
     let Reading {
         levels,
@@ -281,7 +238,7 @@ pub fn whole_sum(alloc: Global, reading: Reading) -> Result<Sum, ReadError>
         },
         focus => {
             drop((head, part, focus));
-            Err(ReadError::Misfit(Misfit::Expected))
+            Err(Stop::Fault(Fault::Expected))
         }
     }
 }

@@ -1,28 +1,12 @@
-//! What can be wrong with a text, with its place.
+//! Why a text has no tree.
 
 ghost use Rattle.std.specs.Prelude.{◌≡◌};
-ghost use Rattle.statement_syntax.specs.Fault.{fault_at, scan_fault, misfit_fault, TellsScan, IsWantOfMemory};
+ghost use Rattle.statement_syntax.specs.Fault.{fault_at, TellsScan, IsWantOfMemory};
 
-use crate::expression::Misfit;
-use statement_tokens::{ScanError, ScanFault, Spot};
+use lists::Stop;
+use statement_tokens::{Fault, Placed, Spot};
 use std::alloc::{AllocError, AllocFailed};
 use thiserror::Error;
-
-/// What can be wrong with a text. All that is not UTF-8 comes before all bad tokens and literals, and those before
-/// all tokens that do not fit the grammar.
-#[derive(Clone, Copy)]
-pub enum Fault {
-    /// The bytes are not UTF-8.
-    NotUtf8,
-    /// No token begins with the character, or a name has more than 32 bytes.
-    BadToken,
-    /// A token does not fit the grammar, or the line ends too early.
-    Expected,
-    /// A literal is larger than 2^127 - 1.
-    LiteralTooLarge,
-    /// A 65th nested round bracket.
-    TooDeep,
-}
 
 /// Why a text has no tree: its first fault with its place, or want of memory.
 #[derive(Debug, Drop, Error)]
@@ -36,13 +20,13 @@ pub enum SyntaxFault {
     Memory(AllocError),
 }
 
-impl From<ScanError> for SyntaxFault {
+impl From<Stop<Placed>> for SyntaxFault {
     ghost from_gives = { TellsScan };
 
-    fn from(error: ScanError) -> SyntaxFault {
+    fn from(error: Stop<Placed>) -> SyntaxFault {
         match error {
-            ScanError::Fault(placed) => fault_at(scan_fault(placed.fault), placed.at),
-            ScanError::Memory => SyntaxFault::Memory(AllocError),
+            Stop::Fault(placed) => fault_at(placed.fault, placed.at),
+            Stop::Memory(error) => SyntaxFault::Memory(error),
         }
     }
 }
@@ -70,25 +54,5 @@ pub fn fault_at(fault: Fault, at: Spot) -> SyntaxFault
         code,
         line: at.line,
         column: at.column,
-    }
-}
-
-/// The fault of a token that cannot be read.
-pub fn scan_fault(fault: ScanFault) -> Fault
-    ensures { result ≡ scan_fault fault }
-{
-    match fault {
-        ScanFault::BadToken => Fault::BadToken,
-        ScanFault::LiteralTooLarge => Fault::LiteralTooLarge,
-    }
-}
-
-/// The fault of a token that does not fit.
-pub fn misfit_fault(misfit: Misfit) -> Fault
-    ensures { result ≡ misfit_fault misfit }
-{
-    match misfit {
-        Misfit::Expected => Fault::Expected,
-        Misfit::TooDeep => Fault::TooDeep,
     }
 }

@@ -1,18 +1,18 @@
 //! Statements, a line each: what has been read of a line, and what may come next.
 
 ghost use Rattle.std.specs.Prelude.{◌≡◌};
-ghost use Rattle.statement_syntax.specs.Steps.{Gives, Turns};
+ghost use Rattle.lists.specs.Stop.{Gives};
 ghost use Rattle.statement_syntax.specs.Lines.{IsPlain, IsBare, line_step, line_end};
 
 use crate::expected::number_in;
-use crate::expression::{Misfit, ReadError, Reading};
+use crate::expression::Reading;
 use crate::named::{list_end, list_step, map_end, map_step, pair_step, projection_step};
 use crate::numbered::{no_pairs, order_step, pairs_step, shape_end, weights_end};
 use crate::opening::start_step;
 use crate::sides::{sides_end, sides_step};
 use crate::tree::{Name, Number, Statement, StatementKind, Sum};
-use lists::Listing;
-use statement_tokens::{Language, Spot, Token};
+use lists::{Listing, Stop};
+use statement_tokens::{Fault, Language, Spot, Token};
 use std::alloc::Global;
 use std::mem;
 
@@ -107,8 +107,8 @@ pub fn line_step(
     language: Language,
     line: &mut Line,
     token: Token,
-) -> Result<(), ReadError>
-    ensures { Turns result line.new (line_step language line.old token.kind token.at) }
+) -> Result<(), Stop<Fault>>
+    ensures { Gives (λ done. line.new) result (line_step language line.old token.kind token.at) }
 {
     match line {
         Line::Sides { left, reading, .. } => sides_step(alloc, left, reading, token),
@@ -122,9 +122,9 @@ fn plain_step(
     language: Language,
     line: &mut Line,
     token: Token,
-) -> Result<(), ReadError>
+) -> Result<(), Stop<Fault>>
     requires { IsPlain line.old }
-    ensures { Turns result line.new (line_step language line.old token.kind token.at) }
+    ensures { Gives (λ done. line.new) result (line_step language line.old token.kind token.at) }
 {
     let next = plain_line(alloc, language, mem::replace(line, Line::Start), token)?;
     drop(mem::replace(line, next));
@@ -136,9 +136,9 @@ fn plain_line(
     language: Language,
     line: Line,
     token: Token,
-) -> Result<Line, ReadError>
+) -> Result<Line, Stop<Fault>>
     requires { IsPlain line }
-    ensures { Gives result (line_step language line token.kind token.at) }
+    ensures { Gives (λ read. read) result (line_step language line token.kind token.at) }
 {
     match line {
         Line::List { word, at, names } => list_step(word, at, names, token),
@@ -157,7 +157,7 @@ fn plain_line(
 }
 
 // The same where nothing of the line so far is kept.
-fn bare_line(alloc: Global, language: Language, line: &Line, token: Token) -> Result<Line, Misfit>
+fn bare_line(alloc: Global, language: Language, line: &Line, token: Token) -> Result<Line, Fault>
     requires { IsBare line.now }
     ensures { result ≡ line_step language line.now token.kind token.at }
 {
@@ -166,13 +166,13 @@ fn bare_line(alloc: Global, language: Language, line: &Line, token: Token) -> Re
         Line::Projection(at) => projection_step(*at, token),
         Line::Order(at) => order_step(alloc, *at, &token),
         Line::Model(at) => Ok(Line::Shape(*at, number_in(&token)?, no_pairs(alloc))),
-        _ => Err(Misfit::Expected),
+        _ => Err(Fault::Expected),
     }
 }
 
 /// The statement, where the line may end here.
-pub fn line_end(alloc: Global, line: Line) -> Result<Statement, ReadError>
-    ensures { Gives result (line_end line) }
+pub fn line_end(alloc: Global, line: Line) -> Result<Statement, Stop<Fault>>
+    ensures { Gives (λ read. read) result (line_end line) }
 {
     let (at, kind) = match line {
         Line::List { word, at, names } => (at, list_end(word, names)?),
@@ -187,7 +187,7 @@ pub fn line_end(alloc: Global, line: Line) -> Result<Statement, ReadError>
         Line::Shape(at, modulus, pairs) => (at, shape_end(modulus, pairs)?),
         Line::Whole(statement) => return Ok(statement),
         Line::Start | Line::Pair { .. } | Line::Projection(_) | Line::Order(_) | Line::Model(_) =>
-            return Err(ReadError::Misfit(Misfit::Expected)),
+            return Err(Stop::Fault(Fault::Expected)),
     };
     Ok(Statement { at, kind })
 }

@@ -1,16 +1,15 @@
 //! Statements of names alone: `object`, `solve`, `eliminate`, `map`, `pinv`, `inverse`, `inner`, `projection`.
 
 ghost use Rattle.std.specs.Prelude.{◌≡◌};
-ghost use Rattle.statement_syntax.specs.Steps.{Gives};
+ghost use Rattle.lists.specs.Stop.{Gives};
 ghost use Rattle.statement_syntax.specs.Lines.{list_step, list_end, map_names_step, map_step, map_end, pair_step, projection_step};
 ghost use Rattle.statement_syntax.specs.Tree.{pair_kind};
 
 use crate::expected::{is_word, name_in};
-use crate::expression::{Misfit, ReadError};
 use crate::line::{Line, ListWord, MapRest, PairWord};
 use crate::tree::{Name, Statement, StatementKind};
-use lists::Listing;
-use statement_tokens::{Spot, Token, TokenKind};
+use lists::{Listing, Stop};
+use statement_tokens::{Fault, Spot, Token, TokenKind};
 
 /// One more name of `object`, `solve` or `eliminate`.
 pub fn list_step(
@@ -18,8 +17,8 @@ pub fn list_step(
     at: Spot,
     names: Listing<Name>,
     token: Token,
-) -> Result<Line, ReadError>
-    ensures { Gives result (list_step word at names token.kind token.at) }
+) -> Result<Line, Stop<Fault>>
+    ensures { Gives (λ read. read) result (list_step word at names token.kind token.at) }
 {
     let mut names = names;
     names.push(name_in(token)?)?;
@@ -27,11 +26,11 @@ pub fn list_step(
 }
 
 /// The statement, where there is a name.
-pub fn list_end(word: ListWord, names: Listing<Name>) -> Result<StatementKind, Misfit>
+pub fn list_end(word: ListWord, names: Listing<Name>) -> Result<StatementKind, Fault>
     ensures { result ≡ list_end word names }
 {
     if names.len() == 0 {
-        return Err(Misfit::Expected);
+        return Err(Fault::Expected);
     }
     match word {
         ListWord::Object => Ok(StatementKind::Objects(names)),
@@ -40,13 +39,13 @@ pub fn list_end(word: ListWord, names: Listing<Name>) -> Result<StatementKind, M
     }
 }
 
-fn map_names_step(at: Spot, names: Listing<Name>, token: Token) -> Result<Line, ReadError>
-    ensures { Gives result (map_names_step at names token.kind token.at) }
+fn map_names_step(at: Spot, names: Listing<Name>, token: Token) -> Result<Line, Stop<Fault>>
+    ensures { Gives (λ read. read) result (map_names_step at names token.kind token.at) }
 {
     match &token.kind {
         TokenKind::Colon => {
             if names.len() == 0 {
-                return Err(ReadError::Misfit(Misfit::Expected));
+                return Err(Stop::Fault(Fault::Expected));
             }
             let rest = MapRest::Colon;
             Ok(Line::Map { at, names, rest })
@@ -66,20 +65,20 @@ pub fn map_step(
     names: Listing<Name>,
     rest: MapRest,
     token: Token,
-) -> Result<Line, ReadError>
-    ensures { Gives result (map_step at names rest token.kind token.at) }
+) -> Result<Line, Stop<Fault>>
+    ensures { Gives (λ read. read) result (map_step at names rest token.kind token.at) }
 {
     let rest = match rest {
         MapRest::Names => return map_names_step(at, names, token),
         MapRest::Colon => MapRest::Source(name_in(token)?),
         MapRest::Source(source) => match &token.kind {
             TokenKind::Arrow => MapRest::Arrow(source),
-            _ => return Err(ReadError::Misfit(Misfit::Expected)),
+            _ => return Err(Stop::Fault(Fault::Expected)),
         },
         MapRest::Arrow(source) => MapRest::Target(source, name_in(token)?),
         MapRest::Target(source, target) => {
             if !is_word(&token, "self") {
-                return Err(ReadError::Misfit(Misfit::Expected));
+                return Err(Stop::Fault(Fault::Expected));
             }
             let kind = StatementKind::Maps {
                 names,
@@ -94,7 +93,7 @@ pub fn map_step(
 }
 
 /// The map without `self`, where its target is read.
-pub fn map_end(names: Listing<Name>, rest: MapRest) -> Result<StatementKind, Misfit>
+pub fn map_end(names: Listing<Name>, rest: MapRest) -> Result<StatementKind, Fault>
     ensures { result ≡ map_end names rest }
 {
     match rest {
@@ -104,7 +103,7 @@ pub fn map_end(names: Listing<Name>, rest: MapRest) -> Result<StatementKind, Mis
             target,
             selfmade: false,
         }),
-        _ => Err(Misfit::Expected),
+        _ => Err(Fault::Expected),
     }
 }
 
@@ -119,12 +118,7 @@ fn pair_kind(word: PairWord, first: Name, second: Name) -> StatementKind
 }
 
 /// One of the two names of `pinv`, `inverse` or `inner`.
-pub fn pair_step(
-    word: PairWord,
-    at: Spot,
-    first: Option<Name>,
-    token: Token,
-) -> Result<Line, Misfit>
+pub fn pair_step(word: PairWord, at: Spot, first: Option<Name>, token: Token) -> Result<Line, Fault>
     ensures { result ≡ pair_step word at first token.kind token.at }
 {
     let name = name_in(token)?;
@@ -142,7 +136,7 @@ pub fn pair_step(
 }
 
 /// The name of `projection`.
-pub fn projection_step(at: Spot, token: Token) -> Result<Line, Misfit>
+pub fn projection_step(at: Spot, token: Token) -> Result<Line, Fault>
     ensures { result ≡ projection_step at token.kind token.at }
 {
     let kind = StatementKind::Projection(name_in(token)?);

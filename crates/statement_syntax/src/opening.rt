@@ -3,11 +3,10 @@
 ghost use Rattle.std.specs.Prelude.{◌≡◌};
 ghost use Rattle.statement_syntax.specs.Lines.{common_opening, opening_in, opened, start_step};
 
-use crate::expression::Misfit;
 use crate::line::{Line, ListWord, MapRest, Opening, PairWord, SidesWord};
 use crate::sides::start_reading;
 use lists::Listing;
-use statement_tokens::{Language, Spot, Token, TokenKind};
+use statement_tokens::{Fault, Language, Spot, Token, TokenKind};
 use std::alloc::Global;
 
 // The statement that a word begins in every language, if it begins one.
@@ -75,14 +74,14 @@ fn opened(alloc: Global, opening: Opening, at: Spot) -> Line
 }
 
 /// The line that a word begins.
-pub fn start_step(alloc: Global, language: Language, token: &Token) -> Result<Line, Misfit>
+pub fn start_step(alloc: Global, language: Language, token: &Token) -> Result<Line, Fault>
     ensures { result ≡ start_step language token.now.kind token.now.at }
 {
     match &token.kind {
         TokenKind::Name(text) => match opening_in(language, text.as_str()) {
             Some(opening) => Ok(opened(alloc, opening, token.at)),
-            None => Err(Misfit::Expected),
+            None => Err(Fault::Expected),
         },
-        _ => Err(Misfit::Expected),
+        _ => Err(Fault::Expected),
     }
 }

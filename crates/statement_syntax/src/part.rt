@@ -1,13 +1,14 @@
 //! The term that is read, and the sum that it is the last term of.
 
 ghost use Rattle.std.specs.Prelude.{◌≡◌, [], ◌∷◌, ◌++◌, IfOk, OnOk};
-ghost use Rattle.statement_syntax.specs.Steps.{part_with, Gives, Turns, ended_part, sum_with, mark_step, sign_step};
+ghost use Rattle.lists.specs.Stop.{Gives};
+ghost use Rattle.statement_syntax.specs.Steps.{part_with, ended_part, sum_with, mark_step, sign_step};
 ghost use Rattle.statement_syntax.specs.declared.expression.Part.TheVariants.{Product};
 
-use crate::expression::{Head, Misfit, OpenProduct, Part, ReadError};
+use crate::expression::{Head, OpenProduct, Part};
 use crate::tree::{Factor, Mark, Number, Primary, Sum, Term};
-use lists::Listing;
-use statement_tokens::Spot;
+use lists::{Listing, Stop};
+use statement_tokens::{Fault, Spot};
 use std::alloc::{AllocError, Global};
 use std::mem;
 
@@ -51,14 +52,14 @@ fn first_factor(alloc: Global, at: Spot, literal: Option<Number>, last: Factor) 
 }
 
 /// The term, where it may end here. A literal alone is one only where its value is 0.
-pub fn ended_part(alloc: Global, part: Part, negative: bool) -> Result<Term, ReadError>
-    ensures { Gives result (ended_part part negative) }
+pub fn ended_part(alloc: Global, part: Part, negative: bool) -> Result<Term, Stop<Fault>>
+    ensures { Gives (λ read. read) result (ended_part part negative) }
 {
     match part {
-        Part::Nothing => Err(ReadError::Misfit(Misfit::Expected)),
+        Part::Nothing => Err(Stop::Fault(Fault::Expected)),
         Part::Scaled(number) => {
             if number.value != 0 {
-                return Err(ReadError::Misfit(Misfit::Expected));
+                return Err(Stop::Fault(Fault::Expected));
             }
             Ok(Term {
                 at: number.at,
@@ -97,12 +98,12 @@ pub fn sum_with(head: Head, term: Term) -> Result<Sum, AllocError>
 }
 
 /// A mark at the last factor.
-pub fn mark_step(part: &mut Part, mark: Mark) -> Result<(), ReadError>
-    ensures { Turns result part.new (mark_step part.old mark) }
+pub fn mark_step(part: &mut Part, mark: Mark) -> Result<(), Stop<Fault>>
+    ensures { Gives (λ done. part.new) result (mark_step part.old mark) }
 {
     match part {
         Part::Product(product) => Ok(product.last.marks.push(mark)?),
-        _ => Err(ReadError::Misfit(Misfit::Expected)),
+        _ => Err(Stop::Fault(Fault::Expected)),
     }
 }
 
@@ -113,12 +114,12 @@ pub fn sign_step(
     part: Part,
     at: Spot,
     negative: bool,
-) -> Result<(), ReadError>
-    ensures { Turns result head.new (sign_step head.old part at negative) }
+) -> Result<(), Stop<Fault>>
+    ensures { Gives (λ done. head.new) result (sign_step head.old part at negative) }
 {
     match (part, head.at) {
         (Part::Nothing, None) => head.at = Some(at),
-        (Part::Nothing, Some(_)) => return Err(ReadError::Misfit(Misfit::Expected)),
+        (Part::Nothing, Some(_)) => return Err(Stop::Fault(Fault::Expected)),
         (part, first) => {
             let term = ended_part(alloc, part, head.negative)?;
             if first.is_none() {

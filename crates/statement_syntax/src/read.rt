@@ -5,18 +5,17 @@ ghost use Rattle.statement_syntax.specs.Grammar.{StatedLine};
 ghost use Rattle.statement_syntax.specs.Tree.{file_tree};
 ghost use Rattle.statement_syntax.specs.Fault.{TellsFirstFault, IsWantOfMemory};
 ghost use Rattle.statement_syntax.specs.Texts.{IsStatements, IsTreeOf};
-ghost use Rattle.statement_syntax.specs.Steps.{Turns};
+ghost use Rattle.lists.specs.Stop.{Gives};
 ghost use Rattle.statement_syntax.specs.Lines.{ended, file_step};
 ghost use Rattle.statement_syntax.specs.Stages.{CharactersRead, TextRead, IsReadSoFar, Goes, IsFront, LeavesFault, IsRefusal, first_statements, behind_first};
 ghost use Rattle.statement_tokens.specs.Language.{language_of};
 ghost use Rattle.std.specs.Vec.Iter.{into_iter_items, into_iter_len};
 
-use crate::expression::ReadError;
-use crate::fault::{Fault, SyntaxFault, fault_at, misfit_fault};
+use crate::fault::{SyntaxFault, fault_at};
 use crate::line::{Line, line_end, line_step};
 use crate::tree::{Statement, StatementKind, Tree};
-use lists::Listing;
-use statement_tokens::{Language, Scanner, Spot, Token, TokenKind, characters, language_of};
+use lists::{Listing, Stop};
+use statement_tokens::{Fault, Language, Scanner, Spot, Token, TokenKind, characters, language_of};
 use std::alloc::{AllocError, Global};
 use std::mem;
 use std::vec::IntoIter;
@@ -33,8 +32,8 @@ fn file_step(
     language: Language,
     progress: &mut Progress,
     token: Token,
-) -> Result<(), ReadError>
-    ensures { Turns result progress.new (file_step language progress.old token) }
+) -> Result<(), Stop<Fault>>
+    ensures { Gives (λ done. progress.new) result (file_step language progress.old token) }
 {
     match &token.kind {
         TokenKind::End => end_line(alloc, progress),
@@ -42,20 +41,20 @@ fn file_step(
     }
 }
 
-fn end_line(alloc: Global, progress: &mut Progress) -> Result<(), ReadError>
-    ensures { Turns result progress.new (ended progress.old) }
+fn end_line(alloc: Global, progress: &mut Progress) -> Result<(), Stop<Fault>>
+    ensures { Gives (λ done. progress.new) result (ended progress.old) }
 {
     let line = mem::replace(&mut progress.line, Line::Start);
     progress.statements.push(line_end(alloc, line)?)?;
     Ok(())
 }
 
-fn refusal(error: ReadError, at: Spot) -> SyntaxFault
+fn refusal(error: Stop<Fault>, at: Spot) -> SyntaxFault
     ensures { IsRefusal error at result }
 {
     match error {
-        ReadError::Memory => SyntaxFault::Memory(AllocError),
-        ReadError::Misfit(misfit) => fault_at(misfit_fault(misfit), at),
+        Stop::Memory(error) => SyntaxFault::Memory(error),
+        Stop::Fault(fault) => fault_at(fault, at),
     }
 }
 

@@ -1,17 +1,16 @@
 //! Statements of two expressions: `assume`, `claim`.
 
 ghost use Rattle.std.specs.Prelude.{◌≡◌};
-ghost use Rattle.statement_syntax.specs.Steps.{Gives, Turns};
+ghost use Rattle.lists.specs.Stop.{Gives};
 ghost use Rattle.statement_syntax.specs.Lines.{start_reading, left_end, sides_step, sides_end};
 ghost use Rattle.statement_syntax.specs.declared.line.Line.TheVariants.{Sides};
 
-use crate::expression::{
-    Focus, Misfit, Part, ReadError, Reading, empty_head, token_step, whole_sum,
-};
+use crate::expression::{Focus, Part, Reading, empty_head, token_step, whole_sum};
 use crate::line::SidesWord;
 use crate::stack::Stack;
 use crate::tree::{StatementKind, Sum};
-use statement_tokens::{Spot, Token, TokenKind};
+use lists::Stop;
+use statement_tokens::{Fault, Spot, Token, TokenKind};
 use std::alloc::Global;
 use std::mem;
 
@@ -33,9 +32,9 @@ pub fn sides_step(
     left: &mut Option<Sum>,
     reading: &mut Reading,
     token: Token,
-) -> Result<(), ReadError>
+) -> Result<(), Stop<Fault>>
     ensures { (word : SidesWord) → (at : Spot)
-        → Turns result (Sides word at left.new reading.new) (sides_step word at left.old reading.old token.kind token.at) }
+        → Gives (λ done. Sides word at left.new reading.new) result (sides_step word at left.old reading.old token.kind token.at) }
 {
     match (&*left, &token.kind) {
         (None, TokenKind::Equals) => end_left(alloc, left, reading),
@@ -44,8 +43,8 @@ pub fn sides_step(
 }
 
 // The left side, where it may end; nothing of the right one is read.
-fn end_left(alloc: Global, left: &mut Option<Sum>, reading: &mut Reading) -> Result<(), ReadError>
-    ensures { (word : SidesWord) → (at : Spot) → Turns result (Sides word at left.new reading.new) (left_end word at reading.old) }
+fn end_left(alloc: Global, left: &mut Option<Sum>, reading: &mut Reading) -> Result<(), Stop<Fault>>
+    ensures { (word : SidesWord) → (at : Spot) → Gives (λ done. Sides word at left.new reading.new) result (left_end word at reading.old) }
 {
     let whole = mem::replace(reading, start_reading(alloc));
     drop(mem::replace(left, Some(whole_sum(alloc, whole)?)));
@@ -58,13 +57,13 @@ pub fn sides_end(
     word: SidesWord,
     left: Option<Sum>,
     reading: Reading,
-) -> Result<StatementKind, ReadError>
-    ensures { Gives result (sides_end word left reading) }
+) -> Result<StatementKind, Stop<Fault>>
+    ensures { Gives (λ read. read) result (sides_end word left reading) }
 {
     match left {
         None => {
             drop(reading);
-            Err(ReadError::Misfit(Misfit::Expected))
+            Err(Stop::Fault(Fault::Expected))
         }
         Some(left) => {
             let right = whole_sum(alloc, reading)?;

@@ -8,8 +8,9 @@ use Rattle.std.proofs.lemmas.Bool.{le-leb}
 use Rattle.std.proofs.lemmas.Result.{IfOk-from_err, IfOk-at_ok}
 use Rattle.std.proofs.lemmas.List.Sums.{prefix_len-le-length}
 use Rattle.statement_tokens.specs.Limits.{name_limit}
-use Rattle.statement_tokens.specs.Types.{TokenKind as kind, Item, Item as item, ItemError, ScanFault}
-use Rattle.statement_tokens.specs.Items.{name_of, more_of, GivesItem}
+use Rattle.statement_tokens.specs.Types.{TokenKind as kind, Item, Item as item, Fault, Stop}
+use Rattle.lists.specs.Stop.{Gives}
+use Rattle.statement_tokens.specs.Items.{name_of, more_of}
 
 pub name_read : (first : ℕ) (rest text : List ℕ) (more : ℕ) → more ≡ prefix_len is_xid_continue rest → text ≡ encode_utf8_all (first ∷ take more rest)
     → length text ≤ name_limit
@@ -18,7 +19,7 @@ name_read first rest text more count is short =
     let whole : text ≡ encode_utf8_all (first ∷ take_while is_xid_continue rest) = is ∙ ap (λ n. encode_utf8_all (first ∷ take n rest)) count in
     ap₂ name_of (sym whole) (sym count) ∙ rw (le-leb (length text) name_limit short) refl
 
-pub given_short : (n : ℕ) (r : Result Item ItemError) (read : Result Item ScanFault) → GivesItem r read → IfOk read (λ i. more_of i ≤ n) → IfOk r (λ i. more_of i ≤ n)
+pub given_short : (n : ℕ) (r : Result Item (Stop Fault)) (read : Result Item Fault) → Gives (λ item. item) r read → IfOk read (λ i. more_of i ≤ n) → IfOk r (λ i. more_of i ≤ n)
 given_short n (Ok i) read gives short = subst (λ x. IfOk x (λ i. more_of i ≤ n)) gives short
 given_short n (Err e) read gives short = tt
 

@@ -9,7 +9,7 @@ use Rattle.std.proofs.lemmas.List.{drop_at, take-append-drop}
 use Rattle.std.proofs.lemmas.List.Folds.{length-prefix_len}
 use Rattle.std.proofs.lemmas.Bool.{and_parts, false_from_ne_true}
 use Rattle.unicode_ident.specs.Ident.{is_xid_continue}
-use Rattle.statement_tokens.specs.Types.{Spot, Token, TokenKind, TokenKind as kind, Language, First, Second, Item as item, ScanFault, BadToken}
+use Rattle.statement_tokens.specs.Types.{Spot, Token, TokenKind, TokenKind as kind, Language, First, Second, Item as item, Fault, BadToken}
 use Rattle.statement_tokens.specs.Types.{LiteralTooLarge, Placed}
 use Rattle.statement_tokens.specs.Language.{language_of}
 use Rattle.statement_tokens.specs.Pieces.{Piece, line_feed, return_and_line_feed, blank, tab, comment, name, literal, sign, piece_text, is_piece, IsLongest}
@@ -59,7 +59,7 @@ front_none (Ok ts) = refl
 front_none (Err e) = refl
 
 -- what is read, but for a fault at the place
-abbrev pub outcome : Spot → Read → Option ScanFault → Read
+abbrev pub outcome : Spot → Read → Option Fault → Read
 outcome at read None = read
 outcome at read (Some f) = Err (record { fault = f; at = at })
 
@@ -83,14 +83,14 @@ module _ (before : List Token) (c : ℕ) (cs later : List ℕ) (at : Spot) (past
       (omega arith) at past k is
 
   -- a token that a test lets through
-  tested : (k : TokenKind) (f : ScanFault) (b : Bool) → item_at before c (cs ++ later) ≡ (if b then Ok (item.Token k (length cs)) else Err f)
+  tested : (k : TokenKind) (f : Fault) (b : Bool) → item_at before c (cs ++ later) ≡ (if b then Ok (item.Token k (length cs)) else Err f)
       → tokens_from before (c ∷ (cs ++ later)) 0 at past ≡ outcome at
       (with_front (record { at = at; kind = k } ∷ []) (tokens_from (before ++ record { at = at; kind = k } ∷ []) later 0 there (at.column + length (c ∷ cs))))
       (if b then None else Some f)
   tested k f true is = token k is
   tested k f false is = turn_fault before c (cs ++ later) at past f is
 
-abbrev ReadsPiece : List Token → Piece → List ℕ → Spot → ℕ → Option ScanFault → Type 0
+abbrev ReadsPiece : List Token → Piece → List ℕ → Spot → ℕ → Option Fault → Type 0
 ReadsPiece before piece later at past fault =
     tokens_from before (piece_text piece ++ later) 0 at past ≡ outcome at
     (with_front (tokens_with piece at past) (tokens_from (before ++ tokens_with piece at past) later 0 (behind piece at) (past_behind piece at past))) fault

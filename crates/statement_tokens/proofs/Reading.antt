@@ -3,9 +3,9 @@ use Rattle.std.specs.Prelude.{◌≡◌, ℕ, zero, suc, ◌+◌, List, [], ◌�
 use Rattle.statement_tokens.specs.Tokens.{right_of, below, end_of}
 use Rattle.statement_tokens.specs.Items.{item_at}
 pub use Rattle.statement_tokens.specs.Scanned.{◌>>=◌, with_front}
-use Rattle.statement_tokens.specs.Types.{Spot, Token, Item, Item as item, ScanFault, Placed, ScanError, ScanError as error, Scanner}
+use Rattle.statement_tokens.specs.Types.{Spot, Token, Item, Item as item, Fault, Placed, Stop, stop, Scanner}
 
-abbrev pub placed : List Token → Result Item ScanFault → Spot → ℕ → (List Token → ℕ → Spot → ℕ → Result (List Token) Placed) → Result (List Token) Placed
+abbrev pub placed : List Token → Result Item Fault → Spot → ℕ → (List Token → ℕ → Spot → ℕ → Result (List Token) Placed) → Result (List Token) Placed
 placed before (Err e) at past next = Err (record { fault = e; at = at })
 placed before (Ok item.NewLine) at past next = next (before ++ end_of at.line past) 0 (below at) 0 >>= λ ts. Ok (end_of at.line past ++ ts)
 placed before (Ok (item.Gap more)) at past next = next before more (right_of at 1) past
@@ -26,8 +26,8 @@ abbrev pub unread : List Token → Scanner → Result (List Token) Placed
 unread before scanner = tokens_from before scanner.text.now 0 scanner.at scanner.past
 
 -- what is returned, by the scanner's function
-abbrev pub HandsRead : List Token → Scanner → Result (Option Token) ScanError → Scanner → Type 0
+abbrev pub HandsRead : List Token → Scanner → Result (Option Token) (Stop Placed) → Scanner → Type 0
 HandsRead before old (Ok (Some token)) new = unread before old ≡ with_front (token ∷ []) (unread (before ++ token ∷ []) new)
 HandsRead before old (Ok None) new = (unread before old ≡ Ok []) × (unread before new ≡ Ok [])
-HandsRead before old (Err (error.Fault placed)) new = unread before old ≡ Err placed
-HandsRead before old (Err error.Memory) new = Unit {0}
+HandsRead before old (Err (stop.Fault placed)) new = unread before old ≡ Err placed
+HandsRead before old (Err (stop.Memory error)) new = Unit {0}

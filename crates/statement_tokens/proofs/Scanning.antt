@@ -2,7 +2,7 @@
 use Rattle.std.proofs.Common.{◌≡◌, ℕ, zero, suc, ◌+◌, ◌*◌, ◌-◌, ◌<◌, ◌≤◌, List, [], ◌∷◌, ◌++◌, length, length-drop, drop, take, get_or, Option, Some, None, Result, Ok, Err, refl, sym, ap, ap₂, ◌∙◌, arith}
 use Rattle.std.specs.Prelude.{MatchOption}
 use Rattle.std.proofs.lemmas.List.{drop_more, take_rest}
-use Rattle.statement_tokens.specs.Types.{Spot, Token, TokenKind, Item, Item as item, ScanFault, Language, Scanner}
+use Rattle.statement_tokens.specs.Types.{Spot, Token, TokenKind, Item, Item as item, Fault, Language, Scanner}
 use Rattle.statement_tokens.specs.Tokens.{right_of, below, end_of}
 use Rattle.statement_tokens.specs.Items.{item_at, item_in}
 use Rattle.statement_tokens.specs.Language.{language_of}
@@ -21,12 +21,12 @@ skipped before (suc n) (c ∷ cs) line column past given =
     skipped before n cs line (column + 1) past (omega arith) ∙ ap (λ k. tokens_from before (drop n cs) 0 (spot line k) past) (omega arith)
 
 -- one turn after these tokens, at a character and those after it
-turn : (before : List Token) (c : ℕ) (rest : List ℕ) (at : Spot) (past : ℕ) (read : Result Item ScanFault) → item_at before c rest ≡ read
+turn : (before : List Token) (c : ℕ) (rest : List ℕ) (at : Spot) (past : ℕ) (read : Result Item Fault) → item_at before c rest ≡ read
     → tokens_from before (c ∷ rest) 0 at past ≡ placed before read at past (λ front skip to end. tokens_from front rest skip to end)
 unfolding tokens_from
 turn before c rest at past read is = ap (λ i. placed before i at past (λ front skip to end. tokens_from front rest skip to end)) is
 
-pub turn_fault : (before : List Token) (c : ℕ) (rest : List ℕ) (at : Spot) (past : ℕ) (f : ScanFault) → item_at before c rest ≡ Err f
+pub turn_fault : (before : List Token) (c : ℕ) (rest : List ℕ) (at : Spot) (past : ℕ) (f : Fault) → item_at before c rest ≡ Err f
     → tokens_from before (c ∷ rest) 0 at past ≡ Err (record { fault = f; at = at })
 turn_fault before c rest at past f is = turn before c rest at past (Err f) is
 
@@ -66,10 +66,10 @@ module _ (before : List Token) (here : Scanner) (first : ℕ) (language : Langua
   begins = ap (λ cs. tokens_from before cs 0 here.at here.past)
       (drop_more here.text.now 0 first some ∙ ap₂ (λ x xs. x ∷ xs) (sym is) (sym (take_rest here.text.now 1)))
 
-  reads : (read : Result Item ScanFault) → item_in language first rest ≡ read → item_at before first rest ≡ read
+  reads : (read : Result Item Fault) → item_in language first rest ≡ read → item_at before first rest ≡ read
   reads read given = ap (λ l. item_in l first rest) same ∙ given
 
-  pub scans_fault : (f : ScanFault) → item_in language first rest ≡ Err f → unread before here ≡ Err (record { fault = f; at = here.at })
+  pub scans_fault : (f : Fault) → item_in language first rest ≡ Err f → unread before here ≡ Err (record { fault = f; at = here.at })
   scans_fault f given = begins ∙ turn_fault before first rest here.at here.past f (reads (Err f) given)
 
   pub scans_new_line : (end : List Token) → end_of here.at.line here.past ≡ end → item_in language first rest ≡ Ok item.NewLine

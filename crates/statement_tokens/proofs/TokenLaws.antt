@@ -1,14 +1,17 @@
 -- Each text has one list of tokens or one first fault, and the scanner reads them.
-use Rattle.std.proofs.Common.{◌≡◌, ℕ, ◌≤◌, ◌&&◌, true, false, zero, suc, List, [], ◌∷◌, ◌++◌, length, Option}
+use Rattle.std.proofs.Common.{◌≡◌, ℕ, ◌≤◌, ◌&&◌, Bool, true, false, zero, suc, List, [], ◌∷◌, ◌++◌, length, Option}
 use Rattle.std.proofs.Common.{Some, None, Result, Ok, Err, refl, sym, ap, subst, ◌∙◌, append_assoc, append-nil, length-append, arith, inl, inr}
+use Rattle.std.specs.Prelude.{◌^◌, nat_le, nat_lt, if◌then◌else◌, IfSome}
+use Rattle.std.specs.Str.{encode_utf8_all}
 use Rattle.std.proofs.lemmas.Bool.{and_right}
-use Rattle.statement_tokens.specs.Types.{Spot, Token, TokenKind as kind, ScanFault, BadToken, Placed, Scanner, ScanError}
-use Rattle.statement_tokens.specs.Types.{ScanError as error}
+use Rattle.statement_tokens.specs.Types.{Spot, Token, TokenKind as kind, Language, First, Fault, BadToken, LiteralTooLarge, Placed, Scanner}
+use Rattle.statement_tokens.specs.Types.{Stop, stop}
+use Rattle.statement_tokens.specs.Limits.{name_limit}
 use Rattle.statement_tokens.specs.Language.{is_language_word, is_two, language_of}
 use Rattle.statement_tokens.specs.Pieces.{Piece, line_feed, name, literal}
 use Rattle.statement_tokens.specs.Pieces.{sign, sign_text, piece_text, pieces_text, is_some, is_piece, IsLongest, BeginsNone}
 use Rattle.statement_tokens.specs.Tokens.{behind, place_behind, tokens_with, past_behind, tokens_at, sign_fault, fault_of, AreGood, AreTokens}
-use Rattle.statement_tokens.specs.Tokens.{Begins, end_of}
+use Rattle.statement_tokens.specs.Tokens.{Begins, value_from, end_of}
 use Rattle.statement_tokens.specs.Laws.{HasTokensOrFault, EachTextHasTokensOrFault, TokensAreUnique, FirstScanFaultsAreUnique, TokensHaveNoFault}
 use Rattle.statement_tokens.specs.Scanned.{TellsBehind, Tells, Leaves, Hands, with_front}
 use Rattle.statement_tokens.proofs.Reading.{tokens_from, tokens_of, unread, HandsRead}
@@ -35,6 +38,26 @@ same_fault before more (sign kind.Caret) at past =
     ap (λ ts. sign_fault kind.Caret (language_of ts)) (append_assoc before (record { at = at; kind = kind.Caret } ∷ []) more)
     ∙ ap (sign_fault kind.Caret) (same_language before more at)
 same_fault before more piece at past = refl
+
+-- the fault of a piece is that it is no token, or a literal that is too large
+abbrev pub IsScanFault : Fault → Type 0
+IsScanFault BadToken = Unit {0}
+IsScanFault LiteralTooLarge = Unit {0}
+IsScanFault f = ⊥
+
+by_test : (b : Bool) (f : Fault) → IsScanFault f → IfSome (if b then None else Some f) IsScanFault
+by_test true f is = tt
+by_test false f is = is
+
+fault_scanned : (piece : Piece) (language : Language) → IfSome (fault_of language piece) IsScanFault
+fault_scanned (name cs) language = by_test (nat_le (length (encode_utf8_all cs)) name_limit) BadToken tt
+fault_scanned (literal cs) language = by_test (nat_lt (value_from 0 cs) (2 ^ 127)) LiteralTooLarge tt
+fault_scanned (sign kind.Caret) First = tt
+fault_scanned piece language = tt
+
+pub begins_scanned : (language : Language) (text : List ℕ) (f : Fault) → Begins language text f → IsScanFault f
+begins_scanned language text f (inl (piece, rest, cut, longest, has)) = subst (λ o. IfSome o IsScanFault) has (fault_scanned piece language)
+begins_scanned language text f (inr (c, rest, cut, none, is)) = rw is tt
 
 abbrev past_after : List Piece → Spot → ℕ → ℕ
 past_after [] at past = past
@@ -71,7 +94,7 @@ reads before more (piece ∷ pieces) rest at past good =
     ∙ fronts here later (tokens_from ((before ++ here) ++ later) rest 0 (place_behind pieces to) (past_after pieces to end))
     ∙ ap (λ front. with_front (here ++ later) (tokens_from front rest 0 (place_behind pieces to) (past_after pieces to end))) (append_assoc before here later)
 
-stops_at : (before : List Token) (rest : List ℕ) (at : Spot) (past : ℕ) (f : ScanFault) → Begins (language_of before) rest f
+stops_at : (before : List Token) (rest : List ℕ) (at : Spot) (past : ℕ) (f : Fault) → Begins (language_of before) rest f
     → tokens_from before rest 0 at past ≡ Err (record { fault = f; at = at })
 stops_at before rest at past f (inl (piece, later, text, is, faulty)) =
     ap (λ cs. tokens_from before cs 0 at past) text ∙ reads_piece before piece later at past is ∙ ap (outcome at _) faulty
@@ -113,7 +136,7 @@ module _ (before : List Token) (at : Spot) (past : ℕ) (text : List ℕ) where
   abbrev HasRead : Type 0
   HasRead = (read : Read) × TellsBehind before at past text read
 
-  fails_here : (f : ScanFault) → Begins (language_of before) text f → HasRead
+  fails_here : (f : Fault) → Begins (language_of before) text f → HasRead
   fails_here f begins = (
     Err (record { fault = f; at = at }),
     record {
@@ -156,7 +179,7 @@ module _ (before : List Token) (at : Spot) (past : ℕ) (text : List ℕ) where
           place = first.place;
         }
 
-    judged : (later : (read : Read) × TellsLater read) (o : Option ScanFault) → fault_of (language_of before) l.piece ≡ o → HasRead
+    judged : (later : (read : Read) × TellsLater read) (o : Option Fault) → fault_of (language_of before) l.piece ≡ o → HasRead
     judged later None good = (with_front here later.0, one_more good later.0 later.1)
     judged later (Some f) faulty = fails_here f (inl (l.piece, l.later, l.cut, l.is, faulty))
 
@@ -195,21 +218,21 @@ token_hands before old token rest at past is read tells =
     (is ∙ ap (with_front (token ∷ [])) (behind_is (before ++ token ∷ []) at past rest read tells))
 
 -- what is returned, by the scanner's function
-pub handed : (before : List Token) (old : Scanner) (out : Result (Option Token) ScanError) (new : Scanner) → Hands before old out new
+pub handed : (before : List Token) (old : Scanner) (out : Result (Option Token) (Stop Placed)) (new : Scanner) → Hands before old out new
     → HandsRead before old out new
 handed before old (Ok (Some token)) new is =
     let rest = unread (before ++ token ∷ []) new in
     unread_is before old (with_front (token ∷ []) rest) (is rest (leaves_unread (before ++ token ∷ []) new))
 handed before old (Ok None) new is = (unread_is before old (Ok []) is.0, unread_is before new (Ok []) is.1)
-handed before old (Err (error.Fault placed)) new is = unread_is before old (Err placed) is
-handed before old (Err error.Memory) new is = tt
+handed before old (Err (stop.Fault placed)) new is = unread_is before old (Err placed) is
+handed before old (Err (stop.Memory error)) new is = tt
 
-pub hands : (before : List Token) (old : Scanner) (out : Result (Option Token) ScanError) (new : Scanner) → HandsRead before old out new
+pub hands : (before : List Token) (old : Scanner) (out : Result (Option Token) (Stop Placed)) (new : Scanner) → HandsRead before old out new
     → Hands before old out new
 hands before old (Ok (Some token)) new is = token_hands before old token new.text.now new.at new.past is
 hands before old (Ok None) new is = (leaves before old (Ok []) is.0, leaves before new (Ok []) is.1)
-hands before old (Err (error.Fault placed)) new is = leaves before old (Err placed) is
-hands before old (Err error.Memory) new is = tt
+hands before old (Err (stop.Fault placed)) new is = leaves before old (Err placed) is
+hands before old (Err (stop.Memory error)) new is = tt
 
 -- of a whole text
 pub each_text_has_tokens_or_fault : EachTextHasTokensOrFault

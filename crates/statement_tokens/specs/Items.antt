@@ -1,5 +1,5 @@
 -- What the scanner takes a character for: an item, and how many more characters belong to it.
-use Rattle.std.specs.Prelude.{◌≡◌, ℕ, ◌^◌, ◌==◌, ◌&&◌, ◌||◌, Bool, false, List, [], ◌∷◌, length, nat_lt, nat_le, Result, Ok, Err, pos, if◌then◌else◌}
+use Rattle.std.specs.Prelude.{ℕ, ◌^◌, ◌==◌, ◌&&◌, ◌||◌, Bool, false, List, [], ◌∷◌, length, nat_lt, nat_le, Result, Ok, Err, pos, if◌then◌else◌}
 use Rattle.std.specs.List.{take_while, prefix_len}
 use Rattle.std.specs.Str.{encode_utf8_all}
 use Rattle.unicode_ident.specs.Ident.{is_xid_continue}
@@ -7,8 +7,8 @@ use Rattle.statement_tokens.specs.Limits.{name_limit}
 use Rattle.statement_tokens.specs.Language.{language_of}
 use Rattle.statement_tokens.specs.Pieces.{starts_name, is_digit, is_inside_line}
 use Rattle.statement_tokens.specs.Tokens.{value_from}
-use Rattle.statement_tokens.specs.Types.{Token, TokenKind as kind, Language, First, Second, Class, Class as class, Item, Item as item, ScanFault, BadToken}
-use Rattle.statement_tokens.specs.Types.{LiteralTooLarge, ItemError, ItemError as item_error}
+use Rattle.statement_tokens.specs.Types.{Token, TokenKind as kind, Language, First, Second, Class, Class as class, Item, Item as item, Fault, BadToken}
+use Rattle.statement_tokens.specs.Types.{LiteralTooLarge}
 
 -- whether the character continues a token or a comment
 abbrev pub is_in : Class → ℕ → Bool
@@ -20,19 +20,19 @@ abbrev pub begins_with : ℕ → List ℕ → Bool
 begins_with c [] = false
 begins_with c (d ∷ ds) = d == c
 
-abbrev pub name_of : List ℕ → ℕ → Result Item ScanFault
+abbrev pub name_of : List ℕ → ℕ → Result Item Fault
 name_of text more = if nat_le (length text) name_limit then Ok (item.Token (kind.Name text) more) else Err BadToken
 
-abbrev pub literal_of : ℕ → ℕ → Result Item ScanFault
+abbrev pub literal_of : ℕ → ℕ → Result Item Fault
 literal_of value more = if nat_lt value (2 ^ 127) then Ok (item.Token (kind.Literal (pos value)) more) else Err LiteralTooLarge
 
 -- only the second language has carets as tokens
-abbrev pub caret_in : Language → Result Item ScanFault
+abbrev pub caret_in : Language → Result Item Fault
 caret_in First = Err BadToken
 caret_in Second = Ok (item.Token kind.Caret 0)
 
 -- a sign of the language
-abbrev pub sign_in : Language → ℕ → Result Item ScanFault
+abbrev pub sign_in : Language → ℕ → Result Item Fault
 sign_in language c =
     if c == 58 then Ok (item.Token kind.Colon 0)
     else (if c == 61 then Ok (item.Token kind.Equals 0)
@@ -45,7 +45,7 @@ sign_in language c =
     else (if c == 94 then caret_in language
     else Err BadToken))))))))
 
-unfoldable pub item_in : Language → ℕ → List ℕ → Result Item ScanFault
+unfoldable pub item_in : Language → ℕ → List ℕ → Result Item Fault
 item_in language c rest =
     if c == 10 then Ok item.NewLine
     else (if (c == 32) || (c == 9) || ((c == 13) && begins_with 10 rest) then Ok (item.Gap 0)
@@ -56,16 +56,8 @@ item_in language c rest =
     else sign_in language c)))))
 
 -- after these tokens, which determine the language
-abbrev pub item_at : List Token → ℕ → List ℕ → Result Item ScanFault
+abbrev pub item_at : List Token → ℕ → List ℕ → Result Item Fault
 item_at before c rest = item_in (language_of before) c rest
-
-abbrev pub FailsItem : ItemError → Result Item ScanFault → Type 0
-FailsItem item_error.Memory read = Unit {0}
-FailsItem (item_error.Fault f) read = read ≡ Err f
-
-abbrev pub GivesItem : Result Item ItemError → Result Item ScanFault → Type 0
-GivesItem (Ok x) read = read ≡ Ok x
-GivesItem (Err e) read = FailsItem e read
 
 -- how many more characters belong to it
 abbrev pub more_of : Item → ℕ

@@ -1,10 +1,10 @@
 -- Each text has one list of tokens or one first fault.
 use Rattle.std.specs.Prelude.{◌≡◌, ◌⊎◌, ℕ, List}
 use Rattle.statement_tokens.specs.Tokens.{AreTokens, IsFirstScanFault}
-use Rattle.statement_tokens.specs.Types.{Spot, ScanFault, Token}
+use Rattle.statement_tokens.specs.Types.{Spot, Fault, Token}
 
 abbrev pub HasTokensOrFault : List ℕ → Type 0
-HasTokensOrFault text = ((tokens : List Token) × AreTokens text tokens) ⊎ ((fault : ScanFault) × (at : Spot) × IsFirstScanFault text fault at)
+HasTokensOrFault text = ((tokens : List Token) × AreTokens text tokens) ⊎ ((fault : Fault) × (at : Spot) × IsFirstScanFault text fault at)
 
 -- Each text has tokens or a first fault.
 abbrev pub EachTextHasTokensOrFault : Type 0
@@ -16,9 +16,9 @@ TokensAreUnique = (text : List ℕ) (tokens others : List Token) → AreTokens t
 
 -- No text has two first faults, or one fault at two places.
 abbrev pub FirstScanFaultsAreUnique : Type 0
-FirstScanFaultsAreUnique = (text : List ℕ) (fault other : ScanFault) (at there : Spot) → IsFirstScanFault text fault at → IsFirstScanFault text other there
+FirstScanFaultsAreUnique = (text : List ℕ) (fault other : Fault) (at there : Spot) → IsFirstScanFault text fault at → IsFirstScanFault text other there
     → (fault ≡ other) × (at ≡ there)
 
 -- No text that has tokens has a first fault.
 abbrev pub TokensHaveNoFault : Type 0
-TokensHaveNoFault = (text : List ℕ) (tokens : List Token) (fault : ScanFault) (at : Spot) → AreTokens text tokens → IsFirstScanFault text fault at → ⊥
+TokensHaveNoFault = (text : List ℕ) (tokens : List Token) (fault : Fault) (at : Spot) → AreTokens text tokens → IsFirstScanFault text fault at → ⊥

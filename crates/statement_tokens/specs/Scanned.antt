@@ -1,7 +1,7 @@
 -- What a scanner has left of its text, and the tokens that it returns.
 use Rattle.std.specs.Prelude.{◌<◌, ◌+◌, ◌*◌, ℕ, zero, suc, length, List, [], ◌∷◌, ◌++◌, Option, Some, None, Result, Ok, Err}
 use Rattle.statement_tokens.specs.Tokens.{AreTokensBehind, IsFaultBehind}
-use Rattle.statement_tokens.specs.Types.{Spot, Token, Placed, ScanError, ScanError as error, Scanner}
+use Rattle.statement_tokens.specs.Types.{Spot, Token, Placed, Stop, stop, Scanner}
 
 -- after these tokens, the text from this place on has these tokens, or this first fault
 abbrev pub TellsBehind : List Token → Spot → ℕ → List ℕ → Result (List Token) Placed → Type 0
@@ -30,12 +30,12 @@ abbrev pub with_front : List Token → Result (List Token) Placed → Result (Li
 with_front front read = read >>= λ tokens. Ok (front ++ tokens)
 
 -- it returns the first token that it had left, or None where there was none, or the fault; want of memory is always allowed
-abbrev pub Hands : List Token → Scanner → Result (Option Token) ScanError → Scanner → Type 0
+abbrev pub Hands : List Token → Scanner → Result (Option Token) (Stop Placed) → Scanner → Type 0
 Hands before old (Ok (Some token)) new =
     (read : Result (List Token) Placed) → Leaves (before ++ token ∷ []) new read → Leaves before old (with_front (token ∷ []) read)
 Hands before old (Ok None) new = Leaves before old (Ok []) × Leaves before new (Ok [])
-Hands before old (Err (error.Fault placed)) new = Leaves before old (Err placed)
-Hands before old (Err error.Memory) new = Unit {0}
+Hands before old (Err (stop.Fault placed)) new = Leaves before old (Err placed)
+Hands before old (Err (stop.Memory error)) new = Unit {0}
 
 abbrev pub one_if_some : ℕ → ℕ
 one_if_some zero = 0
@@ -45,6 +45,6 @@ one_if_some (suc n) = 1
 abbrev pub most_tokens : Scanner → ℕ
 most_tokens scanner = length scanner.text.now * 2 + one_if_some scanner.past
 
-abbrev pub Lessens : ℕ → ℕ → Result (Option Token) ScanError → Type 0
+abbrev pub Lessens : ℕ → ℕ → Result (Option Token) (Stop Placed) → Type 0
 Lessens old new (Ok (Some token)) = new < old
 Lessens old new read = Unit {0}

@@ -5,7 +5,7 @@ use Rattle.statement_tokens.specs.Limits.{name_limit}
 use Rattle.statement_tokens.specs.Language.{language_of}
 use Rattle.statement_tokens.specs.Pieces.{Piece, line_feed, return_and_line_feed, blank, tab, comment, name}
 use Rattle.statement_tokens.specs.Pieces.{literal, sign, piece_text, pieces_text, IsLongest, BeginsNone}
-use Rattle.statement_tokens.specs.Types.{Spot, Token, TokenKind, TokenKind as kind, Language, First, ScanFault, BadToken, LiteralTooLarge}
+use Rattle.statement_tokens.specs.Types.{Spot, Token, TokenKind, TokenKind as kind, Language, First, Fault, BadToken, LiteralTooLarge}
 
 -- lines and characters are counted from 1
 abbrev pub right_of : Spot → ℕ → Spot
@@ -55,12 +55,12 @@ abbrev pub tokens_at : List Piece → Spot → ℕ → List Token
 tokens_at [] at past = []
 tokens_at (piece ∷ pieces) at past = tokens_with piece at past ++ tokens_at pieces (behind piece at) (past_behind piece at past)
 
-abbrev pub sign_fault : TokenKind → Language → Option ScanFault
+abbrev pub sign_fault : TokenKind → Language → Option Fault
 sign_fault kind.Caret First = Some BadToken
 sign_fault k language = None
 
 -- a name has at most 32 bytes, a literal is below 2^127, and only the second language has carets as tokens
-abbrev pub fault_of : Language → Piece → Option ScanFault
+abbrev pub fault_of : Language → Piece → Option Fault
 fault_of language (name cs) = if nat_le (length (encode_utf8_all cs)) name_limit then None else Some BadToken
 fault_of language (literal cs) = if nat_lt (value_from 0 cs) (2 ^ 127) then None else Some LiteralTooLarge
 fault_of language (sign k) = sign_fault k language
@@ -84,13 +84,13 @@ abbrev pub AreTokens : List ℕ → List Token → Type 0
 AreTokens text tokens = AreTokensBehind [] (record { line = 1; column = 1 }) 0 text tokens
 
 -- the longest piece that the text begins with has the fault in the language, or no piece begins with its first character
-abbrev pub Begins : Language → List ℕ → ScanFault → Type 0
+abbrev pub Begins : Language → List ℕ → Fault → Type 0
 Begins language text fault =
     ((piece : Piece) × (rest : List ℕ) × (text ≡ piece_text piece ++ rest) × IsLongest piece rest × (fault_of language piece ≡ Some fault))
     ⊎ ((c : ℕ) × (rest : List ℕ) × (text ≡ c ∷ rest) × BeginsNone text × (fault ≡ BadToken))
 
 -- after these tokens, the text from this place on is good pieces up to the place of the fault
-pub record IsFaultBehind (before : List Token) (from : Spot) (past : ℕ) (text : List ℕ) (fault : ScanFault) (at : Spot) : Type 0 where
+pub record IsFaultBehind (before : List Token) (from : Spot) (past : ℕ) (text : List ℕ) (fault : Fault) (at : Spot) : Type 0 where
   pub pieces : List Piece
   pub rest : List ℕ
   pub cut : text ≡ pieces_text pieces ++ rest
@@ -99,5 +99,5 @@ pub record IsFaultBehind (before : List Token) (from : Spot) (past : ℕ) (text 
   pub place : at ≡ place_behind pieces from
 
 -- the first fault of a text, and its place
-abbrev pub IsFirstScanFault : List ℕ → ScanFault → Spot → Type 0
+abbrev pub IsFirstScanFault : List ℕ → Fault → Spot → Type 0
 IsFirstScanFault text fault at = IsFaultBehind [] (record { line = 1; column = 1 }) 0 text fault at

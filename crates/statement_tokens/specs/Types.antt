@@ -6,9 +6,8 @@ pub use Rattle.statement_tokens.specs.declared.language.Language.{Language}
 pub use Rattle.statement_tokens.specs.declared.language.Language.TheVariants.{First, Second}
 pub use Rattle.statement_tokens.specs.declared.scan.Item.{Item}
 pub use Rattle.statement_tokens.specs.declared.scan.Class.{Class}
-pub use Rattle.statement_tokens.specs.declared.scan.ScanFault.{ScanFault}
-pub use Rattle.statement_tokens.specs.declared.scan.ScanFault.TheVariants.{BadToken, LiteralTooLarge}
-pub use Rattle.statement_tokens.specs.declared.scan.Placed.{Placed}
-pub use Rattle.statement_tokens.specs.declared.scan.ItemError.{ItemError}
-pub use Rattle.statement_tokens.specs.declared.scan.ScanError.{ScanError}
+pub use Rattle.statement_tokens.specs.declared.fault.Fault.{Fault}
+pub use Rattle.statement_tokens.specs.declared.fault.Fault.TheVariants.{BadToken, LiteralTooLarge}
+pub use Rattle.statement_tokens.specs.declared.fault.Placed.{Placed}
+pub use Rattle.lists.specs.declared.stop.Stop.{Stop, Stop as stop}
 pub use Rattle.statement_tokens.specs.declared.scanner.Scanner.{Scanner}

@@ -6,11 +6,13 @@ ghost use Rattle.statement_tokens.specs.Tokens.{end_of};
 ghost use Rattle.statement_tokens.specs.Language.{language_of};
 ghost use Rattle.statement_tokens.specs.Scanned.{HasWhole, Hands, Lessens, most_tokens};
 
+use crate::fault::Placed;
 use crate::language::Language;
 use crate::place::Spot;
-use crate::scan::{Item, ItemError, Placed, ScanError, item_in};
+use crate::scan::{Item, item_in};
 use crate::scanner::Scanner;
 use crate::token::{Token, TokenKind};
+use lists::Stop;
 use std::alloc::Global;
 
 impl<'a> Scanner<'a> {
@@ -29,7 +31,7 @@ impl<'a> Scanner<'a> {
     /// The next token in a file of the language, which the tokens before it determine, or None after the last one. A line that
     /// has a token ends with one just past its last.
     #[tactic(auto, using(crate::proofs::Scanning::cut_length, crate::proofs::Scanning::at_most_one, crate::proofs::Scanning::end_lessens))]
-    pub fn next(&mut self, alloc: Global, language: Language) -> Result<Option<Token>, ScanError>
+    pub fn next(&mut self, alloc: Global, language: Language) -> Result<Option<Token>, Stop<Placed>>
         ensures hands { (before : List code_token.Token) → language_of before ≡ language → Hands before self.old result self.new }
         // It ends.
         ensures lessens { Lessens (most_tokens self.old) (most_tokens self.new) result }
@@ -38,8 +40,8 @@ impl<'a> Scanner<'a> {
             let at = self.at;
             let item = match item_in(alloc, language, *first, rest) {
                 Ok(item) => item,
-                Err(ItemError::Memory) => return Err(ScanError::Memory),
-                Err(ItemError::Fault(fault)) => return Err(ScanError::Fault(Placed { fault, at })),
+                Err(Stop::Memory(error)) => return Err(Stop::Memory(error)),
+                Err(Stop::Fault(fault)) => return Err(Stop::Fault(Placed { fault, at })),
             };
             match item {
                 Item::NewLine => {

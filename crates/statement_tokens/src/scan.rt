@@ -5,16 +5,15 @@ ghost use Rattle.std.specs.List.{prefix_len, take_while};
 ghost use Rattle.std.specs.Str.{chars, encode_utf8_all};
 ghost use Rattle.statement_tokens.specs.Pieces.{is_digit, starts_name};
 ghost use Rattle.statement_tokens.specs.Tokens.{value_from};
-ghost use Rattle.statement_tokens.specs.Items.{is_in, item_in, sign_in, caret_in, name_of, literal_of, begins_with, more_of, GivesItem};
+ghost use Rattle.lists.specs.Stop.{Gives};
+ghost use Rattle.statement_tokens.specs.Items.{is_in, item_in, sign_in, caret_in, name_of, literal_of, begins_with, more_of};
 ghost use Rattle.unicode_ident.specs.Ident.{is_xid_continue};
-ghost use Rattle.statement_tokens.specs.declared.scan.ItemError.TheVariants as item_error;
 
+use crate::fault::Fault;
 use crate::language::Language;
-use crate::place::Spot;
 use crate::token::TokenKind;
-use lists::Text;
+use lists::{Stop, Text};
 use std::alloc::{AllocError, Global};
-use thiserror::Error;
 
 /// What begins at a character, and how many more characters belong to it.
 #[derive(Drop)]
@@ -22,63 +21,6 @@ pub enum Item {
     NewLine,
     Gap(usize),
     Token(TokenKind, usize),
-}
-
-/// Why characters are not a token.
-#[derive(Clone, Copy, Debug, Error)]
-pub enum ScanFault {
-    /// No token begins with the character, or a name is too long.
-    #[error("the token is bad")]
-    BadToken,
-    /// A literal is larger than 2^127 - 1.
-    #[error("the literal is too large")]
-    LiteralTooLarge,
-}
-
-/// A fault with the place of its first character.
-#[derive(Clone, Copy, Debug, Error)]
-#[error("{fault}")]
-pub struct Placed {
-    /// What is wrong.
-    pub fault: ScanFault,
-    /// The place of its first character.
-    pub at: Spot,
-}
-
-/// Why there is no item at a character.
-#[derive(Debug, Drop, Error)]
-pub enum ItemError {
-    #[error(transparent)]
-    Fault(ScanFault),
-    #[error("memory is short")]
-    Memory,
-}
-
-/// Why a text has no tokens.
-#[derive(Debug, Drop, Error)]
-pub enum ScanError {
-    /// The first fault, with its place.
-    #[error(transparent)]
-    Fault(Placed),
-    /// Memory is short.
-    #[error("memory is short")]
-    Memory,
-}
-
-impl From<ScanFault> for ItemError {
-    ghost from_gives = { λ fault e. e ≡ item_error.Fault fault };
-
-    fn from(fault: ScanFault) -> ItemError {
-        ItemError::Fault(fault)
-    }
-}
-
-impl From<AllocError> for ItemError {
-    ghost from_gives = { λ _ e. e ≡ item_error.Memory };
-
-    fn from(_failed: AllocError) -> ItemError {
-        ItemError::Memory
-    }
 }
 
 /// The characters that continue a token or a comment.
@@ -124,7 +66,7 @@ fn spelled(alloc: Global, first: char, more: &[char]) -> Result<Text, AllocError
 }
 
 // Only the second language has carets.
-fn sign_in(language: Language, ch: char) -> Result<Item, ScanFault>
+fn sign_in(language: Language, ch: char) -> Result<Item, Fault>
     ensures { result ≡ sign_in language ch }
 {
     let kind = match ch {
@@ -137,16 +79,16 @@ fn sign_in(language: Language, ch: char) -> Result<Item, ScanFault>
         ']' => TokenKind::CloseSquare,
         '\'' => TokenKind::Quote,
         '^' => return caret_in(language),
-        _ => return Err(ScanFault::BadToken),
+        _ => return Err(Fault::BadToken),
     };
     Ok(Item::Token(kind, 0))
 }
 
-fn caret_in(language: Language) -> Result<Item, ScanFault>
+fn caret_in(language: Language) -> Result<Item, Fault>
     ensures { result ≡ caret_in language }
 {
     match language {
-        Language::First => Err(ScanFault::BadToken),
+        Language::First => Err(Fault::BadToken),
         Language::Second => Ok(Item::Token(TokenKind::Caret, 0)),
     }
 }
@@ -177,25 +119,25 @@ fn value_of(first: char, more: &[char]) -> Option<u128>
 pub const NAME_LIMIT: usize = 32;
 
 #[tactic(auto, using(crate::proofs::Items::name_read))]
-fn name_at(alloc: Global, first: char, rest: &[char]) -> Result<Item, ItemError>
-    ensures { GivesItem result (name_of (encode_utf8_all (first ∷ take_while is_xid_continue rest.now)) (prefix_len is_xid_continue rest.now)) }
+fn name_at(alloc: Global, first: char, rest: &[char]) -> Result<Item, Stop<Fault>>
+    ensures { Gives (λ item. item) result (name_of (encode_utf8_all (first ∷ take_while is_xid_continue rest.now)) (prefix_len is_xid_continue rest.now)) }
 {
     let more = run_len(Class::Name, rest);
     let text = spelled(alloc, first, &rest[..more])?;
     if text.len() <= NAME_LIMIT {
         Ok(Item::Token(TokenKind::Name(text), more))
     } else {
-        Err(ItemError::Fault(ScanFault::BadToken))
+        Err(Stop::Fault(Fault::BadToken))
     }
 }
 
-fn literal_at(first: char, rest: &[char]) -> Result<Item, ScanFault>
+fn literal_at(first: char, rest: &[char]) -> Result<Item, Fault>
     ensures { result ≡ literal_of (value_from 0 (first ∷ take_while is_digit rest.now)) (prefix_len is_digit rest.now) }
 {
     let more = run_len(Class::Digit, rest);
     match value_of(first, &rest[..more]) {
         Some(value) => Ok(Item::Token(TokenKind::Literal(value as i128), more)),
-        None => Err(ScanFault::LiteralTooLarge),
+        None => Err(Fault::LiteralTooLarge),
     }
 }
 
@@ -215,8 +157,8 @@ pub fn item_in(
     language: Language,
     first: char,
     rest: &[char],
-) -> Result<Item, ItemError>
-    ensures exact { GivesItem result (item_in language first rest.now) }
+) -> Result<Item, Stop<Fault>>
+    ensures exact { Gives (λ item. item) result (item_in language first rest.now) }
     ensures within { IfOk result (λ item. more_of item ≤ length rest.now) }
 {
     if first == '\n' {

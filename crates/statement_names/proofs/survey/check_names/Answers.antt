@@ -1,10 +1,11 @@
-use Rattle.std.proofs.Common.{◌≡◌, ◌∙◌, [], Ok, Err, rules, arith, ap, sym, subst}
+use Rattle.std.proofs.Common.{◌≡◌, ◌∙◌, [], Some, Ok, Err, rules, arith, ap, sym, subst}
 use Rattle.std.specs.Result.{result_err}
 use Rattle.std.proofs.lemmas.Grind.{common_steps}
 use Rattle.statement_names.specs.Limits.{map_limit_of}
 use Rattle.statement_names.specs.Occurrences.{statement_occurrences, occurrences_of}
-use Rattle.statement_names.specs.Faults.{Explains, kind_in, declared_in, name_fault_of}
-use Rattle.statement_names.specs.Survey.{run, Ends}
+use Rattle.lists.specs.Stop.{Explains, Gives}
+use Rattle.statement_names.specs.Faults.{kind_in, declared_in, name_fault_of}
+use Rattle.statement_names.specs.Survey.{run}
 use Rattle.statement_names.proofs.Bridge.{begun, begun_agrees, first_same}
 use Rattle.statement_names.proofs.Runs.{items_end}
 use Rattle.statement_names.proofs.survey.check_names.Goals as goal
@@ -14,10 +15,10 @@ returns-in-Err-clause-err c =
     let first = begun c.map_limit_of-map_limit.result c.in_ok-kinds_of.field-0 in
     let os = occurrences_of c.args.statements.now in
     let agrees = begun_agrees c.map_limit_of-map_limit.result (map_limit_of c.args.statements.now) os c.in_ok-kinds_of.field-0 c.map_limit_of-map_limit.ensures c.in_ok-kinds_of.ensures in
-    let told : Ends {A = Unit {0}} (run c.loop-statement.survey (statement_occurrences c.statement-item.result)) c.statement.new.self (Err c.in-Err.stop) =
+    let told : Gives {X = Unit {0}} (λ done. c.statement.new.self) (Err c.in-Err.stop) (run c.loop-statement.survey (statement_occurrences c.statement-item.result)) =
     search rules in
-    let whole : Explains (name_fault_of c.args.statements.now) c.in-Err.stop =
-    subst (λ found. Explains found c.in-Err.stop) (sym (first_same (map_limit_of c.args.statements.now) (kind_in (declared_in os)) [] first os agrees))
+    let whole : Explains (λ fault. name_fault_of c.args.statements.now ≡ Some fault) c.in-Err.stop =
+    subst (λ found. Explains (λ fault. found ≡ Some fault) c.in-Err.stop) (sym (first_same (map_limit_of c.args.statements.now) (kind_in (declared_in os)) [] first os agrees))
     (items_end statement_occurrences c.args.statements.now c.loop-statement.statement-index c.statement-item.result c.loop-statement-test.true c.statement-item.is
     first c.loop-statement.survey c.statement.new.self c.in-Err.stop c.loop-statement.invariant told) in
     search rules
