@@ -7,8 +7,8 @@ use Rattle.std.proofs.lemmas.Str.{chars-encodes, scalars-chars}
 use Rattle.statement_tokens.specs.declared.token.Token.{Token}
 use Rattle.statement_tokens.specs.declared.token.TokenKind.TheVariants as kind
 use Rattle.statement_tokens.specs.declared.scan.Item.TheVariants as item
-use Rattle.statement_tokens.specs.declared.scan.Placed.{Placed}
-use Rattle.statement_tokens.specs.declared.scan.ScanFault.TheVariants.{BadToken}
+use Rattle.statement_tokens.specs.declared.fault.Placed.{Placed}
+use Rattle.statement_tokens.specs.declared.fault.Fault.TheVariants.{BadToken}
 use Rattle.statement_tokens.specs.Language.{language_of}
 use Rattle.statement_tokens.specs.Tokens.{end_of}
 use Rattle.statement_tokens.specs.Items.{item_at, name_of}

@@ -1,6 +1,6 @@
 -- The faults of a file as they are returned.
 use Rattle.std.specs.Prelude.{◌≡◌, ℕ, List, Option, Some, None}
-use Rattle.signature_typing.specs.Types.{Spot, Sig, NameFault, name, NameStop, stop, SignatureFault, signature, PolyFault, polynomial, TypeFault, Fault, Memory}
+use Rattle.signature_typing.specs.Types.{Spot, Sig, NameFault, name, Stop, stop, SignatureFault, signature, PolyFault, polynomial, TypeFault, Fault, Memory}
 use Rattle.quiver.specs.Declarations.{Declaration, object_name}
 
 -- a code at a place
@@ -16,7 +16,7 @@ told_name (name.NotSquare at) = fault_at 9 at
 told_name (name.BadNumber at) = fault_at 16 at
 
 -- of the names of a file, or want of memory
-abbrev pub told_stop : NameStop → TypeFault
+abbrev pub told_stop : Stop NameFault → TypeFault
 told_stop (stop.Fault fault) = told_name fault
 told_stop (stop.Memory e) = Memory e
 

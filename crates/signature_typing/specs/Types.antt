@@ -18,6 +18,6 @@ pub use Rattle.expressions.specs.declared.fault.SignatureFault.TheVariants.{NotC
 pub use Rattle.adjoint_rules.specs.declared.parts.Parts.{Parts}
 pub use Rattle.adjoint_rules.specs.declared.problem.Problem.{Problem}
 pub use Rattle.statement_names.specs.declared.fault.NameFault.{NameFault, NameFault as name}
-pub use Rattle.statement_names.specs.declared.fault.NameStop.{NameStop, NameStop as stop}
+pub use Rattle.lists.specs.declared.stop.Stop.{Stop, Stop as stop}
 pub use Rattle.signature_typing.specs.declared.fault.TypeFault.{TypeFault}
 pub use Rattle.signature_typing.specs.declared.fault.TypeFault.TheVariants.{Fault, Memory}

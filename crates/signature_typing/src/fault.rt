@@ -3,9 +3,9 @@
 ghost use Rattle.std.specs.Prelude.{◌≡◌};
 ghost use Rattle.signature_typing.specs.Fault.{IsMemory, fault_at, told_name, told_stop, told_polynomial, no_claim};
 
-use lists::Text;
+use lists::{Stop, Text};
 use nc_polynomial::PolyFault;
-use statement_names::{NameFault, NameStop};
+use statement_names::NameFault;
 use statement_tokens::Spot;
 use std::alloc::{AllocError, AllocFailed};
 use std::fmt;
@@ -53,13 +53,13 @@ impl<T: Drop> From<AllocFailed<T>> for TypeFault {
     }
 }
 
-impl From<NameStop> for TypeFault {
+impl From<Stop<NameFault>> for TypeFault {
     ghost from_gives = { λ stopped told. told ≡ told_stop stopped };
 
-    fn from(stopped: NameStop) -> TypeFault {
+    fn from(stopped: Stop<NameFault>) -> TypeFault {
         match stopped {
-            NameStop::Fault(fault) => name_fault(fault),
-            NameStop::Memory(failed) => TypeFault::Memory(failed),
+            Stop::Fault(fault) => name_fault(fault),
+            Stop::Memory(failed) => TypeFault::Memory(failed),
         }
     }
 }

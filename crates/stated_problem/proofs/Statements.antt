@@ -2,10 +2,11 @@
 use Rattle.std.proofs.Common.{◌≡◌, ◌⊎◌, inl, inr, ℕ, List, Option, Some, None, refl, sym, ap, subst, ◌∙◌, arith}
 use Rattle.statement_tokens.specs.declared.place.Spot.{Spot}
 use Rattle.statement_syntax.specs.declared.tree.Statement.{Statement}
-use Rattle.statement_syntax.specs.declared.fault.Fault.{Fault}
+use Rattle.statement_tokens.specs.declared.fault.Fault.{Fault}
 use Rattle.statement_syntax.specs.Fault.{IsFirstFault, code_of}
 use Rattle.statement_syntax.specs.Texts.{IsTreeOf}
 use Rattle.statement_syntax.proofs.EachText.{each_text_is_read}
+use Rattle.statement_syntax.proofs.Stopping.{no_first}
 use Rattle.adjoint_rules.specs.declared.problem.Problem.{Problem}
 use Rattle.signature_typing.specs.declared.fault.TypeFault.{TypeFault}
 use Rattle.signature_typing.specs.declared.fault.TypeFault.TheVariants as typing
@@ -18,11 +19,11 @@ use Rattle.command_shape.specs.Texts.{statement_fault}
 use Rattle.stated_problem.specs.Statement.{typing_text, IsRefusedStatement, no_tree, no_problem, OverStatement, faulty, stated}
 use Rattle.stated_problem.specs.Stated.{IsStated}
 use Rattle.stated_problem.proofs.Problems.{one_problem}
-use Rattle.stated_problem.proofs.Syntax.{tree_once, no_fault, fault_once}
+use Rattle.stated_problem.proofs.Syntax.{tree_once, fault_once}
 
 -- a statement that has a problem is not refused
 pub stated_not_refused : (bytes text : List ℕ) (problem : Problem) → IsStated bytes problem → IsRefusedStatement bytes text → ⊥
-stated_not_refused bytes text problem is (no_tree fault at first says) = no_fault bytes is.statements fault at is.tree first
+stated_not_refused bytes text problem is (no_tree fault at first says) = no_first bytes is.tree.0 fault at first is.tree.1
 stated_not_refused bytes text problem is (no_problem statements fault tree found says) =
     let same = tree_once bytes is.statements statements is.tree tree in
     let both : (let o : Option TypeFault = None in o) ≡ Some fault = sym is.elaborated.no_fault ∙ ap fault_of same ∙ found in
@@ -32,8 +33,8 @@ pub refused_once : (bytes text text' : List ℕ) → IsRefusedStatement bytes te
 refused_once bytes text text' (no_tree fault at first is) (no_tree fault' at' first' is') =
     let same = fault_once bytes fault fault' at at' first first' in
     is ∙ (λ i. statement_fault (code_of (same.0 i)) (same.1 i).line (same.1 i).column 0 None None) ∙ sym is'
-refused_once bytes text text' (no_tree fault at first is) (no_problem statements other tree found is') = absurd (no_fault bytes statements fault at tree first)
-refused_once bytes text text' (no_problem statements fault tree found is) (no_tree other at first is') = absurd (no_fault bytes statements other at tree first)
+refused_once bytes text text' (no_tree fault at first is) (no_problem statements other tree found is') = absurd (no_first bytes tree.0 fault at first tree.1)
+refused_once bytes text text' (no_problem statements fault tree found is) (no_tree other at first is') = absurd (no_first bytes tree.0 other at first tree.1)
 refused_once bytes text text' (no_problem statements fault tree found is) (no_problem statements' fault' tree' found' is') =
     let same = tree_once bytes statements statements' tree tree' in
     let both : Some fault ≡ Some fault' = sym found ∙ ap fault_of same ∙ found' in

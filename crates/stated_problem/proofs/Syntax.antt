@@ -6,14 +6,11 @@ use Rattle.statement_tokens.specs.declared.token.Token.{Token}
 use Rattle.statement_tokens.specs.declared.place.Spot.{Spot}
 use Rattle.statement_syntax.specs.declared.tree.Statement.{Statement}
 use Rattle.statement_syntax.specs.declared.line.Line.TheVariants as line
-use Rattle.statement_tokens.specs.declared.scan.ScanFault.{ScanFault}
-use Rattle.statement_tokens.specs.declared.scan.ScanFault.TheVariants as scan
-use Rattle.statement_syntax.specs.declared.fault.Fault.{Fault}
-use Rattle.statement_syntax.specs.declared.fault.Fault.TheVariants as fault
+use Rattle.statement_tokens.specs.declared.fault.Fault.{Fault}
+use Rattle.statement_tokens.specs.declared.fault.Fault.TheVariants as fault
 use Rattle.statement_syntax.specs.Steps.{run}
 use Rattle.statement_syntax.specs.Lines.{file_step}
 use Rattle.statement_syntax.specs.Stages.{first_statements, begun, left, AllRead}
-use Rattle.statement_tokens.specs.Tokens.{IsFirstScanFault}
 use Rattle.statement_tokens.proofs.TokenLaws.{tokens_are_unique, first_scan_faults_are_unique, tokens_have_no_fault}
 use Rattle.statement_tokens.specs.declared.language.Language.{Language}
 use Rattle.statement_tokens.specs.Language.{language_of}
@@ -109,32 +106,9 @@ module _ (bytes : List ℕ) (at at' : Spot) (m : IsMisfit bytes at) (m' : IsMisf
       subst (λ ts. GoesOn (language_of ts) (m.front ++ m.token ∷ [])) (sym once.whole)
       (subst (GoesOn (language_of (m'.front ++ m'.token ∷ m'.rest))) (sym once.came) on)
 
-not_scanned : (bytes : List ℕ) (f : ScanFault) (at at' : Spot) → IsMisfit bytes at → IsFirstScanFault (chars bytes) f at' → ⊥
-not_scanned bytes f at at' m fails = tokens_have_no_fault (chars bytes) (m.front ++ m.token ∷ m.rest) f at' m.tokens fails
-
-misfit_in : (bytes : List ℕ) (statements : List Statement) (at : Spot) → IsTreeOf bytes statements → IsMisfit bytes at → ⊥
-misfit_in bytes statements at tree m =
-    let whole = tokens_are_unique (chars bytes) _ _ m.tokens tree.1.tokens in
-    let language = ap language_of whole ∙ file_language tree.1.language tree.0 tree.1.speaks in
-    m.there (m.rest, tree.0, subst (λ l. IsFileOf l tree.0) (sym language) tree.1.speaks, tree.1.fits, append_assoc m.front (m.token ∷ []) m.rest ∙ whole)
-
--- of all five kinds: what a fault says first
-pub no_fault : (bytes : List ℕ) (statements : List Statement) (f : Fault) (at : Spot) → IsTreeOf bytes statements → IsFirstFault bytes f at → ⊥
-no_fault bytes statements fault.NotUtf8 at tree first = first.0 tree.1.utf8
-no_fault bytes statements fault.BadToken at tree first = tokens_have_no_fault (chars bytes) _ _ at tree.1.tokens first.1
-no_fault bytes statements fault.LiteralTooLarge at tree first = tokens_have_no_fault (chars bytes) _ _ at tree.1.tokens first.1
-no_fault bytes statements fault.Expected at tree first = misfit_in bytes statements at tree first.0
-no_fault bytes statements fault.TooDeep at tree first = misfit_in bytes statements at tree first.0
-
 -- the fault and its place
 abbrev pub SameFault : Fault → Spot → Fault → Spot → Type 0
 SameFault f at f' at' = (f ≡ f') × (at ≡ at')
-
-placed_once : (bytes : List ℕ) (f f' : ScanFault) (at at' : Spot) → IsFirstScanFault (chars bytes) f at → IsFirstScanFault (chars bytes) f' at' → (f ≡ f') × (at ≡ at')
-placed_once bytes f f' at at' one other = first_scan_faults_are_unique (chars bytes) f f' at at' one other
-
-scans_differ : (let f : ScanFault = scan.BadToken in f) ≡ scan.LiteralTooLarge → ⊥
-scans_differ is = absurd cc
 
 pub fault_once : (bytes : List ℕ) (f f' : Fault) (at at' : Spot) → IsFirstFault bytes f at → IsFirstFault bytes f' at' → SameFault f at f' at'
 fault_once bytes fault.NotUtf8 fault.NotUtf8 at at' one other = (refl, one.1 ∙ sym other.1)
@@ -143,22 +117,22 @@ fault_once bytes fault.NotUtf8 fault.LiteralTooLarge at at' one other = absurd (
 fault_once bytes fault.NotUtf8 fault.Expected at at' one other = absurd (one.0 other.0.utf8)
 fault_once bytes fault.NotUtf8 fault.TooDeep at at' one other = absurd (one.0 other.0.utf8)
 fault_once bytes fault.BadToken fault.NotUtf8 at at' one other = absurd (other.0 one.0)
-fault_once bytes fault.BadToken fault.BadToken at at' one other = (refl, (placed_once bytes _ _ at at' one.1 other.1).1)
-fault_once bytes fault.BadToken fault.LiteralTooLarge at at' one other = absurd (scans_differ (placed_once bytes _ _ at at' one.1 other.1).0)
-fault_once bytes fault.BadToken fault.Expected at at' one other = absurd (not_scanned bytes _ at' at other.0 one.1)
-fault_once bytes fault.BadToken fault.TooDeep at at' one other = absurd (not_scanned bytes _ at' at other.0 one.1)
+fault_once bytes fault.BadToken fault.BadToken at at' one other = first_scan_faults_are_unique (chars bytes) _ _ at at' one.1 other.1
+fault_once bytes fault.BadToken fault.LiteralTooLarge at at' one other = first_scan_faults_are_unique (chars bytes) _ _ at at' one.1 other.1
+fault_once bytes fault.BadToken fault.Expected at at' one other = absurd (tokens_have_no_fault (chars bytes) _ _ at other.0.tokens one.1)
+fault_once bytes fault.BadToken fault.TooDeep at at' one other = absurd (tokens_have_no_fault (chars bytes) _ _ at other.0.tokens one.1)
 fault_once bytes fault.LiteralTooLarge fault.NotUtf8 at at' one other = absurd (other.0 one.0)
-fault_once bytes fault.LiteralTooLarge fault.BadToken at at' one other = absurd (scans_differ (sym (placed_once bytes _ _ at at' one.1 other.1).0))
-fault_once bytes fault.LiteralTooLarge fault.LiteralTooLarge at at' one other = (refl, (placed_once bytes _ _ at at' one.1 other.1).1)
-fault_once bytes fault.LiteralTooLarge fault.Expected at at' one other = absurd (not_scanned bytes _ at' at other.0 one.1)
-fault_once bytes fault.LiteralTooLarge fault.TooDeep at at' one other = absurd (not_scanned bytes _ at' at other.0 one.1)
+fault_once bytes fault.LiteralTooLarge fault.BadToken at at' one other = first_scan_faults_are_unique (chars bytes) _ _ at at' one.1 other.1
+fault_once bytes fault.LiteralTooLarge fault.LiteralTooLarge at at' one other = first_scan_faults_are_unique (chars bytes) _ _ at at' one.1 other.1
+fault_once bytes fault.LiteralTooLarge fault.Expected at at' one other = absurd (tokens_have_no_fault (chars bytes) _ _ at other.0.tokens one.1)
+fault_once bytes fault.LiteralTooLarge fault.TooDeep at at' one other = absurd (tokens_have_no_fault (chars bytes) _ _ at other.0.tokens one.1)
 fault_once bytes fault.Expected fault.NotUtf8 at at' one other = absurd (other.0 one.0.utf8)
-fault_once bytes fault.Expected fault.BadToken at at' one other = absurd (not_scanned bytes _ at at' one.0 other.1)
-fault_once bytes fault.Expected fault.LiteralTooLarge at at' one other = absurd (not_scanned bytes _ at at' one.0 other.1)
+fault_once bytes fault.Expected fault.BadToken at at' one other = absurd (tokens_have_no_fault (chars bytes) _ _ at' one.0.tokens other.1)
+fault_once bytes fault.Expected fault.LiteralTooLarge at at' one other = absurd (tokens_have_no_fault (chars bytes) _ _ at' one.0.tokens other.1)
 fault_once bytes fault.Expected fault.Expected at at' one other = (refl, (misfit_once bytes at at' one.0 other.0).place)
 fault_once bytes fault.Expected fault.TooDeep at at' one other = absurd (one.1 (goes_with bytes at at' one.0 other.0 other.1))
 fault_once bytes fault.TooDeep fault.NotUtf8 at at' one other = absurd (other.0 one.0.utf8)
-fault_once bytes fault.TooDeep fault.BadToken at at' one other = absurd (not_scanned bytes _ at at' one.0 other.1)
-fault_once bytes fault.TooDeep fault.LiteralTooLarge at at' one other = absurd (not_scanned bytes _ at at' one.0 other.1)
+fault_once bytes fault.TooDeep fault.BadToken at at' one other = absurd (tokens_have_no_fault (chars bytes) _ _ at' one.0.tokens other.1)
+fault_once bytes fault.TooDeep fault.LiteralTooLarge at at' one other = absurd (tokens_have_no_fault (chars bytes) _ _ at' one.0.tokens other.1)
 fault_once bytes fault.TooDeep fault.Expected at at' one other = absurd (other.1 (goes_with bytes at' at other.0 one.0 one.1))
 fault_once bytes fault.TooDeep fault.TooDeep at at' one other = (refl, (misfit_once bytes at at' one.0 other.0).place)

@@ -1,7 +1,7 @@
 -- The ending of the bytes of a statement: its first fault, or the ending of its problem.
 use Rattle.std.specs.Prelude.{ℕ, ◌≡◌, List, Option, Some, None}
 use Rattle.statement_tokens.specs.declared.place.Spot.{Spot}
-use Rattle.statement_syntax.specs.declared.fault.Fault.{Fault}
+use Rattle.statement_tokens.specs.declared.fault.Fault.{Fault}
 use Rattle.statement_syntax.specs.declared.tree.Statement.{Statement}
 use Rattle.statement_syntax.specs.Fault.{IsFirstFault, code_of}
 use Rattle.statement_syntax.specs.Texts.{IsTreeOf}

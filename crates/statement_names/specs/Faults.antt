@@ -1,5 +1,5 @@
 -- The first fault of the names, literals and first words of a file.
-use Rattle.std.specs.Prelude.{◌≡◌, ℕ, ℤ, ◌-◌, pos, negsuc, Bool, true, false, ◌&&◌, not, nat_lt, nat_le, if◌then◌else◌, is_some, List, []}
+use Rattle.std.specs.Prelude.{ℕ, ℤ, ◌-◌, pos, negsuc, Bool, true, false, ◌&&◌, not, nat_lt, nat_le, if◌then◌else◌, is_some, List, []}
 use Rattle.std.specs.Prelude.{◌∷◌, ◌++◌, Option, Some, None, sum_by}
 use Rattle.std.specs.List.{flat_map, list_any}
 use Rattle.std.specs.Map.{lookup}

@@ -1,5 +1,5 @@
 -- How the program finds the first fault: occurrence by occurrence, with how much more of each there may be.
-use Rattle.std.specs.Prelude.{◌≡◌, ℕ, ◌+◌, ◌-◌, if◌then◌else◌, is_some, List, [], ◌∷◌, ◌++◌, map, fold, take}
+use Rattle.std.specs.Prelude.{ℕ, ◌+◌, ◌-◌, if◌then◌else◌, is_some, List, [], ◌∷◌, ◌++◌, map, fold, take}
 use Rattle.std.specs.Prelude.{Option, Some, None, Result, Ok, Err}
 use Rattle.statement_names.specs.Types.{NameFault, Kind, Object, Map, Survey, Name, StatementKind, statement}
 use Rattle.statement_names.specs.Occurrences.{Occurrence, declares_object, declares_map, begins_order, begins_assumptions, begins_claim, begins_shape}

@@ -19,7 +19,11 @@ use word_orders::WEIGHT_LIMIT;
 
 impl Survey {
     // All names, literals and first words of a statement.
-    pub(crate) fn statement(&mut self, alloc: Global, statement: &Statement) -> Result<(), Stop<NameFault>>
+    pub(crate) fn statement(
+        &mut self,
+        alloc: Global,
+        statement: &Statement,
+    ) -> Result<(), Stop<NameFault>>
         ensures { Gives (λ done. self.new) result (run self.old (statement_occurrences statement.now)) }
     {
         let at = statement.at;

@@ -41,7 +41,12 @@ impl Survey {
 
     // A name of a list, after those before it.
     #[tactic(auto, using(crate::proofs::KindsFound::among_names_in))]
-    pub(crate) fn listed(&self, listed: &mut Kinds, name: &Name, kind: Kind) -> Result<(), Stop<NameFault>>
+    pub(crate) fn listed(
+        &self,
+        listed: &mut Kinds,
+        name: &Name,
+        kind: Kind,
+    ) -> Result<(), Stop<NameFault>>
         ensures ok { OnOk result (fault_at self.now (lists (names_in listed.old) (use_of kind name.now)) ≡ None) }
         ensures after { OnOk result (names_in listed.new ≡ names_in listed.old ++ name.now.text ∷ []) }
         ensures err { IfErr result (Explains (λ fault. fault_at self.now (lists (names_in listed.old) (use_of kind name.now)) ≡ Some fault)) }
