@@ -6,7 +6,8 @@ ghost use Rattle.word_core.specs.Letters.{IsOver};
 use crate::comparing::equal;
 use crate::notation::word;
 use adjoint_rules::adjoint_word;
-use quiver::{Quiver, QuiverFault, QuiverStop};
+use lists::Stop;
+use quiver::{Quiver, QuiverFault};
 use std::alloc::Global;
 use std::process::Abort;
 use word_core::{Object, Word};
@@ -46,9 +47,9 @@ fn two_maps(rt: &impl Abort, alloc: Global) -> Quiver
 fn names_are_declared_once_and_loops_alone_are_their_own_adjoints(rt: HostRuntime) {
     let mut quiver = two_maps(&rt, rt.alloc());
     let no_loop = quiver.add_map("p", Object(0), Object(1), true);
-    assert!(rt; matches!(no_loop, Err(QuiverStop::Fault(QuiverFault::NotSquare))));
+    assert!(rt; matches!(no_loop, Err(Stop::Fault(QuiverFault::NotSquare))));
     let again = quiver.add_object("a");
-    assert!(rt; matches!(again, Err(QuiverStop::Fault(QuiverFault::DoubleName))));
+    assert!(rt; matches!(again, Err(Stop::Fault(QuiverFault::DoubleName))));
 }
 
 /// Whether each letter of the word has a number below this one.
