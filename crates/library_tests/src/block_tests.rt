@@ -81,14 +81,14 @@ fn declare(rt: &impl Abort, quiver: &mut Quiver, map: &Map) {
     let has_ends = u32::from(source) < objects && u32::from(target) < objects;
     assert!(rt; has_ends, "an end of {name} is no object");
     let declared = quiver.add_map(name, Object(source), Object(target), selfmade);
-    declared.expect(rt, name);
+    declared.ok().expect(rt, name);
 }
 
 // The quiver with these objects and then these maps.
 fn quiver_of(rt: &impl Abort, alloc: Global, objects: &[&str], maps: &[Map]) -> Quiver {
     let mut quiver = Quiver::new(alloc).expect(rt, "memory");
     for name in objects {
-        quiver.add_object(name).expect(rt, name);
+        quiver.add_object(name).ok().expect(rt, name);
     }
     for map in maps {
         declare(rt, &mut quiver, map);
