@@ -1,5 +1,5 @@
 -- The text about a block of evidence: why it is refused is a line, and what accepting it says is a line, and after it lines that don't begin with #.
-use Rattle.std.proofs.Common.{◌≡◌, ℕ, ℤ, Bool, true, false, List, [], ◌∷◌, ◌++◌, Option, Some, refl, subst, length, get_or, codes, IsTrue}
+use Rattle.std.proofs.Common.{◌≡◌, ℕ, ℤ, Bool, true, false, List, [], ◌∷◌, ◌++◌, Option, None, Some, refl, subst, length, get_or, codes, IsTrue}
 use Rattle.std.specs.Prelude.{decimal}
 use Rattle.std.specs.Option.{IfSome}
 use Rattle.std.specs.Fmt.{signed_decimal}
@@ -38,8 +38,6 @@ use Rattle.equation_chain.specs.Limits.{letter_limit}
 use Rattle.equation_chain.specs.Steps.{steps_of}
 use Rattle.equation_chain.specs.Lines.{lines_of}
 use Rattle.equation_chain.specs.Written.{chain_text}
-use Rattle.evidence_commands.specs.declared.explain.ExplainRefusal.{ExplainRefusal}
-use Rattle.evidence_commands.specs.declared.explain.ExplainRefusal.TheVariants.{HasLemmas, HasFault}
 use Rattle.evidence_commands.specs.Causes.{operation_text, claim_text, cause_text}
 use Rattle.evidence_commands.specs.Check.{claim_number, named_text}
 use Rattle.evidence_commands.specs.Model.{claim_confirmed, map_cause, model_cause}
@@ -156,9 +154,9 @@ module _ (ds : List Declaration) (known : IsTrue (list_all is_named ds)) where
   cause_of_chain (chain.Long row) = then (lit (codes "E4 row ") refl) (then (num row) (then (lit (codes " limit ") refl) (num letter_limit)))
   cause_of_chain (chain.Memory failed) = tt
 
-  pub cause_of_explain : (r : ExplainRefusal) → IfSome (explain.refusal_text ds r) IsPart
-  cause_of_explain HasLemmas = lit (codes "E1") refl
-  cause_of_explain (HasFault f) = cause_of_chain f
+  pub cause_of_explain : (r : Option ChainFault) → IfSome (explain.refusal_text ds r) IsPart
+  cause_of_explain None = lit (codes "E1") refl
+  cause_of_explain (Some f) = cause_of_chain f
 
   -- proofs that cancel
   pub cause_of_cancel : (r : CancelRefusal) → IfSome (cancelling.refusal_text ds r) IsPart
