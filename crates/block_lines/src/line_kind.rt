@@ -2,15 +2,13 @@
 
 ghost use Rattle.std.specs.Prelude.{◌≡◌};
 ghost use Rattle.std.specs.Option.{option_copied, option_map};
-ghost use Rattle.block_text.specs.Fault.{Reads};
+ghost use Rattle.lists.specs.Stop.{Gives};
 ghost use Rattle.block_lines.specs.LineReadings.{Reading, letter_token, letter_read, polynomial_read};
 ghost use Rattle.block_text.specs.Lines.{number_of};
 ghost use Rattle.block_text.specs.Tokens.{tokens_of};
 
-use block_text::{
-    Flaw, LineFault, first_token, is, is_letter, letter_of, number_of, read_polynomial,
-};
-use lists::Listing;
+use block_text::{Flaw, first_token, is, is_letter, letter_of, number_of, read_polynomial};
+use lists::{Listing, Stop};
 use quiver::Quiver;
 use std::alloc::Global;
 use word_core::{Letter, Word};
@@ -23,8 +21,8 @@ pub trait LineKind {
     ghost reading: { Self → Reading Self.Value };
 
     /// What the line says, or its first flaw.
-    fn read(&self, alloc: Global, line: &[u8]) -> Result<Self::Value, LineFault>
-        ensures { Reads (λ v. v) result (reading self.now (tokens_of line.now)) };
+    fn read(&self, alloc: Global, line: &[u8]) -> Result<Self::Value, Stop<Flaw>>
+        ensures { Gives (λ v. v) result (reading self.now (tokens_of line.now)) };
 }
 
 /// A word and a number that is at most the limit.
@@ -39,7 +37,7 @@ impl LineKind for NumberLine {
 
     ghost reading = { λ line. number_of line.word.now line.most };
 
-    fn read(&self, _alloc: Global, line: &[u8]) -> Result<u32, LineFault> {
+    fn read(&self, _alloc: Global, line: &[u8]) -> Result<u32, Stop<Flaw>> {
         Ok(number_of(self.word, self.most, line)?)
     }
 }
@@ -71,14 +69,14 @@ impl<'q> LineKind for LetterLine<'q> {
 
     ghost reading = { λ line. letter_read line.quiver.now line.word.now };
 
-    fn read(&self, _alloc: Global, line: &[u8]) -> Result<Option<Letter>, LineFault> {
+    fn read(&self, _alloc: Global, line: &[u8]) -> Result<Option<Letter>, Stop<Flaw>> {
         match letter_token(self.word, line) {
             Some(None) => Ok(None),
             Some(Some(token)) => match letter_of(self.quiver, token) {
                 Some(letter) => Ok(Some(letter)),
-                None => Err(LineFault::Flaw(Flaw::UnknownName)),
+                None => Err(Stop::Fault(Flaw::UnknownName)),
             },
-            None => Err(LineFault::Flaw(Flaw::BadLine)),
+            None => Err(Stop::Fault(Flaw::BadLine)),
         }
     }
 }
@@ -104,12 +102,12 @@ impl<'q> LineKind for PolynomialLine<'q> {
 
     ghost reading = { λ line. polynomial_read line.quiver.now line.word.now };
 
-    fn read(&self, alloc: Global, line: &[u8]) -> Result<Listing<(i128, Word)>, LineFault> {
+    fn read(&self, alloc: Global, line: &[u8]) -> Result<Listing<(i128, Word)>, Stop<Flaw>> {
         match first_token(line) {
             Some((word, behind)) if is(self.word, word) => {
                 Ok(fitted(read_polynomial(alloc, self.quiver, behind)?.terms))
             }
-            _ => Err(LineFault::Flaw(Flaw::BadLine)),
+            _ => Err(Stop::Fault(Flaw::BadLine)),
         }
     }
 }

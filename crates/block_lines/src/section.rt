@@ -1,13 +1,13 @@
 //! Lines of a block one after another.
 
 ghost use Rattle.std.specs.Prelude.{◌≡◌};
-ghost use Rattle.block_text.specs.Fault.{Reads};
+ghost use Rattle.lists.specs.Stop.{Gives};
 ghost use Rattle.block_lines.specs.SectionSteps.{SectionSteps, no_steps, line_steps, grown, lines_steps};
 ghost use Rattle.block_text.specs.Tokens.{tokens_of};
 
 use crate::line_kind::{LineKind, fitted};
-use block_text::{Flaw, LineFault, begins};
-use lists::Listing;
+use block_text::{Flaw, begins};
+use lists::{Listing, Stop};
 use std::alloc::Global;
 
 /// Lines of a block one after another, and what is made of them.
@@ -24,8 +24,13 @@ pub trait Section {
         ensures { result ≡ (steps self.now).start };
 
     /// With one more line, which is not `end`.
-    fn next(&self, alloc: Global, begun: Self::Begun, line: &[u8]) -> Result<Self::Begun, LineFault>
-        ensures { Reads (λ b. b) result ((steps self.now).next begun (tokens_of line.now)) };
+    fn next(
+        &self,
+        alloc: Global,
+        begun: Self::Begun,
+        line: &[u8],
+    ) -> Result<Self::Begun, Stop<Flaw>>
+        ensures { Gives (λ b. b) result ((steps self.now).next begun (tokens_of line.now)) };
 
     /// What the lines say, if they may end.
     fn finish(&self, begun: Self::Begun) -> Option<Self::Value>
@@ -45,8 +50,8 @@ impl Section for NoLines {
 
     fn start(&self, _alloc: Global) {}
 
-    fn next(&self, _alloc: Global, _begun: (), _line: &[u8]) -> Result<(), LineFault> {
-        Err(LineFault::Flaw(Flaw::BadLine))
+    fn next(&self, _alloc: Global, _begun: (), _line: &[u8]) -> Result<(), Stop<Flaw>> {
+        Err(Stop::Fault(Flaw::BadLine))
     }
 
     fn finish(&self, _begun: ()) -> Option<()> {
@@ -84,7 +89,7 @@ impl<L: LineKind, R: Section> Section for LineThen<L, R> {
         alloc: Global,
         place: LinePlace<L::Value, R::Begun>,
         line: &[u8],
-    ) -> Result<LinePlace<L::Value, R::Begun>, LineFault> {
+    ) -> Result<LinePlace<L::Value, R::Begun>, Stop<Flaw>> {
         match place {
             LinePlace::Before => {
                 let value = self.line.read(alloc, line)?;
@@ -127,11 +132,11 @@ pub struct LinesPlace<V, B> {
 }
 
 // One more value, where there may be one.
-fn grown<V: Drop>(limit: u32, mut values: Listing<V>, value: V) -> Result<Listing<V>, LineFault>
-    ensures { Reads (λ vs. vs) result (grown limit values value) }
+fn grown<V: Drop>(limit: u32, mut values: Listing<V>, value: V) -> Result<Listing<V>, Stop<Flaw>>
+    ensures { Gives (λ vs. vs) result (grown limit values value) }
 {
     if values.len() >= limit as usize {
-        return Err(LineFault::Flaw(Flaw::TooMany(limit)));
+        return Err(Stop::Fault(Flaw::TooMany(limit)));
     }
     values.push(value)?;
     Ok(values)
@@ -157,7 +162,7 @@ impl<L: LineKind, R: Section> Section for LinesThen<L, R> {
         alloc: Global,
         place: LinesPlace<L::Value, R::Begun>,
         line: &[u8],
-    ) -> Result<LinesPlace<L::Value, R::Begun>, LineFault> {
+    ) -> Result<LinesPlace<L::Value, R::Begun>, Stop<Flaw>> {
         let LinesPlace { values, rest, more } = place;
         if more && begins(self.word, line) {
             let value = self.line.read(alloc, line)?;

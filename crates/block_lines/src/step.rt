@@ -10,8 +10,8 @@ use crate::{
     LinePlace, LineThen, LinesPlace, LinesThen, NoLines, NumberLine, PolynomialLine, Section,
 };
 use adjoint_rules::RULE_LIMIT;
-use block_text::{BlockKind, LineFault, NUMBER_LIMIT, is_pair};
-use lists::Listing;
+use block_text::{BlockKind, Flaw, NUMBER_LIMIT, is_pair};
+use lists::{Listing, Stop};
 use quiver::Quiver;
 use std::alloc::{AllocError, Global};
 use word_core::Word;
@@ -94,7 +94,7 @@ impl<'q> BlockKind for Bases<'q> {
         alloc: Global,
         place: Self::Begun,
         line: &[u8],
-    ) -> Result<Self::Begun, LineFault> {
+    ) -> Result<Self::Begun, Stop<Flaw>> {
         lines(self.quiver).next(alloc, place, line)
     }
 

@@ -1,11 +1,9 @@
 -- What can be wrong with evidence, and how a reader returns it.
 use Rattle.std.specs.Prelude.{◌≡◌, ⊤, ℕ, Option, Some, None, Result, Ok, Err}
+use Rattle.lists.specs.declared.stop.Stop.{Stop}
+use Rattle.lists.specs.declared.stop.Stop.TheVariants as stop
 use Rattle.block_text.specs.declared.fault.Flaw.{Flaw}
 use Rattle.block_text.specs.declared.fault.Flaw.TheVariants as flaw
-use Rattle.block_text.specs.declared.fault.LineFault.{LineFault}
-use Rattle.block_text.specs.declared.fault.LineFault.TheVariants as line_fault
-use Rattle.block_text.specs.declared.fault.TextFlaw.{TextFlaw}
-use Rattle.block_text.specs.declared.fault.TextFlaw.TheVariants as text_flaw
 use Rattle.block_text.specs.declared.fault.CertFault.{CertFault}
 use Rattle.block_text.specs.declared.fault.CertFault.TheVariants as cert_fault
 
@@ -43,12 +41,6 @@ truncated = record { code = 6; line = 0; limit = 0 }
 abbrev pub no_block : Fault
 no_block = record { code = 7; line = 0; limit = 0 }
 
--- the fault of a flaw of a text as a whole
-abbrev pub in_text : TextFlaw → Fault
-in_text text_flaw.NotUtf8 = not_utf8
-in_text text_flaw.Truncated = truncated
-in_text text_flaw.NoBlock = no_block
-
 -- the second result, of the value of the first; the first error otherwise
 infixl 10 ◌>>=◌
 abbrev pub ◌>>=◌ : {A B F : Type 0} → Result A F → (A → Result B F) → Result B F
@@ -65,47 +57,29 @@ abbrev pub at_line : {A : Type 0} → ℕ → Result A Flaw → Result A Fault
 at_line number (Ok x) = Ok x
 at_line number (Err f) = Err (in_line number f)
 
--- the fault of a text as a whole, which has no line
-abbrev pub at_text : {A : Type 0} → Result A TextFlaw → Result A Fault
-at_text (Ok x) = Ok x
-at_text (Err f) = Err (in_text f)
-
 -- it is a fault for which this holds, or want of memory
 abbrev pub ExplainsBy : (Fault → Type 0) → CertFault → Type 0
 ExplainsBy IsFault (cert_fault.Fault code line limit) = IsFault (record { code = code; line = line; limit = limit })
 ExplainsBy IsFault (cert_fault.Memory e) = ⊤
 
-abbrev pub ExplainsLine : {A : Type 0} → Result A Flaw → LineFault → Type 0
-ExplainsLine read (line_fault.Flaw f) = read ≡ Err f
-ExplainsLine read (line_fault.Memory e) = ⊤
-
 abbrev pub Explains : {A : Type 0} → Result A Fault → CertFault → Type 0
 Explains read (cert_fault.Fault code line limit) = read ≡ Err (record { code = code; line = line; limit = limit })
 Explains read (cert_fault.Memory e) = ⊤
 
--- the value of a line, or its flaw
-abbrev pub Reads : {X Y : Type 0} → (X → Y) → Result X LineFault → Result Y Flaw → Type 0
-Reads view (Ok x) read = read ≡ Ok (view x)
-Reads view (Err e) read = ExplainsLine read e
-
--- the same of a text
+-- the value of a text, or its fault
 abbrev pub ReadsText : {X Y : Type 0} → (X → Y) → Result X CertFault → Result Y Fault → Type 0
 ReadsText view (Ok x) read = read ≡ Ok (view x)
 ReadsText view (Err e) read = Explains read e
-
-abbrev pub IsLineMemory : LineFault → Type 0
-IsLineMemory (line_fault.Flaw f) = ⊥
-IsLineMemory (line_fault.Memory e) = ⊤
 
 abbrev pub IsMemory : CertFault → Type 0
 IsMemory (cert_fault.Fault code line limit) = ⊥
 IsMemory (cert_fault.Memory e) = ⊤
 
--- what a reader returns for a flaw of a text as a whole
-abbrev pub TellsText : TextFlaw → CertFault → Type 0
-TellsText f told = told ≡ cert_fault.Fault (in_text f).code (in_text f).line (in_text f).limit
+-- what a reader returns for a fault
+abbrev pub told : Fault → CertFault
+told fault = cert_fault.Fault fault.code fault.line fault.limit
 
 -- what a reader of lines returns for a line's flaw
-abbrev pub TellsLine : ℕ → LineFault → CertFault → Type 0
-TellsLine number (line_fault.Flaw f) told = told ≡ cert_fault.Fault (code_of f) number (limit_of f)
-TellsLine number (line_fault.Memory e) told = IsMemory told
+abbrev pub TellsLine : ℕ → Stop Flaw → CertFault → Type 0
+TellsLine number (stop.Fault f) result = result ≡ told (in_line number f)
+TellsLine number (stop.Memory e) result = IsMemory result

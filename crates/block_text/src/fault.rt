@@ -1,10 +1,12 @@
 //! What can be wrong with a line and with a text, and the fault that is returned.
 
 ghost use Rattle.std.specs.Prelude.{◌≡◌};
-ghost use Rattle.block_text.specs.Fault.{code_of, limit_of, TellsLine, TellsText, IsLineMemory, IsMemory};
-ghost use Rattle.block_text.specs.declared.fault.LineFault.TheVariants as line_fault;
+ghost use Rattle.lists.specs.declared.stop.Stop.TheVariants as stop;
+ghost use Rattle.block_text.specs.declared.fault.CertFault.TheVariants as cert_fault;
+ghost use Rattle.block_text.specs.Fault.{code_of, limit_of, told, not_utf8, truncated, no_block, TellsLine, IsMemory};
 
-use std::alloc::{AllocError, AllocFailed};
+use lists::Stop;
+use std::alloc::AllocError;
 use thiserror::Error;
 
 /// Why evidence is not read: its first fault, or want of memory.
@@ -34,45 +36,11 @@ pub enum Flaw {
     TooMany(u32),
 }
 
-/// What can be wrong with a text as a whole.
-#[derive(Clone, Copy)]
-pub enum TextFlaw {
-    /// It is not UTF-8.
-    NotUtf8,
-    /// It ends inside a block.
-    Truncated,
-    /// It has no block.
-    NoBlock,
-}
+impl From<Flaw> for Stop<Flaw> {
+    ghost from_gives = { λ flaw stopped. stopped ≡ stop.Fault flaw };
 
-/// Why a line is not read.
-#[derive(Drop)]
-pub enum LineFault {
-    Flaw(Flaw),
-    Memory(AllocError),
-}
-
-impl<T: Drop> From<AllocFailed<T>> for LineFault {
-    ghost from_gives = { λ _ e. IsLineMemory e };
-
-    fn from(_failed: AllocFailed<T>) -> LineFault {
-        LineFault::Memory(AllocError)
-    }
-}
-
-impl From<AllocError> for LineFault {
-    ghost from_gives = { λ _ e. IsLineMemory e };
-
-    fn from(failed: AllocError) -> LineFault {
-        LineFault::Memory(failed)
-    }
-}
-
-impl From<Flaw> for LineFault {
-    ghost from_gives = { λ flaw e. e ≡ line_fault.Flaw flaw };
-
-    fn from(flaw: Flaw) -> LineFault {
-        LineFault::Flaw(flaw)
+    fn from(flaw: Flaw) -> Stop<Flaw> {
+        Stop::Fault(flaw)
     }
 }
 
@@ -84,21 +52,36 @@ impl From<AllocError> for CertFault {
     }
 }
 
-impl From<TextFlaw> for CertFault {
-    ghost from_gives = { λ flaw e. TellsText flaw e };
-
-    fn from(flaw: TextFlaw) -> CertFault {
-        let code = match flaw {
-            TextFlaw::NotUtf8 => 1,
-            TextFlaw::Truncated => 6,
-            TextFlaw::NoBlock => 7,
-        };
-        CertFault::Fault {
-            code,
-            line: 0,
-            limit: 0,
-        }
+// The fault with this number of a text as a whole.
+fn in_text(code: u32) -> CertFault
+    ensures { result ≡ cert_fault.Fault code 0 0 }
+{
+    CertFault::Fault {
+        code,
+        line: 0,
+        limit: 0,
     }
+}
+
+// The text is not UTF-8.
+pub(crate) fn not_utf8() -> CertFault
+    ensures { result ≡ told not_utf8 }
+{
+    in_text(1)
+}
+
+// The text ends inside a block.
+pub(crate) fn truncated() -> CertFault
+    ensures { result ≡ told truncated }
+{
+    in_text(6)
+}
+
+// The text has no block.
+pub(crate) fn no_block() -> CertFault
+    ensures { result ≡ told no_block }
+{
+    in_text(7)
 }
 
 fn code_of(flaw: Flaw) -> u32
@@ -122,15 +105,15 @@ fn limit_of(flaw: Flaw) -> u32
 }
 
 /// The fault of a line with its number.
-pub fn at_line(line: u32, fault: LineFault) -> CertFault
-    ensures { TellsLine line fault result }
+pub fn at_line(line: u32, stopped: Stop<Flaw>) -> CertFault
+    ensures { TellsLine line stopped result }
 {
-    match fault {
-        LineFault::Flaw(flaw) => CertFault::Fault {
+    match stopped {
+        Stop::Fault(flaw) => CertFault::Fault {
             code: code_of(flaw),
             line,
             limit: limit_of(flaw),
         },
-        LineFault::Memory(failed) => CertFault::Memory(failed),
+        Stop::Memory(failed) => CertFault::Memory(failed),
     }
 }

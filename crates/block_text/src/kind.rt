@@ -1,11 +1,12 @@
 //! What a kind of block has to offer to be read.
 
 ghost use Rattle.std.specs.Prelude.{◌≡◌, map, ⊤, IfOk, IfSome};
-ghost use Rattle.block_text.specs.Fault.{Reads};
+ghost use Rattle.lists.specs.Stop.{Gives};
 ghost use Rattle.block_text.specs.Steps.{Steps};
 ghost use Rattle.block_text.specs.Tokens.{tokens_of};
 
-use crate::fault::LineFault;
+use crate::fault::Flaw;
+use lists::Stop;
 use std::alloc::{AllocError, Global};
 
 /// A kind of block, and what is made of its lines.
@@ -30,9 +31,14 @@ pub trait BlockKind {
         ensures sound { IfSome result (is_sound self.now) };
 
     /// The block with one more line, which is not `end`.
-    fn next(&self, alloc: Global, begun: Self::Begun, line: &[u8]) -> Result<Self::Begun, LineFault>
+    fn next(
+        &self,
+        alloc: Global,
+        begun: Self::Begun,
+        line: &[u8],
+    ) -> Result<Self::Begun, Stop<Flaw>>
         requires { is_sound self.now begun }
-        ensures exact { Reads (λ b. b) result ((steps self.now).next begun (tokens_of line.now)) }
+        ensures exact { Gives (λ b. b) result ((steps self.now).next begun (tokens_of line.now)) }
         ensures sound { IfOk result (is_sound self.now) };
 
     /// What a finished block says, if it may end.

@@ -18,7 +18,7 @@ mod write;
 
 pub use bracket::bracketed;
 pub use cut::{first_line, first_token, is_skipped, is_utf8};
-pub use fault::{CertFault, Flaw, LineFault, TextFlaw, at_line};
+pub use fault::{CertFault, Flaw, at_line};
 pub use kind::BlockKind;
 pub use kinds::{are_letters, are_numbers};
 pub use laws::{polynomial_flaws_are_told, polynomial_lines_are_read, polynomials_are_read_back};

@@ -8,7 +8,7 @@ ghost use Rattle.nc_polynomial.specs.Limits.{term_limit};
 ghost use Rattle.nc_polynomial.specs.Shape.{IsCanonical};
 ghost use Rattle.quiver.specs.Declarations.{letter_count};
 ghost use Rattle.word_core.specs.Letters.{IsOver};
-ghost use Rattle.block_text.specs.Fault.{Reads};
+ghost use Rattle.lists.specs.Stop.{Gives};
 ghost use Rattle.block_text.specs.Letters.{letter_of, signed};
 ghost use Rattle.block_text.specs.PolynomialReading.{is_term_sign, is_minus, part_in, term_of, later_in, terms_behind, terms_of, is_zero};
 ghost use Rattle.block_text.specs.PolynomialReading.{now_of, term_in, terms_from, terms_left, word_behind, is_above_one, value_within};
@@ -17,11 +17,11 @@ ghost use Rattle.block_text.specs.PolynomialReading.{passes, letters_cmp, words_
 ghost use Rattle.block_text.specs.Tokens.{tokens_of};
 
 use crate::cut::first_token;
-use crate::fault::{Flaw, LineFault};
+use crate::fault::Flaw;
 use crate::letter::{is_term_letter, letter_of, written_letter};
 use crate::line::is;
 use crate::number::{INTEGER_LIMIT, is_number, number_within};
-use lists::Listing;
+use lists::{Listing, Stop};
 use nc_polynomial::{Poly, TERM_LIMIT, WORD_LIMIT};
 use quiver::Quiver;
 use std::alloc::{AllocError, Global};
@@ -368,8 +368,8 @@ fn first_flaw(quiver: &Quiver, first: TermText<'_>) -> Flaw
 
 /// The polynomial that a line spells after its first word, or its first flaw: the form, names that are
 /// unknown, letters or an order of words that are not as it is written, numbers, the number of terms, and of letters.
-pub fn read_polynomial(alloc: Global, quiver: &Quiver, line: &[u8]) -> Result<Poly, LineFault>
-    ensures exact { Reads (λ p. p.terms) result (polynomial_of quiver.now (tokens_of line.now)) }
+pub fn read_polynomial(alloc: Global, quiver: &Quiver, line: &[u8]) -> Result<Poly, Stop<Flaw>>
+    ensures exact { Gives (λ p. p.terms) result (polynomial_of quiver.now (tokens_of line.now)) }
     ensures over { IfOk result (λ p. All (λ t. IsOver (letter_count quiver.now) t.1) p.terms) }
 {
     if is_zero(line) {
@@ -378,6 +378,6 @@ pub fn read_polynomial(alloc: Global, quiver: &Quiver, line: &[u8]) -> Result<Po
     let first = first_term(line);
     match terms_in(alloc, quiver, first)? {
         Some(terms) => Ok(Poly { terms }),
-        None => Err(LineFault::Flaw(first_flaw(quiver, first))),
+        None => Err(Stop::Fault(first_flaw(quiver, first))),
     }
 }

@@ -1,21 +1,22 @@
 //! Texts of blocks, line by line.
 
-ghost use Rattle.std.specs.Prelude.{◌≡◌, ◌<◌, map, IfOk, length};
+ghost use Rattle.std.specs.Prelude.{◌≡◌, ◌<◌, map, IfOk, length, ok_or};
 ghost use Rattle.std.specs.List.{list_any};
 ghost use Rattle.std.specs.Str.Lines.{lines};
 ghost use Rattle.block_text.specs.Blocks.{is_other_head};
-ghost use Rattle.block_text.specs.Fault.{ReadsText, Reads, at_text};
+ghost use Rattle.lists.specs.Stop.{Gives};
+ghost use Rattle.block_text.specs.Fault.{ReadsText, truncated, no_block};
 ghost use Rattle.block_text.specs.Steps.{headed, skipped_to, inside, step, read_tokens, read_lines, beginning, ended, one_or_more, values_of, all_values};
 ghost use Rattle.block_text.specs.Lines.{begins};
 ghost use Rattle.block_text.specs.Sound.{IsSound};
 ghost use Rattle.block_text.specs.Tokens.{tokens_of};
 
 use crate::cut::{first_line, is_skipped, is_utf8};
-use crate::fault::{CertFault, Flaw, LineFault, TextFlaw, at_line};
+use crate::fault::{CertFault, Flaw, at_line, no_block, not_utf8, truncated};
 use crate::kind::BlockKind;
 use crate::line::{BLOCK_LIMIT, begins, is_end};
 use crate::place::{Place, Progress};
-use lists::Listing;
+use lists::{Listing, Stop};
 use std::alloc::Global;
 
 /// The values that a text says, or its first fault.
@@ -79,9 +80,9 @@ fn inside<K: BlockKind>(
     mut values: Listing<K::Value>,
     begun: K::Begun,
     line: &[u8],
-) -> Result<Progress<K::Begun, K::Value>, LineFault>
+) -> Result<Progress<K::Begun, K::Value>, Stop<Flaw>>
     requires { K.is_sound kind.now begun }
-    ensures exact { Reads (λ p. p) result (inside (K.steps kind.now) values begun (tokens_of line.now)) }
+    ensures exact { Gives (λ p. p) result (inside (K.steps kind.now) values begun (tokens_of line.now)) }
     ensures sound { IfOk result (λ p. IsSound (K.is_sound kind.now) p.place) }
 {
     if !is_end(line) {
@@ -90,7 +91,7 @@ fn inside<K: BlockKind>(
         return Ok(Progress { values, place });
     }
     let Some(value) = kind.finish(alloc, begun)? else {
-        return Err(LineFault::Flaw(Flaw::BadLine));
+        return Err(Stop::Fault(Flaw::BadLine));
     };
     values.push(value)?;
     let place = Place::Outside;
@@ -103,9 +104,9 @@ fn step<K: BlockKind>(
     kind: &K,
     progress: Progress<K::Begun, K::Value>,
     line: &[u8],
-) -> Result<Progress<K::Begun, K::Value>, LineFault>
+) -> Result<Progress<K::Begun, K::Value>, Stop<Flaw>>
     requires { IsSound (K.is_sound kind.now) progress.place }
-    ensures exact { Reads (λ p. p) result (step (K.steps kind.now) progress.values progress.place (tokens_of line.now)) }
+    ensures exact { Gives (λ p. p) result (step (K.steps kind.now) progress.values progress.place (tokens_of line.now)) }
     ensures sound { IfOk result (λ p. IsSound (K.is_sound kind.now) p.place) }
 {
     let Progress { values, place } = progress;
@@ -121,9 +122,9 @@ fn read_line<K: BlockKind>(
     kind: &K,
     progress: Progress<K::Begun, K::Value>,
     line: &[u8],
-) -> Result<Progress<K::Begun, K::Value>, LineFault>
+) -> Result<Progress<K::Begun, K::Value>, Stop<Flaw>>
     requires { IsSound (K.is_sound kind.now) progress.place }
-    ensures exact { Reads (λ p. p) result (read_tokens (K.steps kind.now) progress (tokens_of line.now)) }
+    ensures exact { Gives (λ p. p) result (read_tokens (K.steps kind.now) progress (tokens_of line.now)) }
     ensures sound { IfOk result (λ p. IsSound (K.is_sound kind.now) p.place) }
 {
     if is_skipped(line) {
@@ -159,12 +160,12 @@ fn read_lines<K: BlockKind>(
 }
 
 // The text may end only outside of blocks.
-fn ended<B: Drop, V: Drop>(progress: Progress<B, V>) -> Result<Listing<V>, TextFlaw>
-    ensures { at_text result ≡ ended progress.values progress.place }
+fn ended<B: Drop, V: Drop>(progress: Progress<B, V>) -> Option<Listing<V>>
+    ensures { ok_or result truncated ≡ ended progress.values progress.place }
 {
     match progress.place {
-        Place::Outside => Ok(progress.values),
-        _ => Err(TextFlaw::Truncated),
+        Place::Outside => Some(progress.values),
+        _ => None,
     }
 }
 
@@ -174,17 +175,17 @@ fn values_of<K: BlockKind>(alloc: Global, kind: &K, bytes: &[u8]) -> ReadText<K:
     ensures { ReadsText (λ vs. vs) result (values_of (K.steps kind.now) bytes.now) }
 {
     if !is_utf8(bytes) {
-        return Err(CertFault::from(TextFlaw::NotUtf8));
+        return Err(not_utf8());
     }
-    Ok(ended(read_lines(alloc, kind, bytes)?)?)
+    ended(read_lines(alloc, kind, bytes)?).ok_or(truncated())
 }
 
-fn one_or_more<V: Drop>(values: Listing<V>) -> Result<Listing<V>, TextFlaw>
-    ensures { at_text result ≡ one_or_more values }
+fn one_or_more<V: Drop>(values: Listing<V>) -> Option<Listing<V>>
+    ensures { ok_or result no_block ≡ one_or_more values }
 {
     match values.as_slice() {
-        [] => Err(TextFlaw::NoBlock),
-        _ => Ok(values),
+        [] => None,
+        _ => Some(values),
     }
 }
 
@@ -193,5 +194,5 @@ pub fn read_blocks<K: BlockKind>(alloc: Global, kind: &K, bytes: &[u8]) -> ReadT
     requires { length bytes.now < 4294967295 }
     ensures { ReadsText (λ vs. vs) result (all_values (K.steps kind.now) bytes.now) }
 {
-    Ok(one_or_more(values_of(alloc, kind, bytes)?)?)
+    one_or_more(values_of(alloc, kind, bytes)?).ok_or(no_block())
 }

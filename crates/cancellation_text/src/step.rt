@@ -1,7 +1,7 @@
 //! What is made of the lines of a proof that cancels letters.
 
 ghost use Rattle.std.specs.Prelude.{◌≡◌, [], ◌+◌, length};
-ghost use Rattle.block_text.specs.Fault.{Reads};
+ghost use Rattle.lists.specs.Stop.{Gives};
 ghost use Rattle.block_text.specs.Tokens.{tokens_of};
 ghost use Rattle.cancellation_text.specs.Reading.{is_called, one_more, called, goal_begun, lemma_begun, cancelled, cancel_tokens, item_or_goal};
 ghost use Rattle.cancellation_text.specs.Reading.{calling, called_tokens, proof_of, next, cancellation_steps};
@@ -10,11 +10,11 @@ ghost use Rattle.cancellation_text.specs.declared.place.Stage.TheVariants as sta
 
 use crate::line::{CalledTokens, called_tokens, cancel_of, cancel_tokens};
 use crate::place::{Opened, Stage};
-use block_text::{BlockKind, Flaw, LineFault, begins, claim_of, is_pair, letter_of};
+use block_text::{BlockKind, Flaw, begins, claim_of, is_pair, letter_of};
 use cancel_rules::{Cancellation, Item, Side};
 use certificate_text::{NO_ROWS, denominator_of, goal_scale_of, lemma_scale_of, push_lemma_row};
 use cofactor_trace::Lemma;
-use lists::Listing;
+use lists::{Listing, Stop};
 use quiver::Quiver;
 use std::alloc::{AllocError, Global};
 use word_core::Letter;
@@ -49,11 +49,11 @@ fn is_called(letter: Letter, letters: &[Letter]) -> bool
 }
 
 // The letters with one more, which is none of them.
-fn push_letter(letters: &mut Listing<Letter>, letter: Letter) -> Result<(), LineFault>
-    ensures { Reads (λ _. letters.new) result (one_more letters.old letter) }
+fn push_letter(letters: &mut Listing<Letter>, letter: Letter) -> Result<(), Stop<Flaw>>
+    ensures { Gives (λ _. letters.new) result (one_more letters.old letter) }
 {
     if is_called(letter, letters.as_slice()) {
-        return Err(LineFault::Flaw(Flaw::BadLine));
+        return Err(Stop::Fault(Flaw::BadLine));
     }
     letters.push(letter)?;
     Ok(())
@@ -64,11 +64,11 @@ fn called(
     quiver: &Quiver,
     mut opened: Opened,
     tokens: &CalledTokens<'_>,
-) -> Result<Stage, LineFault>
-    ensures { Reads (λ s. s) result (called quiver.now opened (called_now tokens.now)) }
+) -> Result<Stage, Stop<Flaw>>
+    ensures { Gives (λ s. s) result (called quiver.now opened (called_now tokens.now)) }
 {
     let Some(letter) = letter_of(quiver, tokens.letter) else {
-        return Err(LineFault::Flaw(Flaw::UnknownName));
+        return Err(Stop::Fault(Flaw::UnknownName));
     };
     match tokens.side {
         Side::Left => push_letter(&mut opened.monic, letter)?,
@@ -98,8 +98,13 @@ fn goal_begun(alloc: Global, opened: Opened, line: &[u8]) -> Result<Stage, Flaw>
 }
 
 // A cancellation, or the next lemma.
-fn item(alloc: Global, quiver: &Quiver, mut opened: Opened, line: &[u8]) -> Result<Stage, LineFault>
-    ensures { Reads (λ s. s) result (cancelled quiver.now opened (tokens_of line.now) (cancel_tokens (length opened.items + 1) (tokens_of line.now))) }
+fn item(
+    alloc: Global,
+    quiver: &Quiver,
+    mut opened: Opened,
+    line: &[u8],
+) -> Result<Stage, Stop<Flaw>>
+    ensures { Gives (λ s. s) result (cancelled quiver.now opened (tokens_of line.now) (cancel_tokens (length opened.items + 1) (tokens_of line.now))) }
 {
     let before = opened.items.len();
     let Some(tokens) = cancel_tokens(before as u128 + 1, line) else {
@@ -116,8 +121,8 @@ fn item_or_goal(
     quiver: &Quiver,
     opened: Opened,
     line: &[u8],
-) -> Result<Stage, LineFault>
-    ensures { Reads (λ s. s) result (item_or_goal quiver.now opened (tokens_of line.now)) }
+) -> Result<Stage, Stop<Flaw>>
+    ensures { Gives (λ s. s) result (item_or_goal quiver.now opened (tokens_of line.now)) }
 {
     if begins("goal", line) {
         return Ok(goal_begun(alloc, opened, line)?);
@@ -126,8 +131,8 @@ fn item_or_goal(
 }
 
 // A letter that is called monic or epic, or what follows all of these.
-fn calling(alloc: Global, quiver: &Quiver, opened: Opened, line: &[u8]) -> Result<Stage, LineFault>
-    ensures { Reads (λ s. s) result (calling quiver.now opened (tokens_of line.now) (called_tokens (tokens_of line.now))) }
+fn calling(alloc: Global, quiver: &Quiver, opened: Opened, line: &[u8]) -> Result<Stage, Stop<Flaw>>
+    ensures { Gives (λ s. s) result (calling quiver.now opened (tokens_of line.now) (called_tokens (tokens_of line.now))) }
 {
     match called_tokens(line) {
         Some(tokens) => called(quiver, opened, &tokens),
@@ -164,7 +169,7 @@ impl<'q> BlockKind for Cancellations<'q> {
         is_pair("cancellation", "1", line).then_some(Stage::Headed)
     }
 
-    fn next(&self, alloc: Global, stage: Stage, line: &[u8]) -> Result<Stage, LineFault> {
+    fn next(&self, alloc: Global, stage: Stage, line: &[u8]) -> Result<Stage, Stop<Flaw>> {
         let quiver = self.quiver;
         match stage {
             Stage::Headed => {

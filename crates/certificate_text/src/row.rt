@@ -4,7 +4,8 @@ ghost use Rattle.std.specs.Prelude.{◌≡◌, ◌<◌, ◌&&◌, IsTrue, IfOk, 
 ghost use Rattle.std.specs.List.{list_all};
 ghost use Rattle.std.specs.Option.{option_map};
 ghost use Rattle.block_text.specs.declared.fault.Flaw.TheVariants as flaw;
-ghost use Rattle.block_text.specs.Fault.{Reads, asked};
+ghost use Rattle.lists.specs.Stop.{Gives};
+ghost use Rattle.block_text.specs.Fault.{asked};
 ghost use Rattle.block_text.specs.Letters.{is_letter, word_of};
 ghost use Rattle.block_text.specs.Lines.{bracketed};
 ghost use Rattle.certificate_text.specs.Lines.{number_part, origin_part, row_parts, is_row, row_values, row_of, over_lemma, lemma_row_of, grown};
@@ -13,10 +14,11 @@ ghost use Rattle.certificate_text.specs.Views.{parts_of};
 
 use crate::place::Size;
 use block_text::{
-    Flaw, INTEGER_LIMIT, LineFault, NUMBER_LIMIT, are_letters, bracketed, first_token,
-    integer_within, is, is_integer, is_number, letter_of, number_within,
+    Flaw, INTEGER_LIMIT, NUMBER_LIMIT, are_letters, bracketed, first_token, integer_within, is,
+    is_integer, is_number, letter_of, number_within,
 };
 use cofactor_trace::{CertFrom, CertRow, LETTER_LIMIT, LemmaRow, ROW_LIMIT};
+use lists::Stop;
 use nc_polynomial::WORD_LIMIT;
 use quiver::Quiver;
 use std::alloc::Global;
@@ -79,10 +81,10 @@ fn row_parts(line: &[u8]) -> Option<RowTokens<'_>>
 }
 
 // The word in brackets, before more letters of the row. Letters are looked at again only from an unknown name on.
-fn word_of(alloc: Global, quiver: &Quiver, letters: &[u8], later: &[u8]) -> Result<Word, LineFault>
+fn word_of(alloc: Global, quiver: &Quiver, letters: &[u8], later: &[u8]) -> Result<Word, Stop<Flaw>>
     ensures exact { let tokens = tokens_of letters.now in
         let spelled = list_all is_letter tokens && list_all is_letter (tokens_of later.now) in
-        Reads (λ w. w) result (asked (if spelled then flaw.UnknownName else flaw.BadLine) (word_of quiver.now tokens)) }
+        Gives (λ w. w) result (asked (if spelled then flaw.UnknownName else flaw.BadLine) (word_of quiver.now tokens)) }
     ensures letters { IfOk result (λ w. IsTrue (list_all is_letter (tokens_of letters.now))) }
 {
     let mut word = Word::new(alloc);
@@ -90,7 +92,7 @@ fn word_of(alloc: Global, quiver: &Quiver, letters: &[u8], later: &[u8]) -> Resu
     while let Some((token, behind)) = first_token(rest) {
         let Some(letter) = letter_of(quiver, token) else {
             let spelled = are_letters(rest) && are_letters(later);
-            return Err(LineFault::Flaw(if spelled {
+            return Err(Stop::Fault(if spelled {
                 Flaw::UnknownName
             } else {
                 Flaw::BadLine
@@ -103,20 +105,20 @@ fn word_of(alloc: Global, quiver: &Quiver, letters: &[u8], later: &[u8]) -> Resu
 }
 
 // The row of these tokens, by the number of the generator or lemma. The grammar is tested first.
-fn row_at(alloc: Global, quiver: &Quiver, tokens: &RowTokens<'_>) -> Result<CertRow, LineFault>
+fn row_at(alloc: Global, quiver: &Quiver, tokens: &RowTokens<'_>) -> Result<CertRow, Stop<Flaw>>
     ensures { let parts = parts_of tokens.now in
-        Reads (λ row. row) result (if is_row parts then row_values quiver.now parts else Err flaw.BadLine) }
+        Gives (λ row. row) result (if is_row parts then row_values quiver.now parts else Err flaw.BadLine) }
 {
     if !is_integer(tokens.coefficient) || !is_number(tokens.number) {
-        return Err(LineFault::Flaw(Flaw::BadLine));
+        return Err(Stop::Fault(Flaw::BadLine));
     }
     let left = word_of(alloc, quiver, tokens.left, tokens.right)?;
     let right = word_of(alloc, quiver, tokens.right, &[])?;
     let Some(coef) = integer_within(INTEGER_LIMIT, tokens.coefficient) else {
-        return Err(LineFault::Flaw(Flaw::NumberTooLarge));
+        return Err(Stop::Fault(Flaw::NumberTooLarge));
     };
     let Some(number) = number_within(NUMBER_LIMIT, tokens.number) else {
-        return Err(LineFault::Flaw(Flaw::NumberTooLarge));
+        return Err(Stop::Fault(Flaw::NumberTooLarge));
     };
     Ok(CertRow {
         coef,
@@ -127,12 +129,12 @@ fn row_at(alloc: Global, quiver: &Quiver, tokens: &RowTokens<'_>) -> Result<Cert
 }
 
 /// The row of the line, in a certificate of format 1.
-pub fn row_of(alloc: Global, quiver: &Quiver, line: &[u8]) -> Result<CertRow, LineFault>
-    ensures { Reads (λ row. row) result (row_of quiver.now (tokens_of line.now)) }
+pub fn row_of(alloc: Global, quiver: &Quiver, line: &[u8]) -> Result<CertRow, Stop<Flaw>>
+    ensures { Gives (λ row. row) result (row_of quiver.now (tokens_of line.now)) }
 {
     match row_parts(line) {
         Some(tokens) if !tokens.lemma => row_at(alloc, quiver, &tokens),
-        _ => Err(LineFault::Flaw(Flaw::BadLine)),
+        _ => Err(Stop::Fault(Flaw::BadLine)),
     }
 }
 
@@ -154,11 +156,11 @@ fn over_lemma(lemma: bool, row: CertRow) -> LemmaRow
 }
 
 /// The row of the line, in a certificate of format 2.
-pub fn lemma_row_of(alloc: Global, quiver: &Quiver, line: &[u8]) -> Result<LemmaRow, LineFault>
-    ensures { Reads (λ row. row) result (lemma_row_of quiver.now (tokens_of line.now)) }
+pub fn lemma_row_of(alloc: Global, quiver: &Quiver, line: &[u8]) -> Result<LemmaRow, Stop<Flaw>>
+    ensures { Gives (λ row. row) result (lemma_row_of quiver.now (tokens_of line.now)) }
 {
     let Some(tokens) = row_parts(line) else {
-        return Err(LineFault::Flaw(Flaw::BadLine));
+        return Err(Stop::Fault(Flaw::BadLine));
     };
     let row = row_at(alloc, quiver, &tokens)?;
     Ok(over_lemma(tokens.lemma, row))

@@ -1,7 +1,7 @@
 //! What is made of the lines of a certificate.
 
 ghost use Rattle.std.specs.Prelude.{◌≡◌, []};
-ghost use Rattle.block_text.specs.Fault.{Reads};
+ghost use Rattle.lists.specs.Stop.{Gives};
 ghost use Rattle.block_text.specs.Tokens.{tokens_of};
 ghost use Rattle.certificate_text.specs.Reading.{lemmas_headed, begun, scaled, lemma_row, in_rows, next, certificate_steps};
 ghost use Rattle.certificate_text.specs.declared.place.Stage.TheVariants as stage;
@@ -9,9 +9,9 @@ ghost use Rattle.certificate_text.specs.declared.place.Stage.TheVariants as stag
 use crate::line::{denominator_of, goal_scale_of, is_lemmas_head, is_plain_head, lemma_scale_of};
 use crate::place::{NO_ROWS, Opened, Size, Stage};
 use crate::row::{grown, lemma_row_of, row_of};
-use block_text::{BlockKind, Flaw, LineFault, begins, claim_of};
+use block_text::{BlockKind, Flaw, begins, claim_of};
 use cofactor_trace::{Certificate, Evidence, Format, Lemma};
-use lists::Listing;
+use lists::{Listing, Stop};
 use quiver::Quiver;
 use std::alloc::{AllocError, Global};
 
@@ -73,8 +73,8 @@ fn push_row(
     certificate: &mut Certificate,
     size: Size,
     line: &[u8],
-) -> Result<Size, LineFault>
-    ensures { Reads (λ size. stage.Rows certificate.new size) result (in_rows quiver.now certificate.old size (tokens_of line.now)) }
+) -> Result<Size, Stop<Flaw>>
+    ensures { Gives (λ size. stage.Rows certificate.new size) result (in_rows quiver.now certificate.old size (tokens_of line.now)) }
 {
     let row = row_of(alloc, quiver, line)?;
     let size = grown(size, &row.left, &row.right)?;
@@ -89,8 +89,8 @@ fn in_rows(
     mut certificate: Certificate,
     size: Size,
     line: &[u8],
-) -> Result<Stage, LineFault>
-    ensures { Reads (λ s. s) result (in_rows quiver.now certificate size (tokens_of line.now)) }
+) -> Result<Stage, Stop<Flaw>>
+    ensures { Gives (λ s. s) result (in_rows quiver.now certificate size (tokens_of line.now)) }
 {
     let size = push_row(alloc, quiver, &mut certificate, size, line)?;
     Ok(Stage::Rows { certificate, size })
@@ -128,8 +128,8 @@ pub fn push_lemma_row(
     size: Size,
     lemma: &mut Lemma,
     line: &[u8],
-) -> Result<Size, LineFault>
-    ensures { Reads (λ larger. (larger, lemma.new)) result (lemma_row quiver.now size lemma.old (tokens_of line.now)) }
+) -> Result<Size, Stop<Flaw>>
+    ensures { Gives (λ larger. (larger, lemma.new)) result (lemma_row quiver.now size lemma.old (tokens_of line.now)) }
 {
     let row = lemma_row_of(alloc, quiver, line)?;
     let size = grown(size, &row.left, &row.right)?;
@@ -160,7 +160,7 @@ impl<'q> BlockKind for Certificates<'q> {
         }
     }
 
-    fn next(&self, alloc: Global, stage: Stage, line: &[u8]) -> Result<Stage, LineFault> {
+    fn next(&self, alloc: Global, stage: Stage, line: &[u8]) -> Result<Stage, Stop<Flaw>> {
         let quiver = self.quiver;
         match stage {
             Stage::Headed { form } => {

@@ -12,7 +12,7 @@ use Rattle.word_core.specs.Canonical.{word_cmp, word_cmp_total}
 use Rattle.definitions.specs.Poly.{word_eq, coefficient_of, poly_multiple, poly_between}
 use Rattle.definitions.proofs.Linear.{word_eq-true}
 use Rattle.nc_polynomial.specs.Terms.{IsDescending}
-use Rattle.nc_polynomial.specs.declared.fault.SumFault.{SumFault}
+use Rattle.lists.specs.declared.stop.Stop.{Stop}
 use Rattle.cofactor_checker.specs.Operations.{adding_operations}
 use Rattle.cofactor_checker.specs.Running.{IsStoppedBy}
 use Rattle.cofactor_checker.specs.Table.{Table, coefficient_at, Adds}
@@ -81,7 +81,7 @@ module _ {start now : Table} {c : ℤ} {l : List ℕ} {g : List (ℤ × List ℕ
     fits : IsCoefficient (c *ℤ t.0)
     fits = rw x_is at x_fits
 
-    pub sum_stopped : (e : SumFault) → IsStoppedBy (first_overflow (sum_of (coefficient_at now v) x ∷ [])) e → IsStoppedBy (first_overflow (adding_operations (coefficient_at start) c l g r)) e
+    pub sum_stopped : (e : Stop Overflow) → IsStoppedBy (first_overflow (sum_of (coefficient_at now v) x ∷ [])) e → IsStoppedBy (first_overflow (adding_operations (coefficient_at start) c l g r)) e
     sum_stopped e stopped = subst (λ o. IsStoppedBy o e) (sym (from_here ∙ first-fits (product_of c t.0) (adding ∷ later) fits)) (stopped_before adding later e (rw (x_is, v_is) at stopped))
 
     -- one term more

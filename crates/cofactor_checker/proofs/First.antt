@@ -8,8 +8,8 @@ use borrow.Author.Tests.{ltb-true}
 use Rattle.coef_int.specs.declared.Overflow.{Overflow}
 use Rattle.coef_int.specs.Range.{IsCoefficient, is_coefficient}
 use Rattle.coef_int.specs.Operations.{product_of, exact_value, first_overflow}
-use Rattle.nc_polynomial.specs.declared.fault.SumFault.{SumFault}
-use Rattle.nc_polynomial.specs.declared.fault.SumFault.TheVariants as fault
+use Rattle.lists.specs.declared.stop.Stop.{Stop}
+use Rattle.lists.specs.declared.stop.Stop.TheVariants as stop
 use Rattle.nc_polynomial.specs.Terms.{products}
 use Rattle.cofactor_checker.specs.Running.{IsStoppedBy}
 
@@ -22,13 +22,13 @@ pub first-fails : (o : Overflow) (os : List Overflow) → ¬ IsCoefficient (exac
 first-fails o os fails = grind (arith, nat_tests)
 
 -- what stops one operation stops it before others
-pub stopped_before : (o : Overflow) (os : List Overflow) (e : SumFault) → IsStoppedBy (first_overflow (o ∷ [])) e → IsStoppedBy (first_overflow (o ∷ os)) e
-stopped_before o os (fault.Overflow e) stopped = go (is_coefficient (exact_value o)) stopped
+pub stopped_before : (o : Overflow) (os : List Overflow) (e : Stop Overflow) → IsStoppedBy (first_overflow (o ∷ [])) e → IsStoppedBy (first_overflow (o ∷ os)) e
+stopped_before o os (stop.Fault e) stopped = go (is_coefficient (exact_value o)) stopped
   where
     go : (b : Bool) → cond b None (Some o) ≡ Some e → cond b (first_overflow os) (Some o) ≡ Some e
     go true none = absurd (cc)
     go false same = same
-stopped_before o os (fault.Memory e) stopped = tt
+stopped_before o os (stop.Memory e) stopped = tt
 
 -- where no product of a multiple overflows, all are coefficients
 pub products_fit : (d : ℤ) (p : List (ℤ × List ℕ)) → first_overflow (products d p) ≡ None → All (λ t. IsCoefficient (d *ℤ t.0)) p

@@ -14,7 +14,8 @@ use crate::Refusal;
 use crate::rows::{SUM_LIMIT, numbered};
 use crate::sum::add_row;
 use crate::table::in_order;
-use nc_polynomial::{Poly, SumFault};
+use lists::Stop;
+use nc_polynomial::Poly;
 use std::alloc::Global;
 use std::collections::{BTreeMap, HashMap};
 use traced_rows::{CertFrom, LemmaRow};
@@ -66,13 +67,13 @@ pub(crate) fn add_lemma_rows(
         let terms = named.terms.as_slice();
         match add_row(&mut sum, row.coef, &row.left, terms, &row.right) {
             Ok(()) => {}
-            Err(SumFault::Overflow(overflow)) => {
+            Err(Stop::Fault(overflow)) => {
                 return Err(Refusal::Overflow {
                     row: number,
                     overflow,
                 });
             }
-            Err(SumFault::Memory(failed)) => return Err(Refusal::Memory(failed)),
+            Err(Stop::Memory(failed)) => return Err(Refusal::Memory(failed)),
         }
         if sum.len() > SUM_LIMIT {
             return Err(Refusal::Size { row: number });

@@ -9,8 +9,8 @@ ghost use Rattle.cofactor_checker.specs.Running.{IsStoppedBy};
 ghost use Rattle.cofactor_checker.specs.Table.{coefficient_at, IsTable, Adds};
 
 use crate::table::{Key, add_term};
-use coef_int::times;
-use nc_polynomial::SumFault;
+use coef_int::{Overflow, times};
+use lists::Stop;
 use std::collections::HashMap;
 use word_core::Word;
 
@@ -21,7 +21,7 @@ pub(crate) fn add_row(
     left: &Word,
     terms: &[(i128, Word)],
     right: &Word,
-) -> Result<(), SumFault>
+) -> Result<(), Stop<Overflow>>
     requires coefficient { IsCoefficient coefficient }
     requires shaped { IsShaped terms.now }
     requires kept { IsTable sum.old }
@@ -31,7 +31,7 @@ pub(crate) fn add_row(
         MatchResult result (λ _. first ≡ None) (IsStoppedBy first) }
 {
     for term in terms {
-        let product = times(coefficient, term.0)?;
+        let product = times(coefficient, term.0).map_err(Stop::Fault)?;
         let word = term.1.between(left, right)?;
         add_term(sum, product, word)?;
     }

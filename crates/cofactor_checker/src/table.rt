@@ -15,7 +15,8 @@ ghost use Rattle.nc_polynomial.proofs.Words.{word_eq-cmp};
 ghost use Rattle.cofactor_checker.specs.Running.{IsRunning, IsStoppedBy};
 ghost use Rattle.cofactor_checker.specs.Table.{digest, mixed, coefficient_at, IsTable, Adds};
 
-use nc_polynomial::SumFault;
+use coef_int::Overflow;
+use lists::Stop;
 use std::alloc::{AllocError, Global};
 use std::collections::hash_map::Entry;
 use std::collections::{BTreeMap, HashMap};
@@ -105,7 +106,7 @@ pub(crate) fn add_term(
     table: &mut HashMap<Key, i128>,
     coefficient: i128,
     word: Word,
-) -> Result<(), SumFault>
+) -> Result<(), Stop<Overflow>>
     requires kept { IsTable table.old }
     requires coefficient_in { IsCoefficient coefficient }
     ensures kept { IsTable table.new }
@@ -121,7 +122,7 @@ pub(crate) fn add_term(
             entry.insert(coefficient);
         }
         Entry::Occupied(mut entry) => {
-            let total = coef_int::plus(*entry.get(), coefficient)?;
+            let total = coef_int::plus(*entry.get(), coefficient).map_err(Stop::Fault)?;
             if total == 0 {
                 entry.remove();
             } else {

@@ -10,7 +10,7 @@ use Rattle.report_text.specs.Report.{heads_of}
 use Rattle.command_shape.specs.declared.call.BenchCall.{BenchCall}
 use Rattle.command_shape.specs.declared.call.Call.{Call}
 use Rattle.command_shape.specs.declared.call.Call.TheVariants.{Prove, Refute, Bench, Evidence}
-use Rattle.command_shape.specs.declared.stop.Stop.{Stop}
+use Rattle.lists.specs.declared.stop.Stop.{Stop}
 use Rattle.command_shape.specs.declared.files.FileWord.{FileWord}
 use Rattle.command_shape.specs.FileWords.{statement_limit, evidence_limit, statement_file, pair_files}
 use Rattle.command_shape.specs.Ending.{Ending}
@@ -107,7 +107,7 @@ pub are_contents : (call : Call) (contents : List (List ℕ))
 are_contents call contents fit = AllZip-long (λ file bytes. length bytes ≤ file.limit) (files_of call) contents fit
 
 -- what is answered over the statement and the text of evidence
-pub answered : (call : Call) (contents : List (List ℕ)) (statement evidence : List ℕ) (result : Result Ending Stop)
+pub answered : (call : Call) (contents : List (List ℕ)) (statement evidence : List ℕ) (result : Result Ending (Stop Ending))
     → AreContents call contents → statement_of call contents ≡ statement → evidence_of contents ≡ evidence
     → EndsAs (OverStatement statement (AnswersOver call evidence)) result → EndsAs (Answers call contents) result
 answered call contents statement evidence result as_many same_statement same_evidence ends =

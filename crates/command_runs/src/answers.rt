@@ -9,10 +9,10 @@ ghost use Rattle.command_runs.specs.CallFiles.{files_of, written_by};
 ghost use Rattle.command_runs.specs.Answers.{AnswersOver, Answers};
 
 use adjoint_rules::Problem;
-use command_shape::{Call, Ending, Stop};
+use command_shape::{Call, Ending};
 use evidence_commands::answer_evidence;
 use in_order_parallel::{Crew, Gate};
-use lists::Listing;
+use lists::{Listing, Stop};
 use prove_command::{ASKED_BY_BENCH, Extent, asked_by, report_claims};
 use refute_command::report_search;
 use report_text::write_bench;
@@ -27,7 +27,7 @@ pub fn answer<R: Threads + Sync, G: Gate + Sync>(
     call: &Call,
     contents: &[Listing<u8>],
     gate: &G,
-) -> Result<Ending, Stop>
+) -> Result<Ending, Stop<Ending>>
     requires in_range { IsInRange call.now }
     requires contents_fit { AllZip (λ file bytes. length bytes ≤ file.limit) (files_of call.now) contents.now }
     ensures { EndsAs (Answers call.now contents.now) result }
@@ -65,7 +65,7 @@ fn answer_over<R: Threads + Sync, G: Gate + Sync>(
     statement: &[u8],
     evidence: &[u8],
     gate: &G,
-) -> Result<Ending, Stop>
+) -> Result<Ending, Stop<Ending>>
     requires in_range { IsInRange call.now }
     requires statement_fits { length statement.now ≤ statement_limit }
     requires evidence_fits { length evidence.now ≤ evidence_limit }
@@ -83,7 +83,7 @@ fn answer_problem<R: Threads + Sync, G: Gate + Sync>(
     problem: &Problem,
     evidence: &[u8],
     gate: &G,
-) -> Result<Ending, Stop>
+) -> Result<Ending, Stop<Ending>>
     requires in_range { IsInRange call.now }
     requires evidence_fits { length evidence.now ≤ evidence_limit }
     ensures { EndsAs (AnswersOver call.now evidence.now problem.now) result }

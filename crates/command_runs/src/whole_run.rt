@@ -22,10 +22,10 @@ use crate::files::load_files;
 use cancel_rules::cancellation_sound;
 use category_laws::Preadditive;
 use command_shape::status::{OUT_OF_MEMORY, SINK_FAILED};
-use command_shape::{Call, Ending, Refusal, Stop, read_words, usage_text};
+use command_shape::{Call, Ending, Refusal, read_words, usage_text};
 use flow_io::{Shelf, Sink, put_all};
 use in_order_parallel::Gate;
-use lists::Listing;
+use lists::{Listing, Stop};
 use representations::sound;
 use statement_meaning::says_equations;
 use std::alloc::{AllocError, Global};
@@ -36,7 +36,7 @@ fn load_call<L: Shelf>(
     alloc: Global,
     call: &Call,
     shelf: &mut L,
-) -> Result<Listing<Listing<u8>>, Stop>
+) -> Result<Listing<Listing<u8>>, Stop<Ending>>
     ensures loaded { IfOk result (WereLoaded (L.file shelf.old) (files_of call.now)) }
     ensures stopped { IfErr result (StopsBy (AfterFiles (L.file shelf.old) (RoseAt (L.faults shelf.old) (L.faults shelf.new)) (files_of call.now) (λ _ _. ⊥))) }
 {
@@ -51,7 +51,7 @@ fn answer_call<R: Threads + Sync, L: Shelf, G: Gate + Sync>(
     call: &Call,
     shelf: &mut L,
     gate: &G,
-) -> Result<Ending, Stop>
+) -> Result<Ending, Stop<Ending>>
     requires { IsInRange call.now }
     ensures { EndsAs (AfterFiles (L.file shelf.old) (RoseAt (L.faults shelf.old) (L.faults shelf.new)) (files_of call.now) (Answers call.now)) result }
 {
@@ -66,7 +66,7 @@ fn answer_words<R: Threads + Sync, L: Shelf, G: Gate + Sync>(
     words: &[String],
     shelf: &mut L,
     gate: &G,
-) -> Result<Ending, Stop>
+) -> Result<Ending, Stop<Ending>>
     ensures { EndsAs (MayEnd words.now (L.file shelf.old) (RoseAt (L.faults shelf.old) (L.faults shelf.new))) result }
 {
     match read_words(alloc, words) {
@@ -88,7 +88,7 @@ fn ending_of<R: Threads + Sync, L: Shelf, G: Gate + Sync>(
 {
     match answer_words(rt, alloc, words, shelf, gate) {
         Ok(ending) => Ok(ending),
-        Err(Stop::Ended(ending)) => Ok(ending),
+        Err(Stop::Fault(ending)) => Ok(ending),
         Err(Stop::Memory(failed)) => Err(failed),
     }
 }

@@ -8,9 +8,9 @@ ghost use Rattle.command_shape.specs.Judged.{Tells};
 ghost use Rattle.command_shape.specs.Stop.{EndsAs};
 
 use crate::ending::Ending;
-use crate::stop::Stop;
 use adjoint_rules::Problem;
 use block_text::{put, put_labelled};
+use lists::Stop;
 use std::alloc::{AllocError, Global};
 
 /// The result of judging a block.
@@ -53,7 +53,7 @@ pub fn judge_blocks<J: Judge>(
     judge: &J,
     problem: &Problem,
     blocks: &[J::Block],
-) -> Result<Ending, Stop>
+) -> Result<Ending, Stop<Ending>>
     requires { All (J.can_judge problem.now) blocks.now }
     ensures { EndsAs (Judges (J.accepts problem.now) (J.refuses problem.now) blocks.now) result }
 {

@@ -11,7 +11,6 @@ mod limits;
 mod read;
 mod set;
 pub mod status;
-mod stop;
 mod usage;
 
 pub use call::{BenchCall, Call, PairCall, ProveCall, RefuteCall};
@@ -24,5 +23,4 @@ pub use limits::{
     DEFAULT_PAIRS, DEFAULT_SEED, DEFAULT_STEPS, FORMAT_LIMIT, PAIR_LIMIT, SIZE_LIMIT, STEP_LIMIT,
 };
 pub use read::{Refusal, read_words};
-pub use stop::Stop;
 pub use usage::usage_text;

@@ -1,5 +1,5 @@
 -- Certificates are explained or refused, and what an explained one means.
-use Rattle.std.proofs.Common.{◌≡◌, ◌⊎◌, inl, inr, ℕ, pos, List, [], ◌∷◌, ◌++◌, Some, length, get_or, codes, refl, ap, arith, IsTrue}
+use Rattle.std.proofs.Common.{◌≡◌, ◌⊎◌, inl, inr, ℕ, pos, List, [], ◌∷◌, ◌++◌, Option, None, Some, length, get_or, codes, refl, ap, arith, IsTrue}
 use Rattle.std.specs.Prelude.{decimal}
 use Rattle.std.specs.Option.{IfSome}
 use Rattle.std.specs.Fmt.{signed_decimal}
@@ -34,8 +34,6 @@ use Rattle.equation_chain.proofs.Outcomes as outcomes
 use Rattle.equation_chain.proofs.Sums.{steps_add_up}
 use Rattle.equation_chain.proofs.Typed.{steps_typed}
 use Rattle.equation_chain.proofs.Vanishing.{lines_vanish}
-use Rattle.evidence_commands.specs.declared.explain.ExplainRefusal.{ExplainRefusal}
-use Rattle.evidence_commands.specs.declared.explain.ExplainRefusal.TheVariants.{HasLemmas, HasFault}
 use Rattle.evidence_commands.specs.Explain.{IsExplained, IsRefused, IsMemory, fault_text, refusal_text, HasFaultLetters}
 use Rattle.evidence_commands.specs.Explain.{explained_text, ExplainedMeans, IsChained, BlockMeans, chains}
 use Rattle.evidence_commands.proofs.Causes as causes
@@ -48,26 +46,26 @@ use Rattle.evidence_commands.proofs.Said.{Said, says_explained, said_text, SaidM
 
 -- one outcome for each block
 module _ (problem : Problem) where
-  each_block : (e : Evidence) → IsExplained problem e ⊎ ((r : ExplainRefusal) × IsRefused problem e r × (IsMemory r → ⊥))
+  each_block : (e : Evidence) → IsExplained problem e ⊎ ((r : Option ChainFault) × IsRefused problem e r × (IsMemory r → ⊥))
   each_block (Plain c) = by (outcomes.each_is_explained problem c)
     where
       by : chain.IsExplained problem c ⊎ ((f : ChainFault) × chain.IsFirstFault problem c f × (chain.IsMemory f → ⊥))
-          → IsExplained problem (Plain c) ⊎ ((r : ExplainRefusal) × IsRefused problem (Plain c) r × (IsMemory r → ⊥))
+          → IsExplained problem (Plain c) ⊎ ((r : Option ChainFault) × IsRefused problem (Plain c) r × (IsMemory r → ⊥))
       by (inl explained) = inl explained
-      by (inr wrong) = inr (HasFault wrong.0, wrong.1, wrong.2)
-  each_block (Lemmas c) = inr (HasLemmas, tt, λ none. none)
+      by (inr wrong) = inr (Some wrong.0, wrong.1, wrong.2)
+  each_block (Lemmas c) = inr (None, tt, λ none. none)
 
-  one_refusal : (e : Evidence) (r r' : ExplainRefusal) → IsRefused problem e r → IsRefused problem e r' → (IsMemory r → ⊥) → (IsMemory r' → ⊥) → r ≡ r'
-  one_refusal (Plain c) (HasFault f) (HasFault g) one other no_memory no_memory' = ap HasFault (outcomes.first_fault_is_unique problem c f g one other no_memory no_memory')
-  one_refusal (Plain c) (HasFault f) HasLemmas one other no_memory no_memory' = absurd other
-  one_refusal (Plain c) HasLemmas r' one other no_memory no_memory' = absurd one
-  one_refusal (Lemmas c) HasLemmas HasLemmas one other no_memory no_memory' = refl
-  one_refusal (Lemmas c) HasLemmas (HasFault g) one other no_memory no_memory' = absurd other
-  one_refusal (Lemmas c) (HasFault f) r' one other no_memory no_memory' = absurd one
+  one_refusal : (e : Evidence) (r r' : Option ChainFault) → IsRefused problem e r → IsRefused problem e r' → (IsMemory r → ⊥) → (IsMemory r' → ⊥) → r ≡ r'
+  one_refusal (Plain c) (Some f) (Some g) one other no_memory no_memory' = ap Some (outcomes.first_fault_is_unique problem c f g one other no_memory no_memory')
+  one_refusal (Plain c) (Some f) None one other no_memory no_memory' = absurd other
+  one_refusal (Plain c) None r' one other no_memory no_memory' = absurd one
+  one_refusal (Lemmas c) None None one other no_memory no_memory' = refl
+  one_refusal (Lemmas c) None (Some g) one other no_memory no_memory' = absurd other
+  one_refusal (Lemmas c) (Some f) r' one other no_memory no_memory' = absurd one
 
-  not_refused : (e : Evidence) (r : ExplainRefusal) → IsExplained problem e → IsRefused problem e r → IsMemory r
-  not_refused (Plain c) (HasFault f) explained is = outcomes.explained_has_no_fault problem c f explained is
-  not_refused (Plain c) HasLemmas explained is = absurd is
+  not_refused : (e : Evidence) (r : Option ChainFault) → IsExplained problem e → IsRefused problem e r → IsMemory r
+  not_refused (Plain c) (Some f) explained is = outcomes.explained_has_no_fault problem c f explained is
+  not_refused (Plain c) None explained is = absurd is
   not_refused (Lemmas c) r explained is = absurd explained
 
 -- the texts of refusals
@@ -76,9 +74,9 @@ fault_has_text ds (fault.Refused refusal) h = causes.refusal_text ds refusal h
 fault_has_text ds (fault.Memory failed) h = absurd (h tt)
 fault_has_text ds other h = (_, refl)
 
-has_text : (ds : List Declaration) (r : ExplainRefusal) → (IsMemory r → ⊥) → (cause : List ℕ) × (refusal_text ds r ≡ Some cause)
-has_text ds HasLemmas h = (_, refl)
-has_text ds (HasFault f) h = fault_has_text ds f h
+has_text : (ds : List Declaration) (r : Option ChainFault) → (IsMemory r → ⊥) → (cause : List ℕ) × (refusal_text ds r ≡ Some cause)
+has_text ds None h = (_, refl)
+has_text ds (Some f) h = fault_has_text ds f h
 
 -- a refusal that has a line is no want of memory
 fault_told : (ds : List Declaration) (f : ChainFault) (cause : List ℕ) → fault_text ds f ≡ Some cause → chain.IsMemory f → ⊥
@@ -86,9 +84,9 @@ fault_told ds (fault.Refused refusal) cause is memory = causes.told ds refusal c
 fault_told ds (fault.Memory failed) cause is memory = absurd cc
 fault_told ds other cause is memory = memory
 
-told : (ds : List Declaration) (r : ExplainRefusal) (cause : List ℕ) → refusal_text ds r ≡ Some cause → IsMemory r → ⊥
-told ds HasLemmas cause is memory = memory
-told ds (HasFault f) cause is memory = fault_told ds f cause is memory
+told : (ds : List Declaration) (r : Option ChainFault) (cause : List ℕ) → refusal_text ds r ≡ Some cause → IsMemory r → ⊥
+told ds None cause is memory = memory
+told ds (Some f) cause is memory = fault_told ds f cause is memory
 
 -- the texts are lines
 module _ (ds : List Declaration) (known : IsTrue (list_all is_named ds)) where
@@ -99,9 +97,9 @@ module _ (ds : List Declaration) (known : IsTrue (list_all is_named ds)) where
   fault_caused (fault.Long row) = then (lit (codes "E4 row ") refl) (then (num row) (then (lit (codes " limit ") refl) (num letter_limit)))
   fault_caused (fault.Memory failed) = tt
 
-  caused : (r : ExplainRefusal) → IfSome (refusal_text ds r) IsPart
-  caused HasLemmas = lit (codes "E1") refl
-  caused (HasFault f) = fault_caused f
+  caused : (r : Option ChainFault) → IfSome (refusal_text ds r) IsPart
+  caused None = lit (codes "E1") refl
+  caused (Some f) = fault_caused f
 
 -- no cause begins as the text of an explained block
 differ : (cause more : List ℕ) → codes "refused " ++ cause ≡ 101 ∷ more → ⊥

@@ -23,8 +23,6 @@ use Rattle.equation_chain.specs.Lines.{lines_by, lines_of}
 use Rattle.equation_chain.specs.Chains.{IsChain}
 use Rattle.equation_chain.specs.Faults as chain
 use Rattle.equation_chain.specs.Written.{lines_text, chain_text}
-use Rattle.evidence_commands.specs.declared.explain.ExplainRefusal.{ExplainRefusal}
-use Rattle.evidence_commands.specs.declared.explain.ExplainRefusal.TheVariants.{HasLemmas, HasFault}
 use Rattle.evidence_commands.specs.Causes.{operation_text, cause_text, HasLetters}
 use Rattle.evidence_commands.specs.Kind.{Kind}
 
@@ -33,16 +31,16 @@ abbrev pub IsExplained : Problem → Evidence → Type 0
 IsExplained problem (Plain c) = chain.IsExplained problem c
 IsExplained problem (Lemmas c) = ⊥
 
--- A block with lemmas is refused for them, even if it has another fault. A certificate is refused for its first fault.
-abbrev pub IsRefused : Problem → Evidence → ExplainRefusal → Type 0
-IsRefused problem (Plain c) (HasFault f) = chain.IsFirstFault problem c f
-IsRefused problem (Lemmas c) HasLemmas = ⊤
+-- A block with lemmas is refused for them, with no fault of a chain, even if it has another one. A certificate is refused for its first fault.
+abbrev pub IsRefused : Problem → Evidence → Option ChainFault → Type 0
+IsRefused problem (Plain c) (Some f) = chain.IsFirstFault problem c f
+IsRefused problem (Lemmas c) None = ⊤
 IsRefused problem other refusal = ⊥
 
 -- it is want of memory
-abbrev pub IsMemory : ExplainRefusal → Type 0
-IsMemory HasLemmas = ⊥
-IsMemory (HasFault f) = chain.IsMemory f
+abbrev pub IsMemory : Option ChainFault → Type 0
+IsMemory None = ⊥
+IsMemory (Some f) = chain.IsMemory f
 
 -- the text of the first fault of a certificate: what `check` says of it, or which step fails and why; no line says that memory is short
 abbrev pub fault_text : List Declaration → ChainFault → Option (List ℕ)
@@ -54,9 +52,9 @@ fault_text ds (fault.Long row) = Some (codes "E4 row " ++ (decimal row ++ (codes
 fault_text ds (fault.Memory failed) = None
 
 -- why a block is refused
-abbrev pub refusal_text : List Declaration → ExplainRefusal → Option (List ℕ)
-refusal_text ds HasLemmas = Some (codes "E1")
-refusal_text ds (HasFault f) = fault_text ds f
+abbrev pub refusal_text : List Declaration → Option ChainFault → Option (List ℕ)
+refusal_text ds None = Some (codes "E1")
+refusal_text ds (Some f) = fault_text ds f
 
 -- the letters that the text of a fault names are letters of the quiver
 abbrev pub HasFaultLetters : List Declaration → ChainFault → Type 0
@@ -64,9 +62,9 @@ HasFaultLetters ds (fault.Refused refusal) = HasLetters ds refusal
 HasFaultLetters ds other = ⊤
 
 -- and those of the text of a block's refusal
-abbrev pub HasRefusalLetters : List Declaration → ExplainRefusal → Type 0
-HasRefusalLetters ds HasLemmas = ⊤
-HasRefusalLetters ds (HasFault f) = HasFaultLetters ds f
+abbrev pub HasRefusalLetters : List Declaration → Option ChainFault → Type 0
+HasRefusalLetters ds None = ⊤
+HasRefusalLetters ds (Some f) = HasFaultLetters ds f
 
 -- the line before a chain: its claim, its denominator, and how many steps it has
 abbrev pub head_text : ℕ → ℤ → ℕ → List ℕ
@@ -111,7 +109,7 @@ BlockMeans s problem (Plain c) = ExplainedMeans s problem c
 BlockMeans s problem (Lemmas c) = ⊥
 
 -- certificates of both formats, each explained by its chain, or refused with its cause
-abbrev pub chains : Kind Evidence ExplainRefusal
+abbrev pub chains : Kind Evidence (Option ChainFault)
 chains = record {
   AreBlocks = text.IsEvidence format.Lemmas;
   IsFirstFault = text.IsFirstFault format.Lemmas;

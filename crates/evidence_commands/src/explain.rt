@@ -16,23 +16,15 @@ use lists::Listing;
 use quiver::Quiver;
 use std::alloc::{AllocError, Global};
 
-/// Why a block of evidence is not explained.
-#[derive(Drop)]
-pub enum ExplainRefusal {
-    /// It has lemmas.
-    HasLemmas,
-    /// It is a certificate that has no chain, and this is its first fault.
-    HasFault(ChainFault),
-}
-
-/// Certificates of both formats, each as the chain of its steps.
+/// Certificates of both formats, each as the chain of its steps. A block with lemmas is refused for them, with no fault of a chain, and a
+/// certificate that has no chain for its first fault.
 #[derive(Clone, Copy)]
 pub(crate) struct Chains;
 
 impl EvidenceKind for Chains {
     type Block = Evidence;
 
-    type Refusal = ExplainRefusal;
+    type Refusal = Option<ChainFault>;
 
     ghost kind = { chains };
 
@@ -54,12 +46,12 @@ impl EvidenceKind for Chains {
         alloc: Global,
         problem: &Problem,
         block: &Evidence,
-    ) -> Result<Vec<u8>, ExplainRefusal> {
+    ) -> Result<Vec<u8>, Option<ChainFault>> {
         match block {
-            Evidence::Lemmas(_) => Err(ExplainRefusal::HasLemmas),
+            Evidence::Lemmas(_) => Err(None),
             Evidence::Plain(certificate) => match write_chain(alloc, problem, certificate) {
                 Ok(text) => Ok(text),
-                Err(fault) => Err(ExplainRefusal::HasFault(fault)),
+                Err(fault) => Err(Some(fault)),
             },
         }
     }
@@ -68,11 +60,11 @@ impl EvidenceKind for Chains {
         &self,
         out: &mut Vec<u8>,
         quiver: &Quiver,
-        refusal: &ExplainRefusal,
+        refusal: &Option<ChainFault>,
     ) -> Result<(), AllocError> {
         match refusal {
-            ExplainRefusal::HasLemmas => put(out, "E1"),
-            ExplainRefusal::HasFault(fault) => put_fault(out, quiver, fault),
+            None => put(out, "E1"),
+            Some(fault) => put_fault(out, quiver, fault),
         }
     }
 }

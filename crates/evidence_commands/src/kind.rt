@@ -11,8 +11,8 @@ ghost use Rattle.evidence_commands.specs.Kind.{Kind, Accepts, Refuses, AnswersTe
 
 use adjoint_rules::Problem;
 use block_text::CertFault;
-use command_shape::{Ending, Judge, Judged, Stop, judge_blocks, refused_evidence};
-use lists::Listing;
+use command_shape::{Ending, Judge, Judged, judge_blocks, refused_evidence};
+use lists::{Listing, Stop};
 use quiver::Quiver;
 use std::alloc::{AllocError, Global};
 
@@ -104,7 +104,7 @@ pub(crate) fn answer_text<K: EvidenceKind>(
     kind: K,
     problem: &Problem,
     text: &[u8],
-) -> Result<Ending, Stop>
+) -> Result<Ending, Stop<Ending>>
     requires { length text.now ≤ evidence_limit }
     ensures { EndsAs (AnswersText K.kind text.now problem.now) result }
 {
@@ -118,7 +118,7 @@ fn blocks_of<K: EvidenceKind>(
     kind: &K,
     text: &[u8],
     quiver: &Quiver,
-) -> Result<Listing<K::Block>, Stop>
+) -> Result<Listing<K::Block>, Stop<Ending>>
     requires { length text.now ≤ evidence_limit }
     ensures read { IfOk result (K.kind.AreBlocks quiver.now text.now) }
     ensures readable { IfOk result (All (K.is_readable quiver.now)) }
@@ -129,7 +129,7 @@ fn blocks_of<K: EvidenceKind>(
         Ok(blocks) => Ok(blocks),
         Err(CertFault::Fault { code, line, limit }) => {
             let ending = refused_evidence(alloc, code, line, limit)?;
-            Err(Stop::Ended(ending))
+            Err(Stop::Fault(ending))
         }
         Err(CertFault::Memory(failed)) => Err(Stop::Memory(failed)),
     }

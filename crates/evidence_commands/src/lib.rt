@@ -23,11 +23,12 @@ use crate::explain::Chains;
 use crate::kind::answer_text;
 use crate::model::Models;
 use adjoint_rules::Problem;
-use command_shape::{Ending, EvidenceCommand, Stop};
+use command_shape::{Ending, EvidenceCommand};
 pub use laws::{
     a_faulty_statement_is_answered_by_3, passing_blocks_are_answered_by_0, read_bases_are_readable,
     status_0_means_what_blocks_mean,
 };
+use lists::Stop;
 use std::alloc::Global;
 
 /// How a run of the command ends over a problem and a text of evidence.
@@ -36,7 +37,7 @@ pub fn answer_evidence(
     command: EvidenceCommand,
     problem: &Problem,
     text: &[u8],
-) -> Result<Ending, Stop>
+) -> Result<Ending, Stop<Ending>>
     requires { length text.now ≤ evidence_limit }
     ensures { EndsAs (AnswersEvidence command text.now problem.now) result }
 {

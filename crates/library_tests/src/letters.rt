@@ -6,7 +6,8 @@ ghost use Rattle.word_core.specs.Letters.{IsOver};
 use crate::comparing::equal;
 use crate::notation::word;
 use adjoint_rules::adjoint_word;
-use quiver::{Quiver, QuiverFault, QuiverStop};
+use lists::Stop;
+use quiver::{Quiver, QuiverFault};
 use std::alloc::Global;
 use std::process::Abort;
 use word_core::{Object, Word};
@@ -35,10 +36,16 @@ fn two_maps(rt: &impl Abort, alloc: Global) -> Quiver
     ensures { object_count result ≡ 2 }
 {
     let mut quiver = Quiver::new(alloc).expect(rt, "memory");
-    let source = quiver.add_object("U").expect(rt, "U");
-    let target = quiver.add_object("V").expect(rt, "V");
-    quiver.add_map("a", source, target, false).expect(rt, "a");
-    quiver.add_map("x", target, source, false).expect(rt, "x");
+    let source = quiver.add_object("U").ok().expect(rt, "U");
+    let target = quiver.add_object("V").ok().expect(rt, "V");
+    quiver
+        .add_map("a", source, target, false)
+        .ok()
+        .expect(rt, "a");
+    quiver
+        .add_map("x", target, source, false)
+        .ok()
+        .expect(rt, "x");
     quiver
 }
 
@@ -46,9 +53,9 @@ fn two_maps(rt: &impl Abort, alloc: Global) -> Quiver
 fn names_are_declared_once_and_loops_alone_are_their_own_adjoints(rt: HostRuntime) {
     let mut quiver = two_maps(&rt, rt.alloc());
     let no_loop = quiver.add_map("p", Object(0), Object(1), true);
-    assert!(rt; matches!(no_loop, Err(QuiverStop::Fault(QuiverFault::NotSquare))));
+    assert!(rt; matches!(no_loop, Err(Stop::Fault(QuiverFault::NotSquare))));
     let again = quiver.add_object("a");
-    assert!(rt; matches!(again, Err(QuiverStop::Fault(QuiverFault::DoubleName))));
+    assert!(rt; matches!(again, Err(Stop::Fault(QuiverFault::DoubleName))));
 }
 
 // Whether each letter of the word has a number below this one.

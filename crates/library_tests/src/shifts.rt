@@ -11,9 +11,9 @@ ghost use Rattle.library_tests.specs.Shifts.{shift_steps, other_words, HasShifts
 
 use block_lines::{LetterLine, LinePlace, LineThen, NoLines, NumberLine, Section};
 use block_text::{
-    BlockKind, LineFault, NUMBER_LIMIT, ReadText, is_pair, put, put_labelled, put_letter,
-    read_blocks,
+    BlockKind, Flaw, NUMBER_LIMIT, ReadText, is_pair, put, put_labelled, put_letter, read_blocks,
 };
+use lists::Stop;
 use quiver::Quiver;
 use std::alloc::{AllocError, Global};
 use word_core::Letter;
@@ -72,7 +72,7 @@ impl<'q> BlockKind for Shifts<'q> {
         alloc: Global,
         place: Self::Begun,
         line: &[u8],
-    ) -> Result<Self::Begun, LineFault> {
+    ) -> Result<Self::Begun, Stop<Flaw>> {
         lines(self.quiver).next(alloc, place, line)
     }
 

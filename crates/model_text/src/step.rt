@@ -3,7 +3,7 @@
 ghost use Rattle.std.specs.Prelude.{◌≡◌, [], IfOk, IsTrue};
 ghost use Rattle.std.specs.List.{list_any};
 ghost use Rattle.std.specs.Str.{bytes_eq};
-ghost use Rattle.block_text.specs.Fault.{Reads};
+ghost use Rattle.lists.specs.Stop.{Gives};
 ghost use Rattle.block_text.specs.Tokens.{tokens_of};
 ghost use Rattle.matrix_models.specs.Matrix.{IsModulus};
 ghost use Rattle.model_text.specs.ModelBlocks.{is_entry};
@@ -15,8 +15,8 @@ use crate::entry::{EntryTokens, entry_tokens, is_modulus};
 use crate::finish::model_of;
 use crate::place::{Begun, Stage};
 use crate::value::{entry_value, name_text};
-use block_text::{BlockKind, Flaw, LineFault, claim_of, is, is_pair, number_within, two_tokens};
-use lists::{Listing, Text};
+use block_text::{BlockKind, Flaw, claim_of, is, is_pair, number_within, two_tokens};
+use lists::{Listing, Stop, Text};
 use matrix_models::{MODULUS_LIMIT, Model};
 use quiver::Quiver;
 use std::alloc::{AllocError, Global};
@@ -69,15 +69,15 @@ fn grown(
     quiver: &Quiver,
     mut begun: Begun,
     entry: &EntryTokens<'_>,
-) -> Result<Begun, LineFault>
+) -> Result<Begun, Stop<Flaw>>
     requires modulus { IsModulus begun.modulus }
     requires entry { IsTrue (is_entry (tokens_in entry.now)) }
-    ensures exact { Reads (λ b. b) result (grown quiver.now begun (tokens_in entry.now)) }
+    ensures exact { Gives (λ b. b) result (grown quiver.now begun (tokens_in entry.now)) }
     ensures modulus { IfOk result (λ b. b.modulus ≡ begun.modulus) }
 {
     let name = name_text(entry.name());
     if is_known(begun.names.as_slice(), name) {
-        return Err(LineFault::Flaw(Flaw::BadLine));
+        return Err(Stop::Fault(Flaw::BadLine));
     }
     let value = entry_value(alloc, quiver, begun.modulus, entry)?;
     begun.names.push(Text::from_str(alloc, name)?)?;
@@ -86,13 +86,13 @@ fn grown(
 }
 
 // A line `side` or `map`.
-fn inside(alloc: Global, quiver: &Quiver, begun: Begun, line: &[u8]) -> Result<Stage, LineFault>
+fn inside(alloc: Global, quiver: &Quiver, begun: Begun, line: &[u8]) -> Result<Stage, Stop<Flaw>>
     requires { IsModulus begun.modulus }
-    ensures exact { Reads (λ s. s) result (inside quiver.now begun (tokens_of line.now)) }
+    ensures exact { Gives (λ s. s) result (inside quiver.now begun (tokens_of line.now)) }
     ensures modulus { IfOk result HasModulus }
 {
     let Some(entry) = entry_tokens(line) else {
-        return Err(LineFault::Flaw(Flaw::BadLine));
+        return Err(Stop::Fault(Flaw::BadLine));
     };
     let begun = grown(alloc, quiver, begun, &entry)?;
     Ok(Stage::Inside { begun })
@@ -115,7 +115,7 @@ impl<'q> BlockKind for Models<'q> {
         is_pair("model", "1", line).then_some(Stage::Headed)
     }
 
-    fn next(&self, alloc: Global, stage: Stage, line: &[u8]) -> Result<Stage, LineFault> {
+    fn next(&self, alloc: Global, stage: Stage, line: &[u8]) -> Result<Stage, Stop<Flaw>> {
         match stage {
             Stage::Headed => {
                 let claim = claim_of(line)?;

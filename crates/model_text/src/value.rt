@@ -3,7 +3,8 @@
 ghost use Rattle.std.specs.Prelude.{◌≡◌, ◌<◌, ◌≤◌, ◌*◌, ◌∷◌, length, IsTrue};
 ghost use Rattle.std.specs.List.{All, flat_map, list_all};
 ghost use Rattle.matrix_models.specs.Matrix.{IsModulus};
-ghost use Rattle.block_text.specs.Fault.{Reads, asked};
+ghost use Rattle.lists.specs.Stop.{Gives};
+ghost use Rattle.block_text.specs.Fault.{asked};
 ghost use Rattle.block_text.specs.Letters.{is_name, is_number};
 ghost use Rattle.block_text.specs.Tokens.{tokens_of};
 ghost use Rattle.block_text.specs.declared.fault.Flaw.TheVariants as flaw;
@@ -13,7 +14,8 @@ ghost use Rattle.model_text.specs.Views.{line_in, tokens_in};
 
 use crate::entry::{EntryTokens, first_row, row_length};
 use crate::place::Entry;
-use block_text::{Flaw, LineFault, first_token, name_in, number_within};
+use block_text::{Flaw, first_token, name_in, number_within};
+use lists::Stop;
 use matrix_models::{Matrix, MatrixFault, SIDE_LIMIT};
 use quiver::{Named, Quiver};
 use std::alloc::Global;
@@ -30,16 +32,16 @@ pub fn name_text(token: &[u8]) -> &str
 }
 
 // The values, and after them those of the numbers of a row, each below the modulus.
-fn with_row(mut values: Vec<u32>, modulus: u32, row: &[u8]) -> Result<Vec<u32>, LineFault>
+fn with_row(mut values: Vec<u32>, modulus: u32, row: &[u8]) -> Result<Vec<u32>, Stop<Flaw>>
     requires modulus { 1 ≤ modulus }
     requires numbers { IsTrue (list_all is_number (tokens_of row.now)) }
-    ensures { Reads (λ more. more.items) result (asked flaw.NumberTooLarge (after values.items (values_below modulus (tokens_of row.now)))) }
+    ensures { Gives (λ more. more.items) result (asked flaw.NumberTooLarge (after values.items (values_below modulus (tokens_of row.now)))) }
 {
     let mut rest = row;
     while let Some((number, behind)) = first_token(rest) {
         match number_within(u128::from(modulus - 1), number) {
             Some(value) => values.push(value as u32)?,
-            None => return Err(LineFault::Flaw(Flaw::NumberTooLarge)),
+            None => return Err(Stop::Fault(Flaw::NumberTooLarge)),
         }
         rest = behind;
     }
@@ -52,10 +54,10 @@ fn with_rows(
     modulus: u32,
     first: &[u8],
     rest: Option<&[u8]>,
-) -> Result<Vec<u32>, LineFault>
+) -> Result<Vec<u32>, Stop<Flaw>>
     requires modulus { 1 ≤ modulus }
     requires numbers { IsTrue (list_all (list_all is_number) (tokens_of first.now ∷ rows_behind (line_in rest))) }
-    ensures { Reads (λ more. more.items) result
+    ensures { Gives (λ more. more.items) result
         (asked flaw.NumberTooLarge (values_in modulus values.items (tokens_of first.now ∷ rows_behind (line_in rest.entry)))) }
 {
     let mut more = with_row(values, modulus, first)?;
@@ -74,10 +76,10 @@ fn values_of(
     modulus: u32,
     first: &[u8],
     rest: Option<&[u8]>,
-) -> Result<Vec<u32>, LineFault>
+) -> Result<Vec<u32>, Stop<Flaw>>
     requires modulus { 1 ≤ modulus }
     requires rows { AreRows (tokens_of first.now) (rows_behind (line_in rest)) }
-    ensures { Reads (λ values. values.items) result
+    ensures { Gives (λ values. values.items) result
         (asked flaw.NumberTooLarge (values_below modulus (flat_map (λ row. row) (tokens_of first.now ∷ rows_behind (line_in rest.entry))))) }
 {
     with_rows(Vec::new(alloc), modulus, first, rest)
@@ -104,20 +106,20 @@ fn matrix_made(
     rows: usize,
     columns: usize,
     entries: &[u32],
-) -> Result<Matrix, LineFault>
+) -> Result<Matrix, Stop<Flaw>>
     requires modulus { IsModulus modulus }
     requires rows { 1 ≤ rows }
     requires columns { 1 ≤ columns }
     requires count { length entries.now ≡ rows * columns }
     requires below { All (λ entry. entry < modulus) entries.now }
-    ensures { Reads (λ x. x) result (matrix_made modulus rows columns entries.now) }
+    ensures { Gives (λ x. x) result (matrix_made modulus rows columns entries.now) }
 {
     if rows > SIDE_LIMIT as usize || columns > SIDE_LIMIT as usize {
-        return Err(LineFault::Flaw(Flaw::TooMany(SIDE_LIMIT)));
+        return Err(Stop::Fault(Flaw::TooMany(SIDE_LIMIT)));
     }
     match Matrix::new(alloc, modulus, rows as u32, columns as u32, entries) {
         Ok(matrix) => Ok(matrix),
-        Err(MatrixFault::Memory(failed)) => Err(LineFault::Memory(failed)),
+        Err(MatrixFault::Memory(failed)) => Err(Stop::Memory(failed)),
         Err(MatrixFault::BadShape) => unreachable!(),
         Err(MatrixFault::EntryTooLarge { .. }) => unreachable!(),
     }
@@ -145,13 +147,13 @@ fn map_value(
     modulus: u32,
     first: &[u8],
     rest: Option<&[u8]>,
-) -> Result<Entry, LineFault>
+) -> Result<Entry, Stop<Flaw>>
     requires modulus { IsModulus modulus }
     requires rows { AreRows (tokens_of first.now) (rows_behind (line_in rest)) }
-    ensures { Reads (λ entry. entry) result (map_value named modulus (tokens_of first.now) (rows_behind (line_in rest.entry))) }
+    ensures { Gives (λ entry. entry) result (map_value named modulus (tokens_of first.now) (rows_behind (line_in rest.entry))) }
 {
     let Some(Named::Map(letter)) = named else {
-        return Err(LineFault::Flaw(Flaw::UnknownName));
+        return Err(Stop::Fault(Flaw::UnknownName));
     };
     let values = values_of(alloc, modulus, first, rest)?;
     let rows = rows_left(rest) + 1;
@@ -165,10 +167,10 @@ pub fn entry_value(
     quiver: &Quiver,
     modulus: u32,
     entry: &EntryTokens<'_>,
-) -> Result<Entry, LineFault>
+) -> Result<Entry, Stop<Flaw>>
     requires modulus { IsModulus modulus }
     requires entry { IsTrue (is_entry (tokens_in entry.now)) }
-    ensures { Reads (λ value. value) result (entry_value quiver.now modulus (tokens_in entry.now)) }
+    ensures { Gives (λ value. value) result (entry_value quiver.now modulus (tokens_in entry.now)) }
 {
     match entry {
         EntryTokens::Side { name, number } => Ok(side_value(quiver.find(name_text(name)), number)?),

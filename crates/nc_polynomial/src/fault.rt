@@ -1,11 +1,11 @@
 //! What can go wrong in the arithmetic of polynomials.
 ghost use Rattle.std.specs.Prelude.{◌≡◌};
 ghost use Rattle.nc_polynomial.specs.Faults.{IsMemory};
-ghost use Rattle.nc_polynomial.specs.Stops.{IsShort, IsSameFault};
+ghost use Rattle.nc_polynomial.specs.Stops.{IsSameFault};
 ghost use Rattle.nc_polynomial.specs.declared.fault.PolyFault.TheVariants as fault;
-ghost use Rattle.nc_polynomial.specs.declared.fault.SumFault.TheVariants as stop;
 
 use coef_int::Overflow;
+use lists::Stop;
 use std::alloc::{AllocError, AllocFailed};
 use thiserror::Error;
 
@@ -63,46 +63,13 @@ impl From<SizeFault> for PolyFault {
     }
 }
 
-/// What stops terms from being added one by one.
-#[derive(Drop)]
-pub enum SumFault {
-    /// The first sum that is no coefficient.
-    Overflow(Overflow),
-    /// Memory is short.
-    Memory(AllocError),
-}
+impl From<Stop<Overflow>> for PolyFault {
+    ghost from_gives = { λ stopped e. IsSameFault stopped e };
 
-impl<T: Drop> From<AllocFailed<T>> for SumFault {
-    ghost from_gives = { λ _ e. IsShort e };
-
-    fn from(_failed: AllocFailed<T>) -> SumFault {
-        SumFault::Memory(AllocError)
-    }
-}
-
-impl From<AllocError> for SumFault {
-    ghost from_gives = { λ _ e. IsShort e };
-
-    fn from(failed: AllocError) -> SumFault {
-        SumFault::Memory(failed)
-    }
-}
-
-impl From<Overflow> for SumFault {
-    ghost from_gives = { λ overflow e. e ≡ stop.Overflow overflow };
-
-    fn from(overflow: Overflow) -> SumFault {
-        SumFault::Overflow(overflow)
-    }
-}
-
-impl From<SumFault> for PolyFault {
-    ghost from_gives = { λ fault e. IsSameFault fault e };
-
-    fn from(fault: SumFault) -> PolyFault {
-        match fault {
-            SumFault::Overflow(overflow) => PolyFault::Overflow(overflow),
-            SumFault::Memory(failed) => PolyFault::Memory(failed),
+    fn from(stopped: Stop<Overflow>) -> PolyFault {
+        match stopped {
+            Stop::Fault(overflow) => PolyFault::Overflow(overflow),
+            Stop::Memory(failed) => PolyFault::Memory(failed),
         }
     }
 }

@@ -16,7 +16,7 @@ mod size;
 pub mod table;
 mod terms;
 
-pub use fault::{PolyFault, SizeFault, SumFault};
+pub use fault::{PolyFault, SizeFault};
 pub use laws::canonical_is_unique;
 pub use poly::Poly;
 pub use running::RunningSum;

@@ -16,8 +16,9 @@ ghost use Rattle.nc_polynomial.specs.Terms.{added, sums};
 
 use crate::push::push_nonzero;
 use crate::size::TERM_LIMIT;
-use crate::{PolyFault, SizeFault, SumFault};
-use lists::Listing;
+use crate::{PolyFault, SizeFault};
+use coef_int::Overflow;
+use lists::{Listing, Stop};
 use std::alloc::{AllocError, Global};
 use std::collections::BTreeMap;
 use std::collections::btree_map::Entry;
@@ -28,7 +29,7 @@ pub fn add_term(
     table: &mut BTreeMap<Word, i128>,
     coefficient: i128,
     word: Word,
-) -> Result<(), SumFault>
+) -> Result<(), Stop<Overflow>>
     requires running { IsRunning table.old }
     requires ordered { IsOrdered word_cmp table.old }
     requires coefficient_in { IsCoefficient coefficient }
@@ -46,7 +47,7 @@ pub fn add_term(
             entry.insert(coefficient);
         }
         Entry::Occupied(mut entry) => {
-            let total = coef_int::plus(*entry.get(), coefficient)?;
+            let total = coef_int::plus(*entry.get(), coefficient).map_err(Stop::Fault)?;
             if total == 0 {
                 entry.remove();
             } else {

@@ -17,9 +17,9 @@ ghost use Rattle.command_shape.specs.Stop.{EndsAs};
 use adjoint_rules::Problem;
 use claim_decider::{Outcome, decide_all};
 use cofactor_trace::{Format, Halt};
-use command_shape::{DEFAULT_PAIRS, DEFAULT_SEED, DEFAULT_STEPS, Ending, ProveCall, Stop};
+use command_shape::{DEFAULT_PAIRS, DEFAULT_SEED, DEFAULT_STEPS, Ending, ProveCall};
 use in_order_parallel::{Crew, Gate};
-use lists::Listing;
+use lists::{Listing, Stop};
 use model_search::{Found, search_each};
 use nc_polynomial::Poly;
 use quiver::Quiver;
@@ -225,7 +225,7 @@ pub fn report_claims<R: Threads + Sync, G: Gate + Sync>(
     problem: &Problem,
     asked: Asked,
     extent: Extent,
-) -> Result<Ending, Stop>
+) -> Result<Ending, Stop<Ending>>
     requires budget { IsBudget asked.budget }
     requires some_worker { 0 < crew.now.workers }
     requires few_workers { crew.now.workers ≤ worker_limit }

@@ -1,9 +1,9 @@
 -- The first fault of a declaration.
-use Rattle.std.specs.Prelude.{◌≡◌, ⊤, ℕ, ◌&&◌, Bool, not, nat_eq, nat_le, if◌then◌else◌, is_some, List, Option, None, Some}
+use Rattle.std.specs.Prelude.{◌≡◌, ℕ, ◌&&◌, Bool, not, nat_eq, nat_le, if◌then◌else◌, is_some, List, Option, None, Some}
+use Rattle.lists.specs.declared.stop.Stop.{Stop}
+use Rattle.lists.specs.declared.stop.Stop.TheVariants as stop
 use Rattle.quiver.specs.declared.fault.QuiverFault.{QuiverFault}
 use Rattle.quiver.specs.declared.fault.QuiverFault.TheVariants.{DoubleName, TooMany, NotSquare}
-use Rattle.quiver.specs.declared.fault.QuiverStop.{QuiverStop}
-use Rattle.quiver.specs.declared.fault.QuiverStop.TheVariants as stop
 use Rattle.quiver.specs.Declarations.{Declaration, named_in, object_count, map_count}
 use Rattle.quiver.specs.Limits.{object_limit, map_limit}
 
@@ -26,10 +26,6 @@ map_fault ds name u v selfmade =
     else None
 
 -- The fault is the one that is found; want of memory only where there is none.
-abbrev pub Explains : Option QuiverFault → QuiverStop → Type 0
+abbrev pub Explains : Option QuiverFault → Stop QuiverFault → Type 0
 Explains found (stop.Fault fault) = found ≡ Some fault
 Explains found (stop.Memory e) = found ≡ None
-
-abbrev pub IsMemory : QuiverStop → Type 0
-IsMemory (stop.Fault fault) = ⊥
-IsMemory (stop.Memory e) = ⊤

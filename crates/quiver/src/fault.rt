@@ -1,10 +1,9 @@
 //! What can be wrong with a declaration of an object or a map.
 
 ghost use Rattle.std.specs.Prelude.{◌≡◌};
-ghost use Rattle.quiver.specs.Refusals.{IsMemory};
-ghost use Rattle.quiver.specs.declared.fault.QuiverStop.TheVariants as stop;
+ghost use Rattle.lists.specs.declared.stop.Stop.TheVariants as stop;
 
-use std::alloc::{AllocError, AllocFailed};
+use lists::Stop;
 use thiserror::Error;
 
 /// The fault of a declaration.
@@ -21,37 +20,10 @@ pub enum QuiverFault {
     NotSquare,
 }
 
-/// Why nothing is declared: the fault of the declaration, or want of memory.
-#[derive(Debug, Drop, Error)]
-pub enum QuiverStop {
-    /// The declaration has a fault.
-    #[error(transparent)]
-    Fault(QuiverFault),
-    /// Memory is short.
-    #[error(transparent)]
-    Memory(AllocError),
-}
-
-impl From<QuiverFault> for QuiverStop {
+impl From<QuiverFault> for Stop<QuiverFault> {
     ghost from_gives = { λ fault stopped. stopped ≡ stop.Fault fault };
 
-    fn from(fault: QuiverFault) -> QuiverStop {
-        QuiverStop::Fault(fault)
-    }
-}
-
-impl From<AllocError> for QuiverStop {
-    ghost from_gives = { λ _ stopped. IsMemory stopped };
-
-    fn from(error: AllocError) -> QuiverStop {
-        QuiverStop::Memory(error)
-    }
-}
-
-impl<T: Drop> From<AllocFailed<T>> for QuiverStop {
-    ghost from_gives = { λ _ stopped. IsMemory stopped };
-
-    fn from(_error: AllocFailed<T>) -> QuiverStop {
-        QuiverStop::Memory(AllocError)
+    fn from(fault: QuiverFault) -> Stop<QuiverFault> {
+        Stop::Fault(fault)
     }
 }

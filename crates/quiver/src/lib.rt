@@ -6,6 +6,6 @@ mod named;
 mod quiver;
 mod signatures;
 
-pub use fault::{QuiverFault, QuiverStop};
+pub use fault::QuiverFault;
 pub use named::{Named, Sig};
 pub use quiver::{MAP_LIMIT, OBJECT_LIMIT, Quiver};

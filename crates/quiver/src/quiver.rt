@@ -8,8 +8,9 @@ ghost use Rattle.quiver.specs.Limits.{letter_limit};
 ghost use Rattle.quiver.specs.Tables.{object_entry, letter_entry, IsNameMore};
 ghost use Rattle.quiver.specs.Refusals.{object_fault, map_fault, Explains};
 
-use crate::{Named, QuiverFault, QuiverStop, Sig};
+use crate::{Named, QuiverFault, Sig};
 use indexmap::IndexMap;
+use lists::Stop;
 use std::alloc::{AllocError, Global};
 use std::marker::Model;
 use word_core::{Letter, Object};
@@ -73,7 +74,7 @@ impl Quiver {
     /// Declares an object and its identity, which take the next free numbers of an object and a letter.
     /// `DoubleName` exactly where the name is declared, or else `TooMany` exactly where there are `OBJECT_LIMIT` objects.
     /// After a refusal the quiver is unchanged.
-    pub fn add_object(&mut self, name: &str) -> Result<Object, QuiverStop>
+    pub fn add_object(&mut self, name: &str) -> Result<Object, Stop<QuiverFault>>
         ensures declared { OnOk result (self.new ≡ self.old ++ object name.now ∷ []) }
         ensures number { IfOk result (λ v. v.0 ≡ object_count self.old) }
         ensures fits { OnOk result (object_fault self.old name.now ≡ None) }
@@ -124,7 +125,7 @@ impl Quiver {
         source: Object,
         target: Object,
         selfmade: bool,
-    ) -> Result<Letter, QuiverStop>
+    ) -> Result<Letter, Stop<QuiverFault>>
         requires source_in { source.0 < object_count self.old }
         requires target_in { target.0 < object_count self.old }
         ensures declared { OnOk result (self.new ≡ self.old ++ arrow name.now source.0 target.0 selfmade ∷ []) }

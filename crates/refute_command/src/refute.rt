@@ -9,9 +9,9 @@ ghost use Rattle.refute_command.specs.Answers.{IsSearchedOn, AnswersSearch};
 ghost use Rattle.command_shape.specs.Stop.{EndsAs};
 
 use adjoint_rules::Problem;
-use command_shape::{Ending, Stop};
+use command_shape::Ending;
 use in_order_parallel::{Crew, Gate};
-use lists::Listing;
+use lists::{Listing, Stop};
 use model_candidates::all_candidates;
 use model_search::{Found, search_each};
 use report_text::{Verdict, report, status_of};
@@ -24,7 +24,7 @@ pub fn report_search<R: Threads + Sync, G: Gate + Sync>(
     alloc: Global,
     problem: &Problem,
     seed: u64,
-) -> Result<Ending, Stop>
+) -> Result<Ending, Stop<Ending>>
     requires some_worker { 0 < crew.now.workers }
     requires few_workers { crew.now.workers ≤ worker_limit }
     ensures { EndsAs (AnswersSearch seed problem.now) result }

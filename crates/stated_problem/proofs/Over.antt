@@ -1,7 +1,7 @@
 -- The ending of a statement may say less, and it is returned.
 use Rattle.std.proofs.Common.{◌≡◌, ℕ, List, Result, Err}
+use Rattle.lists.specs.declared.stop.Stop.{Stop}
 use Rattle.adjoint_rules.specs.declared.problem.Problem.{Problem}
-use Rattle.command_shape.specs.declared.stop.Stop.{Stop}
 use Rattle.command_shape.specs.Ending.{Ending}
 use Rattle.command_shape.specs.Stop.{StopsBy, EndsAs}
 use Rattle.command_shape.proofs.Stops.{stops_weaker, ends_weaker, ended_by}
@@ -17,13 +17,13 @@ pub over_statement : (bytes : List ℕ) (P Q : Problem → Ending → Type 0) (e
 over_statement bytes P Q ending weaker = over_stated bytes P Q ending (λ problem is. weaker problem)
 
 -- a statement that is refused ends the run
-pub refused_statement_ends : (bytes : List ℕ) (next : Problem → Ending → Type 0) (result : Result Ending Stop) (stop : Stop) → result ≡ Err stop → StopsBy (OverStatement bytes (λ _ _. ⊥)) stop
+pub refused_statement_ends : (bytes : List ℕ) (next : Problem → Ending → Type 0) (result : Result Ending (Stop Ending)) (stop : Stop Ending) → result ≡ Err stop → StopsBy (OverStatement bytes (λ _ _. ⊥)) stop
     → EndsAs (OverStatement bytes next) result
 refused_statement_ends bytes next result stop is stops =
     ended_by (OverStatement bytes next) result stop is
     (stops_weaker (OverStatement bytes (λ _ _. ⊥)) (OverStatement bytes next) (λ ending. over_statement bytes (λ _ _. ⊥) next ending (λ problem none. absurd none)) stop stops)
 
 -- over a statement that is read the run ends as over its problem
-pub stated_ends : (bytes : List ℕ) (next : Problem → Ending → Type 0) (problem : Problem) (result : Result Ending Stop) → IsStated bytes problem → EndsAs (next problem) result
+pub stated_ends : (bytes : List ℕ) (next : Problem → Ending → Type 0) (problem : Problem) (result : Result Ending (Stop Ending)) → IsStated bytes problem → EndsAs (next problem) result
     → EndsAs (OverStatement bytes next) result
 stated_ends bytes next problem result is ends = ends_weaker (next problem) (OverStatement bytes next) (λ ending. stated problem is) result ends

@@ -8,13 +8,14 @@ ghost use Rattle.stated_problem.specs.Stated.{IsStated};
 ghost use Rattle.command_shape.specs.Stop.{StopsBy};
 
 use adjoint_rules::Problem;
-use command_shape::{Stop, refused_statement};
+use command_shape::{Ending, refused_statement};
+use lists::Stop;
 use signature_typing::{TypeFault, elaborate};
 use statement_syntax::{SyntaxFault, Tree, read_tree};
 use std::alloc::Global;
 
 /// The problem of the statement, or the ending of its first fault.
-pub fn read_statement(alloc: Global, statement: &[u8]) -> Result<Problem, Stop>
+pub fn read_statement(alloc: Global, statement: &[u8]) -> Result<Problem, Stop<Ending>>
     requires { length statement.now ≤ statement_limit }
     ensures stated { IfOk result (IsStated statement.now) }
     ensures stopped { IfErr result (StopsBy (OverStatement statement.now (λ _ _. ⊥))) }
@@ -23,7 +24,7 @@ pub fn read_statement(alloc: Global, statement: &[u8]) -> Result<Problem, Stop>
     problem_of(alloc, &tree)
 }
 
-fn tree_of(alloc: Global, statement: &[u8]) -> Result<Tree, Stop>
+fn tree_of(alloc: Global, statement: &[u8]) -> Result<Tree, Stop<Ending>>
     requires { length statement.now ≤ statement_limit }
     ensures tree { IfOk result (λ tree. IsTreeOf statement.now tree.statements) }
     ensures stopped { IfErr result (StopsBy (OverStatement statement.now (λ _ _. ⊥))) }
@@ -32,13 +33,13 @@ fn tree_of(alloc: Global, statement: &[u8]) -> Result<Tree, Stop>
         Ok(tree) => Ok(tree),
         Err(SyntaxFault::Fault { code, line, column }) => {
             let ending = refused_statement(alloc, code, (line, column), 0, &None, &None)?;
-            Err(Stop::Ended(ending))
+            Err(Stop::Fault(ending))
         }
         Err(SyntaxFault::Memory(failed)) => Err(Stop::Memory(failed)),
     }
 }
 
-fn problem_of(alloc: Global, tree: &Tree) -> Result<Problem, Stop>
+fn problem_of(alloc: Global, tree: &Tree) -> Result<Problem, Stop<Ending>>
     ensures problem { IfOk result (IsProblemOf tree.now.statements) }
     ensures stopped { (bytes : List ℕ) → IsTreeOf bytes tree.now.statements → IfErr result (StopsBy (OverStatement bytes (λ _ _. ⊥))) }
 {
@@ -58,7 +59,7 @@ fn problem_of(alloc: Global, tree: &Tree) -> Result<Problem, Stop>
             drop(left);
             drop(right);
             let ending = told?;
-            Err(Stop::Ended(ending))
+            Err(Stop::Fault(ending))
         }
         Err(TypeFault::Memory(failed)) => Err(Stop::Memory(failed)),
     }

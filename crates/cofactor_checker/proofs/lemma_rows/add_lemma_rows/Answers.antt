@@ -47,17 +47,17 @@ returns-in_default-clause-refused c =
       | in-Lemma w ↦ let kind : IsLemma row.from = search rules in rw w.result-is (lacks_at here {kind = IsLemma} kind none)
     ]
 
-pub returns-in-Err-Overflow-clause-refused : goal.returns-in-Err-Overflow-clause-refused
-returns-in-Err-Overflow-clause-refused c =
-    let passed = goal.at.returns-in-Err-Overflow-clause-refused c in
+pub returns-in-Err-Fault-clause-refused : goal.returns-in-Err-Fault-clause-refused
+returns-in-Err-Fault-clause-refused c =
+    let passed = goal.at.returns-in-Err-Fault-clause-refused c in
     let gs = c.args.generators.now in
     let ls = c.args.lemmas.now in
     let row = c.row-item.result in
     let named = names passed.After-as_slice-terms in
     let is : to_z w128 (of_z w128 row.coef) ≡ row.coef = search rules in
-    let first : first_overflow (adding_operations (coefficient_at c.loop-row.sum) row.coef row.left (generator_at (all gs ls) (plain gs ls row).generator) row.right) ≡ Some c.in-Err-Overflow.overflow =
+    let first : first_overflow (adding_operations (coefficient_at c.loop-row.sum) row.coef row.left (generator_at (all gs ls) (plain gs ls row).generator) row.right) ≡ Some c.in-Err-Fault.overflow =
     rw (← is, ← named.terms_are) (search rules) in
-    subst (OverflowsAt (polynomials gs) (polynomials ls) c.args.before c.args.rows.now (c.loop-row.number + 1)) (sym c.in-Err-Overflow.overflow-is) (overflows_at (next passed.After-named) named.number first)
+    subst (OverflowsAt (polynomials gs) (polynomials ls) c.args.before c.args.rows.now (c.loop-row.number + 1)) (sym c.in-Err-Fault.overflow-is) (overflows_at (next passed.After-named) named.number first)
 
 pub returns-then-len-gt-SUM_LIMIT-clause-refused : goal.returns-then-len-gt-SUM_LIMIT-clause-refused
 returns-then-len-gt-SUM_LIMIT-clause-refused c =

@@ -41,16 +41,16 @@ returns-in_default-clause-refused c =
     lacks_generator (next (goal.at.returns-in_default-clause-refused c).After-numbered)
     (λ is_number. none (subst (λ k. IsNumberUpTo k row.generator) (length-polynomials c.args.generators.now) is_number))
 
-pub returns-in-Err-Overflow-clause-refused : goal.returns-in-Err-Overflow-clause-refused
-returns-in-Err-Overflow-clause-refused c =
-    let passed = goal.at.returns-in-Err-Overflow-clause-refused c in
+pub returns-in-Err-Fault-clause-refused : goal.returns-in-Err-Fault-clause-refused
+returns-in-Err-Fault-clause-refused c =
+    let passed = goal.at.returns-in-Err-Fault-clause-refused c in
     let names = generator passed.After-as_slice-terms in
     let row = c.row-item.result in
     let is : to_z w128 (of_z w128 row.coef) ≡ row.coef = search rules in
     let terms : c.as_slice-terms.result.now ≡ generator_at (polynomials c.args.generators.now) row.generator = search rules ∙ names.terms in
-    let first : first_overflow (adding_operations (coefficient_at c.loop-row.sum) row.coef row.left (generator_at (polynomials c.args.generators.now) row.generator) row.right) ≡ Some c.in-Err-Overflow.overflow =
+    let first : first_overflow (adding_operations (coefficient_at c.loop-row.sum) row.coef row.left (generator_at (polynomials c.args.generators.now) row.generator) row.right) ≡ Some c.in-Err-Fault.overflow =
     rw (← is, ← terms) (search rules) in
-    subst (Overflows (polynomials c.args.generators.now) (rows_of c.args.rows.now) (c.loop-row.number + 1)) (sym c.in-Err-Overflow.overflow-is) (overflows (next passed.After-numbered) names.number first)
+    subst (Overflows (polynomials c.args.generators.now) (rows_of c.args.rows.now) (c.loop-row.number + 1)) (sym c.in-Err-Fault.overflow-is) (overflows (next passed.After-numbered) names.number first)
 
 pub returns-then-len-gt-SUM_LIMIT-clause-refused : goal.returns-then-len-gt-SUM_LIMIT-clause-refused
 returns-then-len-gt-SUM_LIMIT-clause-refused c =

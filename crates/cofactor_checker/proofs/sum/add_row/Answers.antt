@@ -1,7 +1,8 @@
-use Rattle.std.proofs.Common.{rules, ◌≡◌, ◌+◌, ◌*ℤ◌, None, Some, Err, sym, ap, subst, ◌∙◌, to_z, of_z}
+use Rattle.std.proofs.Common.{rules, ◌≡◌, ◌+◌, ◌*ℤ◌, None, Err, sym, subst, ◌∙◌, to_z, of_z}
 use mir.Syntax.{w128}
 use Rattle.coef_int.specs.Range.{IsCoefficient}
 use Rattle.definitions.specs.Poly.{poly_multiple, poly_between}
+use Rattle.lists.specs.declared.stop.Stop.TheVariants as stop
 use Rattle.coef_int.specs.Operations.{product_of, first_overflow}
 use Rattle.nc_polynomial.proofs.Results.{err_whole}
 use Rattle.cofactor_checker.specs.Operations.{adding_operations}
@@ -30,9 +31,9 @@ returns-in_err-product-clause-exact c =
     let t = c.term-item.result in
     let fails : ¬ IsCoefficient (k *ℤ t.0) = search rules in
     let first = product_fails (next (goal.at.returns-in_err-product-clause-exact c).After-term-item) fails in
-    let told : c.in_err-product.field-0.0 ≡ product_of k t.0 = search rules in
+    let told : c.in_err-product.field-0.0 ≡ stop.Fault (product_of k t.0) = search rules in
     err_whole c.from_residual.result _
-    (λ e same. subst (IsStoppedBy (first_overflow (adding_operations (coefficient_at c.args.sum.now) k c.args.left.now c.args.terms.now c.args.right.now))) (sym same) (first ∙ ap Some (sym told)))
+    (λ e same. subst (IsStoppedBy (first_overflow (adding_operations (coefficient_at c.args.sum.now) k c.args.left.now c.args.terms.now c.args.right.now))) (sym (same ∙ told)) first)
     c.from_residual.ensures.1
 
 pub returns-in_err-add_term-clause-exact : goal.returns-in_err-add_term-clause-exact

@@ -1,13 +1,13 @@
 use Rattle.std.proofs.Common.{◌≡◌, Err, rules}
-use Rattle.command_shape.specs.declared.stop.Stop.TheVariants.{Ended}
+use Rattle.lists.specs.declared.stop.Stop.TheVariants.{Fault}
 use Rattle.command_shape.specs.Ending.{Ending}
 use Rattle.command_runs.specs.Files.{RoseAt}
 use Rattle.command_runs.specs.Ends.{MayEnd}
 use Rattle.command_shape.proofs.Stops.{ended_as}
 use Rattle.command_runs.proofs.whole_run.ending_of.Goals as goal
 
-pub returns-in-Err-Ended : goal.returns-in-Err-Ended
-returns-in-Err-Ended g c =
+pub returns-in-Err-Fault : goal.returns-in-Err-Fault
+returns-in-Err-Fault g c =
     let may : Ending → Type 0 = MayEnd c.args.words.now (g.L.Shelf.file c.args.shelf.now) (RoseAt (g.L.Shelf.faults c.args.shelf.now) (g.L.Shelf.faults c.answer_words.new.shelf)) in
-    let is : c.answer_words.result ≡ Err (Ended c.in-Err-Ended.ending) = search rules in
-    ended_as may c.answer_words.result c.in-Err-Ended.ending is c.answer_words.ensures
+    let is : c.answer_words.result ≡ Err (Fault c.in-Err-Fault.ending) = search rules in
+    ended_as may c.answer_words.result c.in-Err-Fault.ending is c.answer_words.ensures
