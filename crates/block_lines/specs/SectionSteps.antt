@@ -52,10 +52,10 @@ module _ {V W B : Type 0} where
       record { start = lines_place [] rest.start true; next = lines_next word limit read rest; finish = lines_finish rest }
 
 -- the reader of blocks that begin with two words
-abbrev pub block_steps : {B V W : Type 0} → List ℕ → List ℕ → List (List ℕ) → SectionSteps B V → (V → W) → Steps B W
-block_steps first second others section value = record {
+abbrev pub block_steps : {B V : Type 0} → List ℕ → List ℕ → List (List ℕ) → SectionSteps B V → Steps B V
+block_steps first second others section = record {
   others = others;
   begin = λ line. if is_pair first second line then Some section.start else None;
   next = section.next;
-  finish = λ b. option_map value (section.finish b);
+  finish = section.finish;
 }

@@ -39,9 +39,9 @@ module _ {Bound V W : Type 0} (line : LineKind Bound V) (rest : Section Bound W)
     Says = λ t v. AllZip line.Says t.0 v.0 × rest.Says t.1 v.1;
   }
 
--- Blocks that begin with two words and continue with these lines, whose values the function maps to those of the block.
-abbrev pub block_kind : {Bound V W : Type 0} → List ℕ → List ℕ → List (List ℕ) → List Bound → (Bound → Flaw) → Section Bound V → (V → W) → Kind W
-block_kind {Bound} {V} {W} first second others bounds flaw_of section value = record {
+-- Blocks that begin with two words and continue with these lines.
+abbrev pub block_kind : {Bound V : Type 0} → List ℕ → List ℕ → List (List ℕ) → List Bound → (Bound → Flaw) → Section Bound V → Kind V
+block_kind {Bound} first second others bounds flaw_of section = record {
   Tree = section.Tree;
   lines_of = λ t. (first ∷ second ∷ []) ∷ section.lines_of t;
   IsTree = section.IsTree;
@@ -50,5 +50,5 @@ block_kind {Bound} {V} {W} first second others bounds flaw_of section value = re
   bounds = bounds;
   flaw_of = flaw_of;
   Keeps = section.Keeps;
-  Says = λ t w. (v : V) × section.Says t v × (w ≡ value v);
+  Says = section.Says;
 }
