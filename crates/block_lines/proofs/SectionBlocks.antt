@@ -83,8 +83,8 @@ module _ {Bound : Type 0} (flaw_of : Bound → Flaw) (bounds : List Bound) where
     block_read told none_told words none =
         reader_by_head Blocks Reading IsOpen told none_told refl words first second steps.start (λ line. refl) none (record { behind = []; are = refl; is_open = lines.starts })
         goes (λ b front here. subst (Begins Blocks bounds) (sym here.are) (begins_headed bounds here.behind (lines.goes_on b here.behind here.is_open))) ends stops
-        (λ K t is keeps. rw (is_same first, is_same second, inside_read steps.start (section.lines_of t) (lines.unended t is)) (lines.reads K t is keeps))
-        lines.unique
+        (λ K t is keeps. rw (is_same first, is_same second, inside_read steps.start (section.lines_of t) (lines.fit.unended t is)) (lines.reads K t is keeps))
+        lines.fit.unique
 
 -- what is read of a text that is written
 pub record IsLineWritten {Bound V : Type 0} (line : LineKind Bound V) (text : List ℕ) (v : V) : Type 0 where

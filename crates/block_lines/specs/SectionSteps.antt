@@ -28,16 +28,20 @@ abbrev pub lines_place : {V B : Type 0} → List V → B → Bool → LinesPlace
 lines_place values rest more = record { values = values; rest = rest; more = more }
 
 module _ {V W B : Type 0} where
-  abbrev pub line_next : Reading V → SectionSteps B W → LinePlace V B → Line → Result (LinePlace V B) Flaw
-  line_next read rest at.Before line = read line >>= λ v. Ok (at.Behind v rest.start)
-  line_next read rest (at.Behind v r) line = rest.next r line >>= λ q. Ok (at.Behind v q)
+  -- a line, and others that hang on what it says
+  abbrev pub line_next : Reading V → (V → SectionSteps B W) → LinePlace V B → Line → Result (LinePlace V B) Flaw
+  line_next read rest at.Before line = read line >>= λ v. Ok (at.Behind v (rest v).start)
+  line_next read rest (at.Behind v r) line = (rest v).next r line >>= λ q. Ok (at.Behind v q)
 
-  abbrev pub line_finish : SectionSteps B W → LinePlace V B → Option (V × W)
+  abbrev pub line_finish : (V → SectionSteps B W) → LinePlace V B → Option (V × W)
   line_finish rest at.Before = None
-  line_finish rest (at.Behind v r) = option_map (λ w. (v, w)) (rest.finish r)
+  line_finish rest (at.Behind v r) = option_map (λ w. (v, w)) ((rest v).finish r)
+
+  abbrev pub line_steps_by : Reading V → (V → SectionSteps B W) → SectionSteps (LinePlace V B) (V × W)
+  line_steps_by read rest = record { start = at.Before; next = line_next read rest; finish = line_finish rest }
 
   abbrev pub line_steps : Reading V → SectionSteps B W → SectionSteps (LinePlace V B) (V × W)
-  line_steps read rest = record { start = at.Before; next = line_next read rest; finish = line_finish rest }
+  line_steps read rest = line_steps_by read (λ v. rest)
 
   abbrev pub lines_next : List ℕ → ℕ → Reading V → SectionSteps B W → LinesPlace V B → Line → Result (LinesPlace V B) Flaw
   lines_next word limit read rest p line =

@@ -18,20 +18,24 @@ pub record Section (Bound Value : Type 0) : Type 1 where
 abbrev pub no_lines : {Bound : Type 0} → Section Bound ⊤
 no_lines = record { Tree = ⊤; lines_of = λ t. []; IsTree = λ t. ⊤; Keeps = λ bound t. ⊤; Says = λ t v. ⊤ }
 
-module _ {Bound V W : Type 0} (line : LineKind Bound V) (rest : Section Bound W) where
-  -- a line, and others after it
-  abbrev pub line_then : Section Bound (V × W)
-  line_then = record {
-    Tree = line.Tokens × rest.Tree;
-    lines_of = λ t. line.line_of t.0 ∷ rest.lines_of t.1;
-    IsTree = λ t. line.IsLine t.0 × rest.IsTree t.1;
-    Keeps = λ bound t. line.Keeps bound t.0 × rest.Keeps bound t.1;
-    Says = λ t v. line.Says t.0 v.0 × rest.Says t.1 v.1;
+module _ {Bound V W : Type 0} (line : LineKind Bound V) where
+  -- a line, and others after it that hang on its tokens
+  abbrev pub line_by : {C : Type 0} → (line.Tokens → C) → (C → Section Bound W) → Section Bound (V × W)
+  line_by by rest = record {
+    Tree = (t : line.Tokens) × (rest (by t)).Tree;
+    lines_of = λ t. line.line_of t.0 ∷ (rest (by t.0)).lines_of t.1;
+    IsTree = λ t. line.IsLine t.0 × (rest (by t.0)).IsTree t.1;
+    Keeps = λ bound t. line.Keeps bound t.0 × (rest (by t.0)).Keeps bound t.1;
+    Says = λ t v. line.Says t.0 v.0 × (rest (by t.0)).Says t.1 v.1;
   }
 
+  -- a line, and others after it
+  abbrev pub line_then : Section Bound W → Section Bound (V × W)
+  line_then rest = line_by (λ t. tt) (λ (c : ⊤). rest)
+
   -- lines of the kind, at most so many by this bound, and others after them
-  abbrev pub lines_then : Bound → ℕ → Section Bound (List V × W)
-  lines_then count limit = record {
+  abbrev pub lines_then : Section Bound W → Bound → ℕ → Section Bound (List V × W)
+  lines_then rest count limit = record {
     Tree = List line.Tokens × rest.Tree;
     lines_of = λ t. map line.line_of t.0 ++ rest.lines_of t.1;
     IsTree = λ t. All line.IsLine t.0 × rest.IsTree t.1;
