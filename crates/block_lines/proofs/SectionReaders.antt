@@ -19,7 +19,7 @@ use Rattle.block_text.proofs.Meets.{Meets, reads, passes, then_meets, meets-weak
 use Rattle.block_text.proofs.Owed as owed
 use Rattle.block_text.proofs.Owed.{Begins, IsWhole, IsStopped, misfit, stopped_by}
 use Rattle.block_text.proofs.PolynomialBounds.{all_with}
-use Rattle.block_text.proofs.Results.{bind_ok, bind_err, by_test, else_ok, ok_has, option_map_some}
+use Rattle.block_text.proofs.Results.{bind_ok, bind_err, bind_assoc, by_test, else_ok, ok_has, option_map_some}
 use Rattle.block_text.proofs.SaidLines.{said_ok, said_err, said_meets}
 use Rattle.block_text.proofs.Standing.{everywhere}
 use Rattle.block_text.proofs.Zips.{AllZip-unique, zip_length, zip_push}
@@ -28,8 +28,8 @@ use Rattle.block_lines.specs.declared.section.LinePlace.TheVariants as at
 use Rattle.block_lines.specs.declared.section.LinesPlace.{LinesPlace}
 use Rattle.block_lines.specs.LineKinds.{LineKind, said_line}
 use Rattle.block_lines.specs.LineReadings.{Reading}
-use Rattle.block_lines.specs.Sections.{Section, no_lines, line_by, line_then, lines_then}
-use Rattle.block_lines.specs.SectionSteps.{SectionSteps, no_steps, grown, lines_place, line_next, line_steps_by, line_steps, lines_next, lines_steps}
+use Rattle.block_lines.specs.Sections.{Section, no_lines, line_by, line_then, lines_then, said_as}
+use Rattle.block_lines.specs.SectionSteps.{SectionSteps, no_steps, grown, lines_place, line_next, line_steps_by, line_steps, lines_next, lines_steps, steps_as}
 
 -- lines from a place on, to the end
 abbrev pub read_from : {B V : Type 0} → SectionSteps B V → B → List Line → Result V Flaw
@@ -521,3 +521,32 @@ module _ {Bound : Type 0} (flaw_of : Bound → Flaw) (bounds : List Bound) where
             meets-weaker (lines_meet K [] t.0 t.1 is.0 is.1 (λ b kept. (keeps b kept).0) (λ b kept. (keeps b kept).2) (λ kept. omega (arith, (keeps count kept).1 refl)))
             (λ v _ known. subst (λ u. AllZip line.Says t.0 u.0 × rest.Says t.1 u.1) (sym known.is) (known.each, known.says));
       }
+
+  -- the same lines, which together say another value
+  module _ {V W B : Type 0} {section : Section Bound V} {steps : SectionSteps B V} (lines : IsSectionReader section steps) (f : V → W) (Says : section.Tree → W → Type 0)
+      (unique : (t : section.Tree) (v w : W) → Says t v → Says t w → v ≡ w) (says : (t : section.Tree) (v : V) → section.IsTree t → section.Says t v → Says t (f v)) where
+    begins_as : (within : List Bound) (ls : List Line) → Begins (kind_by section) within ls → Begins (kind_by (said_as section Says)) within ls
+    begins_as within ls begins = record { tree = begins.tree; more = begins.more; are = begins.are; is_tree = begins.is_tree; keeps = begins.keeps }
+
+    stopped_as : (told : Flaw) (ls : List Line) → IsStopped (kind_by section) told ls → IsStopped (kind_by (said_as section Says)) told ls
+    stopped_as told ls (misfit bad) = misfit bad
+    stopped_as told ls (owed.passes bound is begins) = owed.passes bound is (begins_as (before flaw_of bounds bound) ls begins)
+
+    read_as : (b : B) (ls : List Line) → read_from (steps_as f steps) b ls ≡ (read_from steps b ls >>= λ v. Ok (f v))
+    read_as b [] = asked-map f (steps.finish b)
+    read_as b (l ∷ ls) = bind_assoc (steps.next b l) (λ c. read_from steps c ls) (λ v. Ok (f v)) (λ c. read_from (steps_as f steps) c ls) (λ c. read_as c ls)
+
+    pub said_as_read : IsSectionReader (said_as section Says) (steps_as f steps)
+    said_as_read = record {
+      fit = record { example = lines.fit.example; is_example = lines.fit.is_example; example_keeps = lines.fit.example_keeps; unended = lines.fit.unended; unique = unique };
+      IsOpen = lines.IsOpen;
+      starts = lines.starts;
+      goes = lines.goes;
+      goes_on = λ b front here. begins_as bounds front (lines.goes_on b front here);
+      ends = λ b front w here made.
+          option_map_some f (steps.finish b) w made (λ v v_is same.
+          let found = lines.ends b front v here v_is in
+          record { tree = found.tree; are = found.are; is_tree = found.is_tree; keeps = found.keeps; says = subst (Says found.tree) same (says found.tree v found.is_tree found.says) });
+      stops = λ b front l told here made. stopped_as told (front ++ l ∷ []) (lines.stops b front l told here made);
+      reads = λ K t is keeps. rw (read_as steps.start (section.lines_of t)) (then_meets (λ v. Ok (f v)) (lines.reads K t is keeps) (λ v _ known. reads (f v) refl (says t v is known)));
+    }

@@ -1,5 +1,5 @@
 -- Lines of a block one after another, and the blocks that begin with two words and continue with such lines.
-use Rattle.std.specs.Prelude.{◌≡◌, ◌≤◌, ⊤, ℕ, List, [], ◌∷◌, ◌++◌, length, map}
+use Rattle.std.specs.Prelude.{◌≡◌, ◌≢◌, ◌≤◌, AllPairs, ⊤, ℕ, List, [], ◌∷◌, ◌++◌, length, map}
 use Rattle.std.specs.List.{All, AllZip}
 use Rattle.block_text.specs.declared.fault.Flaw.{Flaw}
 use Rattle.block_text.specs.Lines.{Line}
@@ -42,6 +42,20 @@ module _ {Bound V W : Type 0} (line : LineKind Bound V) where
     Keeps = λ bound t. All (line.Keeps bound) t.0 × (bound ≡ count → length t.0 ≤ limit) × rest.Keeps bound t.1;
     Says = λ t v. AllZip line.Says t.0 v.0 × rest.Says t.1 v.1;
   }
+
+-- lines of the kind up to the end, no two of which have the same name
+abbrev pub named_lines : {Bound V : Type 0} (line : LineKind Bound V) → (line.Tokens → List ℕ) → Section Bound (List V)
+named_lines line name = record {
+  Tree = List line.Tokens;
+  lines_of = map line.line_of;
+  IsTree = λ ts. All line.IsLine ts × AllPairs (λ x y. x ≢ y) (map name ts);
+  Keeps = λ bound ts. All (line.Keeps bound) ts;
+  Says = AllZip line.Says;
+}
+
+-- the same lines, which together say this
+abbrev pub said_as : {Bound V W : Type 0} (section : Section Bound V) → (section.Tree → W → Type 0) → Section Bound W
+said_as section Says = record { Tree = section.Tree; lines_of = section.lines_of; IsTree = section.IsTree; Keeps = section.Keeps; Says = Says }
 
 -- Blocks that begin with two words and continue with these lines.
 abbrev pub block_kind : {Bound V : Type 0} → List ℕ → List ℕ → List (List ℕ) → List Bound → (Bound → Flaw) → Section Bound V → Kind V
