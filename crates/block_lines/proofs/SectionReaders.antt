@@ -91,6 +91,12 @@ module _ {Bound : Type 0} (flaw_of : Bound → Flaw) (bounds : List Bound) where
     Says = section.Says;
   }
 
+  -- lines that stop where fewer do
+  stopped_with : {V W : Type 0} (part : Section Bound V) (whole : Section Bound W) (f : Flaw) (few all : List Line) → ((within : List Bound) → Begins (kind_by part) within few → Begins (kind_by whole) within all)
+      → IsStopped (kind_by part) f few → IsStopped (kind_by whole) f all
+  stopped_with part whole f few all begin (misfit bad) = misfit bad
+  stopped_with part whole f few all begin (owed.passes bound told begins) = owed.passes bound told (begin (before flaw_of bounds bound) begins)
+
   module _ {V : Type 0} (line : LineKind Bound V) where
     -- the line is one within all bounds, and says the value
     pub record IsLineRead (l : Line) (v : V) : Type 0 where
@@ -266,12 +272,10 @@ module _ {Bound : Type 0} (flaw_of : Bound → Flaw) (bounds : List Bound) where
         (subst (λ x. Begins (kind_by Whole) (before flaw_of bounds passed.bound) (front ++ x ∷ [])) (sym passed.are) (begins_with (before flaw_of bounds passed.bound) front passed.tokens here passed.is passed.keeps))))
         (λ v v_is none. absurd (cc))
     line_stops (at.Behind v r) front l f here made =
-        bind_err ((steps v).next r l) _ f made (λ e. lifted ((More here.known).stops r here.behind l f here.is_open e)) (λ q q_is none. absurd (cc))
-      where
-        lifted : IsStopped (kind_by (Rest here.known.tokens)) f (here.behind ++ l ∷ []) → IsStopped (kind_by Whole) f (front ++ l ∷ [])
-        lifted (misfit bad) = misfit bad
-        lifted (owed.passes bound told begins) =
-            owed.passes bound told (subst (Begins (kind_by Whole) (before flaw_of bounds bound)) (sym (ap (λ ls. ls ++ l ∷ []) here.are)) (begins_behind (before flaw_of bounds bound) here.first v (here.behind ++ l ∷ []) here.known begins))
+        bind_err ((steps v).next r l) _ f made (λ e.
+        stopped_with (Rest here.known.tokens) Whole f (here.behind ++ l ∷ []) (front ++ l ∷ [])
+        (λ within begins. subst (Begins (kind_by Whole) within) (sym (ap (λ ls. ls ++ l ∷ []) here.are)) (begins_behind within here.first v (here.behind ++ l ∷ []) here.known begins))
+        ((More here.known).stops r here.behind l f here.is_open e)) (λ q q_is none. absurd (cc))
 
     behind_reads : (v : V) (r : B) (ls : List Line) → read_from (line_steps_by read steps) (at.Behind v r) ls ≡ (read_from (steps v) r ls >>= λ w. Ok (v, w))
     behind_reads v r [] = asked-map (λ w. (v, w)) ((steps v).finish r)
@@ -439,11 +443,6 @@ module _ {Bound : Type 0} (flaw_of : Bound → Flaw) (bounds : List Bound) where
             owed.passes count (is ∙ sym told)
             (begins_more (before flaw_of bounds count) l known.tokens first known.are known.is (everywhere (λ b. line.Keeps b known.tokens) known.keeps (before flaw_of bounds count)) (apart_before count))
 
-        lifted : (l : Line) (f : Flaw) → IsStopped (kind_by rest) f (here.behind ++ l ∷ []) → IsStopped (kind_by All_Lines) f (front ++ l ∷ [])
-        lifted l f (misfit bad) = misfit bad
-        lifted l f (owed.passes bound is begins) =
-            owed.passes bound is (subst (Begins (kind_by All_Lines) (before flaw_of bounds bound)) (sym (front_behind l)) (begins_lines (before flaw_of bounds bound) (here.behind ++ l ∷ []) begins))
-
         lines_stop : (l : Line) (f : Flaw) → lines_next word limit read steps p l ≡ Err f → IsStopped (kind_by All_Lines) f (front ++ l ∷ [])
         lines_stop l f made =
             by_test (p.more && begins word l) _ _ (Err f) made
@@ -452,7 +451,9 @@ module _ {Bound : Type 0} (flaw_of : Bound → Flaw) (bounds : List Bound) where
             bind_err (read l) _ f read_on (λ e. stopped_by (kind_by All_Lines) f (front ++ l ∷ []) (one.stops l f e) (passed_more l f first)) (λ v v_is grown_is.
             bind_err (grown limit p.values v) _ f grown_is (λ full.
             by_test (nat_le limit (length p.values)) _ _ (Err f) full (λ over e. too_many l v f first (one.is_read l v v_is) (cc)) (λ room e. absurd (cc))) (λ vs vs_is none. absurd (cc))))
-            (λ other read_on. bind_err (steps.next p.rest l) _ f read_on (λ e. lifted l f (more.stops p.rest here.behind l f here.is_open e)) (λ r r_is none. absurd (cc)))
+            (λ other read_on. bind_err (steps.next p.rest l) _ f read_on (λ e.
+            stopped_with rest All_Lines f (here.behind ++ l ∷ []) (front ++ l ∷ []) (λ within begins. subst (Begins (kind_by All_Lines) within) (sym (front_behind l)) (begins_lines within (here.behind ++ l ∷ []) begins))
+            (more.stops p.rest here.behind l f here.is_open e)) (λ r r_is none. absurd (cc)))
 
       lines_behind : (vs : List V) (r : B) (ls : List Line) → read_from Steps (lines_place vs r false) ls ≡ (read_from steps r ls >>= λ w. Ok (vs, w))
       lines_behind vs r [] = asked-map (λ w. (vs, w)) (steps.finish r)
@@ -528,10 +529,6 @@ module _ {Bound : Type 0} (flaw_of : Bound → Flaw) (bounds : List Bound) where
     begins_as : (within : List Bound) (ls : List Line) → Begins (kind_by section) within ls → Begins (kind_by (said_as section Says)) within ls
     begins_as within ls begins = record { tree = begins.tree; more = begins.more; are = begins.are; is_tree = begins.is_tree; keeps = begins.keeps }
 
-    stopped_as : (told : Flaw) (ls : List Line) → IsStopped (kind_by section) told ls → IsStopped (kind_by (said_as section Says)) told ls
-    stopped_as told ls (misfit bad) = misfit bad
-    stopped_as told ls (owed.passes bound is begins) = owed.passes bound is (begins_as (before flaw_of bounds bound) ls begins)
-
     read_as : (b : B) (ls : List Line) → read_from (steps_as f steps) b ls ≡ (read_from steps b ls >>= λ v. Ok (f v))
     read_as b [] = asked-map f (steps.finish b)
     read_as b (l ∷ ls) = bind_assoc (steps.next b l) (λ c. read_from steps c ls) (λ v. Ok (f v)) (λ c. read_from (steps_as f steps) c ls) (λ c. read_as c ls)
@@ -547,6 +544,6 @@ module _ {Bound : Type 0} (flaw_of : Bound → Flaw) (bounds : List Bound) where
           option_map_some f (steps.finish b) w made (λ v v_is same.
           let found = lines.ends b front v here v_is in
           record { tree = found.tree; are = found.are; is_tree = found.is_tree; keeps = found.keeps; says = subst (Says found.tree) same (says found.tree v found.is_tree found.says) });
-      stops = λ b front l told here made. stopped_as told (front ++ l ∷ []) (lines.stops b front l told here made);
+      stops = λ b front l told here made. stopped_with section (said_as section Says) told (front ++ l ∷ []) (front ++ l ∷ []) (λ within begins. begins_as within (front ++ l ∷ []) begins) (lines.stops b front l told here made);
       reads = λ K t is keeps. rw (read_as steps.start (section.lines_of t)) (then_meets (λ v. Ok (f v)) (lines.reads K t is keeps) (λ v _ known. reads (f v) refl (says t v is known)));
     }

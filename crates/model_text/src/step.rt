@@ -91,12 +91,7 @@ fn inside(
 }
 
 // A line after the claim.
-fn behind(
-    alloc: Global,
-    quiver: &Quiver,
-    place: Behind,
-    line: &[u8],
-) -> Result<Behind, LineFault>
+fn behind(alloc: Global, quiver: &Quiver, place: Behind, line: &[u8]) -> Result<Behind, LineFault>
     requires { HasModulus place }
     ensures exact { Reads (λ p. p) result ((modulus_steps quiver.now).next place (tokens_of line.now)) }
     ensures modulus { IfOk result HasModulus }
