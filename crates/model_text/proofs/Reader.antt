@@ -1,6 +1,5 @@
 -- A reader of models is a reader of blocks.
 use Rattle.std.proofs.Common.{arith, ◌≡◌, ◌≤◌, ◌&&◌, ◌∷◌, [], ℕ, List, Some, IsTrue, refl, sym, ap₂, ◌∙◌, subst, nat_le, codes}
-use Rattle.std.specs.List.{AllZip}
 use Rattle.std.proofs.lemmas.Bool.{and_parts}
 use Rattle.std.proofs.lemmas.Bool.Decides.{nat_tests}
 use Rattle.std.proofs.lemmas.Option.{cond_some}
@@ -18,8 +17,8 @@ use Rattle.block_lines.proofs.NamedLines.{IsJudged, AreTokens, named_fit, named_
 use Rattle.block_lines.proofs.SectionBlocks.{number_read, block_read}
 use Rattle.block_lines.proofs.SectionReaders.{IsLineReader, IsSectionReader, said_reader, line_read, line_read_by, said_as_read}
 use Rattle.matrix_models.specs.Limits.{modulus_limit}
-use Rattle.model_text.specs.ModelBlocks.{EntryTokens, modulus_line, name_of, is_modulus}
-use Rattle.model_text.specs.ModelBounds.{Bound, names, numbers, sizes, bounds, flaw_of, value_of, model_value, entry_kind}
+use Rattle.model_text.specs.ModelBlocks.{modulus_line, name_of, is_modulus}
+use Rattle.model_text.specs.ModelBounds.{Bound, names, numbers, bounds, flaw_of, value_of, model_value, entry_kind}
 use Rattle.model_text.specs.Models.{other_words, model_kind}
 use Rattle.model_text.specs.Reading.{entry_tokens, entry_value, model_of, modulus_digits, modulus_of, entry_steps, model_steps}
 use Rattle.model_text.proofs.EntryLines.{entry_is, entry_read, entry_goes_on}
