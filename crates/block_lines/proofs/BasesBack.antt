@@ -24,8 +24,7 @@ use Rattle.block_lines.specs.LineKinds.{numbers, polynomial_behind}
 use Rattle.block_lines.proofs.PolynomialReader.{line_keeps, kept_by}
 use Rattle.block_lines.proofs.SectionBlocks.{IsLineWritten, number_written, none_written, line_written, lines_written, block_written}
 use Rattle.adjoint_rules.specs.declared.basis.Basis.{Basis}
-use Rattle.block_lines.specs.declared.place.BasisTerms.{BasisTerms}
-use Rattle.block_lines.specs.BasisLines.{on_polynomial, rules, bounds, flaw_of, part, basis_lines, basis_of}
+use Rattle.block_lines.specs.BasisLines.{on_polynomial, rules, bounds, flaw_of, part, BasisTerms, basis_lines}
 use Rattle.block_lines.specs.Bases.{other_words, basis_kind, by_terms}
 use Rattle.adjoint_rules.specs.Limits.{rule_limit}
 use Rattle.block_lines.specs.Back.{HasLetters, IsWritableBasis, text_of, BasesAreReadBack, ArePartsReadBack}
@@ -70,7 +69,7 @@ module _ (ds : List Declaration) (declared : IsDeclared ds) (known : IsTrue (lis
       let rest = polynomial_written (codes "rest") (codes "rest ") refl refl (λ text. refl) (λ line. refl) b.rest (record { over = writable.over.rest; some = writable.rest }) in
       let each = all_with (IsPolyOver ds) HasLetters IsWritable (λ p over some. record { over = over; some = some }) b.rules writable.over.rules writable.rules in
       subst (λ text. IsWritten (basis_kind ds) text (by_terms b)) (end_is (codes "basis 1\nclaim " ++ decimal b.claim ++ codes "\n") (flat_map (rule_line ds) b.rules) (codes "rest ") (poly_text ds b.rest.terms))
-      (block_written (codes "basis") (codes "1") (codes "basis 1") other_words bounds flaw_of (basis_lines ds) basis_of refl refl refl refl
+      (block_written (codes "basis") (codes "1") (codes "basis 1") other_words bounds flaw_of (basis_lines ds) refl refl refl refl
       (line_written claim
       (lines_written rules rule_limit (rule_line ds) (λ (p : Poly). p.terms) IsWritable (polynomial_written (codes "rule") (codes "rule ") refl refl (λ text. refl) (λ line. refl)) b.rules each
       (omega (arith, writable.few, length-map b.rules (λ (p : Poly). p.terms))) (line_written rest none_written))))
@@ -99,7 +98,7 @@ module _ (ds : List Declaration) where
   line_by_terms p = codes "rule " ++ poly_text ds p ++ codes "\n"
 
   abbrev text_by_terms : BasisTerms → List ℕ
-  text_by_terms v = codes "basis 1\nclaim " ++ decimal v.claim ++ codes "\n" ++ flat_map line_by_terms v.rules ++ codes "rest " ++ poly_text ds v.rest ++ codes "\nend\n"
+  text_by_terms v = codes "basis 1\nclaim " ++ decimal v.0 ++ codes "\n" ++ flat_map line_by_terms v.1.0 ++ codes "rest " ++ poly_text ds v.1.1.0 ++ codes "\nend\n"
 
   rules_mapped : (ps : List Poly) → flat_map line_by_terms (map (λ p. p.terms) ps) ≡ flat_map (rule_line ds) ps
   rules_mapped [] = refl

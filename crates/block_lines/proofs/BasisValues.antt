@@ -1,5 +1,5 @@
 -- What holds of the bases that are read, and bases by their terms.
-use Rattle.std.proofs.Common.{◌≡◌, ◌≤◌, ◌∙◌, ℕ, List, [], ◌∷◌, arith, length, refl, sym, ap, ap₂, subst, map}
+use Rattle.std.proofs.Common.{◌≡◌, ◌≤◌, ℕ, List, [], ◌∷◌, arith, length, refl, ap, ap₂, subst, map}
 use Rattle.std.proofs.Props as std
 use Rattle.std.specs.List.{All, AllZip}
 use Rattle.std.proofs.lemmas.List.{length-map}
@@ -17,8 +17,7 @@ use Rattle.block_text.proofs.PolynomialLaws.{is_canonical, is_over}
 use Rattle.block_text.proofs.Zips.{zip_length}
 use Rattle.block_lines.specs.LineKinds.{PolynomialBound, names, writing, numbers, terms, words, KeepsPolynomial}
 use Rattle.adjoint_rules.specs.declared.basis.Basis.{Basis}
-use Rattle.block_lines.specs.declared.place.BasisTerms.{BasisTerms}
-use Rattle.block_lines.specs.BasisLines.{Bound, on_polynomial, rules}
+use Rattle.block_lines.specs.BasisLines.{Bound, on_polynomial, rules, BasisTerms}
 use Rattle.block_lines.specs.Bases.{basis_kind, by_terms, AreCanonical, IsBases}
 use Rattle.adjoint_rules.specs.Bases.{IsBasisOver}
 use Rattle.adjoint_rules.specs.Limits.{rule_limit}
@@ -46,9 +45,9 @@ module _ {A B : Type 0} (f : A → B) (once : (a b : A) → f a ≡ f b → a �
 
 pub same_basis : (a b : Basis) → by_terms a ≡ by_terms b → a ≡ b
 same_basis a b same =
-    let lists = same_lists (λ (p : Poly). p.terms) same_poly a.rules b.rules (ap (λ (v : BasisTerms). v.rules) same) in
-    let rest = same_poly a.rest b.rest (ap (λ (v : BasisTerms). v.rest) same) in
-    λ j. record { claim = (same j).claim; rules = lists j; rest = rest j }
+    let lists = same_lists (λ (p : Poly). p.terms) same_poly a.rules b.rules (ap (λ (v : BasisTerms). v.1.0) same) in
+    let rest = same_poly a.rest b.rest (ap (λ (v : BasisTerms). v.1.1.0) same) in
+    λ j. record { claim = (same j).0; rules = lists j; rest = rest j }
 
 -- the polynomials of lists of terms
 pub polynomials_with : (lists : List Terms) → All IsCanonical lists → (ps : List Poly) × (map (λ p. p.terms) ps ≡ lists)
@@ -59,8 +58,8 @@ polynomials_with (p ∷ lists) each =
 
 basis_with : (v : BasisTerms) → AreCanonical v → (b : Basis) × (by_terms b ≡ v)
 basis_with v are =
-    let found = polynomials_with v.rules are.rules in
-    (record { claim = v.claim; rules = found.0; rest = record { terms = v.rest; canonical = are.rest } }, λ j. record { claim = v.claim; rules = found.1 j; rest = v.rest })
+    let found = polynomials_with v.1.0 are.rules in
+    (record { claim = v.0; rules = found.0; rest = record { terms = v.1.1.0; canonical = are.rest } }, λ j. (v.0, (found.1 j, v.1.1)))
 
 pub bases_with : (vs : List BasisTerms) → All AreCanonical vs → (bases : List Basis) × (map by_terms bases ≡ vs)
 bases_with [] each = ([], refl)
@@ -91,18 +90,17 @@ module _ (ds : List Declaration) where
         All-cons P p ps (one_says t p (All-head IsPolynomialTokens t ts are) (λ bound. All-head (KeepsPolynomial ds bound) t ts (keep bound)) say.0)
         (all_say ts ps (All-tail IsPolynomialTokens t ts are) (λ bound. All-tail (KeepsPolynomial ds bound) t ts (keep bound)) say.1)
 
-    said : (b : Tree) (v : BasisTerms) → (basis_kind ds).IsTree b → ((bound : Bound) → (basis_kind ds).Keeps bound b) → (basis_kind ds).Says b v → All P v.rules × P v.rest
-    said b v is keeps says =
-        subst (λ (w : BasisTerms). All P w.rules × P w.rest) (sym says.2) (
-          all_say b.1.0 says.0.1.0 is.1.0 (λ bound. (keeps (on_polynomial bound)).1.0) says.1.1.0,
-          one_says b.1.1.0 says.0.1.1.0 is.1.1.0 (λ bound. (keeps (on_polynomial bound)).1.2.0) says.1.1.1.0,
-        )
+    said : (b : Tree) (v : BasisTerms) → (basis_kind ds).IsTree b → ((bound : Bound) → (basis_kind ds).Keeps bound b) → (basis_kind ds).Says b v → All P v.1.0 × P v.1.1.0
+    said b v is keeps says = (
+      all_say b.1.0 v.1.0 is.1.0 (λ bound. (keeps (on_polynomial bound)).1.0) says.1.0,
+      one_says b.1.1.0 v.1.1.0 is.1.1.0 (λ bound. (keeps (on_polynomial bound)).1.2.0) says.1.1.0,
+    )
 
   -- the letters of the polynomials are letters of the quiver, and there are not too many rules
   record AreOver (v : BasisTerms) : Type 0 where
-    rules : All (λ p. All (λ t. IsOver (letter_count ds) t.1) p) v.rules
-    rest : All (λ t. IsOver (letter_count ds) t.1) v.rest
-    few : length v.rules ≤ rule_limit
+    rules : All (λ p. All (λ t. IsOver (letter_count ds) t.1) p) v.1.0
+    rest : All (λ t. IsOver (letter_count ds) t.1) v.1.1.0
+    few : length v.1.0 ≤ rule_limit
 
   tree_canonical : (b : Tree) (v : BasisTerms) → (basis_kind ds).IsTree b → ((bound : Bound) → (basis_kind ds).Keeps bound b) → (basis_kind ds).Says b v → AreCanonical v
   tree_canonical b v is keeps says =
@@ -111,7 +109,7 @@ module _ (ds : List Declaration) where
   tree_over : (b : Tree) (v : BasisTerms) → (basis_kind ds).IsTree b → ((bound : Bound) → (basis_kind ds).Keeps bound b) → (basis_kind ds).Says b v → AreOver v
   tree_over b v is keeps says =
       let found = said (λ p. All (λ t. IsOver (letter_count ds) t.1) p) (λ t p spelled. is_over ds (polynomial_line t) p spelled) b v is keeps says in
-      let count : length v.rules ≡ length b.1.0 = ap (λ (w : BasisTerms). length w.rules) says.2 ∙ sym (zip_length (IsPolynomialOf ds) b.1.0 says.0.1.0 says.1.1.0) in
+      let count : length b.1.0 ≡ length v.1.0 = zip_length (IsPolynomialOf ds) b.1.0 v.1.0 says.1.0 in
       record { rules = found.0; rest = found.1; few = omega (arith, count, (keeps rules).1.1 refl) }
 
   unmapped : {A B : Type 0} (P : B → Type 0) (f : A → B) (xs : List A) → All P (map f xs) → All (λ x. P (f x)) xs

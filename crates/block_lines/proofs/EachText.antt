@@ -5,7 +5,7 @@ use Rattle.block_text.specs.Texts.{IsBlocks}
 use Rattle.block_text.specs.Laws.{EachIsRead, ValuesAreUnique, FaultIsUnique, ValuesHaveNoFault, AreTold}
 use Rattle.block_text.proofs.TextLaws.{are_told}
 use Rattle.adjoint_rules.specs.declared.basis.Basis.{Basis}
-use Rattle.block_lines.specs.declared.place.BasisTerms.{BasisTerms}
+use Rattle.block_lines.specs.BasisLines.{BasisTerms}
 use Rattle.block_lines.specs.Bases.{basis_kind, by_terms, IsBases, IsFirstFault}
 use Rattle.block_lines.specs.Reading.{basis_steps}
 use Rattle.quiver.specs.Declarations.{Declaration}

@@ -1,5 +1,5 @@
 -- The line of a letter after a word, or of the word alone, is read and read back.
-use Rattle.std.proofs.Common.{◌≡◌, ◌&&◌, ◌<◌, ◌++◌, ◌∷◌, [], ℕ, Bool, true, false, List, Option, Some, None, IfSome, IsTrue, refl, sym, ap, ap₂, ◌∙◌, subst, codes}
+use Rattle.std.proofs.Common.{◌≡◌, ◌&&◌, ◌<◌, ◌++◌, ◌∷◌, [], ℕ, true, false, List, Option, Some, None, IfSome, IsTrue, refl, sym, ap, ◌∙◌, subst, codes}
 use Rattle.std.specs.List.{list_all}
 use Rattle.std.proofs.lemmas.Bool.{and_parts}
 use Rattle.std.proofs.lemmas.List.{append-nil}
@@ -12,6 +12,7 @@ use Rattle.block_text.specs.Back.{is_named, is_inside}
 use Rattle.block_text.specs.Letters.{is_letter, letter_of}
 use Rattle.block_lines.specs.LineKinds.{letter_line, may_be_letter, letter_said, letter_behind}
 use Rattle.block_lines.specs.LineReadings.{letter_token, letter_read}
+use Rattle.block_lines.specs.Written.{letter_line_text}
 use Rattle.block_text.specs.Lines.{Line, is, is_end}
 use Rattle.block_text.specs.Tokens.{tokens_of, is_skipped}
 use Rattle.block_text.specs.Written.{letter_text}
@@ -59,20 +60,17 @@ letter_known ds (Some token) a read =
     (λ b found same. subst (λ c. IfSome c (λ d. d.0 < letter_count ds)) same (letter_in_range ds token b found))
 
 -- a line that is written, by the word
-module _ {Bound : Type 0} (bound : Bound) (ds : List Declaration) (word : List ℕ) (low : are_low word ≡ true) (inside : list_all is_inside word ≡ true) where
-  pub word_written : tokens_of word ≡ word ∷ [] → is_skipped (word ∷ []) ≡ false → IsLineWritten (letter_behind bound ds word) (word ++ codes "\n") None
-  word_written alone stands = record {
+module _ {Bound : Type 0} (bound : Bound) (ds : List Declaration) (word : List ℕ) (low : are_low word ≡ true) (inside : list_all is_inside word ≡ true) (alone : tokens_of word ≡ word ∷ [])
+    (split : (token : List ℕ) → tokens_of ((word ++ codes " ") ++ token) ≡ word ∷ tokens_of token) (stands : (line : Line) → is_skipped (word ∷ line) ≡ false) (declared : IsDeclared ds) (known : IsTrue (list_all is_named ds)) where
+  pub letter_line_written : (a : Option Letter) → IfSome a (λ b. b.0 < letter_count ds) → IsLineWritten (letter_behind bound ds word) (letter_line_text ds word a) a
+  letter_line_written None below = record {
     tokens = None;
-    text_is = text_of_tokens word (letter_line word None) (literal word low inside) alone stands;
+    text_is = text_of_tokens word (letter_line word None) (literal word low inside) alone (stands []);
     is = refl;
     keeps = λ b same. (None, refl);
     says = refl;
   }
-
-  -- and a letter after it
-  pub letter_behind_written : (a : Letter) → IsDeclared ds → IsTrue (list_all is_named ds) → a.0 < letter_count ds → ((token : List ℕ) → tokens_of ((word ++ codes " ") ++ token) ≡ word ∷ tokens_of token)
-      → ((token : List ℕ) → is_skipped (word ∷ token ∷ []) ≡ false) → IsLineWritten (letter_behind bound ds word) (((word ++ codes " ") ++ letter_text ds a.0) ++ codes "\n") (Some a)
-  letter_behind_written a declared known below split stands =
+  letter_line_written (Some a) below =
       let token = letter_text ds a.0 in
       let written = letter_written ds a.0 (letter_is_spelled ds a.0 declared known below) in
       let tokens : tokens_of ((word ++ codes " ") ++ token) ≡ letter_line word (Some token) =
@@ -81,7 +79,7 @@ module _ {Bound : Type 0} (bound : Bound) (ds : List Declaration) (word : List �
       record {
         tokens = Some token;
         text_is = text_of_tokens ((word ++ codes " ") ++ token) (letter_line word (Some token))
-            (line_text-append (word ++ codes " ") token (line_text-append word (codes " ") (literal word low inside) (literal (codes " ") refl refl)) written.text.line) tokens (stands token);
+            (line_text-append (word ++ codes " ") token (line_text-append word (codes " ") (literal word low inside) (literal (codes " ") refl refl)) written.text.line) tokens (stands (token ∷ []));
         is = written.letter;
         keeps = λ b same. (Some a, said);
         says = said;

@@ -1,5 +1,7 @@
 pub mod SectionReaders
 pub mod SectionBlocks
+mod Names
+pub mod NamedLines
 pub mod PolynomialReader
 pub mod LetterReader
 pub mod Reader

@@ -1,5 +1,5 @@
 -- The line of a polynomial after a word is read.
-use Rattle.std.proofs.Common.{arith, ◌≡◌, ◌⊎◌, ◌∷◌, [], ℕ, Bool, true, false, List, Option, Some, None, Result, Ok, Err, IfSome, refl, sym, ap, ap₂, ◌∙◌, subst, map, inl, inr, codes}
+use Rattle.std.proofs.Common.{arith, ◌≡◌, ◌⊎◌, ◌∷◌, [], ℕ, true, false, List, Option, Some, None, Result, Ok, Err, IfSome, refl, sym, ap, ap₂, ◌∙◌, subst, map, inl, inr, codes}
 use Rattle.std.specs.List.{All}
 use Rattle.std.proofs.lemmas.List.Elements.{All-nil, All-cons, All-map, All-push, All-weaker, All-replicate}
 use Rattle.definitions.specs.Poly.{Poly}

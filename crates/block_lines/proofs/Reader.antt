@@ -10,7 +10,7 @@ use Rattle.block_lines.specs.LineReadings.{polynomial_read}
 use Rattle.block_lines.proofs.PolynomialReader.{polynomial_reader}
 use Rattle.block_lines.proofs.SectionBlocks.{number_read, block_read}
 use Rattle.block_lines.proofs.SectionReaders.{IsLineReader, none_read, line_read, lines_read}
-use Rattle.block_lines.specs.BasisLines.{Bound, on_polynomial, rules, bounds, flaw_of, part, basis_of}
+use Rattle.block_lines.specs.BasisLines.{Bound, on_polynomial, rules, bounds, flaw_of, part}
 use Rattle.block_lines.specs.Bases.{other_words, basis_kind}
 use Rattle.adjoint_rules.specs.Limits.{rule_limit}
 use Rattle.block_lines.specs.Reading.{basis_steps}
@@ -49,7 +49,7 @@ module _ (ds : List Declaration) where
 
   pub reader : IsReader (basis_kind ds) (basis_steps ds)
   reader =
-      block_read flaw_of bounds (codes "basis") (codes "1") other_words basis_of
+      block_read flaw_of bounds (codes "basis") (codes "1") other_words
       (line_read flaw_of bounds (number_read flaw_of bounds (on_polynomial numbers) (codes "claim") number_limit refl)
       (lines_read flaw_of bounds rule_read (line_read flaw_of bounds rest_read (none_read flaw_of bounds)) (codes "rule") rule_limit rules refl last (λ t fit. refl) (λ t fit. refl)))
       told (refl, refl) refl refl

@@ -1,38 +1,33 @@
 -- A block by its lines is read and read back.
-use Rattle.std.proofs.Common.{arith, ◌≡◌, ◌≤◌, ◌<◌, ◌^◌, ◌++◌, ◌∷◌, [], ℕ, suc, Bool, true, false, List, Option, Some, None, Result, Ok, Err, refl, sym, ap, ap₂, ◌∙◌, subst, length, map, append_assoc, codes, IsTrue}
+use Rattle.std.proofs.Common.{arith, ◌≡◌, ◌≤◌, ◌<◌, ◌^◌, ◌++◌, ◌∷◌, [], ℕ, suc, true, false, List, Some, None, Ok, Err, refl, sym, ap, ◌∙◌, subst, length, map, append_assoc, codes, IsTrue}
 use Rattle.std.specs.Prelude.{decimal}
-use Rattle.std.specs.Bool.{⊤}
 use Rattle.std.specs.List.{All, AllZip, flat_map, list_all, list_any}
-use Rattle.std.specs.Option.{option_map}
-use Rattle.std.specs.Str.Parse.{digits_value}
 use Rattle.std.proofs.lemmas.List.Elements.{All-nil, All-cons, All-head, All-tail}
 use Rattle.block_text.specs.declared.fault.Flaw.{Flaw}
 use Rattle.block_text.specs.declared.fault.Flaw.TheVariants.{BadLine, NumberTooLarge, TooMany}
-use Rattle.block_text.specs.Fault.{◌>>=◌, asked}
 use Rattle.block_text.specs.Back.{is_inside}
 use Rattle.block_text.specs.Blocks.{is_other_head}
 use Rattle.block_text.specs.Kind.{Kind}
 use Rattle.block_text.specs.Letters.{is_number, number_within}
-use Rattle.block_text.specs.Lines.{Line, block_limit, is_end, is_pair, end_line, number_behind, number_of}
+use Rattle.block_text.specs.Lines.{Line, block_limit, is_end, end_line, number_behind, number_of}
 use Rattle.block_text.specs.Steps.{Steps}
 use Rattle.block_text.specs.Tokens.{tokens_of, is_skipped, begins_comment}
 use Rattle.block_text.proofs.Bounds.{bound_of, before}
 use Rattle.block_text.proofs.ContentBack.{IsTextOf, no_text, text-append, text_of_tokens}
 use Rattle.block_text.proofs.LineTrees.{number_is}
-use Rattle.block_text.proofs.Meets.{Meets, reads, then_meets}
 use Rattle.block_text.proofs.NumberLines.{text_of_number, end_is_text}
 use Rattle.block_text.proofs.NumbersBack.{decimal_text, decimal_number, decimal_within}
 use Rattle.block_text.proofs.Owed as owed
 use Rattle.block_text.proofs.Owed.{Begins, IsWhole, IsStopped, misfit, IsReader, reader_by_head, read_inside}
 use Rattle.block_text.proofs.PartsBack.{IsWritten}
 use Rattle.block_text.proofs.PolynomialBounds.{is_same}
-use Rattle.block_text.proofs.Results.{option_map_some}
+use Rattle.block_text.proofs.Results.{bind_same}
 use Rattle.block_text.proofs.SaidLines.{number_found}
 use Rattle.block_text.proofs.TextsBack.{literal, are_low}
 use Rattle.block_lines.specs.LineKinds.{LineKind, number_line}
 use Rattle.block_lines.specs.Sections.{Section, no_lines, line_then, lines_then, block_kind}
 use Rattle.block_lines.specs.SectionSteps.{SectionSteps, block_steps}
-use Rattle.block_lines.proofs.SectionReaders.{read_from, asked-map, kind_by, IsLineReader, IsSectionReader, said_reader}
+use Rattle.block_lines.proofs.SectionReaders.{read_from, kind_by, IsLineReader, IsSectionReader, said_reader}
 
 module _ {Bound : Type 0} (flaw_of : Bound → Flaw) (bounds : List Bound) where
   -- a word and a number
@@ -43,12 +38,12 @@ module _ {Bound : Type 0} (flaw_of : Bound → Flaw) (bounds : List Bound) where
       (number_is word) (λ digits number. rw (is_same word, number) refl) (λ digits number. refl) (codes "0") refl zero.0 zero.1
 
   -- a block
-  module _ {V W B : Type 0} (first second : List ℕ) (others : List (List ℕ)) {section : Section Bound V} {steps : SectionSteps B V} (value : V → W) (lines : IsSectionReader flaw_of bounds section steps) where
-    abbrev Blocks : Kind W
-    Blocks = block_kind first second others bounds flaw_of section value
+  module _ {V B : Type 0} (first second : List ℕ) (others : List (List ℕ)) {section : Section Bound V} {steps : SectionSteps B V} (lines : IsSectionReader flaw_of bounds section steps) where
+    abbrev Blocks : Kind V
+    Blocks = block_kind first second others bounds flaw_of section
 
-    abbrev Reading : Steps B W
-    Reading = block_steps first second others steps value
+    abbrev Reading : Steps B V
+    Reading = block_steps first second others steps
 
     abbrev head : Line
     head = first ∷ second ∷ []
@@ -64,11 +59,10 @@ module _ {Bound : Type 0} (flaw_of : Bound → Flaw) (bounds : List Bound) where
     goes : (b c : B) (front : List Line) (line : Line) → IsOpen b front → is_end line ≡ false → steps.next b line ≡ Ok c → IsOpen c (front ++ line ∷ [])
     goes b c front line here more read = record { behind = here.behind ++ line ∷ []; are = ap (λ ls. ls ++ line ∷ []) here.are; is_open = lines.goes b c here.behind line here.is_open read }
 
-    ends : (b : B) (front : List Line) (w : W) → IsOpen b front → Reading.finish b ≡ Some w → IsWhole Blocks front w
-    ends b front w here read =
-        option_map_some value (steps.finish b) w read (λ v v_is same.
-        let found = lines.ends b here.behind v here.is_open v_is in
-        record { tree = found.tree; are = here.are ∙ ap (λ ls. head ∷ ls) found.are; is_tree = found.is_tree; keeps = found.keeps; says = (v, found.says, sym same) })
+    ends : (b : B) (front : List Line) (v : V) → IsOpen b front → steps.finish b ≡ Some v → IsWhole Blocks front v
+    ends b front v here read =
+        let found = lines.ends b here.behind v here.is_open read in
+        record { tree = found.tree; are = here.are ∙ ap (λ ls. head ∷ ls) found.are; is_tree = found.is_tree; keeps = found.keeps; says = found.says }
 
     stops : (b : B) (front : List Line) (line : Line) (f : Flaw) → IsOpen b front → is_end line ≡ false → steps.next b line ≡ Err f → IsStopped Blocks f (front ++ line ∷ [])
     stops b front line f here more read = by_cases (lines.stops b here.behind line f here.is_open read)
@@ -79,23 +73,18 @@ module _ {Bound : Type 0} (flaw_of : Bound → Flaw) (bounds : List Bound) where
             owed.passes bound told (subst (Begins Blocks (before flaw_of bounds bound)) (sym (ap (λ ls. ls ++ line ∷ []) here.are)) (begins_headed (before flaw_of bounds bound) (here.behind ++ line ∷ []) begins))
 
     -- a block of lines of which none is `end`
-    inside_read : (b : B) (ls : List Line) → All (λ line. is_end line ≡ false) ls → read_inside Reading b ls ≡ (read_from steps b ls >>= λ v. Ok (value v))
-    inside_read b [] none = asked-map value (steps.finish b)
-    inside_read b (line ∷ ls) none = rw (All-head (λ l. is_end l ≡ false) line ls none) (by_next (steps.next b line) (λ c. inside_read c ls (All-tail (λ l. is_end l ≡ false) line ls none)))
-      where
-        by_next : (r : Result B Flaw) → ((c : B) → read_inside Reading c ls ≡ (read_from steps c ls >>= λ v. Ok (value v)))
-            → (r >>= λ c. read_inside Reading c ls) ≡ ((r >>= λ c. read_from steps c ls) >>= λ v. Ok (value v))
-        by_next (Ok c) rest = rest c
-        by_next (Err e) rest = refl
+    inside_read : (b : B) (ls : List Line) → All (λ line. is_end line ≡ false) ls → read_inside Reading b ls ≡ read_from steps b ls
+    inside_read b [] none = refl
+    inside_read b (line ∷ ls) none =
+        rw (All-head (λ l. is_end l ≡ false) line ls none) (bind_same (steps.next b line) _ _ (λ c. inside_read c ls (All-tail (λ l. is_end l ≡ false) line ls none)))
 
     pub block_read : ((bound : Bound) → bound_of flaw_of bounds (flaw_of bound) ≡ Some bound) → (bound_of flaw_of bounds BadLine ≡ None) × (bound_of flaw_of bounds (TooMany block_limit) ≡ None)
         → list_any begins_comment others ≡ false → is_other_head others head ≡ false → IsReader Blocks Reading
     block_read told none_told words none =
         reader_by_head Blocks Reading IsOpen told none_told refl words first second steps.start (λ line. refl) none (record { behind = []; are = refl; is_open = lines.starts })
         goes (λ b front here. subst (Begins Blocks bounds) (sym here.are) (begins_headed bounds here.behind (lines.goes_on b here.behind here.is_open))) ends stops
-        (λ K t is keeps. rw (is_same first, is_same second, inside_read steps.start (section.lines_of t) (lines.unended t is))
-        (then_meets (λ v. Ok (value v)) (lines.reads K t is keeps) (λ v _ says. reads (value v) refl (v, says, refl))))
-        (λ t v w one two. one.2 ∙ ap value (lines.unique t one.0 two.0 one.1 two.1) ∙ sym two.2)
+        (λ K t is keeps. rw (is_same first, is_same second, inside_read steps.start (section.lines_of t) (lines.fit.unended t is)) (lines.reads K t is keeps))
+        lines.fit.unique
 
 -- what is read of a text that is written
 pub record IsLineWritten {Bound V : Type 0} (line : LineKind Bound V) (text : List ℕ) (v : V) : Type 0 where
@@ -176,13 +165,13 @@ module _ {Bound V W : Type 0} {line : LineKind Bound V} {rest : Section Bound W}
         says = (all.say, more.says);
       }
 
-pub block_written : {Bound V W : Type 0} (first second front : List ℕ) (others : List (List ℕ)) (bounds : List Bound) (flaw_of : Bound → Flaw) (section : Section Bound V) (value : V → W) → are_low front ≡ true → list_all is_inside front ≡ true
+pub block_written : {Bound V : Type 0} (first second front : List ℕ) (others : List (List ℕ)) (bounds : List Bound) (flaw_of : Bound → Flaw) (section : Section Bound V) → are_low front ≡ true → list_all is_inside front ≡ true
     → tokens_of front ≡ first ∷ second ∷ [] → is_skipped (first ∷ second ∷ []) ≡ false → {text : List ℕ} {v : V} → AreLinesWritten section text v
-    → IsWritten (block_kind first second others bounds flaw_of section value) ((front ++ codes "\n") ++ text) (value v)
-block_written first second front others bounds flaw_of section value low inside split stands {v = v} lines = record {
+    → IsWritten (block_kind first second others bounds flaw_of section) ((front ++ codes "\n") ++ text) v
+block_written first second front others bounds flaw_of section low inside split stands lines = record {
   tree = lines.tree;
   text_is = text-append _ _ _ _ (text_of_tokens front (first ∷ second ∷ []) (literal front low inside) split stands) lines.text_is;
   is_tree = lines.is_tree;
   keeps = lines.keeps;
-  says = (v, lines.says, refl);
+  says = lines.says;
 }

@@ -19,7 +19,7 @@ use Rattle.block_text.proofs.Meets.{Meets, reads, passes, then_meets, meets-weak
 use Rattle.block_text.proofs.Owed as owed
 use Rattle.block_text.proofs.Owed.{Begins, IsWhole, IsStopped, misfit, stopped_by}
 use Rattle.block_text.proofs.PolynomialBounds.{all_with}
-use Rattle.block_text.proofs.Results.{bind_ok, bind_err, by_test, else_ok, ok_has, option_map_some}
+use Rattle.block_text.proofs.Results.{bind_ok, bind_err, bind_assoc, by_test, else_ok, ok_has, option_map_some}
 use Rattle.block_text.proofs.SaidLines.{said_ok, said_err, said_meets}
 use Rattle.block_text.proofs.Standing.{everywhere}
 use Rattle.block_text.proofs.Zips.{AllZip-unique, zip_length, zip_push}
@@ -28,8 +28,8 @@ use Rattle.block_lines.specs.declared.section.LinePlace.TheVariants as at
 use Rattle.block_lines.specs.declared.section.LinesPlace.{LinesPlace}
 use Rattle.block_lines.specs.LineKinds.{LineKind, said_line}
 use Rattle.block_lines.specs.LineReadings.{Reading}
-use Rattle.block_lines.specs.Sections.{Section, no_lines, line_then, lines_then}
-use Rattle.block_lines.specs.SectionSteps.{SectionSteps, no_steps, grown, lines_place, line_next, line_steps, lines_next, lines_steps}
+use Rattle.block_lines.specs.Sections.{Section, no_lines, line_by, line_then, lines_then, said_as}
+use Rattle.block_lines.specs.SectionSteps.{SectionSteps, no_steps, grown, lines_place, line_next, line_steps_by, line_steps, lines_next, lines_steps, steps_as}
 
 -- lines from a place on, to the end
 abbrev pub read_from : {B V : Type 0} → SectionSteps B V → B → List Line → Result V Flaw
@@ -91,6 +91,12 @@ module _ {Bound : Type 0} (flaw_of : Bound → Flaw) (bounds : List Bound) where
     Says = section.Says;
   }
 
+  -- lines that stop where fewer do
+  stopped_with : {V W : Type 0} (part : Section Bound V) (whole : Section Bound W) (f : Flaw) (few all : List Line) → ((within : List Bound) → Begins (kind_by part) within few → Begins (kind_by whole) within all)
+      → IsStopped (kind_by part) f few → IsStopped (kind_by whole) f all
+  stopped_with part whole f few all begin (misfit bad) = misfit bad
+  stopped_with part whole f few all begin (owed.passes bound told begins) = owed.passes bound told (begin (before flaw_of bounds bound) begins)
+
   module _ {V : Type 0} (line : LineKind Bound V) where
     -- the line is one within all bounds, and says the value
     pub record IsLineRead (l : Line) (v : V) : Type 0 where
@@ -120,12 +126,16 @@ module _ {Bound : Type 0} (flaw_of : Bound → Flaw) (bounds : List Bound) where
       pub stops : (l : Line) (f : Flaw) → read l ≡ Err f → (f ≡ BadLine) ⊎ IsLinePassed l f
       pub reads : (K : Bound → Type 0) (t : line.Tokens) → line.IsLine t → ((bound : Bound) → K bound → line.Keeps bound t) → Meets flaw_of K (line.Says t) (read (line.line_of t))
 
-  pub record IsSectionReader {V B : Type 0} (section : Section Bound V) (steps : SectionSteps B V) : Type 1 where
+  -- some lines are within all bounds, none is `end`, and they say one thing
+  pub record AreFit {V : Type 0} (section : Section Bound V) : Type 0 where
     pub example : section.Tree
     pub is_example : section.IsTree example
     pub example_keeps : (bound : Bound) → section.Keeps bound example
     pub unended : (t : section.Tree) → section.IsTree t → All (λ line. is_end line ≡ false) (section.lines_of t)
     pub unique : (t : section.Tree) (v w : V) → section.Says t v → section.Says t w → v ≡ w
+
+  pub record IsSectionReader {V B : Type 0} (section : Section Bound V) (steps : SectionSteps B V) : Type 1 where
+    pub fit : AreFit section
     -- the first lines, by what was made of them
     pub IsOpen : B → List Line → Type 0
     pub starts : IsOpen steps.start []
@@ -173,11 +183,7 @@ module _ {Bound : Type 0} (flaw_of : Bound → Flaw) (bounds : List Bound) where
   -- no more lines
   pub none_read : IsSectionReader (no_lines {Bound = Bound}) no_steps
   none_read = record {
-    example = tt;
-    is_example = tt;
-    example_keeps = λ bound. tt;
-    unended = λ t is. All-nil (λ line. is_end line ≡ false);
-    unique = λ t v w one two. refl;
+    fit = record { example = tt; is_example = tt; example_keeps = λ bound. tt; unended = λ t is. All-nil (λ line. is_end line ≡ false); unique = λ t v w one two. refl };
     IsOpen = λ b front. front ≡ [];
     starts = refl;
     goes = λ b c front line here read. absurd (cc);
@@ -187,113 +193,124 @@ module _ {Bound : Type 0} (flaw_of : Bound → Flaw) (bounds : List Bound) where
     reads = λ K t is keeps. reads tt refl tt;
   }
 
+  -- a line, and others after it
+  module _ {V W B C : Type 0} {line : LineKind Bound V} {read : Reading V} (rest : C → Section Bound W) (steps : V → SectionSteps B W) (one : IsLineReader line read) (by : line.Tokens → C)
+      (fit : (t : line.Tokens) → AreFit (rest (by t))) (more : (t : line.Tokens) → line.IsLine t → (v : V) → line.Says t v → IsSectionReader (rest (by t)) (steps v)) where
+    abbrev Whole : Section Bound (V × W)
+    Whole = line_by line by rest
+
+    abbrev Rest : line.Tokens → Section Bound W
+    Rest t = rest (by t)
+
+    abbrev More : {l : Line} {v : V} (known : IsLineRead line l v) → IsSectionReader (Rest known.tokens) (steps v)
+    More {v = v} known = more known.tokens known.is v known.says
+
+    record IsBehind (v : V) (r : B) (front : List Line) : Type 0 where
+      first : Line
+      known : IsLineRead line first v
+      behind : List Line
+      are : front ≡ first ∷ behind
+      is_open : (More known).IsOpen r behind
+
+    abbrev IsOpen : LinePlace V B → List Line → Type 0
+    IsOpen at.Before front = front ≡ []
+    IsOpen (at.Behind v r) front = IsBehind v r front
+
+    line_goes : (b c : LinePlace V B) (front : List Line) (l : Line) → IsOpen b front → line_next read steps b l ≡ Ok c → IsOpen c (front ++ l ∷ [])
+    line_goes at.Before c front l here made =
+        bind_ok (read l) _ c made (λ v v_is made_of.
+        ok_has (λ q. IsOpen q (front ++ l ∷ [])) (at.Behind v (steps v).start) c made_of
+        (let known = one.is_read l v v_is in record { first = l; known = known; behind = []; are = ap (λ ls. ls ++ l ∷ []) here; is_open = (More known).starts }))
+    line_goes (at.Behind v r) c front l here made =
+        bind_ok ((steps v).next r l) _ c made (λ q q_is made_of.
+        ok_has (λ p. IsOpen p (front ++ l ∷ [])) (at.Behind v q) c made_of
+        (record { first = here.first; known = here.known; behind = here.behind ++ l ∷ []; are = ap (λ ls. ls ++ l ∷ []) here.are; is_open = (More here.known).goes r q here.behind l here.is_open q_is }))
+
+    begins_behind : (within : List Bound) (l : Line) (v : V) (ls : List Line) (known : IsLineRead line l v) → Begins (kind_by (Rest known.tokens)) within ls → Begins (kind_by Whole) within (l ∷ ls)
+    begins_behind within l v ls known begins = record {
+      tree = (known.tokens, begins.tree);
+      more = begins.more;
+      are = ap₂ (λ x xs. x ∷ xs) (sym known.are) begins.are;
+      is_tree = (known.is, begins.is_tree);
+      keeps = All-weaker (λ b. (Rest known.tokens).Keeps b begins.tree) (λ b. line.Keeps b known.tokens × (Rest known.tokens).Keeps b begins.tree) (λ b kept. (known.keeps b, kept)) within begins.keeps;
+    }
+
+    -- a line, and some after it
+    begins_with : (within : List Bound) (front : List Line) (t : line.Tokens) → front ≡ [] → line.IsLine t → All (λ b. line.Keeps b t) within → Begins (kind_by Whole) within (front ++ line.line_of t ∷ [])
+    begins_with within front t here is keeps = record {
+      tree = (t, (fit t).example);
+      more = (Rest t).lines_of (fit t).example;
+      are = sym (ap (λ ls. (ls ++ line.line_of t ∷ []) ++ (Rest t).lines_of (fit t).example) here);
+      is_tree = (is, (fit t).is_example);
+      keeps = All-weaker (λ b. line.Keeps b t) (λ b. line.Keeps b t × (Rest t).Keeps b (fit t).example) (λ b kept. (kept, (fit t).example_keeps b)) within keeps;
+    }
+
+    line_goes_on : (b : LinePlace V B) (front : List Line) → IsOpen b front → Begins (kind_by Whole) bounds front
+    line_goes_on at.Before front here =
+        let begins = begins_with bounds [] one.example refl one.is_example (everywhere (λ b. line.Keeps b one.example) one.example_keeps bounds) in
+        record { tree = begins.tree; more = line.line_of one.example ∷ begins.more; are = begins.are ∙ ap (λ ls. ls ++ line.line_of one.example ∷ begins.more) (sym here); is_tree = begins.is_tree; keeps = begins.keeps }
+    line_goes_on (at.Behind v r) front here =
+        subst (Begins (kind_by Whole) bounds) (sym here.are) (begins_behind bounds here.first v here.behind here.known ((More here.known).goes_on r here.behind here.is_open))
+
+    line_ends : (b : LinePlace V B) (front : List Line) (value : V × W) → IsOpen b front → (line_steps_by read steps).finish b ≡ Some value → IsWhole (kind_by Whole) front value
+    line_ends at.Before front value here made = absurd (cc)
+    line_ends (at.Behind v r) front value here made =
+        option_map_some (λ w. (v, w)) ((steps v).finish r) value made (λ w w_is same.
+        let found = (More here.known).ends r here.behind w here.is_open w_is in
+        subst (IsWhole (kind_by Whole) front) same (record {
+          tree = (here.known.tokens, found.tree);
+          are = here.are ∙ ap₂ (λ x xs. x ∷ xs) here.known.are found.are;
+          is_tree = (here.known.is, found.is_tree);
+          keeps = λ b. (here.known.keeps b, found.keeps b);
+          says = (here.known.says, found.says);
+        }))
+
+    line_stops : (b : LinePlace V B) (front : List Line) (l : Line) (f : Flaw) → IsOpen b front → line_next read steps b l ≡ Err f → IsStopped (kind_by Whole) f (front ++ l ∷ [])
+    line_stops at.Before front l f here made =
+        bind_err (read l) _ f made (λ e. stopped_by (kind_by Whole) f (front ++ l ∷ []) (one.stops l f e) (λ passed.
+        owed.passes passed.bound passed.told
+        (subst (λ x. Begins (kind_by Whole) (before flaw_of bounds passed.bound) (front ++ x ∷ [])) (sym passed.are) (begins_with (before flaw_of bounds passed.bound) front passed.tokens here passed.is passed.keeps))))
+        (λ v v_is none. absurd (cc))
+    line_stops (at.Behind v r) front l f here made =
+        bind_err ((steps v).next r l) _ f made (λ e.
+        stopped_with (Rest here.known.tokens) Whole f (here.behind ++ l ∷ []) (front ++ l ∷ [])
+        (λ within begins. subst (Begins (kind_by Whole) within) (sym (ap (λ ls. ls ++ l ∷ []) here.are)) (begins_behind within here.first v (here.behind ++ l ∷ []) here.known begins))
+        ((More here.known).stops r here.behind l f here.is_open e)) (λ q q_is none. absurd (cc))
+
+    behind_reads : (v : V) (r : B) (ls : List Line) → read_from (line_steps_by read steps) (at.Behind v r) ls ≡ (read_from (steps v) r ls >>= λ w. Ok (v, w))
+    behind_reads v r [] = asked-map (λ w. (v, w)) ((steps v).finish r)
+    behind_reads v r (l ∷ ls) = bind_through ((steps v).next r l) (at.Behind v) (λ c. read_from (line_steps_by read steps) c ls) (λ q. read_from (steps v) q ls) (λ w. Ok (v, w)) (λ q. behind_reads v q ls)
+
+    line_reads : (K : Bound → Type 0) (t : Whole.Tree) → Whole.IsTree t → ((b : Bound) → K b → Whole.Keeps b t) → Meets flaw_of K (Whole.Says t) (read_from (line_steps_by read steps) at.Before (Whole.lines_of t))
+    line_reads K t is keeps =
+        then_meets (λ c. read_from (line_steps_by read steps) c ((Rest t.0).lines_of t.1))
+        (then_meets {P = line.Says t.0} {Q = λ c. (v : V) × line.Says t.0 v × (c ≡ at.Behind v (steps v).start)} (λ v. Ok (at.Behind v (steps v).start)) (one.reads K t.0 is.0 (λ b kept. (keeps b kept).0))
+        (λ v _ says. reads (at.Behind v (steps v).start) refl (v, says, refl)))
+        (λ c _ found.
+        rw (found.2, behind_reads found.0 (steps found.0).start ((Rest t.0).lines_of t.1))
+        (then_meets (λ w. Ok (found.0, w)) ((more t.0 is.0 found.0 found.1).reads K t.1 is.1 (λ b kept. (keeps b kept).1)) (λ w _ says. reads (found.0, w) refl (found.1, says))))
+
+    pub line_read_by : IsSectionReader Whole (line_steps_by read steps)
+    line_read_by = record {
+      fit = record {
+        example = (one.example, (fit one.example).example);
+        is_example = (one.is_example, (fit one.example).is_example);
+        example_keeps = λ b. (one.example_keeps b, (fit one.example).example_keeps b);
+        unended = λ t is. All-cons (λ l. is_end l ≡ false) (line.line_of t.0) ((Rest t.0).lines_of t.1) (one.unended t.0 is.0) ((fit t.0).unended t.1 is.1);
+        unique = λ t v w left right. ap₂ (λ x y. (x, y)) (one.unique t.0 v.0 w.0 left.0 right.0) ((fit t.0).unique t.1 v.1 w.1 left.1 right.1);
+      };
+      IsOpen = IsOpen;
+      starts = refl;
+      goes = line_goes;
+      goes_on = line_goes_on;
+      ends = line_ends;
+      stops = line_stops;
+      reads = line_reads;
+    }
+
   module _ {V W B : Type 0} {line : LineKind Bound V} {read : Reading V} {rest : Section Bound W} {steps : SectionSteps B W} (one : IsLineReader line read) (more : IsSectionReader rest steps) where
-    -- a line, and others after it
-    module _ where
-      abbrev Whole : Section Bound (V × W)
-      Whole = line_then line rest
-
-      record IsBehind (v : V) (r : B) (front : List Line) : Type 0 where
-        first : Line
-        known : IsLineRead line first v
-        behind : List Line
-        are : front ≡ first ∷ behind
-        is_open : more.IsOpen r behind
-
-      abbrev IsOpen : LinePlace V B → List Line → Type 0
-      IsOpen at.Before front = front ≡ []
-      IsOpen (at.Behind v r) front = IsBehind v r front
-
-      line_goes : (b c : LinePlace V B) (front : List Line) (l : Line) → IsOpen b front → line_next read steps b l ≡ Ok c → IsOpen c (front ++ l ∷ [])
-      line_goes at.Before c front l here made =
-          bind_ok (read l) _ c made (λ v v_is made_of.
-          ok_has (λ q. IsOpen q (front ++ l ∷ [])) (at.Behind v steps.start) c made_of
-          (record { first = l; known = one.is_read l v v_is; behind = []; are = ap (λ ls. ls ++ l ∷ []) here; is_open = more.starts }))
-      line_goes (at.Behind v r) c front l here made =
-          bind_ok (steps.next r l) _ c made (λ q q_is made_of.
-          ok_has (λ p. IsOpen p (front ++ l ∷ [])) (at.Behind v q) c made_of
-          (record { first = here.first; known = here.known; behind = here.behind ++ l ∷ []; are = ap (λ ls. ls ++ l ∷ []) here.are; is_open = more.goes r q here.behind l here.is_open q_is }))
-
-      begins_behind : (within : List Bound) (l : Line) (v : V) (ls : List Line) → IsLineRead line l v → Begins (kind_by rest) within ls → Begins (kind_by Whole) within (l ∷ ls)
-      begins_behind within l v ls known begins = record {
-        tree = (known.tokens, begins.tree);
-        more = begins.more;
-        are = ap₂ (λ x xs. x ∷ xs) (sym known.are) begins.are;
-        is_tree = (known.is, begins.is_tree);
-        keeps = All-weaker (λ b. rest.Keeps b begins.tree) (λ b. line.Keeps b known.tokens × rest.Keeps b begins.tree) (λ b kept. (known.keeps b, kept)) within begins.keeps;
-      }
-
-      line_goes_on : (b : LinePlace V B) (front : List Line) → IsOpen b front → Begins (kind_by Whole) bounds front
-      line_goes_on at.Before front here =
-          subst (Begins (kind_by Whole) bounds) (sym here) (record {
-            tree = (one.example, more.example);
-            more = line.line_of one.example ∷ rest.lines_of more.example;
-            are = refl;
-            is_tree = (one.is_example, more.is_example);
-            keeps = everywhere (λ b. line.Keeps b one.example × rest.Keeps b more.example) (λ b. (one.example_keeps b, more.example_keeps b)) bounds;
-          })
-      line_goes_on (at.Behind v r) front here =
-          subst (Begins (kind_by Whole) bounds) (sym here.are) (begins_behind bounds here.first v here.behind here.known (more.goes_on r here.behind here.is_open))
-
-      line_ends : (b : LinePlace V B) (front : List Line) (value : V × W) → IsOpen b front → (line_steps read steps).finish b ≡ Some value → IsWhole (kind_by Whole) front value
-      line_ends at.Before front value here made = absurd (cc)
-      line_ends (at.Behind v r) front value here made =
-          option_map_some (λ w. (v, w)) (steps.finish r) value made (λ w w_is same.
-          let found = more.ends r here.behind w here.is_open w_is in
-          subst (IsWhole (kind_by Whole) front) same (record {
-            tree = (here.known.tokens, found.tree);
-            are = here.are ∙ ap₂ (λ x xs. x ∷ xs) here.known.are found.are;
-            is_tree = (here.known.is, found.is_tree);
-            keeps = λ b. (here.known.keeps b, found.keeps b);
-            says = (here.known.says, found.says);
-          }))
-
-      line_stops : (b : LinePlace V B) (front : List Line) (l : Line) (f : Flaw) → IsOpen b front → line_next read steps b l ≡ Err f → IsStopped (kind_by Whole) f (front ++ l ∷ [])
-      line_stops at.Before front l f here made =
-          bind_err (read l) _ f made (λ e. stopped_by (kind_by Whole) f (front ++ l ∷ []) (one.stops l f e) (λ passed.
-          owed.passes passed.bound passed.told (record {
-            tree = (passed.tokens, more.example);
-            more = rest.lines_of more.example;
-            are = sym (ap₂ (λ ls x. (ls ++ x ∷ []) ++ rest.lines_of more.example) here passed.are);
-            is_tree = (passed.is, more.is_example);
-            keeps = All-weaker (λ b. line.Keeps b passed.tokens) (λ b. line.Keeps b passed.tokens × rest.Keeps b more.example) (λ b kept. (kept, more.example_keeps b)) (before flaw_of bounds passed.bound) passed.keeps;
-          }))) (λ v v_is none. absurd (cc))
-      line_stops (at.Behind v r) front l f here made =
-          bind_err (steps.next r l) _ f made (λ e. lifted (more.stops r here.behind l f here.is_open e)) (λ q q_is none. absurd (cc))
-        where
-          lifted : IsStopped (kind_by rest) f (here.behind ++ l ∷ []) → IsStopped (kind_by Whole) f (front ++ l ∷ [])
-          lifted (misfit bad) = misfit bad
-          lifted (owed.passes bound told begins) =
-              owed.passes bound told (subst (Begins (kind_by Whole) (before flaw_of bounds bound)) (sym (ap (λ ls. ls ++ l ∷ []) here.are)) (begins_behind (before flaw_of bounds bound) here.first v (here.behind ++ l ∷ []) here.known begins))
-
-      behind_reads : (v : V) (r : B) (ls : List Line) → read_from (line_steps read steps) (at.Behind v r) ls ≡ (read_from steps r ls >>= λ w. Ok (v, w))
-      behind_reads v r [] = asked-map (λ w. (v, w)) (steps.finish r)
-      behind_reads v r (l ∷ ls) = bind_through (steps.next r l) (at.Behind v) (λ c. read_from (line_steps read steps) c ls) (λ q. read_from steps q ls) (λ w. Ok (v, w)) (λ q. behind_reads v q ls)
-
-      line_reads : (K : Bound → Type 0) (t : line.Tokens × rest.Tree) → line.IsLine t.0 × rest.IsTree t.1 → ((b : Bound) → K b → line.Keeps b t.0 × rest.Keeps b t.1)
-          → Meets flaw_of K (λ v. line.Says t.0 v.0 × rest.Says t.1 v.1) (read_from (line_steps read steps) at.Before (line.line_of t.0 ∷ rest.lines_of t.1))
-      line_reads K t is keeps =
-          then_meets (λ c. read_from (line_steps read steps) c (rest.lines_of t.1))
-          (then_meets {P = line.Says t.0} {Q = λ c. (v : V) × line.Says t.0 v × (c ≡ at.Behind v steps.start)} (λ v. Ok (at.Behind v steps.start)) (one.reads K t.0 is.0 (λ b kept. (keeps b kept).0)) (λ v _ says. reads (at.Behind v steps.start) refl (v, says, refl)))
-          (λ c _ found.
-          rw (found.2, behind_reads found.0 steps.start (rest.lines_of t.1))
-          (then_meets (λ w. Ok (found.0, w)) (more.reads K t.1 is.1 (λ b kept. (keeps b kept).1)) (λ w _ says. reads (found.0, w) refl (found.1, says))))
-
-      pub line_read : IsSectionReader Whole (line_steps read steps)
-      line_read = record {
-        example = (one.example, more.example);
-        is_example = (one.is_example, more.is_example);
-        example_keeps = λ b. (one.example_keeps b, more.example_keeps b);
-        unended = λ t is. All-cons (λ l. is_end l ≡ false) (line.line_of t.0) (rest.lines_of t.1) (one.unended t.0 is.0) (more.unended t.1 is.1);
-        unique = λ t v w left right. ap₂ (λ x y. (x, y)) (one.unique t.0 v.0 w.0 left.0 right.0) (more.unique t.1 v.1 w.1 left.1 right.1);
-        IsOpen = IsOpen;
-        starts = refl;
-        goes = line_goes;
-        goes_on = line_goes_on;
-        ends = line_ends;
-        stops = line_stops;
-        reads = line_reads;
-      }
+    pub line_read : IsSectionReader (line_then line rest) (line_steps read steps)
+    line_read = line_read_by (λ (c : ⊤). rest) (λ v. steps) one (λ t. tt) (λ t. more.fit) (λ t is v says. more)
 
     -- lines that begin with a word, at most so many, and others after them; the bound on their number is tested last
     module _ (word : List ℕ) (limit : ℕ) (count : Bound) (told : flaw_of count ≡ TooMany limit) (last : (bound : Bound) → list_all (λ b. not (same_flaw (flaw_of count) (flaw_of b))) (before flaw_of bounds bound) ≡ true)
@@ -362,12 +379,12 @@ module _ {Bound : Type 0} (flaw_of : Bound → Flaw) (bounds : List Bound) where
         begins_more : (within : List Bound) (l : Line) (t : line.Tokens) → p.more ≡ true → l ≡ line.line_of t → line.IsLine t → All (λ b. line.Keeps b t) within → All (λ b. b ≡ count → ⊥) within
             → Begins (kind_by All_Lines) within (front ++ l ∷ [])
         begins_more within l t first are is keeps apart = record {
-          tree = (here.ts ++ t ∷ [], more.example);
-          more = rest.lines_of more.example;
-          are = ap (λ ls. ls ++ rest.lines_of more.example) (sym (ap (λ x. front ++ x ∷ []) are ∙ front_with t first));
-          is_tree = (All-push line.IsLine here.ts t here.lines.each is, more.is_example);
-          keeps = all_with (λ b. line.Keeps b t) (λ b. b ≡ count → ⊥) (λ b. All (line.Keeps b) (here.ts ++ t ∷ []) × IsFew b (here.ts ++ t ∷ []) × rest.Keeps b more.example)
-              (λ b kept other. (All-push (line.Keeps b) here.ts t (here.lines.keep b) kept, λ same. absurd (other same), more.example_keeps b)) within keeps apart;
+          tree = (here.ts ++ t ∷ [], more.fit.example);
+          more = rest.lines_of more.fit.example;
+          are = ap (λ ls. ls ++ rest.lines_of more.fit.example) (sym (ap (λ x. front ++ x ∷ []) are ∙ front_with t first));
+          is_tree = (All-push line.IsLine here.ts t here.lines.each is, more.fit.is_example);
+          keeps = all_with (λ b. line.Keeps b t) (λ b. b ≡ count → ⊥) (λ b. All (line.Keeps b) (here.ts ++ t ∷ []) × IsFew b (here.ts ++ t ∷ []) × rest.Keeps b more.fit.example)
+              (λ b kept other. (All-push (line.Keeps b) here.ts t (here.lines.keep b) kept, λ same. absurd (other same), more.fit.example_keeps b)) within keeps apart;
         }
 
         lines_go : (c : LinesPlace V B) (l : Line) → lines_next word limit read steps p l ≡ Ok c → IsAmong c (front ++ l ∷ [])
@@ -426,11 +443,6 @@ module _ {Bound : Type 0} (flaw_of : Bound → Flaw) (bounds : List Bound) where
             owed.passes count (is ∙ sym told)
             (begins_more (before flaw_of bounds count) l known.tokens first known.are known.is (everywhere (λ b. line.Keeps b known.tokens) known.keeps (before flaw_of bounds count)) (apart_before count))
 
-        lifted : (l : Line) (f : Flaw) → IsStopped (kind_by rest) f (here.behind ++ l ∷ []) → IsStopped (kind_by All_Lines) f (front ++ l ∷ [])
-        lifted l f (misfit bad) = misfit bad
-        lifted l f (owed.passes bound is begins) =
-            owed.passes bound is (subst (Begins (kind_by All_Lines) (before flaw_of bounds bound)) (sym (front_behind l)) (begins_lines (before flaw_of bounds bound) (here.behind ++ l ∷ []) begins))
-
         lines_stop : (l : Line) (f : Flaw) → lines_next word limit read steps p l ≡ Err f → IsStopped (kind_by All_Lines) f (front ++ l ∷ [])
         lines_stop l f made =
             by_test (p.more && begins word l) _ _ (Err f) made
@@ -439,7 +451,9 @@ module _ {Bound : Type 0} (flaw_of : Bound → Flaw) (bounds : List Bound) where
             bind_err (read l) _ f read_on (λ e. stopped_by (kind_by All_Lines) f (front ++ l ∷ []) (one.stops l f e) (passed_more l f first)) (λ v v_is grown_is.
             bind_err (grown limit p.values v) _ f grown_is (λ full.
             by_test (nat_le limit (length p.values)) _ _ (Err f) full (λ over e. too_many l v f first (one.is_read l v v_is) (cc)) (λ room e. absurd (cc))) (λ vs vs_is none. absurd (cc))))
-            (λ other read_on. bind_err (steps.next p.rest l) _ f read_on (λ e. lifted l f (more.stops p.rest here.behind l f here.is_open e)) (λ r r_is none. absurd (cc)))
+            (λ other read_on. bind_err (steps.next p.rest l) _ f read_on (λ e.
+            stopped_with rest All_Lines f (here.behind ++ l ∷ []) (front ++ l ∷ []) (λ within begins. subst (Begins (kind_by All_Lines) within) (sym (front_behind l)) (begins_lines within (here.behind ++ l ∷ []) begins))
+            (more.stops p.rest here.behind l f here.is_open e)) (λ r r_is none. absurd (cc)))
 
       lines_behind : (vs : List V) (r : B) (ls : List Line) → read_from Steps (lines_place vs r false) ls ≡ (read_from steps r ls >>= λ w. Ok (vs, w))
       lines_behind vs r [] = asked-map (λ w. (vs, w)) (steps.finish r)
@@ -490,12 +504,14 @@ module _ {Bound : Type 0} (flaw_of : Bound → Flaw) (bounds : List Bound) where
 
       pub lines_read : IsSectionReader All_Lines Steps
       lines_read = record {
-        example = ([], more.example);
-        is_example = (All-nil line.IsLine, more.is_example);
-        example_keeps = λ b. (All-nil (line.Keeps b), λ _. omega arith, more.example_keeps b);
-        unended = λ t is. All-append (λ l. is_end l ≡ false) (map line.line_of t.0) (rest.lines_of t.1)
-            (All-map (λ l. is_end l ≡ false) line.line_of t.0 (All-weaker line.IsLine (λ u. is_end (line.line_of u) ≡ false) one.unended t.0 is.0)) (more.unended t.1 is.1);
-        unique = λ t v w left right. ap₂ (λ x y. (x, y)) (AllZip-unique line.Says one.unique t.0 v.0 w.0 left.0 right.0) (more.unique t.1 v.1 w.1 left.1 right.1);
+        fit = record {
+          example = ([], more.fit.example);
+          is_example = (All-nil line.IsLine, more.fit.is_example);
+          example_keeps = λ b. (All-nil (line.Keeps b), λ _. omega arith, more.fit.example_keeps b);
+          unended = λ t is. All-append (λ l. is_end l ≡ false) (map line.line_of t.0) (rest.lines_of t.1)
+              (All-map (λ l. is_end l ≡ false) line.line_of t.0 (All-weaker line.IsLine (λ u. is_end (line.line_of u) ≡ false) one.unended t.0 is.0)) (more.fit.unended t.1 is.1);
+          unique = λ t v w left right. ap₂ (λ x y. (x, y)) (AllZip-unique line.Says one.unique t.0 v.0 w.0 left.0 right.0) (more.fit.unique t.1 v.1 w.1 left.1 right.1);
+        };
         IsOpen = IsAmong;
         starts = record { ts = []; lines = record { each = All-nil line.IsLine; keep = λ b. All-nil (line.Keeps b); few = omega arith; say = tt }; behind = []; are = refl; is_open = more.starts; first = λ _. (refl, refl) };
         goes = λ b c front l here. lines_go b front here c l;
@@ -506,3 +522,28 @@ module _ {Bound : Type 0} (flaw_of : Bound → Flaw) (bounds : List Bound) where
             meets-weaker (lines_meet K [] t.0 t.1 is.0 is.1 (λ b kept. (keeps b kept).0) (λ b kept. (keeps b kept).2) (λ kept. omega (arith, (keeps count kept).1 refl)))
             (λ v _ known. subst (λ u. AllZip line.Says t.0 u.0 × rest.Says t.1 u.1) (sym known.is) (known.each, known.says));
       }
+
+  -- the same lines, which together say another value
+  module _ {V W B : Type 0} {section : Section Bound V} {steps : SectionSteps B V} (lines : IsSectionReader section steps) (f : V → W) (Says : section.Tree → W → Type 0)
+      (unique : (t : section.Tree) (v w : W) → Says t v → Says t w → v ≡ w) (says : (t : section.Tree) (v : V) → section.IsTree t → section.Says t v → Says t (f v)) where
+    begins_as : (within : List Bound) (ls : List Line) → Begins (kind_by section) within ls → Begins (kind_by (said_as section Says)) within ls
+    begins_as within ls begins = record { tree = begins.tree; more = begins.more; are = begins.are; is_tree = begins.is_tree; keeps = begins.keeps }
+
+    read_as : (b : B) (ls : List Line) → read_from (steps_as f steps) b ls ≡ (read_from steps b ls >>= λ v. Ok (f v))
+    read_as b [] = asked-map f (steps.finish b)
+    read_as b (l ∷ ls) = bind_assoc (steps.next b l) (λ c. read_from steps c ls) (λ v. Ok (f v)) (λ c. read_from (steps_as f steps) c ls) (λ c. read_as c ls)
+
+    pub said_as_read : IsSectionReader (said_as section Says) (steps_as f steps)
+    said_as_read = record {
+      fit = record { example = lines.fit.example; is_example = lines.fit.is_example; example_keeps = lines.fit.example_keeps; unended = lines.fit.unended; unique = unique };
+      IsOpen = lines.IsOpen;
+      starts = lines.starts;
+      goes = lines.goes;
+      goes_on = λ b front here. begins_as bounds front (lines.goes_on b front here);
+      ends = λ b front w here made.
+          option_map_some f (steps.finish b) w made (λ v v_is same.
+          let found = lines.ends b front v here v_is in
+          record { tree = found.tree; are = found.are; is_tree = found.is_tree; keeps = found.keeps; says = subst (Says found.tree) same (says found.tree v found.is_tree found.says) });
+      stops = λ b front l told here made. stopped_with section (said_as section Says) told (front ++ l ∷ []) (front ++ l ∷ []) (λ within begins. begins_as within (front ++ l ∷ []) begins) (lines.stops b front l told here made);
+      reads = λ K t is keeps. rw (read_as steps.start (section.lines_of t)) (then_meets (λ v. Ok (f v)) (lines.reads K t is keeps) (λ v _ known. reads (f v) refl (says t v is known)));
+    }

@@ -9,8 +9,7 @@ use Rattle.block_text.specs.Texts as texts
 use Rattle.block_text.specs.Texts.{HasBlocks, IsBlocks}
 use Rattle.block_lines.specs.Sections.{block_kind}
 use Rattle.adjoint_rules.specs.declared.basis.Basis.{Basis}
-use Rattle.block_lines.specs.declared.place.BasisTerms.{BasisTerms}
-use Rattle.block_lines.specs.BasisLines.{bounds, flaw_of, basis_lines, basis_of}
+use Rattle.block_lines.specs.BasisLines.{bounds, flaw_of, BasisTerms, basis_lines}
 
 -- blocks of these kinds aren't read
 abbrev pub other_words : List (List ℕ)
@@ -18,11 +17,11 @@ other_words = codes "certificate" ∷ codes "model" ∷ codes "cancellation" ∷
 
 -- basis 1, and its lines
 abbrev pub basis_kind : List Declaration → Kind BasisTerms
-basis_kind ds = block_kind (codes "basis") (codes "1") other_words bounds flaw_of (basis_lines ds) basis_of
+basis_kind ds = block_kind (codes "basis") (codes "1") other_words bounds flaw_of (basis_lines ds)
 
 -- a basis by the terms of its polynomials
 abbrev pub by_terms : Basis → BasisTerms
-by_terms b = record { claim = b.claim; rules = map (λ p. p.terms) b.rules; rest = b.rest.terms }
+by_terms b = (b.claim, (map (λ p. p.terms) b.rules, (b.rest.terms, tt)))
 
 -- The bytes are UTF-8, their lines are blocks within all bounds, and these are the bases among them.
 abbrev pub HasBases : List Declaration → List ℕ → List Basis → Type 0
@@ -38,5 +37,5 @@ IsFirstFault ds = texts.IsFirstFault (basis_kind ds)
 
 -- The terms are those of polynomials.
 pub record AreCanonical (b : BasisTerms) : Type 0 where
-  pub rules : All IsCanonical b.rules
-  pub rest : IsCanonical b.rest
+  pub rules : All IsCanonical b.1.0
+  pub rest : IsCanonical b.1.1.0

@@ -7,7 +7,6 @@ use Rattle.block_text.specs.declared.fault.Flaw.TheVariants.{TooMany}
 use Rattle.block_text.specs.Lines.{number_limit}
 use Rattle.block_lines.specs.LineKinds.{number_line, PolynomialBound, names, writing, numbers, terms, words, polynomial_flaw, polynomial_behind}
 use Rattle.block_lines.specs.Sections.{Section, no_lines, line_then, lines_then}
-use Rattle.block_lines.specs.declared.place.BasisTerms.{BasisTerms}
 use Rattle.adjoint_rules.specs.Limits.{rule_limit}
 
 -- on the polynomials and the claim, and on the number of rules
@@ -28,11 +27,12 @@ abbrev pub part : Bound → Option PolynomialBound
 part (on_polynomial bound) = Some bound
 part rules = None
 
+-- a claim, rules and the rest, by the terms of the polynomials
+abbrev pub BasisTerms : Type 0
+BasisTerms = ℕ × (List Poly × (Poly × ⊤))
+
 -- claim N, a line `rule POLYNOMIAL` for each rule, and rest POLYNOMIAL
-abbrev pub basis_lines : List Declaration → Section Bound (ℕ × (List Poly × (Poly × ⊤)))
+abbrev pub basis_lines : List Declaration → Section Bound BasisTerms
 basis_lines ds =
     line_then (number_line (on_polynomial numbers) (codes "claim") number_limit)
     (lines_then (polynomial_behind ds part (codes "rule")) (line_then (polynomial_behind ds part (codes "rest")) no_lines) rules rule_limit)
-
-abbrev pub basis_of : ℕ × (List Poly × (Poly × ⊤)) → BasisTerms
-basis_of said = record { claim = said.0; rules = said.1.0; rest = said.1.1.0 }

@@ -9,8 +9,7 @@ use Rattle.block_lines.specs.declared.section.LinePlace.{LinePlace}
 use Rattle.block_lines.specs.declared.section.LinesPlace.{LinesPlace}
 use Rattle.block_lines.specs.LineReadings.{polynomial_read}
 use Rattle.block_lines.specs.SectionSteps.{no_steps, line_steps, lines_steps, block_steps}
-use Rattle.block_lines.specs.declared.place.BasisTerms.{BasisTerms}
-use Rattle.block_lines.specs.BasisLines.{basis_of}
+use Rattle.block_lines.specs.BasisLines.{BasisTerms}
 use Rattle.block_lines.specs.Bases.{other_words}
 use Rattle.adjoint_rules.specs.Limits.{rule_limit}
 
@@ -19,4 +18,3 @@ basis_steps ds =
     block_steps (codes "basis") (codes "1") other_words
     (line_steps (number_of (codes "claim") number_limit)
     (lines_steps (codes "rule") rule_limit (polynomial_read ds (codes "rule")) (line_steps (polynomial_read ds (codes "rest")) no_steps)))
-    basis_of

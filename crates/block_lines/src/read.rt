@@ -5,23 +5,62 @@ ghost use Rattle.std.specs.List.{All};
 ghost use Rattle.nc_polynomial.specs.Shape.{IsCanonical};
 ghost use Rattle.block_text.specs.Fault.{ExplainsBy};
 ghost use Rattle.block_lines.specs.Bases.{by_terms, AreCanonical, IsBases, IsFirstFault};
+ghost use Rattle.block_lines.specs.Reading.{basis_steps};
 ghost use Rattle.adjoint_rules.specs.Bases.{IsBasisOver};
 
-use crate::place::BasisTerms;
-use crate::step::Bases;
-use adjoint_rules::Basis;
-use block_text::{ReadText, read_blocks};
+use crate::{Blocks, LineThen, LinesThen, NoLines, NumberLine, PolynomialLine};
+use adjoint_rules::{Basis, RULE_LIMIT};
+use block_text::{BlockKind, NUMBER_LIMIT, ReadText, read_blocks};
 use lists::Listing;
 use nc_polynomial::Poly;
 use quiver::Quiver;
 use std::alloc::{AllocError, Global};
 use word_core::Word;
 
+type Terms = Listing<(i128, Word)>;
+
+// A claim, rules and the rest, by the terms of the polynomials.
+type BasisTerms = (u32, (Listing<Terms>, (Terms, ())));
+
+// A line for the claim, one for each rule, and one for the rest.
+type BasisLines<'q> = LineThen<
+    NumberLine,
+    LinesThen<PolynomialLine<'q>, LineThen<PolynomialLine<'q>, NoLines>>,
+>;
+
+fn basis_blocks(quiver: &Quiver) -> Blocks<BasisLines<'_>>
+    ensures { ⟦<Blocks<BasisLines<'static>> as BlockKind>⟧.steps result ≡ basis_steps quiver.now }
+{
+    let rest = LineThen {
+        line: PolynomialLine {
+            word: "rest",
+            quiver,
+        },
+        rest: NoLines,
+    };
+    let rest = LinesThen {
+        word: "rule",
+        limit: RULE_LIMIT,
+        line: PolynomialLine {
+            word: "rule",
+            quiver,
+        },
+        rest,
+    };
+    let line = NumberLine {
+        word: "claim",
+        most: NUMBER_LIMIT as u32,
+    };
+    Blocks {
+        first: "basis",
+        second: "1",
+        others: &["certificate", "model", "cancellation"],
+        lines: LineThen { line, rest },
+    }
+}
+
 // The polynomials of these terms.
-fn polynomials(
-    alloc: Global,
-    lists: Listing<Listing<(i128, Word)>>,
-) -> Result<Listing<Poly>, AllocError>
+fn polynomials(alloc: Global, lists: Listing<Terms>) -> Result<Listing<Poly>, AllocError>
     requires { All IsCanonical lists }
     ensures { IfOk result (λ ps. map (λ p. p.terms) ps ≡ lists) }
 {
@@ -37,11 +76,10 @@ fn basis_of(alloc: Global, block: BasisTerms) -> Result<Basis, AllocError>
     requires { AreCanonical block }
     ensures { IfOk result (λ b. by_terms b ≡ block) }
 {
-    Ok(Basis {
-        claim: block.claim,
-        rules: polynomials(alloc, block.rules)?,
-        rest: Poly { terms: block.rest },
-    })
+    let (claim, (rules, (terms, ()))) = block;
+    let rules = polynomials(alloc, rules)?;
+    let rest = Poly { terms };
+    Ok(Basis { claim, rules, rest })
 }
 
 // The bases of these terms.
@@ -65,6 +103,6 @@ pub fn read_bases(alloc: Global, bytes: &[u8], quiver: &Quiver) -> ReadText<Basi
     // Each can be checked.
     ensures checkable { IfOk result (All (IsBasisOver quiver.now)) }
 {
-    let blocks = read_blocks(alloc, &Bases { quiver }, bytes)?;
+    let blocks = read_blocks(alloc, &basis_blocks(quiver), bytes)?;
     Ok(bases_of(alloc, blocks)?)
 }

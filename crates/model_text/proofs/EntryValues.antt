@@ -1,5 +1,5 @@
 -- What a line `side` or `map` says, and the bounds that it keeps.
-use Rattle.std.proofs.Common.{◌≡◌, ◌<◌, ◌≤◌, ◌-◌, ℕ, Bool, true, false, ◌&&◌, List, [], ◌∷◌, ◌++◌, Option, Some, None, Result, Ok, Err, arith, refl, ap, ap₂, ◌∙◌, length, map, nat_le}
+use Rattle.std.proofs.Common.{◌≡◌, ◌<◌, ◌≤◌, ◌-◌, ℕ, Bool, true, false, ◌&&◌, List, [], ◌∷◌, ◌++◌, Option, Some, None, Result, arith, refl, sym, ap, ap₂, ◌∙◌, length, map, nat_le}
 use Rattle.std.specs.List.{All, AllZip, flat_map, range_with_len}
 use Rattle.std.proofs.lemmas.Bool.{and_parts}
 use Rattle.std.proofs.lemmas.Bool.Decides.{nat_tests}
@@ -8,34 +8,24 @@ use Rattle.quiver.specs.declared.named.Named.{Named}
 use Rattle.quiver.specs.declared.named.Named.TheVariants.{Object, Map}
 use Rattle.quiver.specs.Declarations.{Declaration, named_in, object_count, letter_count}
 use Rattle.block_text.specs.declared.fault.Flaw.{Flaw}
-use Rattle.block_text.specs.declared.fault.Flaw.TheVariants.{NumberTooLarge}
 use Rattle.block_text.specs.Lines.{Line}
-use Rattle.block_text.specs.Fault.{asked}
-use Rattle.model_text.specs.declared.place.Begun.{Begun}
 use Rattle.model_text.specs.declared.place.Entry.{Entry}
 use Rattle.model_text.specs.declared.place.Entry.TheVariants as entry
-use Rattle.model_text.specs.ModelBlocks.{EntryTokens, side, matrix, ModelTokens}
+use Rattle.model_text.specs.ModelBlocks.{EntryTokens, side, matrix}
 use Rattle.matrix_models.specs.Limits.{side_limit}
-use Rattle.model_text.specs.ModelBounds.{Bound, names, numbers, sizes, bounds, flaw_of, value_of, matrix_value, side_of, matrix_of, model_value, HasName, IsBelow, IsSmall}
-use Rattle.model_text.specs.Reading.{values_below, matrix_made, side_value, map_value, entry_value, side_in, matrix_in, sides_in, maps_in, model_of}
+use Rattle.model_text.specs.ModelBounds.{Bound, names, numbers, sizes, bounds, flaw_of, value_of, matrix_value, side_of, matrix_of, ModelTokens, model_value, HasName, IsBelow, IsSmall, KeepsEntry, SaysEntry, entry_kind}
+use Rattle.model_text.specs.Reading.{values_below, entry_value, side_in, matrix_in, sides_in, maps_in, model_of}
 use Rattle.block_text.proofs.Bounds as listed
-use Rattle.block_text.proofs.Results.{by_test, bind_ok, asked_ok}
+use Rattle.block_lines.proofs.NamedLines.{IsJudged, fine, fails}
 use Rattle.model_text.proofs.Values.{are_values}
-
--- the line keeps the bound
-abbrev pub KeepsEntry : List Declaration → ℕ → Bound → EntryTokens → Type 0
-KeepsEntry ds m names e = HasName ds e
-KeepsEntry ds m numbers e = IsBelow m e
-KeepsEntry ds m sizes e = IsSmall e
 
 -- the bounds that are tested before it
 abbrev pub before : Bound → List Bound
 before bound = listed.before flaw_of bounds bound
 
 -- the line says this, where all bounds are kept; or one is the first that is passed
-pub data IsJudged (ds : List Declaration) (m : ℕ) (e : EntryTokens) (r : Result Entry Flaw) : Type 0 where
-  fine : (value : Entry) → r ≡ Ok value → ((bound : Bound) → KeepsEntry ds m bound e) → IsJudged ds m e r
-  fails : (bound : Bound) → r ≡ Err (flaw_of bound) → All (λ k. KeepsEntry ds m k e) (before bound) → (KeepsEntry ds m bound e → ⊥) → IsJudged ds m e r
+abbrev pub IsJudgedIn : List Declaration → ℕ → EntryTokens → Result Entry Flaw → Type 0
+IsJudgedIn ds m e r = IsJudged flaw_of bounds (entry_kind ds m) e r
 
 -- the numbers of a matrix
 values_there : (m : ℕ) (ts : Line) → 1 ≤ m → All (λ t. value_of t < m) ts → values_below m ts ≡ Some (map value_of ts)
@@ -69,11 +59,11 @@ module _ (ds : List Declaration) (m : ℕ) where
   keeps_all e name below small numbers = below
   keeps_all e name below small sizes = small
 
-  side_judged : (name number : List ℕ) (named : Option Named) (small : Bool) → named_in ds name ≡ named → nat_le (value_of number) side_limit ≡ small → IsJudged ds m (side name number) (entry_value ds m (side name number))
+  side_judged : (name number : List ℕ) (named : Option Named) (small : Bool) → named_in ds name ≡ named → nat_le (value_of number) side_limit ≡ small → IsJudgedIn ds m (side name number) (entry_value ds m (side name number))
   side_judged name number None small named_is small_is = fails names (rw named_is refl) (All-nil (λ k. KeepsEntry ds m k (side name number))) (λ known. let is = known.1 in absurd (cc))
   side_judged name number (Some (Map a)) small named_is small_is = fails names (rw named_is refl) (All-nil (λ k. KeepsEntry ds m k (side name number))) (λ known. let is = known.1 in absurd (cc))
   side_judged name number (Some (Object v)) true named_is small_is =
-      fine (entry.Side v (value_of number)) (rw (named_is, small_is) refl) (keeps_all (side name number) (v, named_is) tt (grind (arith, nat_tests, small_is)))
+      fine (entry.Side v (value_of number)) (rw (named_is, small_is) refl) (keeps_all (side name number) (v, named_is) tt (grind (arith, nat_tests, small_is))) (v, named_is, refl)
   side_judged name number (Some (Object v)) false named_is small_is =
       fails sizes (rw (named_is, small_is) refl) (All-cons (λ k. KeepsEntry ds m k (side name number)) names (numbers ∷ []) (v, named_is) (All-replicate (λ k. KeepsEntry ds m k (side name number)) 1 numbers tt))
       (λ within. grind (arith, nat_tests, small_is, within))
@@ -89,7 +79,7 @@ module _ (ds : List Declaration) (m : ℕ) where
     is_small = nat_le (length (first ∷ rest)) side_limit && nat_le (length first) side_limit
 
     map_judged : (named : Option Named) (values : Option (List ℕ)) (small : Bool) → named_in ds name ≡ named → values_below m flat ≡ values → is_small ≡ small
-        → IsJudged ds m (matrix name first rest) (entry_value ds m (matrix name first rest))
+        → IsJudgedIn ds m (matrix name first rest) (entry_value ds m (matrix name first rest))
     map_judged None values small named_is values_is small_is = fails names (rw named_is refl) (All-nil (λ k. KeepsEntry ds m k (matrix name first rest))) (λ known. let is = known.1 in absurd (cc))
     map_judged (Some (Object v)) values small named_is values_is small_is =
         fails names (rw named_is refl) (All-nil (λ k. KeepsEntry ds m k (matrix name first rest))) (λ known. let is = known.1 in absurd (cc))
@@ -102,6 +92,7 @@ module _ (ds : List Declaration) (m : ℕ) where
         let parts = and_parts (nat_le (length (first ∷ rest)) side_limit) (nat_le (length first) side_limit) small_is in
         fine (entry.Map a (record { modulus = m; rows = length (first ∷ rest); columns = length first; entries = vs })) (rw (named_is, values_is, small_is) refl)
         (keeps_all (matrix name first rest) (a, named_is) below (grind (arith, nat_tests, parts.0), grind (arith, nat_tests, parts.1)))
+        (a, named_is, ap (λ ns. entry.Map a (record { modulus = m; rows = length (first ∷ rest); columns = length first; entries = ns })) (sym found.are))
     map_judged (Some (Map a)) (Some vs) false named_is values_is small_is =
         let found = are_values m flat vs some values_is in
         let below : IsBelow m (matrix name first rest) = flat_to (λ t. value_of t < m) (first ∷ rest) found.numbers_below in
@@ -111,86 +102,42 @@ module _ (ds : List Declaration) (m : ℕ) where
         let wide : nat_le (length first) side_limit ≡ true = grind (arith, nat_tests, small.1) in
         let both : is_small ≡ true = rw (tall, wide) refl in absurd (cc))
 
-  pub entry_judged : (e : EntryTokens) → 1 ≤ m → IsJudged ds m e (entry_value ds m e)
+  pub entry_judged : (e : EntryTokens) → 1 ≤ m → IsJudgedIn ds m e (entry_value ds m e)
   entry_judged (side name number) some = side_judged name number (named_in ds name) (nat_le (value_of number) side_limit) refl refl
   entry_judged (matrix name first rest) some = map_judged some name first rest (named_in ds name) (values_below m (flat_map (λ row. row) (first ∷ rest))) (is_small some name first rest) refl refl refl
 
-  -- the line says this
-  abbrev pub IsEntryOf : EntryTokens → Entry → Type 0
-  IsEntryOf e value = entry_value ds m e ≡ Ok value
+  -- it says one thing
+  pub says_once : (e : EntryTokens) (v w : Entry) → SaysEntry ds m e v → SaysEntry ds m e w → v ≡ w
+  says_once (side name number) v w one two =
+      let named = sym one.1 ∙ two.1 in
+      let same : one.0 ≡ two.0 = cc in one.2 ∙ ap (λ o. entry.Side o (value_of number)) same ∙ sym two.2
+  says_once (matrix name first rest) v w one two =
+      let named = sym one.1 ∙ two.1 in
+      let same : one.0 ≡ two.0 = cc in one.2 ∙ ap (λ a. entry.Map a (matrix_value m first rest)) same ∙ sym two.2
 
-  side_shape : (name number : List ℕ) (value : Entry) (named : Option Named) → named_in ds name ≡ named → side_value named number ≡ Ok value
-      → (v : _) × (named_in ds name ≡ Some (Object v)) × (entry.Side v (value_of number) ≡ value)
-  side_shape name number value None is read = absurd (cc)
-  side_shape name number value (Some (Map a)) is read = absurd (cc)
-  side_shape name number value (Some (Object v)) is read = by_test (nat_le (value_of number) side_limit) _ _ (Ok value) read (λ small made. (v, is, cc)) (λ large none. absurd (cc))
+  side_in-values : (es : List EntryTokens) (values : List Entry) (v : ℕ) → AllZip (SaysEntry ds m) es values → side_in values v ≡ side_of ds es v
+  side_in-values [] [] v each = refl
+  side_in-values [] (value ∷ values) v each = absurd each
+  side_in-values (e ∷ es) [] v each = absurd each
+  side_in-values (side name number ∷ es) (value ∷ values) v each = let one = each.0 in rw (one.2, one.1, side_in-values es values v each.1) refl
+  side_in-values (matrix name first rest ∷ es) (value ∷ values) v each = let one = each.0 in rw one.2 (side_in-values es values v each.1)
 
-  map_shape : 1 ≤ m → (name : List ℕ) (first : Line) (rest : List Line) (value : Entry) (named : Option Named) → named_in ds name ≡ named → map_value named m first rest ≡ Ok value
-      → (a : _) × (named_in ds name ≡ Some (Map a)) × (entry.Map a (matrix_value m first rest) ≡ value)
-  map_shape some name first rest value None is read = absurd (cc)
-  map_shape some name first rest value (Some (Object v)) is read = absurd (cc)
-  map_shape some name first rest value (Some (Map a)) is read =
-      let ts : Line = flat_map (λ row. row) (first ∷ rest) in
-      bind_ok (asked NumberTooLarge (values_below m ts)) _ value read (λ vs vs_is read_matrix.
-      bind_ok (matrix_made m (length (first ∷ rest)) (length first) vs) _ value read_matrix (λ x x_is made.
-      by_test (nat_le (length (first ∷ rest)) side_limit && nat_le (length first) side_limit) _ _ (Ok x) x_is
-      (λ small same.
-      let found = are_values m ts vs some (asked_ok NumberTooLarge (values_below m ts) vs vs_is) in
-      let matrix_is : record { modulus = m; rows = length (first ∷ rest); columns = length first; entries = vs } ≡ x = cc in
-      let whole : entry.Map a x ≡ value = cc in
-      (a, is, ap (λ ns. entry.Map a (record { modulus = m; rows = length (first ∷ rest); columns = length first; entries = ns })) found.are ∙ ap (λ y. entry.Map a y) matrix_is ∙ whole))
-      (λ large none. absurd (cc))))
-
-  abbrev IsSideOf : List ℕ → List ℕ → Entry → Type 0
-  IsSideOf name number value = (v : _) × (named_in ds name ≡ Some (Object v)) × (entry.Side v (value_of number) ≡ value)
-
-  abbrev IsMapOf : List ℕ → Line → List Line → Entry → Type 0
-  IsMapOf name first rest value = (a : _) × (named_in ds name ≡ Some (Map a)) × (entry.Map a (matrix_value m first rest) ≡ value)
-
-  side_of_side : (name number : List ℕ) (es : List EntryTokens) (value : Entry) (values : List Entry) (v : ℕ) → IsSideOf name number value → side_in values v ≡ side_of ds es v
-      → side_in (value ∷ values) v ≡ side_of ds (side name number ∷ es) v
-  side_of_side name number es value values v shape rest = rw (← shape.2, shape.1, rest) refl
-
-  side_of_map : (name : List ℕ) (first : Line) (more : List Line) (es : List EntryTokens) (value : Entry) (values : List Entry) (v : ℕ) → IsMapOf name first more value → side_in values v ≡ side_of ds es v
-      → side_in (value ∷ values) v ≡ side_of ds (matrix name first more ∷ es) v
-  side_of_map name first more es value values v shape rest = rw (← shape.2) rest
-
-  matrix_of_side : (name number : List ℕ) (es : List EntryTokens) (value : Entry) (values : List Entry) (a : ℕ) → IsSideOf name number value → matrix_in values a ≡ matrix_of ds m es a
-      → matrix_in (value ∷ values) a ≡ matrix_of ds m (side name number ∷ es) a
-  matrix_of_side name number es value values a shape rest = rw (← shape.2) rest
-
-  matrix_of_map : (name : List ℕ) (first : Line) (more : List Line) (es : List EntryTokens) (value : Entry) (values : List Entry) (a : ℕ) → IsMapOf name first more value → matrix_in values a ≡ matrix_of ds m es a
-      → matrix_in (value ∷ values) a ≡ matrix_of ds m (matrix name first more ∷ es) a
-  matrix_of_map name first more es value values a shape rest = rw (← shape.2, shape.1, rest) refl
-
-  pub side_in-values : 1 ≤ m → (es : List EntryTokens) (values : List Entry) (v : ℕ) → AllZip IsEntryOf es values → side_in values v ≡ side_of ds es v
-  side_in-values some [] [] v each = refl
-  side_in-values some [] (value ∷ values) v each = absurd each
-  side_in-values some (e ∷ es) [] v each = absurd each
-  side_in-values some (side name number ∷ es) (value ∷ values) v each =
-      side_of_side name number es value values v (side_shape name number value (named_in ds name) refl each.0) (side_in-values some es values v each.1)
-  side_in-values some (matrix name first rest ∷ es) (value ∷ values) v each =
-      side_of_map name first rest es value values v (map_shape some name first rest value (named_in ds name) refl each.0) (side_in-values some es values v each.1)
-
-  pub matrix_in-values : 1 ≤ m → (es : List EntryTokens) (values : List Entry) (a : ℕ) → AllZip IsEntryOf es values → matrix_in values a ≡ matrix_of ds m es a
-  matrix_in-values some [] [] a each = refl
-  matrix_in-values some [] (value ∷ values) a each = absurd each
-  matrix_in-values some (e ∷ es) [] a each = absurd each
-  matrix_in-values some (side name number ∷ es) (value ∷ values) a each =
-      matrix_of_side name number es value values a (side_shape name number value (named_in ds name) refl each.0) (matrix_in-values some es values a each.1)
-  matrix_in-values some (matrix name first rest ∷ es) (value ∷ values) a each =
-      matrix_of_map name first rest es value values a (map_shape some name first rest value (named_in ds name) refl each.0) (matrix_in-values some es values a each.1)
+  matrix_in-values : (es : List EntryTokens) (values : List Entry) (a : ℕ) → AllZip (SaysEntry ds m) es values → matrix_in values a ≡ matrix_of ds m es a
+  matrix_in-values [] [] a each = refl
+  matrix_in-values [] (value ∷ values) a each = absurd each
+  matrix_in-values (e ∷ es) [] a each = absurd each
+  matrix_in-values (side name number ∷ es) (value ∷ values) a each = let one = each.0 in rw one.2 (matrix_in-values es values a each.1)
+  matrix_in-values (matrix name first rest ∷ es) (value ∷ values) a each = let one = each.0 in rw (one.2, one.1, matrix_in-values es values a each.1) refl
 
 map_agree : {A B : Type 0} (f g : A → B) → ((x : A) → f x ≡ g x) → (xs : List A) → map f xs ≡ map g xs
 map_agree f g same [] = refl
 map_agree f g same (x ∷ xs) = ap₂ (λ y ys. y ∷ ys) (same x) (map_agree f g same xs)
 
 -- the values of the lines make the model that the tokens say
-pub model_is : (ds : List Declaration) (tokens : ModelTokens) (b : Begun) → value_of tokens.claim ≡ b.claim → value_of tokens.modulus ≡ b.modulus → 1 ≤ b.modulus
-    → AllZip (IsEntryOf ds b.modulus) tokens.entries b.entries → model_of ds b ≡ model_value ds tokens
-model_is ds tokens b claim modulus some each =
-    let sides : sides_in ds b.entries ≡ map (side_of ds tokens.entries) (range_with_len 0 (object_count ds)) =
-    map_agree (side_in b.entries) (side_of ds tokens.entries) (λ v. side_in-values ds b.modulus some tokens.entries b.entries v each) (range_with_len 0 (object_count ds)) in
-    let maps : maps_in ds b.entries ≡ map (matrix_of ds b.modulus tokens.entries) (range_with_len 0 (letter_count ds)) =
-    map_agree (matrix_in b.entries) (matrix_of ds b.modulus tokens.entries) (λ a. matrix_in-values ds b.modulus some tokens.entries b.entries a each) (range_with_len 0 (letter_count ds)) in
-    rw (claim, modulus, sides, maps) refl
+pub model_is : (ds : List Declaration) (b : ModelTokens) (v : ℕ × (ℕ × List Entry)) → value_of b.0 ≡ v.0 → value_of b.1.0 ≡ v.1.0 → AllZip (SaysEntry ds (value_of b.1.0)) b.1.1 v.1.1 → model_of ds v ≡ model_value ds b
+model_is ds b v claim modulus each =
+    let sides : sides_in ds v.1.1 ≡ map (side_of ds b.1.1) (range_with_len 0 (object_count ds)) =
+    map_agree (side_in v.1.1) (side_of ds b.1.1) (λ k. side_in-values ds (value_of b.1.0) b.1.1 v.1.1 k each) (range_with_len 0 (object_count ds)) in
+    let maps : maps_in ds v.1.1 ≡ map (matrix_of ds (value_of b.1.0) b.1.1) (range_with_len 0 (letter_count ds)) =
+    map_agree (matrix_in v.1.1) (matrix_of ds (value_of b.1.0) b.1.1) (λ a. matrix_in-values ds (value_of b.1.0) b.1.1 v.1.1 a each) (range_with_len 0 (letter_count ds)) in
+    λ j. record { claim = sym claim j; modulus = sym modulus j; sides = sides j; maps = maps j }

@@ -2,9 +2,7 @@ mod Ranges
 mod Rows
 mod Values
 mod EntryLines
-mod Names
 mod EntryValues
-mod OpenBlocks
 pub mod EachText
 pub mod ModelValues
 mod Examples
@@ -12,5 +10,4 @@ pub mod ObjectNames
 mod MatricesBack
 mod NamesApart
 pub mod ModelsBack
-mod ModelLines
 pub mod Reader

@@ -1,10 +1,10 @@
 -- What holds of the models that are read.
-use Rattle.std.proofs.Common.{◌≡◌, ◌<◌, ◌≤◌, ◌+◌, ◌*◌, ℕ, Bool, true, false, ◌&&◌, cond, List, [], ◌∷◌, Some, None, Result, IfOk, IsTrue, arith, refl, sym, ap, ◌∙◌, subst, length, map, nat_eq, nat_le, nat_lt}
+use Rattle.std.proofs.Common.{◌≡◌, ◌<◌, ◌≤◌, ◌+◌, ◌*◌, ℕ, Bool, true, false, ◌&&◌, cond, List, [], ◌∷◌, Some, None, Result, IfOk, IsTrue, arith, refl, sym, ap, ◌∙◌, subst, length, nat_eq, nat_le, nat_lt}
 use Rattle.std.specs.List.{All, flat_map, list_all, range_with_len}
 use Rattle.std.proofs.lemmas.Bool.{and_parts}
 use Rattle.std.proofs.lemmas.Bool.Decides.{nat_tests}
 use Rattle.std.proofs.lemmas.List.{length-map}
-use Rattle.std.proofs.lemmas.List.Elements.{All-nil, All-cons, All-head, All-tail}
+use Rattle.std.proofs.lemmas.List.Elements.{All-head, All-tail, All-map}
 use Rattle.std.proofs.lemmas.List.FromFn.{get_or-map-range_with_len, length-map-range_with_len}
 use Rattle.quiver.specs.declared.named.Named.TheVariants.{Map}
 use Rattle.quiver.specs.Declarations.{Declaration, object_count, letter_count, named_in}
@@ -14,25 +14,19 @@ use Rattle.block_text.specs.declared.fault.CertFault.{CertFault}
 use Rattle.block_text.specs.Lines.{Line}
 use Rattle.block_text.specs.Fault.{ReadsText}
 use Rattle.block_text.specs.Letters.{is_name, is_number}
-use Rattle.model_text.specs.ModelBlocks.{EntryTokens, side, matrix, ModelTokens, is_row, is_row_of, is_entry, IsModelBlock}
-use Rattle.matrix_models.specs.Limits.{side_limit}
-use Rattle.model_text.specs.ModelBounds.{Bound, names, numbers, sizes, value_of, is_object_named, side_of, matrix_value, matrix_of, model_value, HasName, IsBelow, IsSmall, KeepsOne}
+use Rattle.model_text.specs.ModelBlocks.{EntryTokens, side, matrix, is_row, is_row_of, is_entry}
+use Rattle.matrix_models.specs.Limits.{modulus_limit, side_limit}
+use Rattle.model_text.specs.ModelBounds.{Bound, names, numbers, sizes, value_of, is_object_named, side_of, matrix_value, matrix_of, ModelTokens, model_value, HasName, IsBelow, IsSmall}
 use Rattle.model_text.specs.Written.{is_map_named}
 use Rattle.model_text.specs.Models.{model_kind, HasMap, IsPlaced, IsModel, IsModels}
 use Rattle.block_text.specs.Steps.{all_values}
 use Rattle.model_text.specs.Reading.{model_steps}
 use Rattle.model_text.proofs.EntryValues.{flat_from}
 use Rattle.block_text.proofs.EachText.{values_are, read_values_are}
+use Rattle.block_text.proofs.SaidLines.{within_limit}
+use Rattle.block_text.proofs.Standing.{everywhere}
 use Rattle.model_text.proofs.Reader.{reader}
 use Rattle.model_text.proofs.Values.{rows_have_length}
-
-all_of : {A B : Type 0} (P : B → Type 0) (f : A → B) → ((x : A) → P (f x)) → (xs : List A) → All P (map f xs)
-all_of P f each [] = All-nil P
-all_of P f each (x ∷ xs) = All-cons P (f x) (map f xs) (each x) (all_of P f each xs)
-
-all_mapped : {A B : Type 0} (P : B → Type 0) (f : A → B) (xs : List A) → All (λ x. P (f x)) xs → All P (map f xs)
-all_mapped P f [] each = All-nil P
-all_mapped P f (x ∷ xs) each = All-cons P (f x) (map f xs) (All-head (λ y. P (f y)) x xs each) (all_mapped P f xs (All-tail (λ y. P (f y)) x xs each))
 
 -- of both where a test chooses
 cond_has : {A : Type 0} (P : A → Type 0) (b : Bool) (x y : A) → (b ≡ true → P x) → P y → P (cond b x y)
@@ -71,7 +65,7 @@ module _ (ds : List Declaration) where
             columns_side = record { positive = grind (arith, nat_tests, first_row.0); at_most = small.1 };
             size = length-map flat value_of ∙ rows_have_length first rest (record { first_row = rows.0; more = rows.1 }) ∙ count;
           };
-          entries_below = all_mapped (λ entry. entry < m) value_of flat (flat_from (λ t. value_of t < m) (first ∷ rest) below);
+          entries_below = All-map (λ entry. entry < m) value_of flat (flat_from (λ t. value_of t < m) (first ∷ rest) below);
         }
 
     has_map : (name : List ℕ) (a : ℕ) → HasName ds (matrix name [] []) → is_map_named a (named_in ds name) ≡ true → HasMap ds a
@@ -94,22 +88,24 @@ module _ (ds : List Declaration) where
         (placed es (All-tail (λ t. IsTrue (is_entry t)) e es each) (All-tail (HasName ds) e es known) (All-tail (IsBelow m) e es below) (All-tail IsSmall e es small) a)
 
   -- models
-  value_is_model : (b : ModelTokens) → IsModelBlock b → ((bound : Bound) → KeepsOne ds bound b) → IsModel ds (model_value ds b)
-  value_is_model b block keeps =
-      let m : ℕ = value_of b.modulus in
-      let at_least = and_parts (is_number b.modulus) (nat_le 2 m) block.modulus in
-      let is_mod : IsModulus m = record { at_least = grind (arith, nat_tests, at_least.1); at_most = omega (arith, (keeps numbers).modulus) } in
+  value_is_model : (b : ModelTokens) → (model_kind ds).IsTree b → ((bound : Bound) → (model_kind ds).Keeps bound b) → IsModel ds (model_value ds b)
+  value_is_model b is keeps =
+      let m : ℕ = value_of b.1.0 in
+      let objects = range_with_len 0 (object_count ds) in
+      let at_least = and_parts (is_number b.1.0) (nat_le 2 m) is.1.0 in
+      let within = (keeps numbers).1.0 refl in
+      let is_mod : IsModulus m = record { at_least = grind (arith, nat_tests, at_least.1); at_most = (within_limit modulus_limit b.1.0 within.0 within.1).1 } in
       record {
         modulus = is_mod;
-        objects = length-map-range_with_len (side_of ds b.entries) 0 (object_count ds);
-        sides = all_of IsSide (side_of ds b.entries) (sides_are b.entries block.entries (keeps sizes)) (range_with_len 0 (object_count ds));
-        letters = length-map-range_with_len (matrix_of ds m b.entries) 0 (letter_count ds);
-        maps = λ a within. subst (IsPlaced ds m a) (sym (get_or-map-range_with_len (matrix_of ds m b.entries) 0 (letter_count ds) a a None within (omega arith)))
-            (placed m is_mod b.entries block.entries (keeps names) (keeps numbers).entries (keeps sizes) a);
+        objects = length-map-range_with_len (side_of ds b.1.1) 0 (object_count ds);
+        sides = All-map IsSide (side_of ds b.1.1) objects (everywhere (λ v. IsSide (side_of ds b.1.1 v)) (sides_are b.1.1 is.1.1.0 (keeps sizes).1.1) objects);
+        letters = length-map-range_with_len (matrix_of ds m b.1.1) 0 (letter_count ds);
+        maps = λ a within. subst (IsPlaced ds m a) (sym (get_or-map-range_with_len (matrix_of ds m b.1.1) 0 (letter_count ds) a a None within (omega arith)))
+            (placed m is_mod b.1.1 is.1.1.0 (keeps names).1.1 (keeps numbers).1.1 (keeps sizes).1.1 a);
       }
 
-  tree_says_model : (b : ModelTokens) (m : Model) → IsModelBlock b → ((bound : Bound) → KeepsOne ds bound b) → m ≡ model_value ds b → IsModel ds m
-  tree_says_model b m block keeps says = subst (IsModel ds) (sym says) (value_is_model b block keeps)
+  tree_says_model : (b : ModelTokens) (m : Model) → (model_kind ds).IsTree b → ((bound : Bound) → (model_kind ds).Keeps bound b) → m ≡ model_value ds b → IsModel ds m
+  tree_says_model b m is keeps says = subst (IsModel ds) (sym says) (value_is_model b is keeps)
 
   pub models_are_models : (bytes : List ℕ) (ms : List Model) → IsModels ds bytes ms → All (IsModel ds) ms
   models_are_models bytes ms is = values_are (model_kind ds) (model_steps ds) (reader ds) (IsModel ds) tree_says_model bytes ms is

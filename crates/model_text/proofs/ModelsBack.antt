@@ -10,7 +10,9 @@ use Rattle.std.proofs.lemmas.List.FromFn.{fill_by_all}
 use Rattle.quiver.specs.Declarations.{Declaration, object_count, letter_count, object_name, letter_name, IsDeclared}
 use Rattle.matrix_models.specs.Matrix.{Matrix, entry_at, IsSide, IsMatrix}
 use Rattle.matrix_models.specs.declared.model.Model.{Model}
-use Rattle.block_text.specs.Lines.{Line, claim_line, end_line}
+use Rattle.block_text.specs.Lines.{Line, number_limit, claim_line, end_line}
+use Rattle.block_text.proofs.SaidLines.{number_found}
+use Rattle.matrix_models.specs.Limits.{modulus_limit}
 use Rattle.block_text.specs.Letters.{is_number}
 use Rattle.block_text.specs.Tokens.{tokens_of}
 use Rattle.block_text.specs.Back.{is_whole, is_named}
@@ -20,8 +22,8 @@ use Rattle.block_text.proofs.NumbersBack.{decimal_text, decimal_number}
 use Rattle.block_text.proofs.NumberLines.{text_of_number, end_is_text}
 use Rattle.block_text.proofs.TextsBack.{line_text-append, literal, plain_name}
 use Rattle.block_text.proofs.TokensBack.{token_read, name_token}
-use Rattle.model_text.specs.ModelBlocks.{EntryTokens, side, matrix, ModelTokens, model_front, head_line, modulus_line, entry_line, name_of, is_row, is_row_of, is_entry, IsModelBlock}
-use Rattle.model_text.specs.ModelBounds.{Bound, names, numbers, sizes, value_of, side_of, matrix_of, model_value, HasName, IsBelow, IsSmall, KeepsOne}
+use Rattle.model_text.specs.ModelBlocks.{EntryTokens, side, matrix, modulus_line, entry_line, name_of, is_row, is_row_of, is_entry}
+use Rattle.model_text.specs.ModelBounds.{Bound, names, numbers, sizes, value_of, side_of, matrix_of, ModelTokens, model_value, HasName, IsBelow, IsSmall, KeepsEntry}
 use Rattle.model_text.specs.Models.{model_kind, HasModels, HasMap, IsPlaced}
 use Rattle.model_text.specs.Written.{rows_text, side_text, map_text, head_text, model_text}
 use Rattle.model_text.specs.Back.{IsWritableModel, ModelsAreReadBack}
@@ -62,11 +64,7 @@ abbrev trees_at : List Declaration → List (Option Matrix) → ℕ → List Ent
 trees_at ds maps a = map_trees ds a (get_or maps a None)
 
 abbrev model_tree : List Declaration → Model → ModelTokens
-model_tree ds m = record {
-  claim = decimal m.claim;
-  modulus = decimal m.modulus;
-  entries = map (side_tree ds m.sides) (range_with_len 0 (object_count ds)) ++ flat_map (trees_at ds m.maps) (range_with_len 0 (letter_count ds));
-}
+model_tree ds m = (decimal m.claim, (decimal m.modulus, map (side_tree ds m.sides) (range_with_len 0 (object_count ds)) ++ flat_map (trees_at ds m.maps) (range_with_len 0 (letter_count ds))))
 
 -- a matrix
 module _ (modulus : ℕ) (x : Matrix) (is : IsMatrix modulus x) where
@@ -305,43 +303,50 @@ module _ (ds : List Declaration) (declared : IsDeclared ds) (known : IsTrue (lis
   entries_written : All Written (sides_from 0 (object_count ds) ++ maps_from 0 (letter_count ds))
   entries_written = All-append Written (sides_from 0 (object_count ds)) (maps_from 0 (letter_count ds)) (sides_written 0 (object_count ds) (omega arith)) (maps_written 0 (letter_count ds) (omega arith))
 
-  is_block : IsModelBlock (model_tree ds m)
+  is_block : (model_kind ds).IsTree (model_tree ds m)
   is_block =
       let count : nat_le 2 (value_of (decimal m.modulus)) ≡ true = le-leb 2 (value_of (decimal m.modulus)) (omega (arith, value_back m.modulus modulus_small, writable.model.modulus.at_least)) in
       let start : object_count ds + 0 ≡ object_count ds = omega arith in
       let behind = subst (λ (least : ℕ). Ascend ds least (map name_of (maps_from 0 (letter_count ds)))) start (map_names_ascend 0 (letter_count ds) (omega arith)) in
-      let ascend = side_names_ascend 0 (object_count ds) (map name_of (maps_from 0 (letter_count ds))) (omega arith) behind in
-      record {
-        claim = decimal_number m.claim claim_small;
-        modulus = rw (decimal_number m.modulus modulus_small, count) refl;
-        entries = All-weaker Written (λ e. IsTrue (is_entry e)) (λ e written. written.entry) (model_tree ds m).entries entries_written;
-        distinct = rw (map-append name_of (sides_from 0 (object_count ds)) (maps_from 0 (letter_count ds))) (ascending_apart ds 0 _ ascend);
-      }
+      let ascend = side_names_ascend 0 (object_count ds) (map name_of (maps_from 0 (letter_count ds))) (omega arith) behind in (
+        decimal_number m.claim claim_small,
+        (
+          rw (decimal_number m.modulus modulus_small, count) refl,
+          (
+            All-weaker Written (λ e. IsTrue (is_entry e)) (λ e written. written.entry) (model_tree ds m).1.1 entries_written,
+            rw (map-append name_of (sides_from 0 (object_count ds)) (maps_from 0 (letter_count ds))) (ascending_apart ds 0 _ ascend),
+          ),
+        ),
+      )
 
-  keeps : (bound : Bound) → KeepsOne ds bound (model_tree ds m)
-  keeps names = All-weaker Written (HasName ds) (λ e written. written.name) (model_tree ds m).entries entries_written
-  keeps numbers =
-      let modulus = value_back m.modulus modulus_small in
-      record {
-        claim = omega (arith, value_back m.claim claim_small, writable.claim);
-        modulus = omega (arith, modulus, writable.model.modulus.at_most);
-        entries = subst (λ (n : ℕ). All (IsBelow n) (model_tree ds m).entries) (sym modulus) (All-weaker Written (IsBelow m.modulus) (λ e written. written.below) (model_tree ds m).entries entries_written);
-      }
-  keeps sizes = All-weaker Written IsSmall (λ e written. written.small) (model_tree ds m).entries entries_written
+  keeps_each : (bound : Bound) (e : EntryTokens) → Written e → KeepsEntry ds m.modulus bound e
+  keeps_each names e written = written.name
+  keeps_each numbers e written = written.below
+  keeps_each sizes e written = written.small
+
+  keeps : (bound : Bound) → (model_kind ds).Keeps bound (model_tree ds m)
+  keeps bound =
+      let modulus = value_back m.modulus modulus_small in (
+        λ same. number_found number_limit (decimal m.claim) (omega (arith, value_back m.claim claim_small, writable.claim)),
+        (
+          λ same. number_found modulus_limit (decimal m.modulus) (omega (arith, modulus, writable.model.modulus.at_most)),
+          subst (λ (n : ℕ). All (KeepsEntry ds n bound) (model_tree ds m).1.1) (sym modulus) (All-weaker Written (KeepsEntry ds m.modulus bound) (keeps_each bound) (model_tree ds m).1.1 entries_written),
+        ),
+      )
 
   -- the text
-  head_is_text : IsTextOf (head_text m) (head_line ∷ claim_line (decimal m.claim) ∷ modulus_line (decimal m.modulus) ∷ [])
+  head_is_text : IsTextOf (head_text m) ((codes "model" ∷ codes "1" ∷ []) ∷ claim_line (decimal m.claim) ∷ modulus_line (decimal m.modulus) ∷ [])
   head_is_text =
-      let first = text_of_tokens (codes "model 1") head_line (literal (codes "model 1") refl refl) refl refl in
+      let first = text_of_tokens (codes "model 1") (codes "model" ∷ codes "1" ∷ []) (literal (codes "model 1") refl refl) refl refl in
       let claim = text_of_number (codes "claim ") (codes "claim" ∷ []) (decimal m.claim) (literal (codes "claim ") refl refl) (decimal_text m.claim claim_small) refl refl in
       let modulus = text_of_number (codes "modulus ") (codes "modulus" ∷ []) (decimal m.modulus) (literal (codes "modulus ") refl refl) (decimal_text m.modulus modulus_small) refl refl in
       text-append _ _ _ _ (text-append _ _ _ _ first claim) modulus
 
-  model_is_text : IsTextOf (model_text ds m) (model_front (model_tree ds m) ++ end_line ∷ [])
+  model_is_text : IsTextOf (model_text ds m) ((model_kind ds).lines_of (model_tree ds m) ++ end_line ∷ [])
   model_is_text =
-      let entries : map entry_line (sides_from 0 (object_count ds)) ++ map entry_line (maps_from 0 (letter_count ds)) ≡ map entry_line (model_tree ds m).entries =
+      let entries : map entry_line (sides_from 0 (object_count ds)) ++ map entry_line (maps_from 0 (letter_count ds)) ≡ map entry_line (model_tree ds m).1.1 =
       sym (map-append entry_line (sides_from 0 (object_count ds)) (maps_from 0 (letter_count ds))) in
-      let front : List Line = head_line ∷ claim_line (decimal m.claim) ∷ modulus_line (decimal m.modulus) ∷ [] in
+      let front : List Line = (codes "model" ∷ codes "1" ∷ []) ∷ claim_line (decimal m.claim) ∷ modulus_line (decimal m.modulus) ∷ [] in
       let sides = sides_are_text 0 (object_count ds) (omega arith) in
       let maps = maps_are_text 0 (letter_count ds) (omega arith) in
       let whole = text-append _ _ _ _ (text-append _ _ _ _ (text-append _ _ _ _ head_is_text sides) maps) end_is_text in

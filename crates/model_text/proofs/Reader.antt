@@ -1,69 +1,66 @@
 -- A reader of models is a reader of blocks.
-use Rattle.std.proofs.Common.{◌≡◌, ◌++◌, ◌∷◌, [], false, List, Some, Ok, Err, refl, sym, ◌∙◌, subst, codes}
+use Rattle.std.proofs.Common.{arith, ◌≡◌, ◌≤◌, ◌&&◌, ◌∷◌, [], ℕ, List, Some, IsTrue, refl, sym, ap₂, ◌∙◌, subst, nat_le, codes}
+use Rattle.std.proofs.lemmas.Bool.{and_parts}
+use Rattle.std.proofs.lemmas.Bool.Decides.{nat_tests}
+use Rattle.std.proofs.lemmas.Option.{cond_some}
 use Rattle.quiver.specs.Declarations.{Declaration}
-use Rattle.matrix_models.specs.declared.model.Model.{Model}
-use Rattle.block_text.specs.declared.fault.Flaw.{Flaw}
-use Rattle.block_text.specs.declared.fault.Flaw.TheVariants.{BadLine}
-use Rattle.block_text.specs.Fault.{asked}
-use Rattle.block_text.specs.Lines.{Line, is_end, claim_of}
+use Rattle.block_text.specs.declared.fault.Flaw.TheVariants.{NumberTooLarge}
+use Rattle.block_text.specs.Letters.{is_number, number_within}
+use Rattle.block_text.specs.Lines.{Line, number_limit, is}
 use Rattle.block_text.proofs.Bounds.{bound_of}
-use Rattle.block_text.proofs.Owed.{Begins, IsWhole, IsStopped, IsReader, reader_by_head}
-use Rattle.block_text.proofs.Results.{bind_ok, bind_err, asked_ok}
-use Rattle.model_text.specs.declared.place.Stage.{Stage}
-use Rattle.model_text.specs.declared.place.Stage.TheVariants as at
-use Rattle.model_text.specs.ModelBounds.{Bound, names, bounds, flaw_of}
-use Rattle.model_text.specs.Models.{model_kind}
-use Rattle.model_text.specs.Reading.{entry_tokens, modulus_of, begun_of, grown, next, finish, model_of, model_steps}
-use Rattle.model_text.proofs.EntryValues.{model_is}
-use Rattle.model_text.proofs.OpenBlocks.{IsOpen, begin_headed, begin_claimed, begin_inside, next_headed, next_claimed, next_entry, stopped_headed, stopped_claimed, stopped_inside}
-use Rattle.model_text.proofs.ModelLines.{model_meets}
+use Rattle.block_text.proofs.LineTrees.{is_word}
+use Rattle.block_text.proofs.Owed.{IsReader}
+use Rattle.block_text.proofs.SaidLines.{within_limit, number_found}
+use Rattle.block_lines.specs.LineKinds.{said_line}
+use Rattle.block_lines.specs.Sections.{named_lines}
+use Rattle.block_lines.proofs.NamedLines.{IsJudged, AreTokens, named_fit, named_read}
+use Rattle.block_lines.proofs.SectionBlocks.{number_read, block_read}
+use Rattle.block_lines.proofs.SectionReaders.{IsLineReader, IsSectionReader, said_reader, line_read, line_read_by, said_as_read}
+use Rattle.matrix_models.specs.Limits.{modulus_limit}
+use Rattle.model_text.specs.ModelBlocks.{modulus_line, name_of, is_modulus}
+use Rattle.model_text.specs.ModelBounds.{Bound, names, numbers, bounds, flaw_of, value_of, model_value, entry_kind}
+use Rattle.model_text.specs.Models.{other_words, model_kind}
+use Rattle.model_text.specs.Reading.{entry_tokens, entry_value, model_of, modulus_digits, modulus_of, entry_steps, model_steps}
+use Rattle.model_text.proofs.EntryLines.{entry_is, entry_read, entry_goes_on}
+use Rattle.model_text.proofs.EntryValues.{entry_judged, says_once, model_is}
 
 -- each has a bound of its own
 told : (b : Bound) → bound_of flaw_of bounds (flaw_of b) ≡ Some b
 told names = refl
 told b = refl
 
+modulus_is : (line : Line) (digits : List ℕ) → modulus_digits line ≡ Some digits → (line ≡ modulus_line digits) × IsTrue (is_modulus digits)
+modulus_is [] digits read = absurd (cc)
+modulus_is (word ∷ []) digits read = absurd (cc)
+modulus_is (word ∷ m ∷ []) digits read =
+    let found = cond_some (is (codes "modulus") word && is_modulus m) m digits read in
+    let parts = and_parts (is (codes "modulus") word) (is_modulus m) found.0 in
+    (ap₂ (λ (x y : List ℕ). x ∷ y ∷ []) (is_word (codes "modulus") word parts.0) found.1, subst (λ k. IsTrue (is_modulus k)) found.1 parts.1)
+modulus_is (word ∷ m ∷ token ∷ tokens) digits read = absurd (cc)
+
+modulus_read : IsLineReader flaw_of bounds (said_line numbers modulus_line (λ m. IsTrue (is_modulus m)) (number_within modulus_limit)) modulus_of
+modulus_read =
+    let two = number_found modulus_limit (codes "2") (omega arith) in
+    said_reader flaw_of bounds numbers NumberTooLarge modulus_line (λ m. IsTrue (is_modulus m)) modulus_digits (number_within modulus_limit) refl modulus_is (λ m fits. rw fits refl) (λ m fits. refl) (codes "2") refl two.0 two.1
+
 module _ (ds : List Declaration) where
-  goes : (s t : Stage) (front : List Line) (line : Line) → IsOpen ds s front → is_end line ≡ false → next ds s line ≡ Ok t → IsOpen ds t (front ++ line ∷ [])
-  goes at.Headed t front line here more read =
-      bind_ok (claim_of line) _ t read (λ n n_is made. let same : at.Claimed n ≡ t = cc in subst (λ (u : Stage). IsOpen ds u (front ++ line ∷ [])) same (next_headed front line n here n_is))
-  goes (at.Claimed n) t front line here more read =
-      bind_ok (modulus_of line) _ t read (λ m m_is made.
-      let same : at.Inside (begun_of n m [] []) ≡ t = cc in subst (λ (u : Stage). IsOpen ds u (front ++ line ∷ [])) same (next_claimed ds front line n m here m_is))
-  goes (at.Inside b) t front line here more read =
-      bind_ok (asked BadLine (entry_tokens line)) _ t read (λ e e_there read_grown.
-      bind_ok (grown ds b e) _ t read_grown (λ c c_is made.
-      let same : at.Inside c ≡ t = cc in
-      subst (λ (u : Stage). IsOpen ds u (front ++ line ∷ [])) same (next_entry ds b c front line e here (asked_ok BadLine (entry_tokens line) e e_there) c_is)))
+  entries_known : (m : ℕ) → AreTokens flaw_of bounds (entry_kind ds m) entry_tokens
+  entries_known m = record { are = entry_is; there = entry_read; unended = entry_goes_on; unique = says_once ds m }
 
-  goes_on : (s : Stage) (front : List Line) → IsOpen ds s front → Begins (model_kind ds) bounds front
-  goes_on at.Headed front here = subst (Begins (model_kind ds) bounds) (sym here) (begin_headed ds bounds)
-  goes_on (at.Claimed n) front here = begin_claimed ds bounds n front here
-  goes_on (at.Inside b) front here = begin_inside ds bounds b front here
-
-  ends : (s : Stage) (front : List Line) (m : Model) → IsOpen ds s front → finish ds s ≡ Some m → IsWhole (model_kind ds) front m
-  ends at.Headed front m here read = absurd (cc)
-  ends (at.Claimed n) front m here read = absurd (cc)
-  ends (at.Inside b) front m here read =
-      let same : m ≡ model_of ds b = cc in
-      record {
-        tree = here.tokens;
-        are = here.are;
-        is_tree = here.is_block;
-        keeps = here.keeps;
-        says = same ∙ model_is ds here.tokens b here.claim_value here.modulus_value here.some here.entries_are;
-      }
-
-  stops : (s : Stage) (front : List Line) (line : Line) (flaw : Flaw) → IsOpen ds s front → is_end line ≡ false → next ds s line ≡ Err flaw → IsStopped (model_kind ds) flaw (front ++ line ∷ [])
-  stops at.Headed front line flaw here more read = bind_err (claim_of line) _ flaw read (λ e. stopped_headed ds flaw front line here e) (λ n n_is made. absurd (cc))
-  stops (at.Claimed n) front line flaw here more read = bind_err (modulus_of line) _ flaw read (λ e. stopped_claimed ds flaw front line n here e) (λ m m_is made. absurd (cc))
-  stops (at.Inside b) front line flaw here more read =
-      bind_err (asked BadLine (entry_tokens line)) _ flaw read
-      (λ e. stopped_inside ds flaw front line b here (rw e refl))
-      (λ e e_there read_grown. bind_err (grown ds b e) _ flaw read_grown (λ none. stopped_inside ds flaw front line b here (rw (e_there, none) refl)) (λ c c_is made. absurd (cc)))
+  -- the lines after a modulus
+  entries_read : (t : List ℕ) → IsTrue (is_modulus t) → (m : ℕ) → number_within modulus_limit t ≡ Some m → IsSectionReader flaw_of bounds (named_lines (entry_kind ds (value_of t)) name_of) (entry_steps ds m)
+  entries_read t is m read =
+      let parts = and_parts (is_number t) (nat_le 2 (value_of t)) is in
+      let some : 1 ≤ value_of t = grind (arith, nat_tests, parts.1) in
+      named_read flaw_of bounds (entry_kind ds (value_of t)) name_of entry_tokens (entry_value ds m) (entries_known (value_of t))
+      (λ e. subst (λ k. IsJudged flaw_of bounds (entry_kind ds (value_of t)) e (entry_value ds k e)) (within_limit modulus_limit t m read).0 (entry_judged ds (value_of t) e some))
 
   pub reader : IsReader (model_kind ds) (model_steps ds)
   reader =
-      reader_by_head (model_kind ds) (model_steps ds) (IsOpen ds) told (refl, refl) refl refl
-      (codes "model") (codes "1") at.Headed (λ line. refl) refl refl goes goes_on ends stops (λ K t is keeps. model_meets K ds t is keeps)
-      (λ t v w one two. one ∙ sym two)
+      block_read flaw_of bounds (codes "model") (codes "1") other_words
+      (said_as_read flaw_of bounds
+      (line_read flaw_of bounds (number_read flaw_of bounds numbers (codes "claim") number_limit refl)
+      (line_read_by flaw_of bounds (λ m. named_lines (entry_kind ds m) name_of) (entry_steps ds) modulus_read value_of (λ t. named_fit flaw_of bounds (entry_kind ds (value_of t)) name_of entry_tokens (entries_known (value_of t))) entries_read))
+      (model_of ds) (λ b m. m ≡ model_value ds b) (λ t v w one two. one ∙ sym two)
+      (λ t v _ says. model_is ds t v (within_limit number_limit t.0 v.0 says.0).0 (within_limit modulus_limit t.1.0 v.1.0 says.1.0).0 says.1.1))
+      told (refl, refl) refl refl

@@ -1,24 +1,14 @@
--- The grammar of models in evidence text: blocks as trees of tokens, and the lines of each.
-use Rattle.std.specs.Prelude.{◌≢◌, ℕ, ◌∷◌, ◌++◌, ◌&&◌, Bool, IsTrue, List, [], map, AllPairs, length, nat_eq, nat_lt, nat_le, codes}
-use Rattle.std.specs.List.{All, flat_map, list_all}
+-- The lines of models in evidence text, as tokens.
+use Rattle.std.specs.Prelude.{ℕ, ◌∷◌, ◌++◌, ◌&&◌, Bool, List, [], length, nat_eq, nat_lt, nat_le, codes}
+use Rattle.std.specs.List.{flat_map, list_all}
 use Rattle.std.specs.Str.Parse.{digits_value}
 use Rattle.block_text.specs.Letters.{is_name, is_number}
-use Rattle.block_text.specs.Lines.{Line, claim_line}
+use Rattle.block_text.specs.Lines.{Line}
 
 -- `side NAME S`, or `map NAME = ..` with the numbers of the first row and of the rows after it
 pub data EntryTokens : Type 0 where
   side : List ℕ → List ℕ → EntryTokens
   matrix : List ℕ → List (List ℕ) → List (List (List ℕ)) → EntryTokens
-
--- a model: its claim, its modulus, and its lines `side` and `map` in their order
-pub record ModelTokens : Type 0 where
-  pub claim : List ℕ
-  pub modulus : List ℕ
-  pub entries : List EntryTokens
-
--- model 1
-abbrev pub head_line : Line
-head_line = codes "model" ∷ codes "1" ∷ []
 
 -- modulus M
 abbrev pub modulus_line : List ℕ → Line
@@ -32,10 +22,6 @@ more_rows rows = flat_map (λ row. codes ";" ∷ row) rows
 abbrev pub entry_line : EntryTokens → Line
 entry_line (side name number) = codes "side" ∷ name ∷ number ∷ []
 entry_line (matrix name first rest) = codes "map" ∷ name ∷ codes "=" ∷ (first ++ more_rows rest)
-
--- all but the line that ends it
-abbrev pub model_front : ModelTokens → List Line
-model_front b = head_line ∷ claim_line b.claim ∷ modulus_line b.modulus ∷ map entry_line b.entries
 
 abbrev pub name_of : EntryTokens → List ℕ
 name_of (side name number) = name
@@ -57,10 +43,3 @@ is_entry (matrix name first rest) = is_name name && (is_row first && list_all (i
 -- a number that is at least 2
 abbrev pub is_modulus : List ℕ → Bool
 is_modulus m = is_number m && nat_le 2 (digits_value 10 m)
-
--- numbers, sides and rows are at their places, and no two lines have the same name
-pub record IsModelBlock (b : ModelTokens) : Type 0 where
-  pub claim : IsTrue (is_number b.claim)
-  pub modulus : IsTrue (is_modulus b.modulus)
-  pub entries : All (λ entry. IsTrue (is_entry entry)) b.entries
-  pub distinct : AllPairs (λ x y. x ≢ y) (map name_of b.entries)

@@ -1,5 +1,5 @@
--- The bounds of models in evidence text, in the order in which they are tested, and the values of its blocks.
-use Rattle.std.specs.Prelude.{◌≡◌, ◌<◌, ◌≤◌, ⊤, ℕ, ◌∷◌, Bool, false, List, [], length, map, nat_eq, Option, Some, None, if◌then◌else◌}
+-- The bounds of models in evidence text, in the order in which they are tested, their lines, and what these say.
+use Rattle.std.specs.Prelude.{◌≡◌, ◌<◌, ◌≤◌, ⊤, ℕ, ◌∷◌, Bool, false, IsTrue, List, [], length, map, nat_eq, Option, Some, None, if◌then◌else◌, codes}
 use Rattle.std.specs.List.{All, flat_map, range_with_len}
 use Rattle.std.specs.Str.Parse.{digits_value}
 use Rattle.quiver.specs.declared.named.Named.{Named}
@@ -10,9 +10,14 @@ use Rattle.matrix_models.specs.Matrix.{Matrix}
 use Rattle.matrix_models.specs.declared.model.Model.{Model}
 use Rattle.block_text.specs.declared.fault.Flaw.{Flaw}
 use Rattle.block_text.specs.declared.fault.Flaw.TheVariants.{UnknownName, NumberTooLarge, TooMany}
+use Rattle.block_text.specs.Letters.{number_within}
 use Rattle.block_text.specs.Lines.{number_limit}
+use Rattle.block_lines.specs.LineKinds.{LineKind, said_line, number_line}
+use Rattle.block_lines.specs.Sections.{Section, line_by, line_then, named_lines, said_as}
+use Rattle.model_text.specs.declared.place.Entry.{Entry}
+use Rattle.model_text.specs.declared.place.Entry.TheVariants as entry
 use Rattle.model_text.specs.Written.{is_map_named}
-use Rattle.model_text.specs.ModelBlocks.{EntryTokens, side, matrix, ModelTokens}
+use Rattle.model_text.specs.ModelBlocks.{EntryTokens, side, matrix, modulus_line, entry_line, name_of, is_entry, is_modulus}
 
 -- the value of decimal digits
 abbrev pub value_of : List ℕ → ℕ
@@ -46,13 +51,17 @@ matrix_of ds modulus (side name number ∷ entries) a = matrix_of ds modulus ent
 matrix_of ds modulus (matrix name first rest ∷ entries) a =
     if is_map_named a (named_in ds name) then Some (matrix_value modulus first rest) else matrix_of ds modulus entries a
 
--- what the tokens of a model say: the side of each object, and a matrix or none for each letter
+-- the tokens of a model: its claim, its modulus, and its lines `side` and `map`
+abbrev pub ModelTokens : Type 0
+ModelTokens = List ℕ × (List ℕ × List EntryTokens)
+
+-- what they say: the side of each object, and a matrix or none for each letter
 abbrev pub model_value : List Declaration → ModelTokens → Model
 model_value ds b = record {
-  claim = value_of b.claim;
-  modulus = value_of b.modulus;
-  sides = map (side_of ds b.entries) (range_with_len 0 (object_count ds));
-  maps = map (matrix_of ds (value_of b.modulus) b.entries) (range_with_len 0 (letter_count ds));
+  claim = value_of b.0;
+  modulus = value_of b.1.0;
+  sides = map (side_of ds b.1.1) (range_with_len 0 (object_count ds));
+  maps = map (matrix_of ds (value_of b.1.0) b.1.1) (range_with_len 0 (letter_count ds));
 }
 
 -- on names, on numbers, and on sides, rows and columns
@@ -86,14 +95,24 @@ abbrev pub IsSmall : EntryTokens → Type 0
 IsSmall (side name number) = value_of number ≤ side_limit
 IsSmall (matrix name first rest) = (length (first ∷ rest) ≤ side_limit) × (length first ≤ side_limit)
 
--- the claim and the modulus are within their bounds, and the entries below the modulus
-pub record HasNumbers (b : ModelTokens) : Type 0 where
-  pub claim : value_of b.claim ≤ number_limit
-  pub modulus : value_of b.modulus ≤ modulus_limit
-  pub entries : All (IsBelow (value_of b.modulus)) b.entries
+-- the line is within the bound, in a model with this modulus
+abbrev pub KeepsEntry : List Declaration → ℕ → Bound → EntryTokens → Type 0
+KeepsEntry ds modulus names e = HasName ds e
+KeepsEntry ds modulus numbers e = IsBelow modulus e
+KeepsEntry ds modulus sizes e = IsSmall e
 
--- the model is within the bound
-abbrev pub KeepsOne : List Declaration → Bound → ModelTokens → Type 0
-KeepsOne ds names b = All (HasName ds) b.entries
-KeepsOne ds numbers b = HasNumbers b
-KeepsOne ds sizes b = All IsSmall b.entries
+-- what it says: the side of an object, or the matrix of a declared map
+abbrev pub SaysEntry : List Declaration → ℕ → EntryTokens → Entry → Type 0
+SaysEntry ds modulus (side name number) said = (v : _) × (named_in ds name ≡ Some (Object v)) × (said ≡ entry.Side v (value_of number))
+SaysEntry ds modulus (matrix name first rest) said = (a : _) × (named_in ds name ≡ Some (Map a)) × (said ≡ entry.Map a (matrix_value modulus first rest))
+
+-- the lines `side` and `map` of a model with this modulus
+abbrev pub entry_kind : List Declaration → ℕ → LineKind Bound Entry
+entry_kind ds modulus = record { Tokens = EntryTokens; line_of = entry_line; IsLine = λ e. IsTrue (is_entry e); Keeps = KeepsEntry ds modulus; Says = SaysEntry ds modulus }
+
+-- claim N, modulus M, and lines of which no two have the same name
+abbrev pub model_lines : List Declaration → Section Bound Model
+model_lines ds =
+    said_as (line_then (number_line numbers (codes "claim") number_limit)
+    (line_by (said_line numbers modulus_line (λ m. IsTrue (is_modulus m)) (number_within modulus_limit)) value_of (λ modulus. named_lines (entry_kind ds modulus) name_of)))
+    (λ b m. m ≡ model_value ds b)

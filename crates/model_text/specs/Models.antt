@@ -6,11 +6,11 @@ use Rattle.quiver.specs.Declarations.{Declaration, object_count, letter_count, n
 use Rattle.matrix_models.specs.Matrix.{Matrix, IsModulus, IsSide, IsMatrix}
 use Rattle.matrix_models.specs.declared.model.Model.{Model}
 use Rattle.block_text.specs.Fault.{Fault}
-use Rattle.block_text.specs.Kind.{Kind, kind_of}
+use Rattle.block_text.specs.Kind.{Kind}
 use Rattle.block_text.specs.Texts as texts
 use Rattle.block_text.specs.Texts.{HasBlocks, IsBlocks}
-use Rattle.model_text.specs.ModelBlocks.{model_front, IsModelBlock}
-use Rattle.model_text.specs.ModelBounds.{bounds, flaw_of, KeepsOne, model_value}
+use Rattle.block_lines.specs.Sections.{block_kind}
+use Rattle.model_text.specs.ModelBounds.{bounds, flaw_of, model_lines}
 
 -- blocks of these kinds aren't read
 abbrev pub other_words : List (List ℕ)
@@ -18,7 +18,7 @@ other_words = codes "certificate" ∷ codes "basis" ∷ []
 
 -- Models are a kind of block.
 abbrev pub model_kind : List Declaration → Kind Model
-model_kind ds = kind_of model_front IsModelBlock other_words bounds flaw_of (KeepsOne ds) (λ b m. m ≡ model_value ds b)
+model_kind ds = block_kind (codes "model") (codes "1") other_words bounds flaw_of (model_lines ds)
 
 -- The bytes are UTF-8, their lines are blocks within all bounds, and these are the models among them.
 abbrev pub HasModels : List Declaration → List ℕ → List Model → Type 0

@@ -2,19 +2,18 @@
 -- proofs use it; the models of a text are defined in Models.
 use Rattle.std.specs.Prelude.{⊤, ℕ, ◌-◌, ◌&&◌, List, [], ◌∷◌, ◌++◌, length, map, nat_eq, nat_le, Option, Some, None, Result, Ok, Err}
 use Rattle.std.specs.Prelude.{IsTrue, if◌then◌else◌, codes}
-use Rattle.std.specs.List.{flat_map, list_all, list_any, range_with_len}
+use Rattle.std.specs.List.{flat_map, list_all, range_with_len}
 use Rattle.std.specs.Option.{option_map, option_and_then}
-use Rattle.std.specs.Str.{bytes_eq}
 use Rattle.quiver.specs.declared.named.Named.{Named}
 use Rattle.quiver.specs.declared.named.Named.TheVariants.{Object, Map}
 use Rattle.quiver.specs.Declarations.{Declaration, object_count, letter_count, named_in}
 use Rattle.matrix_models.specs.Matrix.{Matrix, IsModulus}
 use Rattle.matrix_models.specs.declared.model.Model.{Model}
 use Rattle.block_text.specs.declared.fault.Flaw.{Flaw}
-use Rattle.block_text.specs.declared.fault.Flaw.TheVariants.{BadLine, UnknownName, NumberTooLarge, TooMany}
+use Rattle.block_text.specs.declared.fault.Flaw.TheVariants.{UnknownName, NumberTooLarge, TooMany}
 use Rattle.block_text.specs.Fault.{◌>>=◌, asked}
 use Rattle.block_text.specs.Letters.{number_within}
-use Rattle.block_text.specs.Lines.{is, begins, is_pair, said, claim_of, Line}
+use Rattle.block_text.specs.Lines.{number_limit, is, begins, said, number_of, Line}
 use Rattle.model_text.specs.ModelBlocks.{EntryTokens, side, matrix, name_of, is_row, is_row_of, is_entry, is_modulus}
 use Rattle.matrix_models.specs.Limits.{modulus_limit, side_limit}
 use Rattle.block_text.specs.Steps.{Steps}
@@ -22,9 +21,9 @@ use Rattle.model_text.specs.ModelBounds.{value_of}
 use Rattle.model_text.specs.Models.{other_words}
 use Rattle.model_text.specs.declared.place.Entry.{Entry}
 use Rattle.model_text.specs.declared.place.Entry.TheVariants as entry
-use Rattle.model_text.specs.declared.place.Begun.{Begun}
-use Rattle.model_text.specs.declared.place.Stage.{Stage}
-use Rattle.model_text.specs.declared.place.Stage.TheVariants as at
+use Rattle.block_lines.specs.declared.section.LinePlace.{LinePlace}
+use Rattle.block_lines.specs.declared.section.LinePlace.TheVariants as at
+use Rattle.block_lines.specs.SectionSteps.{SectionSteps, line_steps_by, line_steps, named_steps, steps_as, block_steps}
 
 -- the tokens before the first ; and those between the others
 abbrev pub rows_in : Line → Line × List Line
@@ -117,12 +116,8 @@ sides_in ds entries = map (side_in entries) (range_with_len 0 (object_count ds))
 abbrev pub maps_in : List Declaration → List Entry → List (Option Matrix)
 maps_in ds entries = map (matrix_in entries) (range_with_len 0 (letter_count ds))
 
-abbrev pub model_of : List Declaration → Begun → Model
-model_of ds b = record { claim = b.claim; modulus = b.modulus; sides = sides_in ds b.entries; maps = maps_in ds b.entries }
-
--- model 1
-abbrev pub begin : Line → Option Stage
-begin line = if is_pair (codes "model") (codes "1") line then Some at.Headed else None
+abbrev pub model_of : List Declaration → ℕ × (ℕ × List Entry) → Model
+model_of ds said = record { claim = said.0; modulus = said.1.0; sides = sides_in ds said.1.1; maps = maps_in ds said.1.1 }
 
 -- modulus M
 abbrev pub modulus_digits : Line → Option (List ℕ)
@@ -134,33 +129,25 @@ modulus_digits (word ∷ m ∷ token ∷ tokens) = None
 abbrev pub modulus_of : Line → Result ℕ Flaw
 modulus_of line = said modulus_digits (number_within modulus_limit) NumberTooLarge line
 
-abbrev pub begun_of : ℕ → ℕ → List (List ℕ) → List Entry → Begun
-begun_of claim modulus names entries = record { claim = claim; modulus = modulus; names = names; entries = entries }
+-- the names of the lines `side` and `map`, and what these say
+abbrev pub Entries : Type 0
+Entries = List (List ℕ) × List Entry
 
--- one more line of a model, whose name is in no line before it
-abbrev pub grown : List Declaration → Begun → EntryTokens → Result Begun Flaw
-grown ds b e =
-    if list_any (bytes_eq (name_of e)) b.names then Err BadLine
-    else entry_value ds b.modulus e >>= λ value. Ok (begun_of b.claim b.modulus (b.names ++ name_of e ∷ []) (b.entries ++ value ∷ []))
+abbrev pub entry_steps : List Declaration → ℕ → SectionSteps Entries (List Entry)
+entry_steps ds modulus = named_steps entry_tokens name_of (entry_value ds modulus)
 
-abbrev pub inside : List Declaration → Begun → Line → Result Stage Flaw
-inside ds b line = asked BadLine (entry_tokens line) >>= λ e. (grown ds b e >>= λ next. Ok (at.Inside next))
+-- the modulus and the lines after it
+abbrev pub modulus_steps : List Declaration → SectionSteps (LinePlace ℕ Entries) (ℕ × List Entry)
+modulus_steps ds = line_steps_by modulus_of (entry_steps ds)
 
-abbrev pub next : List Declaration → Stage → Line → Result Stage Flaw
-next ds at.Headed line = claim_of line >>= λ n. Ok (at.Claimed n)
-next ds (at.Claimed n) line = modulus_of line >>= λ m. Ok (at.Inside (begun_of n m [] []))
-next ds (at.Inside b) line = inside ds b line
-
-abbrev pub finish : List Declaration → Stage → Option Model
-finish ds at.Headed = None
-finish ds (at.Claimed n) = None
-finish ds (at.Inside b) = Some (model_of ds b)
-
-abbrev pub model_steps : List Declaration → Steps Stage Model
-model_steps ds = record { others = other_words; begin = begin; next = next ds; finish = finish ds }
+abbrev pub model_steps : List Declaration → Steps (LinePlace ℕ (LinePlace ℕ Entries)) Model
+model_steps ds = block_steps (codes "model") (codes "1") other_words (steps_as (model_of ds) (line_steps (number_of (codes "claim") number_limit) (modulus_steps ds)))
 
 -- the modulus of a model is one
-abbrev pub HasModulus : Stage → Type 0
-HasModulus at.Headed = ⊤
-HasModulus (at.Claimed n) = ⊤
-HasModulus (at.Inside b) = IsModulus b.modulus
+abbrev pub HasModulus : LinePlace ℕ Entries → Type 0
+HasModulus at.Before = ⊤
+HasModulus (at.Behind m entries) = IsModulus m
+
+abbrev pub IsSound : LinePlace ℕ (LinePlace ℕ Entries) → Type 0
+IsSound at.Before = ⊤
+IsSound (at.Behind n place) = HasModulus place

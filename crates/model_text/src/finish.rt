@@ -4,7 +4,7 @@ ghost use Rattle.std.specs.Prelude.{◌≡◌, ◌<◌, IfOk};
 ghost use Rattle.std.specs.Option.{option_copied};
 ghost use Rattle.model_text.specs.Reading.{side_in, matrix_in, sides_in, maps_in, model_of};
 
-use crate::place::{Begun, Entry};
+use crate::place::Entry;
 use lists::{Duplicate, Listing};
 use matrix_models::{Matrix, Model};
 use quiver::Quiver;
@@ -80,14 +80,19 @@ fn maps_in(
     Ok(maps)
 }
 
-/// The model of a block whose lines were read.
-pub fn model_of(alloc: Global, quiver: &Quiver, begun: &Begun) -> Result<Model, AllocError>
-    ensures { IfOk result (λ m. m ≡ model_of quiver.now begun.now) }
+/// The model that the lines of a block say.
+pub fn model_of(
+    alloc: Global,
+    quiver: &Quiver,
+    claim: u32,
+    modulus: u32,
+    entries: &[Entry],
+) -> Result<Model, AllocError>
+    ensures { IfOk result (λ m. m ≡ model_of quiver.now (claim, (modulus, entries.now))) }
 {
-    let entries = begun.entries.as_slice();
     Ok(Model {
-        claim: begun.claim,
-        modulus: begun.modulus,
+        claim,
+        modulus,
         sides: sides_in(alloc, quiver, entries)?,
         maps: maps_in(alloc, quiver, entries)?,
     })

@@ -1,5 +1,6 @@
 //! What a reader has made of the lines before one.
 
+use block_lines::LinePlace;
 use lists::{Listing, Text};
 use matrix_models::Matrix;
 use word_core::{Letter, Object};
@@ -13,23 +14,8 @@ pub enum Entry {
     Map { letter: Letter, matrix: Matrix },
 }
 
-/// What was read of an open model.
-#[derive(Drop)]
-pub struct Begun {
-    pub claim: u32,
-    pub modulus: u32,
-    /// The names in its lines.
-    pub names: Listing<Text>,
-    pub entries: Listing<Entry>,
-}
+/// The names in the lines `side` and `map`, and what these say.
+pub type Entries = (Listing<Text>, Listing<Entry>);
 
-/// How far an open model was read.
-#[derive(Drop)]
-pub enum Stage {
-    /// After its head.
-    Headed,
-    /// After its claim.
-    Claimed { claim: u32 },
-    /// After its modulus.
-    Inside { begun: Begun },
-}
+/// How far a model was read after its claim: its modulus, and the lines after it.
+pub type Behind = LinePlace<u32, Entries>;
