@@ -42,9 +42,9 @@ module _ {K : Type 0} (k : Field K) where
 
   module _ (o : Order) (g : Rules o) where
     -- what a positive multiple of which is a sum of rows is like zero
-    span_like : (f : Coefs) → Span (AnyRow o g) f → (p : Form K) → ((w : Word) → look k p w ≡ k.int (f w)) → Cong k o g p []
-    span_like _ (nothing f h) p e = alike p [] (record { at = λ w. e w ∙ ap k.int (h w) ∙ int_none k })
-    span_like _ (more f d b c (M, x) hd h) p e = rows p r [] (k.int c) x.left x.number x.right x.has (subst o.Range x.top x.range) (span_like d hd r at_rest)
+    span_like : {f : Coefs} → Span (AnyRow o g) f → (p : Form K) → ((w : Word) → look k p w ≡ k.int (f w)) → Cong k o g p []
+    span_like (nothing f h) p e = alike p [] (record { at = λ w. e w ∙ ap k.int (h w) ∙ int_none k })
+    span_like (more f d b c (M, x) hd h) p e = rows p r [] (k.int c) x.left x.number x.right x.has (subst o.Range x.top x.range) (span_like hd r at_rest)
         (record { at = whole })
       where
         r : Form K
@@ -78,8 +78,8 @@ module _ {K : Type 0} (k : Field K) where
             ∙ ap₂ k.plus (at_row (k.int c) w)
             (lookup (row k o g (k.minus (k.int c)) x.left x.number x.right) p w
             ∙ ap (λ z. k.plus z (look k p w)) (at_row (k.minus (k.int c)) w ∙ minus_times k (k.int c) (k.int (b w)))))
-    span_like _ (part f d n hn hd h) p e = cong_left k o g p (scaled k (k.part n) (scaled k (k.int (pos n)) p)) [] (record { at = shrunk })
-        (cong_scaled k o g (k.part n) _ [] (span_like d hd (scaled k (k.int (pos n)) p) grown))
+    span_like (part f d n hn hd h) p e = cong_left k o g (record { at = shrunk })
+        (cong_scaled k o g (k.part n) (span_like hd (scaled k (k.int (pos n)) p) grown))
       where
         grown : (w : Word) → look k (scaled k (k.int (pos n)) p) w ≡ k.int (d w)
         grown w = sum-scaled k (λ u. hit k u w) (k.int (pos n)) p ∙ ap (k.times (k.int (pos n))) (e w) ∙ sym (k.int_times (pos n) (f w))
@@ -92,7 +92,7 @@ module _ {K : Type 0} (k : Field K) where
             ∙ ap (λ z. k.times z (look k p w)) (k.times_comm (k.part n) (k.int (pos n)) ∙ k.part_is n hn) ∙ k.one_times (look k p w))
 
     pub ideal_like : (p : List Term) → Span (AnyRow o g) (coefficient_of p) → Cong k o g (lifted k k.one p) []
-    ideal_like p h = span_like (coefficient_of p) h (lifted k k.one p) (look-lifted_one p)
+    ideal_like p h = span_like h (lifted k k.one p) (look-lifted_one p)
 
 module _ {K : Type 0} (k : Field K) (s : Ground k) where
   abbrev pub S : Structure ℕ (NormalMap K)
@@ -113,15 +113,15 @@ module _ {K : Type 0} (k : Field K) (s : Ground k) where
   TermsPlay p = AllByRecursion (λ t. AllPlay s.play t.1) p
 
 module _ {K : Type 0} (k : Field K) (s : Ground k) (facts : Facts k s) where
-  letter_good : (a : ℕ) → a < letters s.quiver → s.play a ≡ true → Good k s (source s.quiver a) (target s.quiver a) (a ∷ [])
-  letter_good a h e =
-      record { leads = one_letter s.quiver (source s.quiver a) (target s.quiver a) a h refl refl; plays = (e, tt); unit = λ q. absurd (clash a [] q) }
+  letter_good : {a : ℕ} → a < letters s.quiver → s.play a ≡ true → Good k s (source s.quiver a) (target s.quiver a) (a ∷ [])
+  letter_good {a} h e =
+      record { leads = one_letter s.quiver h refl refl; plays = (e, tt); unit = λ q. absurd (clash a [] q) }
     where
       clash : (a : ℕ) (w : Word) → a ∷ w ≡ [] → ⊥
       clash a w e = cc
 
-  word_is_arrow : (u v : ℕ) (w : Word) → u < s.quiver.objects → v < s.quiver.objects → Good k s u v w → IsArrow (S k s) u v ((word_arrow k s) u v w)
-  word_is_arrow u v w hu hv a =
+  word_is_arrow : {u v : ℕ} {w : Word} → u < s.quiver.objects → v < s.quiver.objects → Good k s u v w → IsArrow (S k s) u v ((word_arrow k s) u v w)
+  word_is_arrow {u} {v} {w} hu hv a =
       record {
         arrow =
             record {
@@ -149,7 +149,7 @@ module _ {K : Type 0} (k : Field K) (s : Ground k) (facts : Facts k s) where
           → IsArrow (S k s) (source s.quiver a) (target s.quiver a)
           (cond b ((word_arrow k s) (source s.quiver a) (target s.quiver a) (a ∷ []))
           (cond c ((S k s).identity a) ((S k s).zero (source s.quiver a) (target s.quiver a))))
-      go true e c f = word_is_arrow _ _ (a ∷ []) su ta (letter_good a h e)
+      go true e c f = word_is_arrow su ta (letter_good h e)
       go false e true f = subst (λ z. IsArrow (S k s) z (target s.quiver a) ((S k s).identity a))
           (sym (facts.is_quiver.identity_source a (ltb-true a s.quiver.objects f)))
           (subst (λ z. IsArrow (S k s) a z ((S k s).identity a)) (sym (facts.is_quiver.identity_target a (ltb-true a s.quiver.objects f)))
@@ -192,48 +192,41 @@ module _ {K : Type 0} (k : Field K) (s : Ground k) (facts : Facts k s) where
       none_left : (n : ℕ) → pos (suc n) +ℤ negsuc n ≡ pos 0
       none_left n = omega (arith, ints)
 
-  natural_arrow : (x y n : ℕ) (a : NormalMap K) → IsArrow (S k s) x y a → IsArrow (S k s) x y (natural_multiple (S k s) n a)
-  natural_arrow x y zero a h =
+  natural_arrow : {x y : ℕ} (n : ℕ) {a : NormalMap K} → IsArrow (S k s) x y a → IsArrow (S k s) x y (natural_multiple (S k s) n a)
+  natural_arrow zero {a} h =
       record {
         arrow = (zero_arrow k s facts a.source a.target h.arrow.source_is_object h.arrow.target_is_object).arrow;
         source = h.source;
         target =
             h.target;
       }
-  natural_arrow x y (suc n) a h = add_arrow k s facts x y a (natural_multiple (S k s) n a) h (natural_arrow x y n a h)
+  natural_arrow {x} {y} (suc n) {a} h = add_arrow k s facts x y a (natural_multiple (S k s) n a) h (natural_arrow n h)
 
-  multiple_arrow : (x y : ℕ) (c : ℤ) (a : NormalMap K) → IsArrow (S k s) x y a → IsArrow (S k s) x y (multiple (S k s) c a)
-  multiple_arrow x y (pos n) a h = natural_arrow x y n a h
-  multiple_arrow x y (negsuc n) a h = negate_arrow k s facts x y (natural_multiple (S k s) (suc n) a) (natural_arrow x y (suc n) a h)
+  multiple_arrow : {x y : ℕ} (c : ℤ) {a : NormalMap K} → IsArrow (S k s) x y a → IsArrow (S k s) x y (multiple (S k s) c a)
+  multiple_arrow (pos n) h = natural_arrow n h
+  multiple_arrow {x} {y} (negsuc n) {a} h = negate_arrow k s facts x y (natural_multiple (S k s) (suc n) a) (natural_arrow (suc n) h)
 
-  pub normal_cancels : (n : ℕ) → 0 < n → Cancels (S k s) (pos n)
-  normal_cancels n h =
+  pub normal_cancels : {n : ℕ} → 0 < n → Cancels (S k s) (pos n)
+  normal_cancels {n} h =
       record {
-        at = λ a m e. arrow_same a _ refl refl
-            (form_unique k s.sorting a.form [] m.sorted tt
-            (record { at = λ w. int_cancel k n (look k a.form w) h (sym (look-natural n a w) ∙ ap (λ z. look k z.form w) e) }));
+        at = λ a m e. arrow_same a _ refl refl (form_unique k s.sorting a.form [] m.sorted tt (record { at = λ w. int_cancel k
+            (look k a.form w) h (sym (look-natural n a w) ∙ ap (λ z. look k z.form w) e) }));
       }
 
-  path_arrow : (u v a : ℕ) (w : Word) → Good k s u v (a ∷ w) → path_value (S k s) (normal_representation k s) a w ≡ (word_arrow k s) u v (a ∷ w)
-  path_arrow u v a [] h = ap
-      (λ b. cond b ((word_arrow k s) (source s.quiver a) (target s.quiver a) (a ∷ []))
-      (cond (ltb a s.quiver.objects) ((S k s).identity a) ((S k s).zero (source s.quiver a) (target s.quiver a)))) h.plays.0
-      ∙ arrow_same _ _ (sym (eqb-true u (source s.quiver a) first.rest)) first.target refl
+  path_arrow : {u : ℕ} (v : ℕ) {a : ℕ} (w : Word) → Good k s u v (a ∷ w) → path_value (S k s) (normal_representation k s) a w ≡ (word_arrow k s) u v (a ∷ w)
+  path_arrow {u} v {a} [] h = ap (λ b. cond b ((word_arrow k s) (source s.quiver a) (target s.quiver a) (a ∷ [])) (cond
+      (ltb a s.quiver.objects) ((S k s).identity a) ((S k s).zero (source s.quiver a) (target s.quiver a)))) h.plays.0 ∙ arrow_same _ _ (sym
+      (eqb-true u (source s.quiver a) first.rest)) first.target refl
     where
       first : Step s.quiver u v a []
       first = step s.quiver u v a [] h.leads
-  path_arrow u v a (b ∷ w) h = ap₂ (S k s).compose at_letter (path_arrow u (source s.quiver a) b w rest)
-      ∙ arrow_same _ _ refl first.target
-      (reduced_same k s facts (product k (reduced k s A) (reduced k s W)) ((k.one, a ∷ b ∷ w) ∷ []) (ranges k s facts u (target s.quiver a) _ (product_good))
-      (good_range k s facts u v _ h, tt)
-      (cong_trans k s.order s.rules _ _ _
-      (product_left k s facts (reduced k s A) A (reduced k s W)
-      (ranges k s facts u (source s.quiver a) _ (reduced_good k s facts u (source s.quiver a) W (rest, tt)))
-      (reduced_like k s facts A (good_range k s facts _ _ _ (letter_good a first.letter h.plays.0), tt)))
-      (cong_trans k s.order s.rules _ _ _
-      (product_right k s facts A (reduced k s W) W (good_range k s facts _ _ _ (letter_good a first.letter h.plays.0), tt)
-      (reduced_like k s facts W (good_range k s facts _ _ _ rest, tt)))
-      (cong_same k s.order s.rules _ _ (ap (λ z. (z, a ∷ b ∷ w) ∷ []) (k.one_times k.one))))))
+  path_arrow {u} v {a} (b ∷ w) h = ap₂ (S k s).compose at_letter (path_arrow (source s.quiver a) w rest) ∙ arrow_same _ _ refl first.target
+      (reduced_same k s facts (ranges k s facts u (target s.quiver a) _ (product_good)) (good_range k s facts u v _ h, tt)
+      (cong_trans k s.order s.rules (product_left k s facts (reduced k s A) A (reduced k s W) (ranges k s facts u (source s.quiver a) _
+      (reduced_good k s facts u (source s.quiver a) W (rest, tt))) (reduced_like k s facts (good_range k s facts _ _ _
+      (letter_good first.letter h.plays.0), tt))) (cong_trans k s.order s.rules (product_right k s facts A (reduced k s W) W
+      (good_range k s facts _ _ _ (letter_good first.letter h.plays.0), tt) (reduced_like k s facts (good_range k s facts _ _ _ rest, tt)))
+      (cong_same k s.order s.rules (ap (λ z. (z, a ∷ b ∷ w) ∷ []) (k.one_times k.one))))))
     where
       A : Form K
       A = (k.one, a ∷ []) ∷ []
@@ -257,7 +250,7 @@ module _ {K : Type 0} (k : Field K) (s : Ground k) (facts : Facts k s) where
 
       product_good : Each (Good k s u (target s.quiver a)) (product k (reduced k s A) (reduced k s W))
       product_good = compose_words k s facts u (source s.quiver a) (target s.quiver a) (reduced k s A) (reduced k s W)
-          (reduced_good k s facts _ _ A (letter_good a first.letter h.plays.0, tt)) (reduced_good k s facts _ _ W (rest, tt))
+          (reduced_good k s facts _ _ A (letter_good first.letter h.plays.0, tt)) (reduced_good k s facts _ _ W (rest, tt))
 
   -- the terms whose words are paths of the signature
   abbrev kept : ℕ → ℕ → List (ℤ × List ℕ) → List (ℤ × List ℕ)
@@ -294,8 +287,8 @@ module _ {K : Type 0} (k : Field K) (s : Ground k) (facts : Facts k s) where
           at = ap (is_path s.quiver u v) (sym (word_eq-true t.1 w f)) ∙ e
       go false e false f ih = ih ∙ spread (is_path s.quiver u v w) (coefficient_of p w)
 
-  kept_typed : (u v : ℕ) (p : List (ℤ × List ℕ)) → IsTyped s.quiver u v p → (w : List ℕ) → coefficient_of (kept u v p) w ≡ coefficient_of p w
-  kept_typed u v p typed w = kept_same u v p w ∙ go (is_path s.quiver u v w) refl (ℤ_discrete (coefficient_of p w) (pos 0))
+  kept_typed : {u v : ℕ} {p : List (ℤ × List ℕ)} → IsTyped s.quiver u v p → (w : List ℕ) → coefficient_of (kept u v p) w ≡ coefficient_of p w
+  kept_typed {u} {v} {p} typed w = kept_same u v p w ∙ go (is_path s.quiver u v w) refl (ℤ_discrete (coefficient_of p w) (pos 0))
     where
       go : (b : Bool) → is_path s.quiver u v w ≡ b → Dec (coefficient_of p w ≡ pos 0) → cond b (coefficient_of p w) (pos 0) ≡ coefficient_of p w
       go true e d = refl
@@ -312,13 +305,13 @@ module _ {K : Type 0} (k : Field K) (s : Ground k) (facts : Facts k s) where
   word_value_is : (u v : ℕ) (none : NormalMap K) (w : Word) → is_path s.quiver u v w ≡ true → AllPlay s.play w
       → word_value (S k s) (normal_representation k s) none w ≡ (word_arrow k s) u v w
   word_value_is u v none [] e a = absurd (cc)
-  word_value_is u v none (b ∷ w) e a = path_arrow u v b w (path_good u v (b ∷ w) e a)
+  word_value_is u v none (b ∷ w) e a = path_arrow v w (path_good u v (b ∷ w) e a)
 
-  value_arrow : (u v : ℕ) (p : List (ℤ × List ℕ)) → u < s.quiver.objects → v < s.quiver.objects → (TermsPlay k s) p
+  value_arrow : {u v : ℕ} (p : List (ℤ × List ℕ)) → u < s.quiver.objects → v < s.quiver.objects → (TermsPlay k s) p
       → IsArrow (S k s) u v (value_at (S k s) s.quiver (normal_representation k s) u v p) × Like k s
       (value_at (S k s) s.quiver (normal_representation k s) u v p).form (integral k (kept u v p))
-  value_arrow u v [] hu hv a = (zero_arrow k s facts u v hu hv, cong_refl k s.order s.rules [])
-  value_arrow u v (t ∷ p) hu hv a = go (is_path s.quiver u v t.1) refl (value_arrow u v p hu hv a.1)
+  value_arrow {u} {v} [] hu hv a = (zero_arrow k s facts u v hu hv, cong_refl k s.order s.rules [])
+  value_arrow {u} {v} (t ∷ p) hu hv a = go (is_path s.quiver u v t.1) refl (value_arrow p hu hv a.1)
     where
       R : NormalMap K
       R = value_at (S k s) s.quiver (normal_representation k s) u v p
@@ -331,8 +324,7 @@ module _ {K : Type 0} (k : Field K) (s : Ground k) (facts : Facts k s) where
       go false e ih = ih
       go true e ih = (
         add_arrow k s facts u v M R m_arrow ih.0,
-        cong_left k s.order s.rules _ (M.form ++ R.form) _ (alike-collect k s.sorting (M.form ++ R.form))
-            (cong_append k s.order s.rules M.form ((k.times k.one (k.int t.0), t.1) ∷ []) R.form (integral k (kept u v p)) m_like ih.1),
+        cong_left k s.order s.rules (alike-collect k s.sorting (M.form ++ R.form)) (cong_append k s.order s.rules m_like ih.1),
       )
         where
           is : word_value (S k s) (normal_representation k s) ((S k s).zero u v) t.1 ≡ (word_arrow k s) u v t.1
@@ -342,27 +334,25 @@ module _ {K : Type 0} (k : Field K) (s : Ground k) (facts : Facts k s) where
           good = path_good u v t.1 e a.0
 
           m_arrow : IsArrow (S k s) u v M
-          m_arrow = multiple_arrow u v t.0 _ (subst (λ z. IsArrow (S k s) u v z) (sym is) (word_is_arrow u v t.1 hu hv good))
+          m_arrow = multiple_arrow t.0 (subst (λ z. IsArrow (S k s) u v z) (sym is) (word_is_arrow hu hv good))
 
           W : Form K
           W = (k.one, t.1) ∷ []
 
           m_like : Like k s M.form ((k.times k.one (k.int t.0), t.1) ∷ [])
-          m_like = cong_left k s.order s.rules M.form (scaled k (k.int t.0) (reduced k s W)) _
-              (record {
+          m_like = cong_left k s.order s.rules (record {
                 at = λ w. ap (λ z. look k (multiple (S k s) t.0 z).form w) is ∙ look-multiple t.0 ((word_arrow k s) u v t.1) w
                     ∙ sym (sum-scaled k (λ u. hit k u w) (k.int t.0) (reduced k s W));
-              })
-              (cong_trans k s.order s.rules _ _ _
-              (cong_scaled k s.order s.rules (k.int t.0) (reduced k s W) W (reduced_like k s facts W (good_range k s facts u v t.1 good, tt)))
-              (cong_same k s.order s.rules _ _ (ap (λ z. (z, t.1) ∷ []) (k.times_comm (k.int t.0) k.one))))
+              }) (cong_trans k s.order s.rules (cong_scaled k s.order s.rules (k.int t.0) (reduced_like k s facts
+              (good_range k s facts u v t.1 good, tt))) (cong_same k s.order s.rules (ap (λ z. (z, t.1) ∷ []) (k.times_comm
+              (k.int t.0) k.one))))
 
-  integral_typed : (u v : ℕ) (p : List (ℤ × List ℕ)) → IsTyped s.quiver u v p → Alike k (integral k (kept u v p)) (integral k p)
-  integral_typed u v p typed = record { at = λ w. look-lifted_one k (kept u v p) w ∙ ap k.int (kept_typed u v p typed w) ∙ sym (look-lifted_one k p w) }
+  integral_typed : {u v : ℕ} {p : List (ℤ × List ℕ)} → IsTyped s.quiver u v p → Alike k (integral k (kept u v p)) (integral k p)
+  integral_typed {u} {v} {p} typed = record { at = λ w. look-lifted_one k (kept u v p) w ∙ ap k.int (kept_typed typed w) ∙ sym (look-lifted_one k p w) }
 
-  value_like : (u v : ℕ) (p : List (ℤ × List ℕ)) → u < s.quiver.objects → v < s.quiver.objects → (TermsPlay k s) p → IsTyped s.quiver u v p
+  value_like : {u v : ℕ} {p : List (ℤ × List ℕ)} → u < s.quiver.objects → v < s.quiver.objects → (TermsPlay k s) p → IsTyped s.quiver u v p
       → Like k s (value_at (S k s) s.quiver (normal_representation k s) u v p).form (integral k p)
-  value_like u v p hu hv a typed = cong_trans k s.order s.rules _ _ _ (value_arrow u v p hu hv a).1 (alike _ _ (integral_typed u v p typed))
+  value_like {p} hu hv a typed = cong_trans k s.order s.rules (value_arrow p hu hv a).1 (alike _ _ (integral_typed typed))
 
   pub ideal_zero : (p : List (ℤ × List ℕ)) → (TermsPlay k s) p → Span (AnyRow s.order s.rules) (coefficient_of p)
       → HasValueZero (S k s) s.quiver (normal_representation k s) p
@@ -370,15 +360,13 @@ module _ {K : Type 0} (k : Field K) (s : Ground k) (facts : Facts k s) where
     where
       is_zero : (u v : ℕ) → u < s.quiver.objects → v < s.quiver.objects → IsTyped s.quiver u v p
           → HasValueZeroAt (S k s) s.quiver (normal_representation k s) u v p
-      is_zero u v hu hv typed = arrow_same _ _ at.source at.target
-          (same_form k s facts _ [] at.arrow.sorted tt at.arrow.irreducible tt
-          (cong_trans k s.order s.rules _ _ _ (value_like u v p hu hv a typed) (ideal_like k s.order s.rules p h)))
+      is_zero u v hu hv typed = arrow_same _ _ at.source at.target (same_form k s facts at.arrow.sorted tt at.arrow.irreducible tt
+          (cong_trans k s.order s.rules (value_like hu hv a typed) (ideal_like k s.order s.rules p h)))
         where
           at : IsArrow (S k s) u v (value_at (S k s) s.quiver (normal_representation k s) u v p)
-          at = (value_arrow u v p hu hv a).0
+          at = (value_arrow p hu hv a).0
 
-  pub zero_ideal : (p : List (ℤ × List ℕ)) (u v : ℕ) → u < s.quiver.objects → v < s.quiver.objects → (TermsPlay k s) p → IsTyped s.quiver u v p
+  pub zero_ideal : {p : List (ℤ × List ℕ)} {u v : ℕ} → u < s.quiver.objects → v < s.quiver.objects → (TermsPlay k s) p → IsTyped s.quiver u v p
       → HasValueZeroAt (S k s) s.quiver (normal_representation k s) u v p → Span (AnyRow s.order s.rules) (coefficient_of p)
-  zero_ideal p u v hu hv a typed e = cong_none_span k s.order s.rules p
-      (cong_trans k s.order s.rules _ _ _ (cong_sym k s.order s.rules _ _ (value_like u v p hu hv a typed))
-      (cong_same k s.order s.rules _ _ (ap (λ z. z.form) e)))
+  zero_ideal {p} hu hv a typed e = cong_none_span k s.order s.rules p (cong_trans k s.order s.rules (cong_sym k s.order s.rules
+      (value_like hu hv a typed)) (cong_same k s.order s.rules (ap (λ z. z.form) e)))

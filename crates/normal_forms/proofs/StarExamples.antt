@@ -78,12 +78,12 @@ none_pair R = λ i j d less inside. absurd (omega (arith, less, inside))
 
 one_typed : (a : ℕ) → IsPath (quiver_of declared) 0 0 (a ∷ []) → IsTypedOf declared (record { terms = (pos 1, a ∷ []) ∷ []; canonical = one_term a }) (at_object 0)
 one_typed a path = typed_from_paths (quiver_of declared) 0 0 ((pos 1, a ∷ []) ∷ [])
-    (alone (λ (t : Term). IsPath (quiver_of declared) 0 0 t.1) (pos 1, a ∷ []) path)
+    (alone (λ (t : Term). IsPath (quiver_of declared) 0 0 t.1) path)
 
 posed : IsPosed parts
 posed = record {
   declared = record {
-    distinct = AllPairs-cons Differs (85 ∷ []) ((97 ∷ []) ∷ []) (alone (Differs (85 ∷ [])) (97 ∷ []) (names_differ 85 97 (λ e. omega (arith, e))))
+    distinct = AllPairs-cons Differs (85 ∷ []) ((97 ∷ []) ∷ []) (alone (Differs (85 ∷ [])) (names_differ (λ e. omega (arith, e))))
         (all_pairs_one Differs (97 ∷ []));
     few_objects = omega arith;
     few_maps = omega arith;
@@ -99,13 +99,13 @@ posed = record {
   assumption_letters = All-nil (HasLettersInPlay declared true []);
   few_claims = omega arith;
   claims_typed = (one_typed 2 refl, tt);
-  claim_ends = alone (HasObjects declared) (at_object 0) (record { source = omega arith; target = omega arith });
-  claim_letters = alone (HasLettersInPlay declared true []) (record { terms = adjoint_terms; canonical = one_term 2 })
-      (alone (λ (t : Term). All (IsInPlay declared true []) t.1) (pos 1, 2 ∷ []) (alone (IsInPlay declared true []) 2 refl));
+  claim_ends = alone (HasObjects declared) (record { source = omega arith; target = omega arith });
+  claim_letters = alone (HasLettersInPlay declared true [])
+      (alone (λ (t : Term). All (IsInPlay declared true []) t.1) (alone (IsInPlay declared true []) refl));
   some_shape = omega arith;
   few_shapes = omega arith;
-  shapes = alone (IsShape 1) (record { modulus = 2; sides = 1 ∷ [] })
-      (record { modulus = refl; side_of_each = refl; sides = alone IsSide 1 (record { least = omega arith; most = omega arith }) });
+  shapes = alone (IsShape 1)
+      (record { modulus = refl; side_of_each = refl; sides = alone IsSide (record { least = omega arith; most = omega arith }) });
   solved_maps = All-nil (IsDeclaredMap declared);
   solved_ascending = λ i j d less inside. absurd (omega (arith, less, inside));
 }
@@ -121,15 +121,15 @@ laws : IsAdmissible 3 word_cmp (rank_of 3)
 laws = word_cmp-admissible 3
 
 over_letter : (a : ℕ) → a < 3 → IsOver 3 (a ∷ [])
-over_letter a inside = alone (λ b. b < 3) a inside
+over_letter a inside = alone (λ b. b < 3) inside
 
 are_rules : All (IsRule 3 word_cmp) rules
-are_rules = alone (IsRule 3 word_cmp) map_rule (record {
+are_rules = alone (IsRule 3 word_cmp) (record {
   leading = refl;
   positive = omega (arith, ints);
   in_range = omega arith;
-  nonempty = alone (λ (t : Term). 0 < length t.1) (pos 1, 1 ∷ []) (omega arith);
-  over = alone (λ (t : Term). IsOver 3 t.1) (pos 1, 1 ∷ []) (over_letter 1 (omega arith));
+  nonempty = alone (λ (t : Term). 0 < length t.1) (omega arith);
+  over = alone (λ (t : Term). IsOver 3 t.1) (over_letter 1 (omega arith));
 })
 
 -- it meets no rule
@@ -141,8 +141,8 @@ which zero g is = absurd (cc)
 which (suc zero) g is = (refl, same_lead map_rule g is)
 which (suc (suc n)) g is = absurd (cc)
 
-no_ambiguity : (a : Ambiguity) → IsAmbiguity rules a → ⊥
-no_ambiguity a is = by_kind a.kind is.meets (which a.i is.first is.first_numbered) (which a.j is.second is.second_numbered)
+no_ambiguity : {a : Ambiguity} → IsAmbiguity rules a → ⊥
+no_ambiguity {a} is = by_kind a.kind is.meets (which a.i is.first is.first_numbered) (which a.j is.second is.second_numbered)
   where
     short : (before shared : List ℕ) → 1 ∷ [] ≡ before ++ shared → 0 < length before → 0 < length shared → ⊥
     short before shared e some other = omega (arith, ap length e, length-append before shared, some, other)
@@ -153,14 +153,14 @@ no_ambiguity a is = by_kind a.kind is.meets (which a.i is.first is.first_numbere
     by_kind Overlap at f g = short at.before at.shared (sym f.1 ∙ at.left_splits) at.before_letters at.shared_letters
 
 resolved : Resolved 3 word_cmp rules
-resolved = record { each = λ a is. absurd (no_ambiguity a is) }
+resolved = record { each = λ a is. absurd (no_ambiguity is) }
 
 abbrev play : ℕ → Bool
 play = is_in_play declared true []
 
 typed : All (λ g. IsTypedInPlay (quiver_of declared) play g.poly.terms) rules
-typed = alone (λ (g : Rule). IsTypedInPlay (quiver_of declared) play g.poly.terms) map_rule
-    (record { source = 0; target = 0; typed = one_typed 1 refl; in_play = record { at = words_with_coefficients (AreInPlay play) map_terms (alone (λ (t : Term). AreInPlay play t.1) (pos 1, 1 ∷ []) refl) } })
+typed = alone (λ (g : Rule). IsTypedInPlay (quiver_of declared) play g.poly.terms)
+    (record { source = 0; target = 0; typed = one_typed 1 refl; in_play = record { at = words_with_coefficients (AreInPlay play) map_terms (alone (λ (t : Term). AreInPlay play t.1) refl) } })
 
 basis : IsBasis parts rules
 basis = record {
@@ -173,7 +173,7 @@ basis = record {
 
 -- a' is its own normal form, and so it is outside
 adjoint_over : All (λ t. IsOver 3 t.1) adjoint_terms
-adjoint_over = alone (λ (t : Term). IsOver 3 t.1) (pos 1, 2 ∷ []) (over_letter 2 (omega arith))
+adjoint_over = alone (λ (t : Term). IsOver 3 t.1) (over_letter 2 (omega arith))
 
 adjoint_reduced : IsReduced 3 word_cmp rules adjoint_terms (start_of adjoint_terms)
 adjoint_reduced = normal_forms_are_reduced 3 word_cmp (rank_of 3) rules adjoint_terms 0 (start_of adjoint_terms) laws are_rules
@@ -208,7 +208,7 @@ no_involution adjoint involution star =
     claim.nonzero (other.1.0.at claim.source claim.target claim.source_is_object claim.target_is_object claim.typed)
   where
     first : HasValueZero (normal_forms parts rules) (quiver_of declared) (forms_representation parts rules) map_terms
-    first = inside_is_zero parts rules basis map_terms ((refl, tt), tt) (one_signature 1 refl) (record {
+    first = inside_is_zero parts rules basis ((refl, tt), tt) (one_signature 1 refl) (record {
       denominator = pos 1;
       rows = record { coefficient = pos 1; left = []; generator = 1; right = [] } ∷ [];
       combination = record { positive = omega (arith, ints); sum = record { at = λ w. refl } };
