@@ -85,11 +85,7 @@ module _ (s : Setting) where
       joined_below L (inr e) (inr h) = inr (s.less_trans L M N e h)
 
       each : (b : Coefs) → AtMost M b → Span (AtMost N) b
-      each b (L, w, row) = more b (λ _. pos 0) b (pos 1) (L, joined_below L w r, row) (nothing _ (λ _. refl)) (λ w. one_times (b w))
-        where
-          one_times : (x : ℤ) → x ≡ pos 1 *ℤ x +ℤ pos 0
-          one_times x = omega (arith, ints)
-
+      each b (L, w, row) = more b (λ _. pos 0) b (pos 1) (L, joined_below L w r, row) (nothing _ (λ _. refl)) (λ w. (omega (arith, ints)))
   abbrev pub SomeRow : Word → Type 0
   SomeRow N = (d : Coefs) × s.Row N d
 

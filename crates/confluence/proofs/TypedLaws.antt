@@ -56,11 +56,7 @@ joined_in_play : (play : ℕ → Bool) (u v : Word) → IsInPlay play u → IsIn
 joined_in_play play u v left right = list_all-append play u v ∙ and_from (list_all play u) (list_all play v) left right
 
 lead_in_play : (play : ℕ → Bool) (letters : ℕ) (compare : Compare) (g : Rule) → IsRule letters compare g → IsPolyInPlay play g.poly.terms → IsInPlay play g.lead
-lead_in_play play letters compare g is in_play = in_play.at g.lead (λ none. clash g.leading is.positive (sym (leading_coefficient compare g.poly.terms (g.leading, g.lead) g.poly.canonical.shaped is.leading) ∙ none))
-  where
-    clash : (k : ℤ) → pos 0 <ℤ k → k ≡ pos 0 → ⊥
-    clash k above none = omega (arith, ints, above, none)
-
+lead_in_play play letters compare g is in_play = in_play.at g.lead (λ none. (omega (arith, ints, is.positive, (sym (leading_coefficient compare g.poly.terms (g.leading, g.lead) g.poly.canonical.shaped is.leading) ∙ none))))
 -- words of l g r, where l lead r is in play
 between_in_play : (play : ℕ → Bool) (g : Rule) (l r : Word) → IsPolyInPlay play g.poly.terms → IsInPlay play (l ++ (g.lead ++ r)) → (w : Word) → coefficient_of (poly_between l g.poly.terms r) w ≢ pos 0 → IsInPlay play w
 between_in_play play g l r in_play whole w some = go (between_word l r g.poly.terms w)

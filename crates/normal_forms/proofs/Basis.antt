@@ -110,11 +110,7 @@ module _ (p : Parts) (rules : List Rule) (b : IsBasis p rules) where
               let led = led_is (letter_count p.quiver) (asked_cmp p.order) order_rank (asked_cmp-admissible (letter_count p.quiver) p.order) g
               (rule_at-all (IsRule (letter_count p.quiver) (asked_cmp p.order)) rules i g numbered b.are_rules) in
               let none : pos (led_of g).leading ≡ pos 0 = sym led.at_lead ∙ zero in
-              absurd (above (led_of g).leading led.positive none)
-            where
-              above : (n : ℕ) → 0 < n → pos n ≡ pos 0 → ⊥
-              above n positive e = omega (arith, ints, e, positive)
-
+              absurd (omega (arith, ints, none, led.positive))
           occurs : (w : Word) → is_lower (led_of g) w ≡ true → coefficient_of g.poly.terms w ≢ pos 0
           occurs w lower zero =
               let parts = and_parts (not (word_eq g.lead w)) (not (int_eq (coefficient_of g.poly.terms w) (pos 0))) lower in

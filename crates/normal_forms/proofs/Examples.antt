@@ -111,11 +111,7 @@ abbrev pub Differs : List ℕ → List ℕ → Type 0
 Differs v w = v ≢ w
 
 pub names_differ : {a b : ℕ} → a ≢ b → Differs (a ∷ []) (b ∷ [])
-names_differ {a} {b} other e = other (first a b e)
-  where
-    first : (a b : ℕ) → ◌≡◌ {A = List ℕ} (a ∷ []) (b ∷ []) → a ≡ b
-    first a b e = cc
-
+names_differ {a} {b} other e = other (cc)
 distinct : AllPairs Differs (u_name ∷ v_name ∷ x_name ∷ [])
 distinct = AllPairs-cons Differs u_name (v_name ∷ x_name ∷ []) (both (Differs u_name) v_name x_name (names_differ (λ e. omega (arith, e)))
     (names_differ (λ e. omega (arith, e)))) (AllPairs-cons Differs v_name (x_name ∷ []) (alone (Differs v_name) (names_differ (λ e. omega
@@ -238,13 +234,10 @@ data WhichRule (n : ℕ) (g : Rule) : Type 0 where
   is_zero_rule : n ≡ 1 → g.lead ≡ 0 ∷ [] → WhichRule n g
   is_square_rule : n ≡ 2 → g.lead ≡ 2 ∷ 2 ∷ [] → WhichRule n g
 
-same_lead : (f g : Rule) → ◌≡◌ {A = Option Rule} (Some f) (Some g) → g.lead ≡ f.lead
-same_lead f g e = cc
-
 which : (n : ℕ) (g : Rule) → rule_at rules n ≡ Some g → WhichRule n g
 which zero g is = absurd (cc)
-which (suc zero) g is = is_zero_rule refl (same_lead zero_rule g is)
-which (suc (suc zero)) g is = is_square_rule refl (same_lead square_rule g is)
+which (suc zero) g is = is_zero_rule refl (cc)
+which (suc (suc zero)) g is = is_square_rule refl (cc)
 which (suc (suc (suc n))) g is = absurd (cc)
 
 no_inclusion : {n m : ℕ} {f g : Rule} (place : ℕ) → WhichRule n f → WhichRule m g → MeetsAs Inclusion n m f.lead g.lead place → ⊥
@@ -277,15 +270,9 @@ only_itself {a} is = by_kind a.kind refl is.meets (which a.i is.first is.first_n
   where
     by_kind : (k : Kind) → a.kind ≡ k → MeetsAs k a.i a.j is.first.lead is.second.lead a.place → WhichRule a.i is.first → WhichRule a.j is.second → a ≡ itself
     by_kind Inclusion kind at f g = absurd (no_inclusion a.place f g at)
-    by_kind Overlap kind at (is_zero_rule i p) g = absurd (short at.before at.shared (sym p ∙ at.left_splits) at.before_letters at.shared_letters)
-      where
-        short : (before shared : List ℕ) → 0 ∷ [] ≡ before ++ shared → 0 < length before → 0 < length shared → ⊥
-        short before shared e some other = omega (arith, ap length e, length-append before shared, some, other)
+    by_kind Overlap kind at (is_zero_rule i p) g = absurd (omega (arith, ap length (sym p ∙ at.left_splits), length-append at.before at.shared, at.before_letters, at.shared_letters))
     by_kind Overlap kind at (is_square_rule i p) (is_zero_rule j q) =
-        absurd (short at.shared at.after (sym q ∙ at.right_splits) at.shared_letters at.after_letters)
-      where
-        short : (shared after : List ℕ) → 0 ∷ [] ≡ shared ++ after → 0 < length shared → 0 < length after → ⊥
-        short shared after e some other = omega (arith, ap length e, length-append shared after, some, other)
+        absurd (omega (arith, ap length (sym q ∙ at.right_splits), length-append at.shared at.after, at.shared_letters, at.after_letters))
     by_kind Overlap kind at (is_square_rule i p) (is_square_rule j q) =
         let whole : 2 ≡ length at.before + length at.shared = ap length (sym p ∙ at.left_splits) ∙ length-append at.before at.shared in
         let place : a.place ≡ 1 = omega (arith, whole, at.at_place, at.before_letters, at.shared_letters) in
@@ -351,11 +338,7 @@ outside inside = clash (rests_of_ideal_are_zero 4 word_cmp (rank_of 4) rules cla
     (record { at = words_with_coefficients (IsOver 4) claim_terms claim_over }) claim_reduced)
   where
     clash : IsZero claim_terms → ⊥
-    clash none = differ (none.at (2 ∷ []))
-      where
-        differ : pos 1 ≡ pos 0 → ⊥
-        differ e = cc
-
+    clash none = cc (none.at (2 ∷ []))
 -- so x isn't zero in the category
 example : SharpMeans parts rules claim_terms
 example = sharp_means parts rules basis
@@ -376,7 +359,4 @@ five = ((maps_are_finite_sums parts rules 1 1 (omega arith, basis) (omega arith,
 })
 
 no_five : IsArrow (normal_forms parts rules) 0 0 (five_at 0) → ⊥
-no_five is = marked (((maps_are_finite_sums parts rules 0 0 (omega arith, basis) (omega arith, basis)).lists (five_at 0)).0 is).words.0.1
-  where
-    marked : true ≡ false → ⊥
-    marked e = cc
+no_five is = cc ((((maps_are_finite_sums parts rules 0 0 (omega arith, basis) (omega arith, basis)).lists (five_at 0)).0 is).words.0.1)

@@ -129,11 +129,7 @@ module _ {K : Type 0} (k : Field K) (s : Ground k) (facts : Facts k s) where
 
   back_empty : (u v : Word) → u ++ v ≡ [] → v ≡ []
   back_empty [] v e = e
-  back_empty (a ∷ u) v e = absurd (clash a (u ++ v) e)
-    where
-      clash : (a : ℕ) (w : Word) → a ∷ w ≡ [] → ⊥
-      clash a w e = cc
-
+  back_empty (a ∷ u) v e = absurd (cc)
   pub good_join : (u m v : ℕ) (x y : Word) → (Good k s) m v x → (Good k s) u m y → (Good k s) u v (x ++ y)
   good_join u m v x y a b =
       record { leads = leads-append s.quiver u m v x y a.leads b.leads; plays = plays-append x y a.plays b.plays; unit = λ e. b.unit (back_empty x y e) }
@@ -150,11 +146,7 @@ module _ {K : Type 0} (k : Field K) (s : Ground k) (facts : Facts k s) where
 
   path_some : (x y : ℕ) (l w r : Word) → is_path s.quiver x y w ≡ true → l ++ (w ++ r) ≡ [] → ⊥
   path_some x y l [] r h e = absurd (cc)
-  path_some x y l (a ∷ w) r h e = clash a (w ++ r) (back_empty l ((a ∷ w) ++ r) e)
-    where
-      clash : (a : ℕ) (w : Word) → a ∷ w ≡ [] → ⊥
-      clash a w e = cc
-
+  path_some x y l (a ∷ w) r h e = cc (back_empty l ((a ∷ w) ++ r) e)
   pub good_kept : (u v : ℕ) → Kept k s.order s.rules ((Good k s) u v)
   good_kept u v i l r h a = go (s.rules.rule i).tail t.tail
     where
@@ -224,11 +216,8 @@ module _ {K : Type 0} (k : Field K) (s : Ground k) (facts : Facts k s) where
     where
       go : (b : Bool) → s.marked v ≡ b → (Good k s) v v (cond b (v ∷ []) [])
       go false e = record { leads = eq-eqb v v refl; plays = tt; unit = λ _. e }
-      go true e = record { leads = identity_leads; plays = (facts.marked_play v h e, tt); unit = λ q. absurd (clash v [] q) }
+      go true e = record { leads = identity_leads; plays = (facts.marked_play v h e, tt); unit = λ q. absurd (cc) }
         where
-          clash : (a : ℕ) (w : Word) → a ∷ w ≡ [] → ⊥
-          clash a w e = cc
-
           identity_leads : leads s.quiver v v (v ∷ []) ≡ true
           identity_leads = one_letter s.quiver (facts.is_quiver.identity_is_letter v h) (facts.is_quiver.identity_target v h)
               (facts.is_quiver.identity_source v h)

@@ -63,10 +63,7 @@ unsigned_abs-quotient (pos n) g = refl
 unsigned_abs-quotient (negsuc n) g = unsigned_abs-neg (pos (suc n / g))
 
 divisor_positive : (g : ℕ) {b : ℕ} → g ∣ b → 0 < b → 0 < g
-divisor_positive zero {b} h p = absurd (none b (eq-zero_of_zero-dvd h) p)
-  where
-    none : (b : ℕ) → b ≡ 0 → 0 < b → ⊥
-    none b e p = omega (arith, e)
+divisor_positive zero {b} h p = absurd (omega (arith, (eq-zero_of_zero-dvd h)))
 divisor_positive (suc g) h p = omega arith
 
 factor_positive : (g m : ℕ) {b : ℕ} → g * m ≡ b → 0 < b → 0 < m
@@ -77,14 +74,10 @@ quotient_lowest : (a : ℤ) {b : ℕ} (g : ℕ) → 0 < b → IsGcd (unsigned_ab
 quotient_lowest a {b} g p h =
     record {
       positive = factor_positive g (b / g) (mul-div_cancel' g h.1) p;
-      apart = λ d i j. eq-one_of_dvd-one (dvd_of_mul-dvd-mul_left d (divisor_positive g h.1 p) (subst (λ z. g * d ∣ z) (sym (one_more g))
+      apart = λ d i j. eq-one_of_dvd-one (dvd_of_mul-dvd-mul_left d (divisor_positive g h.1 p) (subst (λ z. g * d ∣ z) (sym (omega arith))
           (h.2 (g * d) (subst (λ z. g * d ∣ z) (mul-div_cancel' g h.0) (mul-dvd-mul_left d g (subst (λ z. d ∣ z)
           (unsigned_abs-quotient a g) i))) (subst (λ z. g * d ∣ z) (mul-div_cancel' g h.1) (mul-dvd-mul_left d g j)))));
     }
-  where
-    one_more : (g : ℕ) → g * 1 ≡ g
-    one_more g = omega arith
-
 pub zero_in_lowest : IsLowest (pos 0) 1
 zero_in_lowest = record { positive = omega arith; apart = λ d i j. eq-one_of_dvd-one j }
 
@@ -242,23 +235,10 @@ rational_part n = over (pos 1) n
 
 is_zero_true : (a : ℤ) → is_zero a ≡ true → a ≡ pos 0
 is_zero_true (pos zero) e = refl
-is_zero_true (pos (suc n)) e = absurd (clash e)
-  where
-    clash : false ≡ true → ⊥
-    clash e = cc
-is_zero_true (negsuc n) e = absurd (clash e)
-  where
-    clash : false ≡ true → ⊥
-    clash e = cc
-
+is_zero_true (pos (suc n)) e = absurd (cc)
+is_zero_true (negsuc n) e = absurd (cc)
 times_one : (a : ℤ) → a *ℤ pos 1 ≡ a
 times_one a = *ℤ_comm a (pos 1) ∙ omega (arith, ints)
-
-one_mul : (n : ℕ) → 1 * n ≡ n
-one_mul n = omega arith
-
-mul_one : (n : ℕ) → n * 1 ≡ n
-mul_one n = omega arith
 
 int_value : (a : ℤ) → Value (rational_int a) a 1
 unfolding rational_int
@@ -266,7 +246,7 @@ int_value a = self_value (rational_int a)
 
 none_value : {n : ℕ} → 0 < n → Value rational_none (pos 0) n
 unfolding rational_none
-none_value {n} h = value_change (zero-*ℤ (pos n)) (one_mul n) (value_times h (self_value rational_none))
+none_value {n} h = value_change (zero-*ℤ (pos n)) (omega arith) (value_times h (self_value rational_none))
 
 part_value : {n : ℕ} → 0 < n → Value (rational_part n) (pos 1) n
 unfolding rational_part
@@ -283,14 +263,9 @@ plus_assoc x y z = value_unique (plus_value (plus_value (self_value x) (self_val
         ap (λ z. c *ℤ z) (*ℤ_comm d e) in omega (arith, ints, p, q))
 
 plus_comm : (x y : Rational) → rational_plus x y ≡ rational_plus y x
-plus_comm x y = value_unique (plus_value (self_value x) (self_value y)) (value_change (swapped (y.top *ℤ pos x.bottom)
-    (x.top *ℤ pos y.bottom)) (mul_comm y.bottom x.bottom) (plus_value (self_value y) (self_value x)))
-  where
-    swapped : (a b : ℤ) → a +ℤ b ≡ b +ℤ a
-    swapped a b = omega (arith, ints)
-
+plus_comm x y = value_unique (plus_value (self_value x) (self_value y)) (value_change (omega (arith, ints)) (mul_comm y.bottom x.bottom) (plus_value (self_value y) (self_value x)))
 plus_none : (x : Rational) → rational_plus x rational_none ≡ x
-plus_none x = value_unique (value_change (ap₂ ◌+ℤ◌ (times_one x.top) (zero-*ℤ (pos x.bottom)) ∙ +ℤ_idr x.top) (mul_one x.bottom) (plus_value
+plus_none x = value_unique (value_change (ap₂ ◌+ℤ◌ (times_one x.top) (zero-*ℤ (pos x.bottom)) ∙ +ℤ_idr x.top) (omega arith) (plus_value
     (self_value x) (none_value (omega arith)))) (self_value x)
 
 plus_minus : (x : Rational) → rational_plus x (rational_minus x) ≡ rational_none
@@ -308,7 +283,7 @@ times_comm x y = value_unique (times_value (self_value x) (self_value y))
     (value_change (*ℤ_comm y.top x.top) (mul_comm y.bottom x.bottom) (times_value (self_value y) (self_value x)))
 
 one_times : (x : Rational) → rational_times (rational_int (pos 1)) x ≡ x
-one_times x = value_unique (value_change (*ℤ_comm (pos 1) x.top ∙ times_one x.top) (one_mul x.bottom) (times_value (int_value (pos 1))
+one_times x = value_unique (value_change (*ℤ_comm (pos 1) x.top ∙ times_one x.top) (omega arith) (times_value (int_value (pos 1))
     (self_value x))) (self_value x)
 
 times_plus : (x y z : Rational) → rational_times x (rational_plus y z) ≡ rational_plus (rational_times x y) (rational_times x z)
@@ -344,7 +319,7 @@ split x = (
   x.top,
   x.bottom,
   x.lowest.positive,
-  value_unique (self_value x) (value_change (times_one x.top) (one_mul x.bottom) (times_value (int_value x.top)
+  value_unique (self_value x) (value_change (times_one x.top) (omega arith) (times_value (int_value x.top)
       (part_value x.lowest.positive))),
 )
 
@@ -353,11 +328,7 @@ none_true x e = value_unique (value_change (is_zero_true x.top e) refl (self_val
 
 none_false : (x : Rational) → is_zero x.top ≡ false → x ≢ rational_none
 unfolding rational_none
-none_false x e h = clash (sym (ap (λ z. is_zero z.top) h) ∙ e)
-  where
-    clash : true ≡ false → ⊥
-    clash e = cc
-
+none_false x e h = cc (sym (ap (λ z. is_zero z.top) h) ∙ e)
 pub rationals : Field Rational
 rationals = record {
   none = rational_none;

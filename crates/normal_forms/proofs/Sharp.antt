@@ -115,11 +115,7 @@ module _ {K : Type 0} (k : Field K) (s : Ground k) where
 module _ {K : Type 0} (k : Field K) (s : Ground k) (facts : Facts k s) where
   letter_good : {a : ℕ} → a < letters s.quiver → s.play a ≡ true → Good k s (source s.quiver a) (target s.quiver a) (a ∷ [])
   letter_good {a} h e =
-      record { leads = one_letter s.quiver h refl refl; plays = (e, tt); unit = λ q. absurd (clash a [] q) }
-    where
-      clash : (a : ℕ) (w : Word) → a ∷ w ≡ [] → ⊥
-      clash a w e = cc
-
+      record { leads = one_letter s.quiver h refl refl; plays = (e, tt); unit = λ q. absurd (cc) }
   word_is_arrow : {u v : ℕ} {w : Word} → u < s.quiver.objects → v < s.quiver.objects → Good k s u v w → IsArrow (S k s) u v ((word_arrow k s) u v w)
   word_is_arrow {u} {v} {w} hu hv a =
       record {
@@ -176,22 +172,14 @@ module _ {K : Type 0} (k : Field K) (s : Ground k) (facts : Facts k s) where
   look-natural (suc n) a w = look-collect k s.sorting (a.form ++ (natural_multiple (S k s) n a).form) w ∙ lookup a.form (natural_multiple (S k s) n a).form w
       ∙ ap₂ k.plus (sym (k.one_times (look k a.form w))) (look-natural n a w) ∙ sym (plus_times k k.one (k.int (pos n)) (look k a.form w))
       ∙ ap (λ z. k.times z (look k a.form w))
-      (ap (λ z. k.plus z (k.int (pos n))) (sym k.int_one) ∙ sym (k.int_plus (pos 1) (pos n)) ∙ ap k.int (more_by_one n))
-    where
-      more_by_one : (n : ℕ) → pos 1 +ℤ pos n ≡ pos (suc n)
-      more_by_one n = omega (arith, ints)
-
+      (ap (λ z. k.plus z (k.int (pos n))) (sym k.int_one) ∙ sym (k.int_plus (pos 1) (pos n)) ∙ ap k.int (omega (arith, ints)))
   look-multiple : (c : ℤ) (a : NormalMap K) (w : Word) → look k (multiple (S k s) c a).form w ≡ k.times (k.int c) (look k a.form w)
   look-multiple (pos n) a w = look-natural n a w
   look-multiple (negsuc n) a w = look-collect k s.sorting (scaled k (k.minus k.one) (natural_multiple (S k s) (suc n) a).form) w
       ∙ sum-scaled k (λ u. hit k u w) (k.minus k.one) (natural_multiple (S k s) (suc n) a).form ∙ minus_one k _ ∙ ap k.minus (look-natural (suc n) a w)
       ∙ sym (minus_times k (k.int (pos (suc n))) (look k a.form w))
       ∙ ap (λ z. k.times z (look k a.form w))
-      (sym (minus_unique k (k.int (pos (suc n))) (k.int (negsuc n)) (sym (k.int_plus (pos (suc n)) (negsuc n)) ∙ ap k.int (none_left n) ∙ int_none k)))
-    where
-      none_left : (n : ℕ) → pos (suc n) +ℤ negsuc n ≡ pos 0
-      none_left n = omega (arith, ints)
-
+      (sym (minus_unique k (k.int (pos (suc n))) (k.int (negsuc n)) (sym (k.int_plus (pos (suc n)) (negsuc n)) ∙ ap k.int (omega (arith, ints)) ∙ int_none k)))
   natural_arrow : {x y : ℕ} (n : ℕ) {a : NormalMap K} → IsArrow (S k s) x y a → IsArrow (S k s) x y (natural_multiple (S k s) n a)
   natural_arrow zero {a} h =
       record {
@@ -237,11 +225,8 @@ module _ {K : Type 0} (k : Field K) (s : Ground k) (facts : Facts k s) where
       first : Step s.quiver u v a (b ∷ w)
       first = step s.quiver u v a (b ∷ w) h.leads
 
-      clash : (a : ℕ) (w : Word) → a ∷ w ≡ [] → ⊥
-      clash a w e = cc
-
       rest : Good k s u (source s.quiver a) (b ∷ w)
-      rest = record { leads = first.rest; plays = h.plays.1; unit = λ q. absurd (clash b w q) }
+      rest = record { leads = first.rest; plays = h.plays.1; unit = λ q. absurd (cc) }
 
       at_letter : (letter_arrow k s) a ≡ (word_arrow k s) (source s.quiver a) (target s.quiver a) (a ∷ [])
       at_letter = ap
@@ -297,11 +282,7 @@ module _ {K : Type 0} (k : Field K) (s : Ground k) (facts : Facts k s) where
 
   path_good : (u v : ℕ) (w : Word) → is_path s.quiver u v w ≡ true → AllPlay s.play w → Good k s u v w
   path_good u v [] e a = absurd (cc)
-  path_good u v (b ∷ w) e a = record { leads = e; plays = a; unit = λ q. absurd (clash b w q) }
-    where
-      clash : (a : ℕ) (w : Word) → a ∷ w ≡ [] → ⊥
-      clash a w e = cc
-
+  path_good u v (b ∷ w) e a = record { leads = e; plays = a; unit = λ q. absurd (cc) }
   word_value_is : (u v : ℕ) (none : NormalMap K) (w : Word) → is_path s.quiver u v w ≡ true → AllPlay s.play w
       → word_value (S k s) (normal_representation k s) none w ≡ (word_arrow k s) u v w
   word_value_is u v none [] e a = absurd (cc)

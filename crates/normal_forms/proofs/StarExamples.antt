@@ -132,25 +132,18 @@ are_rules = alone (IsRule 3 word_cmp) (record {
   over = alone (λ (t : Term). IsOver 3 t.1) (over_letter 1 (omega arith));
 })
 
--- it meets no rule
-same_lead : (f g : Rule) → ◌≡◌ {A = Option Rule} (Some f) (Some g) → g.lead ≡ f.lead
-same_lead f g e = cc
-
 which : (n : ℕ) (g : Rule) → rule_at rules n ≡ Some g → (n ≡ 1) × (g.lead ≡ 1 ∷ [])
 which zero g is = absurd (cc)
-which (suc zero) g is = (refl, same_lead map_rule g is)
+which (suc zero) g is = (refl, (cc))
 which (suc (suc n)) g is = absurd (cc)
 
 no_ambiguity : {a : Ambiguity} → IsAmbiguity rules a → ⊥
 no_ambiguity {a} is = by_kind a.kind is.meets (which a.i is.first is.first_numbered) (which a.j is.second is.second_numbered)
   where
-    short : (before shared : List ℕ) → 1 ∷ [] ≡ before ++ shared → 0 < length before → 0 < length shared → ⊥
-    short before shared e some other = omega (arith, ap length e, length-append before shared, some, other)
-
     by_kind : (k : Kind) → MeetsAs k a.i a.j is.first.lead is.second.lead a.place → (a.i ≡ 1) × (is.first.lead ≡ 1 ∷ [])
         → (a.j ≡ 1) × (is.second.lead ≡ 1 ∷ []) → ⊥
     by_kind Inclusion at f g = at.0 (f.0 ∙ sym g.0)
-    by_kind Overlap at f g = short at.before at.shared (sym f.1 ∙ at.left_splits) at.before_letters at.shared_letters
+    by_kind Overlap at f g = omega (arith, ap length (sym f.1 ∙ at.left_splits), length-append at.before at.shared, at.before_letters, at.shared_letters)
 
 resolved : Resolved 3 word_cmp rules
 resolved = record { each = λ a is. absurd (no_ambiguity is) }
@@ -185,11 +178,7 @@ outside inside = clash (rests_of_ideal_are_zero 3 word_cmp (rank_of 3) rules adj
     (record { at = words_with_coefficients (IsOver 3) adjoint_terms adjoint_over }) adjoint_reduced)
   where
     clash : IsZero adjoint_terms → ⊥
-    clash none = differ (none.at (2 ∷ []))
-      where
-        differ : pos 1 ≡ pos 0 → ⊥
-        differ e = cc
-
+    clash none = cc (none.at (2 ∷ []))
 one_signature : (a : ℕ) → IsPath (quiver_of declared) 0 0 (a ∷ []) → HasSignature (quiver_of declared) ((pos 1, a ∷ []) ∷ [])
 one_signature a path = record { source = 0; target = 0; source_is_object = omega arith; target_is_object = omega arith; typed = one_typed a path }
 

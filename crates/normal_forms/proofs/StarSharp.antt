@@ -26,9 +26,6 @@ use Rattle.normal_forms.specs.SharpMeans.{SharpMeans, StarSharpMeans}
 use Rattle.normal_forms.proofs.Units.{all_front, all_back}
 use Rattle.normal_forms.proofs.BothWays.{both, both_ways_laws, exchange_laws, both_ways_cancels, both_ways_represents, value_there, value_back}
 
-minus_none : (c : ℤ) → negsuc 0 *ℤ c ≡ pos 0 → c ≡ pos 0
-minus_none c e = omega (arith, ints, e)
-
 module _ {Object Arrow : Type 0} {s : Structure Object Arrow} (laws : PreadditiveLaws s) (q : Quiver) (quiver : IsQuiver q) (f : Representation Object Arrow) (rep : Represents s q f) where
   abbrev Zero : Poly → Type 0
   Zero = HasValueZero s q f
@@ -37,7 +34,7 @@ module _ {Object Arrow : Type 0} {s : Structure Object Arrow} (laws : Preadditiv
   negative_is_zero {p} vanish = record {
     at = λ u v in_u in_v typed.
         let group = group_at laws q f rep u v in_u in_v in
-        let positive : IsTyped q u v p = record { at = λ w some. typed.at w (λ e. some (minus_none (coefficient_of p w) (sym (coefficient_of-multiple (negsuc 0) p w) ∙ e))) } in
+        let positive : IsTyped q u v p = record { at = λ w some. typed.at w (λ e. some (omega (arith, ints, (sym (coefficient_of-multiple (negsuc 0) p w) ∙ e)))) } in
         value_at-linear laws q f rep u v in_u in_v (poly_multiple (negsuc 0) p)
         ∙ linear-scale group (word_at laws q f rep u v) (word_at_is_arrow laws q f rep u v in_u in_v) (negsuc 0) p
         ∙ ap (times (s.zero (f.object u) (f.object v)) s.add s.negate (negsuc 0))

@@ -169,12 +169,6 @@ module _ (problem : Problem) (budget : Budget) where
   later_made : (n : ℕ) (before s : RunState) → IsRound setting (suc n) before (went s) → Made (recorded before) → Made (recorded s)
   later_made n before s round held = go round.pending round.all_pending round.treats
     where
-      not_closed : went s ≡ closed → ⊥
-      not_closed e = cc
-
-      not_stopped : {h : Halt} → went s ≡ stopped h → ⊥
-      not_stopped e = cc
-
       treated : (least : List ℕ) (taken : List Ambiguity) → All (IsAmbiguity before.rules) taken → IsTreated setting (suc n) before least taken (went s) → Made (recorded s)
       treated least taken are done =
           let end = ended (suc n) (Some least) (before.treated ++ taken) done.result s done.ends in
@@ -183,13 +177,13 @@ module _ (problem : Problem) (budget : Budget) where
           (subst (InTwoPasses compare budget.steps (each_in_turn (first_of compare budget.steps before.rules) taken) (recorded before)) end.given done.passes))
 
       by_pairs : (w : Waiting) (ws : List Waiting) → AreAllPending compare before.rules before.treated (w ∷ ws) → (b : Bool) → TreatsFirst setting (suc n) before w.word (w ∷ ws) b (went s) → Made (recorded s)
-      by_pairs w ws all true treats = absurd (not_stopped treats)
+      by_pairs w ws all true treats = absurd (cc)
       by_pairs w ws all false treats =
           let count = taken_count budget before (w ∷ ws) in
           treated w.word (ambiguities_of (take count (w ∷ ws))) (taken_are compare before.rules before.treated (w ∷ ws) count all) treats
 
       go : (ws : List Waiting) → AreAllPending compare before.rules before.treated ws → TreatsPending setting (suc n) before ws (went s) → Made (recorded s)
-      go [] all treats = absurd (not_closed treats)
+      go [] all treats = absurd (cc)
       go (w ∷ ws) all treats = by_pairs w ws all (nat_le budget.pairs (length before.treated)) treats
 
   pub states_made : (n : ℕ) (s : RunState) → IsRunState setting n s → AreMade problem budget s.rules s.made

@@ -82,20 +82,13 @@ AreMadeInRange made = All IsMadeInRange made
 pub made_at : (made : List Made) (place : ℕ) (m : Made) → AreMadeInRange made → slice_get made place ≡ Some m → IsMadeInRange m
 made_at made place m each is = subst IsMadeInRange (get_or_from_slice_get made place m m is) (each place m (slice_get_within made place m is))
 
--- works
-same_rest : (x y : Rest) → ◌≡◌ {A = Option Rest} (Some x) (Some y) → x ≡ y
-same_rest x y is = cc
-
-no_rest : (x : Rest) → ◌≡◌ {A = Option Rest} None (Some x) → ⊥
-no_rest x is = cc
-
 -- what it leaves of anything is good
 abbrev KeepsGood : Work → Type 0
 KeepsGood work = (rules : List Rule) (rest : Rest) → work rules ≡ Ok (Some rest) → IsGood rest
 
 rest_good : (p : List Term) (rows : List Row) (rest : Rest) → rest_with p rows ≡ Some rest → IsShaped p → AreInRange rows → IsGood rest
-rest_good [] rows rest is shaped each = absurd (no_rest rest is)
-rest_good (t ∷ p) rows rest is shaped each = subst IsGood (same_rest (record { polynomial = t ∷ p; rows = rows }) rest is) (record { shaped = shaped; rows = each })
+rest_good [] rows rest is shaped each = absurd (cc)
+rest_good (t ∷ p) rows rest is shaped each = subst IsGood (cc) (record { shaped = shaped; rows = each })
 
 module _ (compare : Compare) (steps : ℕ) where
   generator_good : (generators : List (List Term)) (number : ℕ) → IsShaped (generator_at generators number) → KeepsGood (generator_work compare steps generators number)
@@ -109,7 +102,7 @@ module _ (compare : Compare) (steps : ℕ) where
 
   -- the products of its rows were tested
   second_left : (f : First) (s : State) (p : List Term) (rest : Rest) → IsShaped p → AreInRange s.rows → second_rest f s p ≡ Ok (Some rest) → IsGood rest
-  second_left f s [] rest shaped each ends = absurd (no_rest rest (same_value None (Some rest) ends))
+  second_left f s [] rest shaped each ends = absurd (cc (same_value None (Some rest) ends))
   second_left f s (t ∷ p) rest shaped each ends = go (first_overflow (rows_operations f s)) refl ends
     where
       go : (o : Option Overflow) → first_overflow (rows_operations f s) ≡ o → unless_overflow o (rest_with (t ∷ p) (second_rows f s)) ≡ Ok (Some rest) → IsGood rest
@@ -123,7 +116,7 @@ module _ (compare : Compare) (steps : ℕ) where
   second_good f shaped rules rest ends = on f.reduced.rest shaped ends
     where
       on : (p : List Term) → IsShaped p → second_reduction compare steps f rules p ≡ Ok (Some rest) → IsGood rest
-      on [] is k = absurd (no_rest rest (same_value None (Some rest) k))
+      on [] is k = absurd (cc (same_value None (Some rest) k))
       on (t ∷ p) is k =
           let went = went_on (normal_form_of compare rules (t ∷ p) steps) (λ s. second_rest f s s.rest) (Some rest) k in
           let ranged = normal_forms_are_ranged compare rules (t ∷ p) steps went.value is.in_range went.given in
@@ -208,18 +201,12 @@ module _ (setting : Setting) (shaped : (n : ℕ) → IsShaped (generator_at sett
   later_in_range : (n : ℕ) (before s : RunState) → IsRound setting (suc n) before (went s) → AreMadeInRange before.made → AreMadeInRange s.made
   later_in_range n before s round each = go round.pending round.treats
     where
-      not_closed : went s ≡ closed → ⊥
-      not_closed e = cc
-
-      not_stopped : {h : Halt} → went s ≡ stopped h → ⊥
-      not_stopped e = cc
-
       by_pairs : (w : Waiting) (ws : List Waiting) (b : Bool) → TreatsFirst setting (suc n) before w.word (w ∷ ws) b (went s) → AreMadeInRange s.made
-      by_pairs w ws true treats = absurd (not_stopped treats)
+      by_pairs w ws true treats = absurd (cc)
       by_pairs w ws false treats = treated_in_range (suc n) before s w.word (ambiguities_of (take (taken_count setting.budget before (w ∷ ws)) (w ∷ ws))) treats each
 
       go : (ws : List Waiting) → TreatsPending setting (suc n) before ws (went s) → AreMadeInRange s.made
-      go [] treats = absurd (not_closed treats)
+      go [] treats = absurd (cc)
       go (w ∷ ws) treats = by_pairs w ws (nat_le setting.budget.pairs (length before.treated)) treats
 
   pub runs_in_range : (n : ℕ) (s : RunState) → IsRunState setting n s → AreMadeInRange s.made

@@ -43,14 +43,11 @@ none_long : (p : List Term) → has_long_word p ≡ false → All (λ t. length 
 none_long [] none = All-nil (λ (t : Term). length t.1 ≤ word_limit)
 none_long (t ∷ p) none =
     let both = or_false (nat_lt word_limit (length t.1)) (has_long_word p) none in
-    All-cons (λ (u : Term). length u.1 ≤ word_limit) t p (at_most (length t.1) both.0) (none_long p both.1)
+    All-cons (λ (u : Term). length u.1 ≤ word_limit) t p (grind (arith, nat_tests)) (none_long p both.1)
   where
     or_false : (a b : Bool) → a || b ≡ false → (a ≡ false) × (b ≡ false)
     or_false true b e = absurd (cc)
     or_false false b e = (refl, e)
-
-    at_most : (n : ℕ) → nat_lt word_limit n ≡ false → n ≤ word_limit
-    at_most n e = grind (arith, nat_tests)
 
 pub sized_short : (p v : List Term) → sized p ≡ Ok v → All (λ t. length t.1 ≤ word_limit) p
 sized_short p v ends = go (has_long_word p) refl (nat_lt term_limit (length p)) ends

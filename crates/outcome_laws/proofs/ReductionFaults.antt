@@ -28,10 +28,7 @@ use Rattle.outcome_laws.proofs.StepMade.{reduced_of, next_step, step_made, of_st
 
 -- a polynomial that is too large
 long_word : (p : List Term) → has_long_word p ≡ true → IsTooLarge true p
-long_word [] e = absurd (clash e)
-  where
-    clash : false ≡ true → ⊥
-    clash k = cc
+long_word [] e = absurd (cc)
 long_word (t ∷ p) e = go (nat_lt word_limit (length t.1)) refl e (long_word p)
   where
     go : (b : Bool) → nat_lt word_limit (length t.1) ≡ b → (b || has_long_word p) ≡ true → (has_long_word p ≡ true → IsTooLarge true p) → IsTooLarge true (t ∷ p)
@@ -41,17 +38,11 @@ long_word (t ∷ p) e = go (nat_lt word_limit (length t.1)) refl e (long_word p)
 pub too_large : (p : List Term) (e : PolyFault) → sized p ≡ Err e → (letters : Bool) × (e ≡ size_fault letters) × IsTooLarge letters p
 too_large p e ends = go (has_long_word p) refl (nat_lt term_limit (length p)) refl ends
   where
-    same : (d : PolyFault) → ◌≡◌ {A = Result (List Term) PolyFault} (Err d) (Err e) → e ≡ d
-    same d k = cc
-
-    none : ◌≡◌ {A = Result (List Term) PolyFault} (Ok p) (Err e) → ⊥
-    none k = cc
-
     go : (long : Bool) → has_long_word p ≡ long → (many : Bool) → nat_lt term_limit (length p) ≡ many → cond long (Err (size_fault true)) (cond many (Err (size_fault false)) (Ok p)) ≡ Err e
         → (letters : Bool) × (e ≡ size_fault letters) × IsTooLarge letters p
-    go true is many of k = (true, same (size_fault true) k, long_word p is)
-    go false is true of k = (false, same (size_fault false) k, grind (arith, nat_tests))
-    go false is false of k = absurd (none k)
+    go true is many of k = (true, (cc), long_word p is)
+    go false is true of k = (false, (cc), grind (arith, nat_tests))
+    go false is false of k = absurd (cc)
 
 -- Why a move of a state stops: one of its operations is no coefficient, or what it leaves is too large, and none of them is.
 pub data MoveStops (m : Move) (s : State) (e : PolyFault) : Type 0 where
@@ -61,19 +52,13 @@ pub data MoveStops (m : Move) (s : State) (e : PolyFault) : Type 0 where
 move_stops : (m : Move) (s : State) (e : PolyFault) → move_result m s ≡ Err e → MoveStops m s e
 move_stops m s e ends = go (first_overflow (move_operations m s)) refl ends
   where
-    same : (d : PolyFault) → ◌≡◌ {A = Result State PolyFault} (Err d) (Err e) → e ≡ d
-    same d k = cc
-
-    none : (t : State) → ◌≡◌ {A = Result State PolyFault} (Ok t) (Err e) → ⊥
-    none t k = cc
-
     size : first_overflow (move_operations m s) ≡ None → (r : Result (List Term) PolyFault) → sized (moved m s).rest ≡ r → if_sized r (moved m s) ≡ Err e → MoveStops m s e
-    size fits (Ok p) is k = absurd (none (moved m s) k)
-    size fits (Err d) is k = let large = too_large (moved m s).rest d is in too_long large.0 (same d k ∙ large.1) fits large.2
+    size fits (Ok p) is k = absurd (cc)
+    size fits (Err d) is k = let large = too_large (moved m s).rest d is in too_long large.0 ((cc) ∙ large.1) fits large.2
 
     go : (o : Option Overflow) → first_overflow (move_operations m s) ≡ o → unless_overflow o (if_sized (sized (moved m s).rest) (moved m s)) ≡ Err e → MoveStops m s e
     go None is k = size is (sized (moved m s).rest) refl k
-    go (Some o) is k = overflows o (same (fault.Overflow o) k) is
+    go (Some o) is k = overflows o (cc) is
 
 -- Why a reduction of at most this many steps stops.
 pub data Stops (compare : Compare) (rules : List Rule) (limit steps : ℕ) (start : Reduced) (e : ReduceFault) : Type 0 where

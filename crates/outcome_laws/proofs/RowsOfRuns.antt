@@ -35,12 +35,6 @@ use Rattle.traced_completion.proofs.RunRules.{made_is_rule}
 use Rattle.outcome_laws.proofs.Results.{same_ok, no_error, generator_all, fits_first, none_append}
 use Rattle.outcome_laws.proofs.WholeRuns.{taken_are}
 
-some_is : (x y : Rest) → ◌≡◌ {A = Option Rest} (Some x) (Some y) → x ≡ y
-some_is x y same = cc
-
-none_some : (x : Rest) → ◌≡◌ {A = Option Rest} None (Some x) → ⊥
-none_some x same = cc
-
 -- the words of generators, by their numbers
 pub generator_words : (letters : ℕ) (ps : List (List Term)) → All (HasWords letters) ps → (number : ℕ) → AreWords letters (generator_at ps number)
 generator_words letters ps each =
@@ -100,8 +94,8 @@ module _ (letters : ℕ) (setting : Setting) (IsPoly : List Term → Type 0) (Is
     some : 1 ≤ length rest.rows
 
   rest_holds : (count : ℕ) (p : List Term) (rows : List Row) (rest : Rest) → rest_with p rows ≡ Some rest → IsPoly p → Rows count rows → 1 ≤ length rows → Holds count rest
-  rest_holds count [] rows rest same is each some = absurd (none_some rest same)
-  rest_holds count (t ∷ p) rows rest same is each some = subst (Holds count) (some_is _ rest same) (record { polynomial = is; rows = each; some = some })
+  rest_holds count [] rows rest same is each some = absurd (cc)
+  rest_holds count (t ∷ p) rows rest same is each some = subst (Holds count) (cc) (record { polynomial = is; rows = each; some = some })
 
   abbrev KeepsRows : ℕ → Work → Type 0
   KeepsRows count work = (rules : List Rule) → count ≤ length rules → AreRules rules → (rest : Rest) → work rules ≡ Ok (Some rest) → Holds (length rules) rest
@@ -129,7 +123,7 @@ module _ (letters : ℕ) (setting : Setting) (IsPoly : List Term → Type 0) (Is
   first_more few many f most has = record { rows = rows_more few many most f.rows has.rows; some = has.some; rest = has.rest; taken = rows_more few many most f.reduced.rows has.taken }
 
   second_left : (count : ℕ) (f : First) (s : State) (p : List Term) (rest : Rest) → second_rest f s p ≡ Ok (Some rest) → HoldsFirst count f → IsPoly p → Rows count s.rows → Holds count rest
-  second_left count f s [] rest same first is taken = absurd (none_some rest (same_ok None (Some rest) same))
+  second_left count f s [] rest same first is taken = absurd (cc (same_ok None (Some rest) same))
   second_left count f s (t ∷ p) rest same first is taken = go (first_overflow (rows_operations f s)) refl same
     where
       go : (o : Option Overflow) → first_overflow (rows_operations f s) ≡ o → unless_overflow o (rest_with (t ∷ p) (second_rows f s)) ≡ Ok (Some rest) → Holds count rest
@@ -144,7 +138,7 @@ module _ (letters : ℕ) (setting : Setting) (IsPoly : List Term → Type 0) (Is
   second_keeps count f first rules least are rest same = on f.reduced.rest first.rest same
     where
       on : (p : List Term) → IsPoly p → second_reduction setting.compare setting.budget.steps f rules p ≡ Ok (Some rest) → Holds (length rules) rest
-      on [] is k = absurd (none_some rest (same_ok None (Some rest) k))
+      on [] is k = absurd (cc (same_ok None (Some rest) k))
       on (t ∷ p) is k = go (normal_form_of setting.compare rules (t ∷ p) setting.budget.steps) refl k
         where
           go : (r : Result State ReduceFault) → normal_form_of setting.compare rules (t ∷ p) setting.budget.steps ≡ r → and_then r (λ s. second_rest f s s.rest) ≡ Ok (Some rest) → Holds (length rules) rest
@@ -192,15 +186,8 @@ module _ (letters : ℕ) (setting : Setting) (IsPoly : List Term → Type 0) (Is
   MadeFrom place (m ∷ made) = IsMade place m × MadeFrom (suc place) made
 
   made_push : (place : ℕ) (made : List Made) (m : Made) → MadeFrom place made → IsMade (place + length made) m → MadeFrom place (made ++ m ∷ [])
-  made_push place [] m each last = (subst (λ n. IsMade n m) (plus_zero place) last, tt)
-    where
-      plus_zero : (n : ℕ) → n + 0 ≡ n
-      plus_zero n = omega arith
-  made_push place (x ∷ made) m each last = (each.0, made_push (suc place) made m each.1 (subst (λ n. IsMade n m) (plus_suc place (length made)) last))
-    where
-      plus_suc : (n k : ℕ) → n + suc k ≡ suc n + k
-      plus_suc n k = omega arith
-
+  made_push place [] m each last = (subst (λ n. IsMade n m) (omega arith) last, tt)
+  made_push place (x ∷ made) m each last = (each.0, made_push (suc place) made m each.1 (subst (λ n. IsMade n m) (omega arith) last))
   -- rules with their records
   pub record Held (r : Recorded) : Type 0 where
     pub rules : AreRules r.rules
@@ -220,12 +207,9 @@ module _ (letters : ℕ) (setting : Setting) (IsPoly : List Term → Type 0) (Is
         rules = All-push (IsRule letters setting.compare) before.rules more.rule held.rules
             (made_is_rule letters setting.compare rest more.rule more.made more.made_from (kept.words rest.polynomial is.polynomial));
         one_each = omega (arith, length-append before.rules (more.rule ∷ []), length-append before.made (more.made ∷ []), held.one_each);
-        made = made_push 0 before.made more.made held.made (subst (λ n. IsMade n more.made) (counted (length before.made) (length before.rules) held.one_each) made);
+        made = made_push 0 before.made more.made held.made (subst (λ n. IsMade n more.made) (omega arith) made);
       })
     where
-      counted : (m n : ℕ) → m ≡ n → n ≡ 0 + m
-      counted m n same = omega arith
-
       made_rows : (negative : Bool) → Holds (length before.rules) rest
           → Rows (length before.rules) (cond negative (negated_rows rest.rows) rest.rows) × (1 ≤ length (cond negative (negated_rows rest.rows) rest.rows))
       made_rows true is = (rows_negated (length before.rules) rest.rows is.rows, omega (arith, length-map rest.rows negated_row, is.some))

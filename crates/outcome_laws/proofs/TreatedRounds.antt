@@ -53,15 +53,9 @@ module _ (setting : Setting) (n : ℕ) (s after : RunState) where
   pub took_first : IsRound setting (suc n) s (went after) → TookFirst setting s after
   took_first round = go round.pending round.all_pending round.treats
     where
-      never_closed : went after ≡ closed → ⊥
-      never_closed e = cc
-
-      never_stopped : {h : Halt} → went after ≡ stopped h → ⊥
-      never_stopped e = cc
-
       by_pairs : (w : Waiting) (ws : List Waiting) → AreAllPending setting.compare s.rules s.treated (w ∷ ws) → (b : Bool) → nat_le setting.budget.pairs (length s.treated) ≡ b
           → TreatsFirst setting (suc n) s w.word (w ∷ ws) b (went after) → TookFirst setting s after
-      by_pairs w ws all true spent treats = absurd (never_stopped treats)
+      by_pairs w ws all true spent treats = absurd (cc)
       by_pairs w ws all false left treats =
           let taken = ambiguities_of (take (taken_count setting.budget s (w ∷ ws)) (w ∷ ws)) in
           record {
@@ -74,7 +68,7 @@ module _ (setting : Setting) (n : ℕ) (s after : RunState) where
           }
 
       go : (ws : List Waiting) → AreAllPending setting.compare s.rules s.treated ws → TreatsPending setting (suc n) s ws (went after) → TookFirst setting s after
-      go [] all treats = absurd (never_closed treats)
+      go [] all treats = absurd (cc)
       go (w ∷ ws) all treats = by_pairs w ws all (nat_le setting.budget.pairs (length s.treated)) refl treats
 
 -- round 0 treats none
