@@ -89,6 +89,7 @@ module _ (letters : ℕ) (compare : Compare) (rank : List ℕ → List ℕ) (law
       let at : signed is.negated m.scale *ℤ coefficient_of g.poly.terms g.lead ≡ pos 0 = sym (coefficient_of-multiple (signed is.negated m.scale) g.poly.terms g.lead) ∙ is.divided.at g.lead ∙ none in
       let gone : coefficient_of g.poly.terms g.lead ≡ pos 0 = cancel_nonzero (signed is.negated m.scale) (coefficient_of g.poly.terms g.lead) (signed_nonzero is.negated m.scale is.positive) at in
       (omega (arith, ints, is.is_rule.positive, (sym lead_coefficient ∙ gone)))
+
   new_apart : (i : ℕ) (f : Rule) → rule_at rules i ≡ Some f → OccursNowhere g.lead f.lead
   new_apart i f numbered =
       rule_at-all (λ (r : Rule). OccursNowhere g.lead r.lead) rules i f numbered

@@ -66,6 +66,7 @@ module _ (o : Order) (g : Rules o) (q : Allowed o) (res : Resolved o g q) where
     where
       each : (b : Coefs) → ((M : Word) × Row o g q M b) → Span (λ d. (L : Word) × Unit {0} × Row o g q L d) b
       each b (M, row) = more b (λ _. pos 0) b (pos 1) (M, tt, row) (nothing _ (λ _. refl)) (λ w. (omega (arith, ints)))
+
       finish : (((w : Word) → f w ≡ pos 0) ⊎ ((N : Word) × Unit {0} × Span (AtMost setting N) f × SomeRow setting N)) → ((w : Word) → f w ≡ pos 0) ⊎ HasTopRow setting f
       finish (inl z) = inl z
       finish (inr (N, u, sp', at)) = zero_or_top_row setting N f sp'

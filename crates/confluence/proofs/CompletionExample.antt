@@ -160,6 +160,7 @@ nothing_pending a is untreated = untreated (zero, omega arith, sym (only_itself 
 
 all_done : AreAllDone generators (1 ∷ [])
 all_done n first last = (zero, omega arith, (omega (arith, first, last)))
+
 -- x is its own normal form, and so it is outside
 abbrev x : List Term
 x = (pos 1, 0 ∷ []) ∷ []
@@ -194,6 +195,7 @@ x_is_outside_alone inside = clash (rests_of_ideal_are_zero 1 word_cmp (rank_of 1
   where
     clash : IsZero x → ⊥
     clash none = cc (none.at (0 ∷ []))
+
 -- with the ambiguity left out nothing can be concluded: it is pending
 left_out : NothingPending (rule ∷ []) [] → ⊥
 left_out nothing = nothing itself is_one (λ c. omega (arith, c.1))

@@ -75,6 +75,7 @@ module _ (o : Order) (g : Rules o) where
 
   one_row : (q : Allowed o) (M : Word) (b : Coefs) → Row o g q M b → Span (AnyRow q) b
   one_row q M b row = more b (λ _. pos 0) b (pos 1) (M, row) (nothing _ (λ _. refl)) (λ w. (omega (arith, ints)))
+
   -- rows over other polynomials, in which each word is in range and may be a top
   pub record Piece (q : Allowed o) (inner : List Term) (b : Coefs) : Type 0 where
     pub left : Word

@@ -137,10 +137,8 @@ module _ (o : Order) (g h : Rules o) (x : Extends o g h) where
   }
 
   pub any_more : (q : Allowed o) (f : Coefs) → Span (AnyRow o g q) f → Span (AnyRow o h q) f
-  any_more q = span_bind (AnyRow o g q) (AnyRow o h q) (λ b r. single b (r.0, row_more q r.0 b r.1))
-    where
-      single : (b : Coefs) → AnyRow o h q b → Span (AnyRow o h q) b
-      single b r = more b (λ _. pos 0) b (pos 1) r (nothing _ (λ _. refl)) (λ w. (omega (arith, ints)))
+  any_more q = span_bind (AnyRow o g q) (AnyRow o h q) (λ b r. (more b (λ _. pos 0) b (pos 1) (r.0, row_more q r.0 b r.1)
+      (nothing _ (λ _. refl)) (λ w. (omega (arith, ints)))))
 
 -- another bound
 pub row_bound : (o : Order) (g : Rules o) (q p : Allowed o) (M : Word) (b : Coefs) → Row o g q M b → p.May M → Row o g p M b

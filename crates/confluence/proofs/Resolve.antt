@@ -103,6 +103,7 @@ module _ (o : Order) where
 
           balance : (x k y l : ℕ) → x * k ≡ y * l → pos x *ℤ pos k +ℤ neg_ℤ (pos y) *ℤ pos l ≡ pos 0
           balance x k y l e = ap (λ z. z +ℤ neg_ℤ (pos y) *ℤ pos l) (pos-*ℤ-pos x k ∙ ap pos e) ∙ ap (λ z. pos (y * l) +ℤ z) (neg_ℤ-*ℤ (pos y) (pos l) ∙ ap neg_ℤ (pos-*ℤ-pos y l)) ∙ (omega (arith, ints))
+
       by_up_to : o.Range w × ((w ≡ O) ⊎ o.Less w O) → (coefficient_of p w ≡ pos 0) ⊎ (o.Range w × o.Less w O)
       by_up_to (r, inl e) = inl (cancels e)
       by_up_to (r, inr l) = inr (r, l)

@@ -62,6 +62,7 @@ module _ (letters : ℕ) (compare : Compare) (rules : List Rule) (p : List Term)
       let Base = Numbered (polynomials_of rules) Asked in
       span_same Base _ (coefficient_of s.rest) (span_add Base _ _ (span_scale Base s.multiplier (coefficient_of p) sp) (span_scale Base (negsuc 0) (reduced_part p s) (numbered_span letters compare rules p s reduced Asked asked)))
       (λ w. (omega (arith, ints)))
+
 pub rests_of_ideal_are_zero : RestsOfIdealAreZero
 rests_of_ideal_are_zero letters compare rank rules p s laws are resolved inside over reduced =
     let polys = polynomials_of rules in

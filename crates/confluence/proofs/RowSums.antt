@@ -98,6 +98,7 @@ module _ (generators polys : List (List Term)) where
       traced-cons (negated_row row) (negated_rows rows) w
       ∙ ap₂ ◌+ℤ◌ (neg_ℤ-*ℤ row.coef (row_at row w)) (traced-negated rows w)
       ∙ (omega (arith, ints)) ∙ ap neg_ℤ (sym (traced-cons row rows w))
+
 -- which rows they are over
 module _ (P : Origin → Type 0) where
   pub all_multiplied : (by : ℤ) (rows : List Row) → All (λ row. P row.from) rows → All (λ row. P row.from) (map (multiplied_row by) rows)

@@ -111,6 +111,7 @@ module _ (p : Parts) (rules : List Rule) (b : IsBasis p rules) where
               (rule_at-all (IsRule (letter_count p.quiver) (asked_cmp p.order)) rules i g numbered b.are_rules) in
               let none : pos (led_of g).leading ≡ pos 0 = sym led.at_lead ∙ zero in
               absurd (omega (arith, ints, none, led.positive))
+
           occurs : (w : Word) → is_lower (led_of g) w ≡ true → coefficient_of g.poly.terms w ≢ pos 0
           occurs w lower zero =
               let parts = and_parts (not (word_eq g.lead w)) (not (int_eq (coefficient_of g.poly.terms w) (pos 0))) lower in
@@ -119,10 +120,10 @@ module _ (p : Parts) (rules : List Rule) (b : IsBasis p rules) where
   -- what is in the rational ideal is a sum of rows over the rules
   ideal_rows : {f : List Term} → HasSignature q f → InRationalIdeal (polynomials_of rules) f
       → Span (AnyRow (word_order p rules b.are_rules) (word_rules p rules b.are_rules)) (coefficient_of f)
-  ideal_rows {f} typed inside = free_span (word_order p rules b.are_rules) (leds_of rules) (leds_are (letter_count p.quiver)
-      (asked_cmp p.order) order_rank (asked_cmp-admissible (letter_count p.quiver) p.order) rules b.are_rules) f
-      (λ w some. path_range typed.source typed.target w (typed.typed.at w some)) (subst (λ ps. Span (Numbered ps Free) (coefficient_of f))
-      (sym (polys_of-leds rules)) (ideal_span (polynomials_of rules) f inside))
+  ideal_rows {f} typed inside = free_span (word_order p rules b.are_rules) (leds_of rules)
+      (leds_are (letter_count p.quiver) (asked_cmp p.order) order_rank (asked_cmp-admissible (letter_count p.quiver) p.order) rules b.are_rules) f
+      (λ w some. path_range typed.source typed.target w (typed.typed.at w some))
+      (subst (λ ps. Span (Numbered ps Free) (coefficient_of f)) (sym (polys_of-leds rules)) (ideal_span (polynomials_of rules) f inside))
 
   -- and back
   rows_ideal : (f : List Term) → Span (AnyRow (word_order p rules b.are_rules) (word_rules p rules b.are_rules)) (coefficient_of f)
@@ -180,10 +181,11 @@ module _ (p : Parts) (rules : List Rule) (b : IsBasis p rules) where
   -- what is in the rational ideal of the rules has the value zero
   pub inside_is_zero : {f : List Term} → Plays f → HasSignature q f → InRationalIdeal (polynomials_of rules) f
       → HasValueZero (normal_forms p rules) q (forms_representation p rules) f
-  inside_is_zero {f} plays typed inside = image_value_zero (exact_forms p rules b.are_rules) (normal_forms p rules) plain exact
-      (is_image p rules b.are_rules b) (normal_representation rationals (exact_ground p rules b.are_rules)) (forms_representation p rules)
-      (λ v. refl) (letter_plain p rules b.are_rules) (ideal_zero rationals (exact_ground p rules b.are_rules) facts f plays
-      (ideal_rows typed inside))
+  inside_is_zero {f} plays typed inside =
+      image_value_zero (exact_forms p rules b.are_rules) (normal_forms p rules) plain exact (is_image p rules b.are_rules b)
+      (normal_representation rationals (exact_ground p rules b.are_rules)) (forms_representation p rules)
+      (λ v. refl) (letter_plain p rules b.are_rules)
+      (ideal_zero rationals (exact_ground p rules b.are_rules) facts f plays (ideal_rows typed inside))
 
   zeros : (fs : List (List Term)) → AllByRecursion Plays fs → AllByRecursion (HasSignature q) fs → All Inside fs
       → AllByRecursion (HasValueZero (normal_forms p rules) q (forms_representation p rules)) fs
@@ -208,8 +210,10 @@ module _ (p : Parts) (rules : List Rule) (b : IsBasis p rules) where
         source_is_object = typed.source_is_object;
         target_is_object = typed.target_is_object;
         typed = typed.typed;
-        nonzero = λ none. outside (rows_ideal claim (zero_ideal rationals (exact_ground p rules b.are_rules) facts typed.source_is_object
-            typed.target_is_object plays typed.typed (under none)));
+        nonzero = λ none. outside
+            (rows_ideal claim
+            (zero_ideal rationals (exact_ground p rules b.are_rules) facts typed.source_is_object typed.target_is_object plays typed.typed
+            (under none)));
       };
     };
   }

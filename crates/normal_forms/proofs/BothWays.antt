@@ -99,9 +99,10 @@ module _ {Object Arrow : Type 0} {s : Structure Object Arrow} (laws : Preadditiv
   both_ways_represents = record {
     represents = record {
       objects = rep.objects;
-      arrows = λ a h. join s (rep.arrows a h) (subst (λ x. IsArrow s (f.object x) (f.object (source q a)) (f.arrow (star q a)))
-          (quiver.star_source a h) (subst (λ y. IsArrow s (f.object (source q (star q a))) (f.object y) (f.arrow (star q a)))
-          (quiver.star_target a h) (rep.arrows (star q a) (quiver.star_is_letter a h))));
+      arrows = λ a h. join s (rep.arrows a h)
+          (subst (λ x. IsArrow s (f.object x) (f.object (source q a)) (f.arrow (star q a))) (quiver.star_source a h)
+          (subst (λ y. IsArrow s (f.object (source q (star q a))) (f.object y) (f.arrow (star q a))) (quiver.star_target a h)
+          (rep.arrows (star q a) (quiver.star_is_letter a h))));
       identities = λ v h. both (rep.identities v h) (ap f.arrow (quiver.identity_star v h) ∙ rep.identities v h);
     };
     adjoints = λ a h map declared. both refl (ap f.arrow (quiver.star_star a h));

@@ -107,18 +107,18 @@ module _ {K : Type 0} (k : Field K) where
 
     pub cong_after : {p q : Form K} (t : Form K) → Cong p q → Cong (p ++ t) (q ++ t)
     cong_after t (alike p q f) = alike (p ++ t) (q ++ t) (alike-append k f (alike_refl t))
-    cong_after t (rows p s q c l i r h m e f) = rows (p ++ t) (s ++ t) (q ++ t) c l i r h m (cong_after t e) (alike_trans (alike-append k f
-        (alike_refl t)) (alike_same (append_assoc (row c l i r) s t)))
+    cong_after t (rows p s q c l i r h m e f) = rows (p ++ t) (s ++ t) (q ++ t) c l i r h m (cong_after t e)
+        (alike_trans (alike-append k f (alike_refl t)) (alike_same (append_assoc (row c l i r) s t)))
 
     pub cong_append : {p q s t : Form K} → Cong p q → Cong s t → Cong (p ++ s) (q ++ t)
-    cong_append {q} {s} {t} e f = cong_trans (cong_after s e) (cong_left (alike-swap q s) (cong_trans (cong_after q f) (alike (t ++ q) (q
-        ++ t) (alike-swap t q))))
+    cong_append {q} {s} {t} e f = cong_trans (cong_after s e) (cong_left (alike-swap q s)
+        (cong_trans (cong_after q f) (alike (t ++ q) (q ++ t) (alike-swap t q))))
 
     pub cong_scaled : (d : K) {p q : Form K} → Cong p q → Cong (scaled k d p) (scaled k d q)
     cong_scaled d (alike p q f) = alike _ _ (alike-scaled k d f)
     cong_scaled d (rows p s q c l i r h m e f) = rows (scaled k d p) (scaled k d s) (scaled k d q) (k.times d c) l i r h m (cong_scaled d e)
-        (alike_trans (alike-scaled k d f) (alike_same (scaled-append k d (row c l i r) s ∙ ap (λ z. z ++ scaled k d s) (scaled-words k d
-        (λ u. l ++ (u ++ r)) (lifted c (poly (g.rule i))) ∙ ap (with_words (λ u. l ++ (u ++ r))) (scaled-lifted d c (poly (g.rule i)))))))
+        (alike_trans (alike-scaled k d f) (alike_same (scaled-append k d (row c l i r) s ∙ ap (λ z. z ++ scaled k d s)
+        (scaled-words k d (λ u. l ++ (u ++ r)) (lifted c (poly (g.rule i))) ∙ ap (with_words (λ u. l ++ (u ++ r))) (scaled-lifted d c (poly (g.rule i)))))))
 
     -- a row is removed again
     off : {p : Form K} (s : Form K) (c : K) (l : Word) (i : ℕ) (r : Word) → Alike k p (row c l i r ++ s) → Alike k s (row (k.minus c) l i r ++ p)
@@ -127,14 +127,13 @@ module _ {K : Type 0} (k : Field K) where
           at = λ w. sym
               (look-append (row (k.minus c) l i r) p w ∙ ap₂ k.plus (look-lifted (λ u. l ++ (u ++ r)) (k.minus c) (poly (g.rule i)) w ∙ minus_times k c (value w))
               (f.at w ∙ look-append (row c l i r) s w ∙ ap (λ z. k.plus z (look k s w)) (look-lifted (λ u. l ++ (u ++ r)) c (poly (g.rule i)) w))
-              ∙ gone (k.times c (value w)) (look k s w));
+              ∙ (sym (k.plus_assoc (k.minus (k.times c (value w))) (k.times c (value w)) (look k s w)) ∙ ap (λ z. k.plus z (look k s w))
+              (k.plus_comm (k.minus (k.times c (value w))) (k.times c (value w)) ∙ k.plus_minus (k.times c (value w))) ∙ none_plus k
+              (look k s w)));
         }
       where
         value : Word → K
         value w = k.int (coefficient_of (poly_between l (poly (g.rule i)) r) w)
-
-        gone : (a b : K) → k.plus (k.minus a) (k.plus a b) ≡ b
-        gone a b = sym (k.plus_assoc (k.minus a) a b) ∙ ap (λ z. k.plus z b) (k.plus_comm (k.minus a) a ∙ k.plus_minus a) ∙ none_plus k b
 
     pub cong_sym : {p q : Form K} → Cong p q → Cong q p
     cong_sym (alike p q f) = alike q p (alike_sym f)
@@ -144,10 +143,11 @@ module _ {K : Type 0} (k : Field K) where
     pub cong_between : ((u v : Word) → o.Range u → o.Range v → o.Range (u ++ v)) → {x y : Word} → o.Range x → o.Range y → {p q : Form K} → Cong p q
         → Cong (with_words (λ u. x ++ (u ++ y)) p) (with_words (λ u. x ++ (u ++ y)) q)
     cong_between join {x} {y} rx ry (alike p q f) = alike _ _ (alike-words k (λ u. x ++ (u ++ y)) p q f)
-    cong_between join {x} {y} rx ry (rows p s q c l i r h m e f) = rows (with_words at p) (with_words at s) (with_words at q) c (x ++ l) i
-        (r ++ y) h range (cong_between join rx ry e) (alike_trans (alike-words k at p (row c l i r ++ s) f) (alike_same (words-append at
-        (row c l i r) s ∙ ap (λ z. z ++ with_words at s) (words-words at (λ u. l ++ (u ++ r)) (lifted c (poly (g.rule i))) ∙ words-same _
-        (λ u. (x ++ l) ++ (u ++ (r ++ y))) (lifted c (poly (g.rule i))) moved))))
+    cong_between join {x} {y} rx ry (rows p s q c l i r h m e f) =
+        rows (with_words at p) (with_words at s) (with_words at q) c (x ++ l) i (r ++ y) h range (cong_between join rx ry e)
+        (alike_trans (alike-words k at p (row c l i r ++ s) f) (alike_same (words-append at (row c l i r) s ∙ ap (λ z. z ++ with_words at s)
+        (words-words at (λ u. l ++ (u ++ r)) (lifted c (poly (g.rule i)))
+        ∙ words-same _ (λ u. (x ++ l) ++ (u ++ (r ++ y))) (lifted c (poly (g.rule i))) moved))))
       where
         at : Word → Word
         at u = x ++ (u ++ y)
@@ -235,9 +235,10 @@ module _ {K : Type 0} (k : Field K) where
             D = k.int (pos d.denominator)
 
             top : (N : Word) (b : Coefs) → Row o g (everything o) N b → d.difference N ≡ pos 0
-            top N b x = k.int_only (d.difference N) (sym (k.plus_none (k.int (d.difference N))) ∙ ap (λ z. k.plus (k.int
-                (d.difference N)) z) (sym (ap (k.times D) (irreducible_look q N x.left x.right x.has x.top iq) ∙ times_none k D)) ∙ sym
-                (d.is N) ∙ ap (k.times D) (irreducible_look p N x.left x.right x.has x.top ip) ∙ times_none k D)
+            top N b x = k.int_only (d.difference N)
+                (sym (k.plus_none (k.int (d.difference N))) ∙ ap (λ z. k.plus (k.int (d.difference N)) z)
+                (sym (ap (k.times D) (irreducible_look q N x.left x.right x.has x.top iq) ∙ times_none k D)) ∙ sym (d.is N)
+                ∙ ap (k.times D) (irreducible_look p N x.left x.right x.has x.top ip) ∙ times_none k D)
 
             zero_all : (w : Word) → d.difference w ≡ pos 0
             zero_all = no_reducible_word res top d.span
@@ -266,14 +267,12 @@ module _ {K : Type 0} (k : Field K) where
         unmapped [] = refl
         unmapped (t ∷ p) = ap (λ z. t ∷ z) (unmapped p)
 
-        lookup : (w : Word) → look k (lifted k.one p) w ≡ k.int (coefficient_of p w)
-        lookup w = ap (λ z. look k z w) (sym (unmapped (lifted k.one p))) ∙ look-lifted (λ u. u) k.one p w ∙ k.one_times _ ∙ ap k.int (same p w)
-
         from : Cleared (lifted k.one p) [] → Span (AnyRow o g) (coefficient_of p)
         from d = part (coefficient_of p) d.difference d.denominator d.positive d.span
             (λ w. int_equal (d.difference w) (pos d.denominator *ℤ coefficient_of p w)
             (sym (k.plus_none (k.int (d.difference w))) ∙ ap (λ z. k.plus (k.int (d.difference w)) z) (sym (times_none k (k.int (pos d.denominator))))
-            ∙ sym (d.is w) ∙ ap (k.times (k.int (pos d.denominator))) (lookup w) ∙ sym (k.int_times (pos d.denominator) (coefficient_of p w))))
+            ∙ sym (d.is w) ∙ ap (k.times (k.int (pos d.denominator))) (ap (λ z. look k z w) (sym (unmapped (lifted k.one p))) ∙ look-lifted
+            (λ u. u) k.one p w ∙ k.one_times _ ∙ ap k.int (same p w)) ∙ sym (k.int_times (pos d.denominator) (coefficient_of p w))))
           where
             int_equal : (a b : ℤ) → k.int a ≡ k.int b → a ≡ b
             int_equal a b e = apart a b

@@ -112,10 +112,12 @@ Differs v w = v ≢ w
 
 pub names_differ : {a b : ℕ} → a ≢ b → Differs (a ∷ []) (b ∷ [])
 names_differ {a} {b} other e = other (cc)
+
 distinct : AllPairs Differs (u_name ∷ v_name ∷ x_name ∷ [])
-distinct = AllPairs-cons Differs u_name (v_name ∷ x_name ∷ []) (both (Differs u_name) v_name x_name (names_differ (λ e. omega (arith, e)))
-    (names_differ (λ e. omega (arith, e)))) (AllPairs-cons Differs v_name (x_name ∷ []) (alone (Differs v_name) (names_differ (λ e. omega
-    (arith, e)))) (all_pairs_one Differs x_name))
+distinct = AllPairs-cons Differs u_name (v_name ∷ x_name ∷ [])
+    (both (Differs u_name) v_name x_name (names_differ (λ e. omega (arith, e))) (names_differ (λ e. omega (arith, e))))
+    (AllPairs-cons Differs v_name (x_name ∷ []) (alone (Differs v_name) (names_differ (λ e. omega (arith, e))))
+    (all_pairs_one Differs x_name))
 
 typed_zero : IsTypedOf declared (record { terms = zero_terms; canonical = one_term 0 }) (at_object 0)
 typed_zero = typed_from_paths (quiver_of declared) 0 0 zero_terms (alone (λ (t : Term). IsPath (quiver_of declared) 0 0 t.1) refl)
@@ -280,8 +282,9 @@ only_itself {a} is = by_kind a.kind refl is.meets (which a.i is.first is.first_n
 
 resolved : Resolved 4 word_cmp rules
 resolved = record {
-  each = λ a is. subst (IsResolved 4 word_cmp rules) (sym (only_itself is)) (zero_rests_are_resolved 4 word_cmp (rank_of 4) rules itself []
-      (start_of []) laws are_rules is_one (s_polynomials_balance rules itself [] difference) zero_reduced (record { at = λ w. refl }));
+  each = λ a is. subst (IsResolved 4 word_cmp rules) (sym (only_itself is))
+      (zero_rests_are_resolved 4 word_cmp (rank_of 4) rules itself [] (start_of []) laws are_rules is_one
+      (s_polynomials_balance rules itself [] difference) zero_reduced (record { at = λ w. refl }));
 }
 
 -- types, and the generators: [U], x x - x and [U] [U] - [U]
@@ -339,6 +342,7 @@ outside inside = clash (rests_of_ideal_are_zero 4 word_cmp (rank_of 4) rules cla
   where
     clash : IsZero claim_terms → ⊥
     clash none = cc (none.at (2 ∷ []))
+
 -- so x isn't zero in the category
 example : SharpMeans parts rules claim_terms
 example = sharp_means parts rules basis

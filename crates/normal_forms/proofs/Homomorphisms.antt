@@ -105,6 +105,7 @@ module _ {K L : Type 0} (k : Numbers K) (m : Numbers L) (h : K → L) (is : IsHo
     pub mapped-normal : (all : (w : Word) → IsGrounded below w) (p : Form K)
         → mapped h (rational_normal_form k below rules all p) ≡ rational_normal_form m below rules all (mapped h p)
     mapped-normal all [] = refl
-    mapped-normal all (t ∷ p) = mapped-append h (multiple_form k t.0 (word_form k below rules t.1 (all t.1)))
-        (rational_normal_form k below rules all p) ∙ ap₂ ◌++◌ (mapped-multiple t.0 (word_form k below rules t.1 (all t.1)) ∙ ap
-        (multiple_form m (h t.0)) (mapped-word (all t.1))) (mapped-normal all p)
+    mapped-normal all (t ∷ p) =
+        mapped-append h (multiple_form k t.0 (word_form k below rules t.1 (all t.1))) (rational_normal_form k below rules all p)
+        ∙ ap₂ ◌++◌ (mapped-multiple t.0 (word_form k below rules t.1 (all t.1)) ∙ ap (multiple_form m (h t.0)) (mapped-word (all t.1)))
+        (mapped-normal all p)

@@ -80,12 +80,14 @@ module _ {Object A B : Type 0} (s : Structure Object A) (c : Structure Object B)
         (subst s.is_object (sym (i.target (down b)) ∙ ap c.target u.1) (laws.target_is_object (down b) u.0));
     identity_is_arrow = λ x h. subst (IsArrow c x x) (sym (i.identity x)) (image (laws.identity_is_arrow x (i.object x h)));
     zero_is_arrow = λ x y h j. subst (IsArrow c x y) (sym (i.zero x y)) (image (laws.zero_is_arrow x y (i.object x h) (i.object y j)));
-    add_is_arrow = λ x y a b h j. on_arrow (λ a. IsArrow c x y (c.add a b)) h (λ a' h'. on_arrow (λ b. IsArrow c x y (c.add (up a') b)) j
-        (λ b' j'. subst (IsArrow c x y) (sym (i.add a' b')) (image (laws.add_is_arrow x y a' b' h' j'))));
+    add_is_arrow = λ x y a b h j. on_arrow (λ a. IsArrow c x y (c.add a b)) h
+        (λ a' h'. on_arrow (λ b. IsArrow c x y (c.add (up a') b)) j (λ b' j'.
+        subst (IsArrow c x y) (sym (i.add a' b')) (image (laws.add_is_arrow x y a' b' h' j'))));
     negate_is_arrow = λ x y a h. on_arrow (λ a. IsArrow c x y (c.negate a)) h
         (λ a' h'. subst (IsArrow c x y) (sym (i.negate a')) (image (laws.negate_is_arrow x y a' h')));
-    compose_is_arrow = λ x y z a b h j. on_arrow (λ a. IsArrow c x z (c.compose a b)) h (λ a' h'. on_arrow (λ b. IsArrow c x z (c.compose
-        (up a') b)) j (λ b' j'. subst (IsArrow c x z) (sym (i.compose a' b')) (image (laws.compose_is_arrow x y z a' b' h' j'))));
+    compose_is_arrow = λ x y z a b h j. on_arrow (λ a. IsArrow c x z (c.compose a b)) h
+        (λ a' h'. on_arrow (λ b. IsArrow c x z (c.compose (up a') b)) j (λ b' j'.
+        subst (IsArrow c x z) (sym (i.compose a' b')) (image (laws.compose_is_arrow x y z a' b' h' j'))));
     compose_assoc = λ w x y z a b d h j m. on_arrow (λ a. c.compose (c.compose a b) d ≡ c.compose a (c.compose b d)) h (λ a' h'.
         on_arrow (λ b. c.compose (c.compose (up a') b) d ≡ c.compose (up a') (c.compose b d)) j (λ b' j'.
         on_arrow (λ d. c.compose (c.compose (up a') (up b')) d ≡ c.compose (up a') (c.compose (up b') d)) m (λ d' m'.
@@ -95,10 +97,11 @@ module _ {Object A B : Type 0} (s : Structure Object A) (c : Structure Object B)
         (λ a' h'. ap (λ e. c.compose e (up a')) (i.identity y) ∙ i.compose (s.identity y) a' ∙ ap up (laws.identity_left x y a' h'));
     identity_right = λ x y a h. on_arrow (λ a. c.compose a (c.identity x) ≡ a) h
         (λ a' h'. ap (c.compose (up a')) (i.identity x) ∙ i.compose a' (s.identity x) ∙ ap up (laws.identity_right x y a' h'));
-    add_assoc = λ x y a b d h j m. on_arrow (λ a. c.add (c.add a b) d ≡ c.add a (c.add b d)) h (λ a' h'. on_arrow (λ b. c.add (c.add
-        (up a') b) d ≡ c.add (up a') (c.add b d)) j (λ b' j'. on_arrow (λ d. c.add (c.add (up a') (up b')) d ≡ c.add (up a') (c.add
-        (up b') d)) m (λ d' m'. ap (λ e. c.add e (up d')) (i.add a' b') ∙ i.add (s.add a' b') d' ∙ ap up
-        (laws.add_assoc x y a' b' d' h' j' m') ∙ sym (ap (c.add (up a')) (i.add b' d') ∙ i.add a' (s.add b' d')))));
+    add_assoc = λ x y a b d h j m. on_arrow (λ a. c.add (c.add a b) d ≡ c.add a (c.add b d)) h (λ a' h'.
+        on_arrow (λ b. c.add (c.add (up a') b) d ≡ c.add (up a') (c.add b d)) j (λ b' j'.
+        on_arrow (λ d. c.add (c.add (up a') (up b')) d ≡ c.add (up a') (c.add (up b') d)) m (λ d' m'.
+        ap (λ e. c.add e (up d')) (i.add a' b') ∙ i.add (s.add a' b') d' ∙ ap up (laws.add_assoc x y a' b' d' h' j' m')
+        ∙ sym (ap (c.add (up a')) (i.add b' d') ∙ i.add a' (s.add b' d')))));
     add_comm = λ x y a b h j. on_arrow (λ a. c.add a b ≡ c.add b a) h (λ a' h'. on_arrow (λ b. c.add (up a') b ≡ c.add b (up a')) j (λ b' j'.
         i.add a' b' ∙ ap up (laws.add_comm x y a' b' h' j') ∙ sym (i.add b' a')));
     add_zero = λ x y a h. on_arrow (λ a. c.add a (c.zero x y) ≡ a) h
@@ -146,9 +149,9 @@ module _ {Object A B : Type 0} (s : Structure Object A) (c : Structure Object B)
     pub image_represents : {q : Quiver} → Represents s q f → Represents c q g
     image_represents {q} r = record {
       objects = λ v h. subst c.is_object (objects v) (i.image_object (f.object v) (r.objects v h));
-      arrows = λ a h. subst (λ x. IsArrow c x (g.object (target q a)) (g.arrow a)) (objects (source q a)) (subst (λ y. IsArrow c (f.object
-          (source q a)) y (g.arrow a)) (objects (target q a)) (subst (IsArrow c (f.object (source q a)) (f.object (target q a))) (sym
-          (arrows a)) (image (r.arrows a h))));
+      arrows = λ a h. subst (λ x. IsArrow c x (g.object (target q a)) (g.arrow a)) (objects (source q a))
+          (subst (λ y. IsArrow c (f.object (source q a)) y (g.arrow a)) (objects (target q a))
+          (subst (IsArrow c (f.object (source q a)) (f.object (target q a))) (sym (arrows a)) (image (r.arrows a h))));
       identities = λ v h. arrows v ∙ ap up (r.identities v h) ∙ sym (i.identity (f.object v)) ∙ ap c.identity (objects v);
     }
 

@@ -35,12 +35,10 @@ empty_is_irreducible : (p : Parts) (rules : List Rule) → All (IsRule (letter_c
 empty_is_irreducible p rules are =
     All-weaker (IsRule (letter_count p.quiver) (asked_cmp p.order)) (λ (g : Rule). OccursNowhere [] g.lead) (λ g is place at. none g is place at) rules are
   where
-    some : (g : Rule) → IsRule (letter_count p.quiver) (asked_cmp p.order) g → 0 < length g.lead
-    some g is = leading-all (λ t. 0 < length t.1) (asked_cmp p.order) g.poly.terms (g.leading, g.lead) is.leading is.nonempty
-
     none : (g : Rule) → IsRule (letter_count p.quiver) (asked_cmp p.order) g → (place : ℕ) → OccursAt [] g.lead place → ⊥
     none g is place at =
-        absurd (omega (arith, ap length at.splits, length-append at.before (g.lead ++ at.after), length-append g.lead at.after, some g is))
+        absurd (omega (arith, ap length at.splits, length-append at.before (g.lead ++ at.after), length-append g.lead at.after,
+        (leading-all (λ t. 0 < length t.1) (asked_cmp p.order) g.poly.terms (g.leading, g.lead) is.leading is.nonempty)))
 
 -- A word of a map is a normal word, and the other way.
 module _ (p : Parts) (rules : List Rule) (u v : ℕ) where
@@ -205,11 +203,9 @@ module _ (value : Word → Rational) where
       go false e later = look_other rationals canonical x (value w, w) (without rationals w (gathered ws)) e ∙ look-without_other w x (gathered ws) e
           ∙ later (tail at)
         where
-          apart : w ≡ x → ⊥
-          apart same = true≢false (sym (subst (λ y. word_eq w y ≡ true) same (word_eq-same w)) ∙ e)
-
           tail : Contains (w ∷ ws) x ⊎ (value x ≡ rationals.none) → Contains ws x ⊎ (value x ≡ rationals.none)
-          tail (inl at) = inl (Contains-tail w ws x apart at)
+          tail (inl at) = inl (Contains-tail w ws x (λ same. true≢false (sym (subst (λ y. word_eq w y ≡ true) same (word_eq-same w))
+              ∙ e)) at)
           tail (inr none) = inr none
 
 -- The map of a finite sum.
@@ -265,14 +261,10 @@ module _ (p : Parts) (rules : List Rule) (u v : ℕ) (here : (normal_forms p rul
       again : mapped raw exact_terms ≡ m.form
       again = mapped_again m.form arrow.arrow.0.nonzero
 
-      looks_raw : (w : Word) → raw (look rationals exact_terms w) ≡ raw (look rationals terms w)
-      looks_raw w = sym (fraction_raw exact_terms exact_sorted w) ∙ ap (λ z. fraction_at z w) again ∙ same w ∙ sym (ap raw (look_is w) ∙ back w)
-
-      looks : (w : Word) → look rationals exact_terms w ≡ look rationals terms w
-      looks w = sym (read_raw (look rationals exact_terms w)) ∙ ap read (looks_raw w) ∙ read_raw (look rationals terms w)
-
       exactly : exact_terms ≡ terms
-      exactly = form_unique rationals canonical exact_terms terms exact_sorted sorted (record { at = looks })
+      exactly = form_unique rationals canonical exact_terms terms exact_sorted sorted
+          (record { at = (λ w. sym (read_raw (look rationals exact_terms w)) ∙ ap read (sym (fraction_raw exact_terms exact_sorted w) ∙ ap
+          (λ z. fraction_at z w) again ∙ same w ∙ sym (ap raw (look_is w) ∙ back w)) ∙ read_raw (look rationals terms w)) })
 
   one_map : HasOneMap p rules u v f
   one_map = record { map = the_map; is_map = from_list p rules here there the_list; fractions = the_fractions; only = the_only }

@@ -44,8 +44,8 @@ module _ {K : Type 0} (k : Field K) (o : Order) (g : Rules o) where
   pub normal_each : (P : Word → Type 0) → Kept P → {p q : Form K} → Normal p q → Each P p → Each P q
   normal_each P kept done a = tt
   normal_each P kept (keep c w p q i e) a = (a.0, normal_each P kept e a.1)
-  normal_each P kept (step c w i l r n p q h e m d) a = each-append P n q (normal_each P kept m (each-lower P (λ u. l ++ (u ++ r)) _
-      (g.rule i).tail (kept i l r h (subst P e a.0)))) (normal_each P kept d a.1)
+  normal_each P kept (step c w i l r n p q h e m d) a = each-append P n q
+      (normal_each P kept m (each-lower P (λ u. l ++ (u ++ r)) _ (g.rule i).tail (kept i l r h (subst P e a.0)))) (normal_each P kept d a.1)
 
   pub tail_less : {i : ℕ} (l r : Word) {w : Word} → g.Has i → w ≡ l ++ ((g.rule i).lead ++ r) → o.Range w → AllWords (λ u. o.Less (l ++ (u ++ r)) w) (g.rule i).tail
   tail_less {i} l r {w} h e m = go (g.rule i).tail (g.below i h)
@@ -87,9 +87,10 @@ module _ {K : Type 0} (k : Field K) (o : Order) (g : Rules o) where
   pub normal_cong : {p q : Form K} → Normal p q → Each o.Range p → Cong k o g p q
   normal_cong done a = cong_refl k o g []
   normal_cong (keep c w p q i e) a = cong_append k o g (cong_refl k o g ((c, w) ∷ [])) (normal_cong e a.1)
-  normal_cong (step c w i l r n p q h e m d) a = cong_append k o g (rows ((c, w) ∷ []) (lower c i l r) n (k.times c (k.part
-      (g.rule i).leading)) l i r h (subst o.Range e a.0) (normal_cong m (each-lower o.Range (λ u. l ++ (u ++ r)) _ (g.rule i).tail
-      (range_kept i l r h (subst o.Range e a.0)))) (replaced c w l r h e)) (normal_cong d a.1)
+  normal_cong (step c w i l r n p q h e m d) a = cong_append k o g
+      (rows ((c, w) ∷ []) (lower c i l r) n (k.times c (k.part (g.rule i).leading)) l i r h (subst o.Range e a.0)
+      (normal_cong m (each-lower o.Range (λ u. l ++ (u ++ r)) _ (g.rule i).tail (range_kept i l r h (subst o.Range e a.0))))
+      (replaced c w l r h e)) (normal_cong d a.1)
 
   scaled-lower : (d c : K) (i : ℕ) (l r : Word) → scaled k d (lower c i l r) ≡ lower (k.times d c) i l r
   scaled-lower d c i l r =
@@ -104,6 +105,6 @@ module _ {K : Type 0} (k : Field K) (o : Order) (g : Rules o) where
   pub normal_scaled : (d : K) {p q : Form K} → Normal p q → Normal (scaled k d p) (scaled k d q)
   normal_scaled d done = done
   normal_scaled d (keep c w p q i e) = keep (k.times d c) w (scaled k d p) (scaled k d q) i (normal_scaled d e)
-  normal_scaled d (step c w i l r n p q h e m rest) = subst (Normal ((k.times d c, w) ∷ scaled k d p)) (sym (scaled-append k d n q)) (step
-      (k.times d c) w i l r (scaled k d n) (scaled k d p) (scaled k d q) h e (subst (λ z. Normal z (scaled k d n)) (scaled-lower d c i l r)
-      (normal_scaled d m)) (normal_scaled d rest))
+  normal_scaled d (step c w i l r n p q h e m rest) = subst (Normal ((k.times d c, w) ∷ scaled k d p)) (sym (scaled-append k d n q))
+      (step (k.times d c) w i l r (scaled k d n) (scaled k d p) (scaled k d q) h e
+      (subst (λ z. Normal z (scaled k d n)) (scaled-lower d c i l r) (normal_scaled d m)) (normal_scaled d rest))

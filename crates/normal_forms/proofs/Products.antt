@@ -100,5 +100,5 @@ module _ {K : Type 0} (k : Field K) where
 
     pub cong_product_left : {p p' : Form K} (q : Form K) → Each o.Range q → Cong k o g p p' → Cong k o g (product p q) (product p' q)
     cong_product_left {p} {p'} [] a e = cong_same k o g (product-none p ∙ sym (product-none p'))
-    cong_product_left {p} {p'} (s ∷ q) a e = cong_left k o g (product-behind p s q) (cong_trans k o g (cong_append k o g (cong_behind a.0
-        (cong_scaled k o g s.0 e)) (cong_product_left q a.1 e)) (alike _ _ (alike_sym k (product-behind p' s q))))
+    cong_product_left {p} {p'} (s ∷ q) a e = cong_left k o g (product-behind p s q) (cong_trans k o g (cong_append k o g
+        (cong_behind a.0 (cong_scaled k o g s.0 e)) (cong_product_left q a.1 e)) (alike _ _ (alike_sym k (product-behind p' s q))))

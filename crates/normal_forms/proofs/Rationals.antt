@@ -74,10 +74,12 @@ quotient_lowest : (a : ℤ) {b : ℕ} (g : ℕ) → 0 < b → IsGcd (unsigned_ab
 quotient_lowest a {b} g p h =
     record {
       positive = factor_positive g (b / g) (mul-div_cancel' g h.1) p;
-      apart = λ d i j. eq-one_of_dvd-one (dvd_of_mul-dvd-mul_left d (divisor_positive g h.1 p) (subst (λ z. g * d ∣ z) (sym (omega arith))
-          (h.2 (g * d) (subst (λ z. g * d ∣ z) (mul-div_cancel' g h.0) (mul-dvd-mul_left d g (subst (λ z. d ∣ z)
-          (unsigned_abs-quotient a g) i))) (subst (λ z. g * d ∣ z) (mul-div_cancel' g h.1) (mul-dvd-mul_left d g j)))));
+      apart =
+          λ d i j. eq-one_of_dvd-one (dvd_of_mul-dvd-mul_left d (divisor_positive g h.1 p) (subst (λ z. g * d ∣ z) (sym (omega arith))
+          (h.2 (g * d) (subst (λ z. g * d ∣ z) (mul-div_cancel' g h.0) (mul-dvd-mul_left d g (subst (λ z. d ∣ z) (unsigned_abs-quotient a g) i)))
+          (subst (λ z. g * d ∣ z) (mul-div_cancel' g h.1) (mul-dvd-mul_left d g j)))));
     }
+
 pub zero_in_lowest : IsLowest (pos 0) 1
 zero_in_lowest = record { positive = omega arith; apart = λ d i j. eq-one_of_dvd-one j }
 
@@ -141,9 +143,9 @@ cross_unique x y e = rational_same x y tops bottoms
     tops = cancel x.top y.top y.lowest.positive (e ∙ ap (λ z. y.top *ℤ pos z) bottoms)
 
 pub value_unique : {x y : Rational} {a : ℤ} {b : ℕ} → Value x a b → Value y a b → x ≡ y
-value_unique {x} {y} {a} {b} v w = cross_unique x y (cancel _ _ v.positive (turn x.top (pos y.bottom) (pos b) ∙ ap
-    (λ z. z *ℤ pos y.bottom) v.cross ∙ turn a (pos x.bottom) (pos y.bottom) ∙ ap (λ z. z *ℤ pos x.bottom) (sym w.cross) ∙ turn y.top (pos b)
-    (pos x.bottom)))
+value_unique {x} {y} {a} {b} v w = cross_unique x y (cancel _ _ v.positive
+    (turn x.top (pos y.bottom) (pos b) ∙ ap (λ z. z *ℤ pos y.bottom) v.cross ∙ turn a (pos x.bottom) (pos y.bottom)
+    ∙ ap (λ z. z *ℤ pos x.bottom) (sym w.cross) ∙ turn y.top (pos b) (pos x.bottom)))
   where
     turn : (p q r : ℤ) → (p *ℤ q) *ℤ r ≡ (p *ℤ r) *ℤ q
     turn p q r = *ℤ_assoc p q r ∙ ap (λ z. p *ℤ z) (*ℤ_comm q r) ∙ sym (*ℤ_assoc p r q)
@@ -177,8 +179,9 @@ swap4 : (a b c d : ℤ) → (a *ℤ b) *ℤ (c *ℤ d) ≡ (a *ℤ c) *ℤ (b *�
 swap4 a b c d = *ℤ_assoc a b (c *ℤ d) ∙ ap (λ z. a *ℤ z) (mul_swap b c d) ∙ sym (*ℤ_assoc a c (b *ℤ d))
 
 pub carry : {x : Rational} {a : ℤ} (c : ℤ) {b : ℕ} (d : ℕ) → Value x a b → a *ℤ pos d ≡ c *ℤ pos b → x.top *ℤ pos d ≡ c *ℤ pos x.bottom
-carry {x} {a} c {b} d v e = cancel _ _ v.positive (turn x.top (pos d) (pos b) ∙ ap (λ z. z *ℤ pos d) v.cross ∙ turn a (pos x.bottom) (pos d)
-    ∙ ap (λ z. z *ℤ pos x.bottom) e ∙ turn c (pos b) (pos x.bottom))
+carry {x} {a} c {b} d v e = cancel _ _ v.positive
+    (turn x.top (pos d) (pos b) ∙ ap (λ z. z *ℤ pos d) v.cross ∙ turn a (pos x.bottom) (pos d) ∙ ap (λ z. z *ℤ pos x.bottom) e
+    ∙ turn c (pos b) (pos x.bottom))
   where
     turn : (p q r : ℤ) → (p *ℤ q) *ℤ r ≡ (p *ℤ r) *ℤ q
     turn p q r = *ℤ_assoc p q r ∙ ap (λ z. p *ℤ z) (*ℤ_comm q r) ∙ sym (*ℤ_assoc p r q)
@@ -237,6 +240,7 @@ is_zero_true : (a : ℤ) → is_zero a ≡ true → a ≡ pos 0
 is_zero_true (pos zero) e = refl
 is_zero_true (pos (suc n)) e = absurd (cc)
 is_zero_true (negsuc n) e = absurd (cc)
+
 times_one : (a : ℤ) → a *ℤ pos 1 ≡ a
 times_one a = *ℤ_comm a (pos 1) ∙ omega (arith, ints)
 
@@ -253,9 +257,9 @@ unfolding rational_part
 part_value {n} h = over_value (pos 1) n h
 
 plus_assoc : (x y z : Rational) → rational_plus (rational_plus x y) z ≡ rational_plus x (rational_plus y z)
-plus_assoc x y z = value_unique (plus_value (plus_value (self_value x) (self_value y)) (self_value z)) (value_change (sym
-    (tops x.top y.top z.top (pos x.bottom) (pos y.bottom) (pos z.bottom))) (sym (mul_assoc x.bottom y.bottom z.bottom)) (plus_value
-    (self_value x) (plus_value (self_value y) (self_value z))))
+plus_assoc x y z = value_unique (plus_value (plus_value (self_value x) (self_value y)) (self_value z))
+    (value_change (sym (tops x.top y.top z.top (pos x.bottom) (pos y.bottom) (pos z.bottom))) (sym (mul_assoc x.bottom y.bottom z.bottom))
+    (plus_value (self_value x) (plus_value (self_value y) (self_value z))))
   where
     tops : (a b c d e f : ℤ) → (a *ℤ e +ℤ b *ℤ d) *ℤ f +ℤ c *ℤ (d *ℤ e) ≡ a *ℤ (e *ℤ f) +ℤ (b *ℤ f +ℤ c *ℤ e) *ℤ d
     tops a b c d e f = simp (+ℤ-*ℤ, *ℤ_assoc)
@@ -263,45 +267,48 @@ plus_assoc x y z = value_unique (plus_value (plus_value (self_value x) (self_val
         ap (λ z. c *ℤ z) (*ℤ_comm d e) in omega (arith, ints, p, q))
 
 plus_comm : (x y : Rational) → rational_plus x y ≡ rational_plus y x
-plus_comm x y = value_unique (plus_value (self_value x) (self_value y)) (value_change (omega (arith, ints)) (mul_comm y.bottom x.bottom) (plus_value (self_value y) (self_value x)))
+plus_comm x y = value_unique (plus_value (self_value x) (self_value y))
+    (value_change (omega (arith, ints)) (mul_comm y.bottom x.bottom)
+    (plus_value (self_value y) (self_value x)))
+
 plus_none : (x : Rational) → rational_plus x rational_none ≡ x
-plus_none x = value_unique (value_change (ap₂ ◌+ℤ◌ (times_one x.top) (zero-*ℤ (pos x.bottom)) ∙ +ℤ_idr x.top) (omega arith) (plus_value
-    (self_value x) (none_value (omega arith)))) (self_value x)
+plus_none x = value_unique (value_change (ap₂ ◌+ℤ◌ (times_one x.top) (zero-*ℤ (pos x.bottom)) ∙ +ℤ_idr x.top) (omega arith)
+    (plus_value (self_value x) (none_value (omega arith)))) (self_value x)
 
 plus_minus : (x : Rational) → rational_plus x (rational_minus x) ≡ rational_none
-plus_minus x = value_unique (value_change (ap (λ z. x.top *ℤ pos x.bottom +ℤ z) (neg_ℤ-*ℤ x.top (pos x.bottom)) ∙ +ℤ_invr
-    (x.top *ℤ pos x.bottom)) refl (plus_value (self_value x) (minus_value (self_value x)))) (none_value
-    (pos_times x.lowest.positive x.lowest.positive))
+plus_minus x = value_unique (value_change
+    (ap (λ z. x.top *ℤ pos x.bottom +ℤ z) (neg_ℤ-*ℤ x.top (pos x.bottom)) ∙ +ℤ_invr (x.top *ℤ pos x.bottom)) refl
+    (plus_value (self_value x) (minus_value (self_value x)))) (none_value (pos_times x.lowest.positive x.lowest.positive))
 
 times_assoc : (x y z : Rational) → rational_times (rational_times x y) z ≡ rational_times x (rational_times y z)
-times_assoc x y z = value_unique (times_value (times_value (self_value x) (self_value y)) (self_value z)) (value_change (sym
-    (*ℤ_assoc x.top y.top z.top)) (sym (mul_assoc x.bottom y.bottom z.bottom)) (times_value (self_value x) (times_value (self_value y)
-    (self_value z))))
+times_assoc x y z = value_unique (times_value (times_value (self_value x) (self_value y)) (self_value z))
+    (value_change (sym (*ℤ_assoc x.top y.top z.top)) (sym (mul_assoc x.bottom y.bottom z.bottom))
+    (times_value (self_value x) (times_value (self_value y) (self_value z))))
 
 times_comm : (x y : Rational) → rational_times x y ≡ rational_times y x
 times_comm x y = value_unique (times_value (self_value x) (self_value y))
     (value_change (*ℤ_comm y.top x.top) (mul_comm y.bottom x.bottom) (times_value (self_value y) (self_value x)))
 
 one_times : (x : Rational) → rational_times (rational_int (pos 1)) x ≡ x
-one_times x = value_unique (value_change (*ℤ_comm (pos 1) x.top ∙ times_one x.top) (omega arith) (times_value (int_value (pos 1))
-    (self_value x))) (self_value x)
+one_times x = value_unique (value_change (*ℤ_comm (pos 1) x.top ∙ times_one x.top) (omega arith)
+    (times_value (int_value (pos 1)) (self_value x))) (self_value x)
 
 times_plus : (x y z : Rational) → rational_times x (rational_plus y z) ≡ rational_plus (rational_times x y) (rational_times x z)
 times_plus x y z = value_unique (value_change (tops x.top y.top z.top (pos x.bottom) (pos y.bottom) (pos z.bottom))
-    (bottoms x.bottom y.bottom z.bottom) (value_times x.lowest.positive (times_value (self_value x) (plus_value (self_value y)
-    (self_value z))))) (plus_value (times_value (self_value x) (self_value y)) (times_value (self_value x) (self_value z)))
+    (mul_assoc x.bottom (y.bottom * z.bottom) x.bottom ∙ ap (λ z. x.bottom * z) (mul_assoc y.bottom z.bottom x.bottom ∙ ap
+    (λ z. y.bottom * z) (mul_comm z.bottom x.bottom)) ∙ sym (mul_assoc x.bottom y.bottom (x.bottom * z.bottom)))
+    (value_times x.lowest.positive
+    (times_value (self_value x) (plus_value (self_value y) (self_value z))))) (plus_value (times_value (self_value x) (self_value y))
+    (times_value (self_value x) (self_value z)))
   where
     tops : (a b c d e f : ℤ) → (a *ℤ (b *ℤ f +ℤ c *ℤ e)) *ℤ d ≡ (a *ℤ b) *ℤ (d *ℤ f) +ℤ (a *ℤ c) *ℤ (d *ℤ e)
     tops a b c d e f = simp (*ℤ-+ℤ, +ℤ-*ℤ, *ℤ_assoc)
         (let p : a *ℤ (b *ℤ (f *ℤ d)) ≡ a *ℤ (b *ℤ (d *ℤ f)) = ap (λ z. a *ℤ (b *ℤ z)) (*ℤ_comm f d) in let q : a *ℤ (c *ℤ (e *ℤ d)) ≡ a *ℤ (c *ℤ (d *ℤ e)) =
         ap (λ z. a *ℤ (c *ℤ z)) (*ℤ_comm e d) in omega (arith, ints, p, q))
 
-    bottoms : (d e f : ℕ) → (d * (e * f)) * d ≡ (d * e) * (d * f)
-    bottoms d e f = mul_assoc d (e * f) d ∙ ap (λ z. d * z) (mul_assoc e f d ∙ ap (λ z. e * z) (mul_comm f d)) ∙ sym (mul_assoc d e (d * f))
-
 int_plus : (a b : ℤ) → rational_int (a +ℤ b) ≡ rational_plus (rational_int a) (rational_int b)
-int_plus a b = value_unique (int_value (a +ℤ b)) (value_change (ap₂ ◌+ℤ◌ (times_one a) (times_one b)) refl (plus_value (int_value a)
-    (int_value b)))
+int_plus a b = value_unique (int_value (a +ℤ b)) (value_change (ap₂ ◌+ℤ◌ (times_one a) (times_one b)) refl
+    (plus_value (int_value a) (int_value b)))
 
 int_times : (a b : ℤ) → rational_int (a *ℤ b) ≡ rational_times (rational_int a) (rational_int b)
 int_times a b = value_unique (int_value (a *ℤ b)) (times_value (int_value a) (int_value b))
@@ -311,16 +318,16 @@ unfolding rational_int rational_none
 int_only a e = ap (λ x. x.top) e
 
 part_is : (n : ℕ) → 0 < n → rational_times (rational_int (pos n)) (rational_part n) ≡ rational_int (pos 1)
-part_is n h = value_unique (times_value (int_value (pos n)) (part_value h)) (value_change (*ℤ_comm (pos 1) (pos n)) refl (value_times h
-    (int_value (pos 1))))
+part_is n h = value_unique (times_value (int_value (pos n)) (part_value h))
+    (value_change (*ℤ_comm (pos 1) (pos n)) refl (value_times h (int_value (pos 1))))
 
 split : (x : Rational) → (a : ℤ) × (n : ℕ) × (0 < n) × (x ≡ rational_times (rational_int a) (rational_part n))
 split x = (
   x.top,
   x.bottom,
   x.lowest.positive,
-  value_unique (self_value x) (value_change (times_one x.top) (omega arith) (times_value (int_value x.top)
-      (part_value x.lowest.positive))),
+  value_unique (self_value x) (value_change (times_one x.top) (omega arith)
+      (times_value (int_value x.top) (part_value x.lowest.positive))),
 )
 
 none_true : (x : Rational) → is_zero x.top ≡ true → x ≡ rational_none
@@ -329,6 +336,7 @@ none_true x e = value_unique (value_change (is_zero_true x.top e) refl (self_val
 none_false : (x : Rational) → is_zero x.top ≡ false → x ≢ rational_none
 unfolding rational_none
 none_false x e h = cc (sym (ap (λ z. is_zero z.top) h) ∙ e)
+
 pub rationals : Field Rational
 rationals = record {
   none = rational_none;

@@ -179,6 +179,7 @@ outside inside = clash (rests_of_ideal_are_zero 3 word_cmp (rank_of 3) rules adj
   where
     clash : IsZero adjoint_terms → ⊥
     clash none = cc (none.at (2 ∷ []))
+
 one_signature : (a : ℕ) → IsPath (quiver_of declared) 0 0 (a ∷ []) → HasSignature (quiver_of declared) ((pos 1, a ∷ []) ∷ [])
 one_signature a path = record { source = 0; target = 0; source_is_object = omega arith; target_is_object = omega arith; typed = one_typed a path }
 

@@ -63,8 +63,9 @@ module _ {Object Arrow : Type 0} {s : Structure Object Arrow} (laws : Preadditiv
   pairs_are_zero (p ∷ ps) vanish new = (
     record {
       at = λ u v in_u in_v typed. both (value_there laws q quiver f rep u v p ∙ vanish.0.at u v in_u in_v typed)
-          (value_back laws q quiver f rep u v p ∙ (adjoint_is_zero vanish.0 (all_front Zero (new_adjoint q p) (flat_map
-          (new_adjoint q) ps) new)).at v u in_v in_u (typed-adjoint_poly q quiver u v p typed));
+          (value_back laws q quiver f rep u v p
+          ∙ (adjoint_is_zero vanish.0 (all_front Zero (new_adjoint q p) (flat_map (new_adjoint q) ps) new)).at
+          v u in_v in_u (typed-adjoint_poly q quiver u v p typed));
     },
     pairs_are_zero ps vanish.1 (all_back Zero (new_adjoint q p) (flat_map (new_adjoint q) ps) new),
   )

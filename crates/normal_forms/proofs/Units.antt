@@ -70,13 +70,13 @@ module _ (q : Quiver) (starred : Bool) (marked : List ℕ) (assumptions : List (
 
   pub unit_of_target : {v a : ℕ} → list_any (nat_eq v) marked ≡ true → q.objects ≤ a → a < letters q → (starred || nat_le a (star q a)) ≡ true
       → target q a ≡ v → P (left_unit v a)
-  unit_of_target {v} {a} m h i e t = (subst (λ b. AllByRecursion P (cond b (left_unit v a ∷ []) [])) (eq-eqb (target q a) v t) (all_front P
-      (cond (eqb (target q a) v) (left_unit v a ∷ []) []) (cond (eqb (source q a) v) (right_unit v a ∷ []) []) (of_letter v m h i e))).0
+  unit_of_target {v} {a} m h i e t = (subst (λ b. AllByRecursion P (cond b (left_unit v a ∷ []) [])) (eq-eqb (target q a) v t)
+      (all_front P (cond (eqb (target q a) v) (left_unit v a ∷ []) []) (cond (eqb (source q a) v) (right_unit v a ∷ []) []) (of_letter v m h i e))).0
 
   pub unit_of_source : {v a : ℕ} → list_any (nat_eq v) marked ≡ true → q.objects ≤ a → a < letters q → (starred || nat_le a (star q a)) ≡ true
       → source q a ≡ v → P (right_unit v a)
-  unit_of_source {v} {a} m h i e t = (subst (λ b. AllByRecursion P (cond b (right_unit v a ∷ []) [])) (eq-eqb (source q a) v t) (all_back P
-      (cond (eqb (target q a) v) (left_unit v a ∷ []) []) (cond (eqb (source q a) v) (right_unit v a ∷ []) []) (of_letter v m h i e))).0
+  unit_of_source {v} {a} m h i e t = (subst (λ b. AllByRecursion P (cond b (right_unit v a ∷ []) [])) (eq-eqb (source q a) v t)
+      (all_back P (cond (eqb (target q a) v) (left_unit v a ∷ []) []) (cond (eqb (source q a) v) (right_unit v a ∷ []) []) (of_letter v m h i e))).0
 
 -- x - y in the ideal makes the words x and y alike
 pub unit_like : {K : Type 0} (k : Field K) {o : Order} {g : Rules o} (x y : Word) → Span (AnyRow o g) (coefficient_of (((pos 1, x) ∷ (negsuc 0, y) ∷ [])))

@@ -120,9 +120,11 @@ module _ {K : Type 0} (k : Field K) (letters : ℕ) (compare : Compare) (rank : 
         → Normal k o g (with_words (λ u. l ++ (u ++ r)) (lifted k (k.minus (k.times k.one (k.part q))) p))
         (lower_forms (numbers_of k) below rules M form q l r p)
     lower_normal [] less = done
-    lower_normal (t ∷ p) less = normal-append k o g (subst (λ c. Normal k o g ((c, L) ∷ []) (scaled k d (form_where
-        (numbers_of k) below rules (below L M) (form L)))) (factor q t.0) (normal_scaled k o g d (taken (below L M)
-        (test_from_below letters compare L M (less_below letters compare rank laws L M less.0)) (form L) (each L)))) (lower_normal p less.1)
+    lower_normal (t ∷ p) less = normal-append k o g
+        (subst (λ c. Normal k o g ((c, L) ∷ []) (scaled k d (form_where (numbers_of k) below rules (below L M) (form L)))) (factor q t.0)
+        (normal_scaled k o g d
+        (taken (below L M) (test_from_below letters compare L M (less_below letters compare rank laws L M less.0)) (form L) (each L))))
+        (lower_normal p less.1)
       where
         L : Word
         L = l ++ (t.1 ++ r)
@@ -168,18 +170,17 @@ module _ {K : Type 0} (k : Field K) (letters : ℕ) (compare : Compare) (rank : 
           less : AllWords (λ u. o.Less (l ++ (u ++ r)) M) (parted (led_of f.0)).tail
           less = subst (λ x. AllWords (λ u. o.Less (l ++ (u ++ r)) M) (parted x).tail) is (tail_less k o g l r has splits range)
 
-          in_range : (L : Word) → below L M ≡ true → o.Range L
-          in_range L e = over_range letters compare rank laws L (below_from_test letters compare L M e).left
-
           at_terms : Replaced (led_of f.0)
-          at_terms = subst (λ p. Normal k o g (with_words (λ u. l ++ (u ++ r)) (lifted k (k.minus (k.times k.one (k.part
-              (unsigned_abs f.0.leading)))) (parted (led_of f.0)).tail)) (forms p)) (sym (other_terms-parted (rule_at-all
-              (IsRule letters compare) rules found.number f.0 found.numbered are))) (lower_normal M form (λ L e. each L e (in_range L e))
+          at_terms = subst
+              (λ p. Normal k o g
+              (with_words (λ u. l ++ (u ++ r)) (lifted k (k.minus (k.times k.one (k.part (unsigned_abs f.0.leading)))) (parted (led_of f.0)).tail)) (forms p))
+              (sym (other_terms-parted (rule_at-all (IsRule letters compare) rules found.number f.0 found.numbered are)))
+              (lower_normal M form (λ L e. each L e (over_range letters compare rank laws L (below_from_test letters compare L M e).left))
               (unsigned_abs f.0.leading) l r (parted (led_of f.0)).tail less)
 
   pub normal_form_is : (all : (w : Word) → IsGrounded below w) (p : Form K) → Each o.Range p
       → Normal k o g p (rational_normal_form (numbers_of k) below rules all p)
   normal_form_is all [] range = done
-  normal_form_is all (t ∷ p) range = normal-append k o g (subst (λ c. Normal k o g ((c, t.1) ∷ []) (scaled k t.0 (word_form
-      (numbers_of k) below rules t.1 (all t.1)))) (times_one k t.0) (normal_scaled k o g t.0 (word_normal (all t.1) range.0)))
-      (normal_form_is all p range.1)
+  normal_form_is all (t ∷ p) range = normal-append k o g
+      (subst (λ c. Normal k o g ((c, t.1) ∷ []) (scaled k t.0 (word_form (numbers_of k) below rules t.1 (all t.1)))) (times_one k t.0)
+      (normal_scaled k o g t.0 (word_normal (all t.1) range.0))) (normal_form_is all p range.1)
