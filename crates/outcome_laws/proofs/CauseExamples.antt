@@ -31,6 +31,7 @@ two_pairs problem at least means = absurd (omega (arith, means.budget_is))
 
 in_a_round : (problem : Problem) (least : Option (List ℕ)) → PairsAreSpent problem one_pair (place.Round 1) least 1 → ⊥
 in_a_round problem least means = cc (means.place_is)
+
 -- The steps are those of the budget.
 other_steps : (problem : Problem) (number : ℕ) (at : Place) → StepsAreSpent problem one_pair number at 99 → ⊥
 other_steps problem number at means = absurd (omega (arith, means.budget_is))
@@ -60,6 +61,7 @@ even c same = absurd (omega (arith, ints, same))
 
 product_no_sum : (a b c d : ℤ) → sum_of a b ≡ product_of c d → ⊥
 product_no_sum a b c d same = cc (ap (λ (o : Overflow). o.product) same)
+
 no_sum : IsOfStep start (pos 2) large rule around (sum_of large (pos 2)) → ⊥
 no_sum (of_multiplier same) = product_no_sum large (pos 2) (pos 1) (pos 2) same
 no_sum (of_rest t listed same) = product_no_sum large (pos 2) t.0 (pos 2) same

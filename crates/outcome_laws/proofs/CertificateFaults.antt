@@ -32,6 +32,7 @@ use Rattle.outcome_laws.proofs.Listed.{failing}
 pub unless_stops : {A F : Type 0} (first : Option F) (r : Result A F) (e : F) → unless first r ≡ Err e → (first ≡ Some e) ⊎ ((first ≡ None) × (r ≡ Err e))
 unless_stops None r e ends = inr (refl, ends)
 unless_stops {A} {F} (Some d) r e ends = inl (cc)
+
 -- an operation that overflows, as a fault
 pub operation_stops : {F : Type 0} (as_fault : Overflow → F) (os : List Overflow) (e : F) → option_map as_fault (first_overflow os) ≡ Some e → (o : Overflow) × (e ≡ as_fault o) × (first_overflow os ≡ Some o)
 operation_stops {F} as_fault os e ends = go (first_overflow os) refl ends

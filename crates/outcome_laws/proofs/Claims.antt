@@ -71,6 +71,7 @@ proved format.Lemmas number at made claim = gathers at (gathered_of number made 
 not_closed : (treated : List Ambiguity) (r : Result Recorded ReduceFault) → Ends 0 None treated r closed → ⊥
 not_closed treated (Ok r) is = cc
 not_closed treated (Err e) given = cc (given.stops)
+
 module _ (setting : Setting) (claim : List Term) where
   open_run : (n : ℕ) (s : RunState) → IsOpen setting claim n s → IsRunState setting n s
   open_run zero s is_open = is_open.1

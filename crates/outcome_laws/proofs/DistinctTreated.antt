@@ -36,6 +36,7 @@ module _ {X : Type 0} (R : X → X → Type 0) where
 module _ (letters : ℕ) (compare : Compare) (rank : List ℕ → List ℕ) (laws : IsAdmissible letters compare rank) where
   never_below : (u : List ℕ) → compare u u ≡ Less → ⊥
   never_below u less = cc (sym (tied_itself laws.total u) ∙ less)
+
   not_before_itself : (a : Ambiguity) → IsBefore a a → ⊥
   not_before_itself a (inl less) = omega (arith, less)
   not_before_itself a (inr (_, inl less)) = omega (arith, less)

@@ -86,6 +86,7 @@ factor_fits : (k x : ℤ) → x ≢ pos 0 → IsCoefficient (k *ℤ x) → IsCoe
 factor_fits k x nonzero fits =
     let larger : unsigned_abs k ≤ unsigned_abs k * unsigned_abs x = le-mul_of_pos_right (unsigned_abs k) (abs_positive x nonzero) in
     (omega (arith, larger, (subst (λ n. n < 2 ^ 127) (unsigned_abs-mul k x) fits)))
+
 scale_fits : (compare : Compare) (rest : Rest) (g : Rule) (m : Made) → IsMadeFrom compare rest g m → Fits rest.polynomial → IsCoefficient m.scale
 scale_fits compare rest g m made fits =
     unsigned (leads_negative compare rest.polynomial)
@@ -164,6 +165,7 @@ module _ (letters : ℕ) (setting : Setting) (generators : All (HasWords letters
       same_some : (x y : Made) → ◌≡◌ {A = Option Made} (Some x) (Some y) → x ≡ y
       same_some x y same = cc
   record_at place (x ∷ made) each (suc k) m at = subst (λ n. IsRecord n m) (omega arith) (record_at (suc place) made each.1 k m at)
+
   each_record : (Q : Made → Type 0) → ((place : ℕ) (m : Made) → IsLimitedMade count_of place m → Q m) → (place : ℕ) (made : List Made) → AreLimited place made → All Q made
   each_record Q tells place [] each = All-nil Q
   each_record Q tells place (m ∷ made) each = All-cons Q m made (tells place m each.0) (each_record Q tells (suc place) made each.1)
@@ -190,6 +192,7 @@ module _ (letters : ℕ) (setting : Setting) (generators : All (HasWords letters
         one_each = held.one_each;
         rules = held.rules;
       }
+
 -- the numbers of the generators
 numbers_between : (a n low high : ℕ) → low ≤ a → a + n ≤ suc high → All (λ k. (low ≤ k) × (k ≤ high)) (range_with_len a n)
 numbers_between a n low high from to = All-from_get_or (λ k. (low ≤ k) × (k ≤ high)) (range_with_len a n) 0 each

@@ -115,22 +115,19 @@ module _ (problem : Problem) (budget : Budget) where
     second_grows : (a : Ambiguity) → IsAmbiguity start a → (f : First) → first_of compare budget.steps start a ≡ Ok f → Grows compare MadeFrom (second_work compare budget.steps f)
     second_grows a is f first_ends before after rest ends adds held = (begins_with start compare rest before after held.0 adds, by_rest f.reduced.rest refl ends)
       where
-        unchanged : ◌≡◌ {A = Option Rest} None rest → Made after
-        unchanged none = subst Made (sym (subst (λ o. Adds compare o before after) (sym none) adds)) held.1
-
-        rows_are : (s : State) → second_rows f s ≡ rows_less (rows_less (s_rows_of start a) (reduced_of f.reduced)) (reduced_of s)
-        rows_are s = ap (λ (rows : List Row). rows_less (rows_less rows (reduced_of f.reduced)) (reduced_of s)) (first_is_of a f first_ends).rows_are
-
         go : (s : State) → normal_form_of compare before.rules f.reduced.rest budget.steps ≡ Ok s → Added s.rest (second_rows f s) before after → Made after
         go s went_to (nothing same) = subst Made (sym same) held.1
         go s went_to (a_rule g m made appended) =
             subst Made (sym appended)
             (one_more before.rules before.made s.rest (second_rows f s) g m held.1
             (from_ambiguity (reduced_of f.reduced) (reduced_of s) (first_reduction a is f first_ends before.rules held.0)
-            (normal_form_leaves letters compare rank before.rules f.reduced.rest budget.steps s (order_laws problem budget) (rest_shaped a f (first_is_of a f first_ends)) went_to) refl (rows_are s)) made)
+            (normal_form_leaves letters compare rank before.rules f.reduced.rest budget.steps s (order_laws problem budget)
+            (rest_shaped a f (first_is_of a f first_ends)) went_to) refl
+            (ap (λ (rows : List Row). rows_less (rows_less rows (reduced_of f.reduced)) (reduced_of s))
+            (first_is_of a f first_ends).rows_are)) made)
 
         by_rest : (p : List Term) → f.reduced.rest ≡ p → second_reduction compare budget.steps f before.rules p ≡ Ok rest → Made after
-        by_rest [] none k = unchanged (same_value None rest k)
+        by_rest [] none k = subst Made (sym (subst (λ o. Adds compare o before after) (sym (same_value None rest k)) adds)) held.1
         by_rest (t ∷ p) some k =
             let one = went_on (normal_form_of compare before.rules (t ∷ p) budget.steps) (λ s. second_rest f s s.rest) rest k in
             let s = one.value in

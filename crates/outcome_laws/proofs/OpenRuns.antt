@@ -66,8 +66,10 @@ pub record IsInRun (at : Place) : Type 0 where
 
 round_in_run : (at : Place) (number : ℕ) → at ≡ place.Round number → IsInRun at
 round_in_run at number is = record { no_certificate = λ round e. (cc (sym is ∙ e)) }
+
 run_in_run : (at : Place) → at ≡ place.Run → IsInRun at
 run_in_run at is = record { no_certificate = λ round e. (cc (sym is ∙ e)) }
+
 -- how a round that stopped was given up
 record IsStop (number : ℕ) (least : Option (List ℕ)) (h : Halt) : Type 0 where
   least_is : h.least ≡ least

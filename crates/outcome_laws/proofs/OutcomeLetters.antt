@@ -65,6 +65,7 @@ module _ (problem : Problem) (budget : Budget) where
   -- claims
   letter_below : (a : ℕ) → IsInPlay ds problem.parts.starred (numbers problem.parts.marked) a → a < letters_in
   letter_below a in_play = grind (arith, nat_tests)
+
   poly_over : (p : Poly) → HasLettersInPlay ds problem.parts.starred (numbers problem.parts.marked) p → AreOver letters_in p.terms
   poly_over p each =
       All-weaker (λ (t : Term). All (IsInPlay ds problem.parts.starred (numbers problem.parts.marked)) t.1) (λ (t : Term). IsOver letters_in t.1)

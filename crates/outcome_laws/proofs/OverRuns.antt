@@ -78,9 +78,6 @@ module _ (letters : ℕ) (setting : Setting) (generators : All (HasWords letters
       ended number o treated (Ok r) ends = absurd (not_went ends)
       ended number o treated (Err e) ends = ap (λ (h : Halt). h.least) (same_halt _ ends.stops)
 
-      pending_over : (w : Waiting) → IsPending s.rules s.treated w → All (IsRule letters setting.compare) s.rules → IsOver letters w.word
-      pending_over w is are = subst (IsOver letters) (sym is.overlap) (over_overlap_word letters setting.compare s.rules w.which are is.is)
-
       later : (number : ℕ) (pending : List Waiting) → All (λ w. IsOver letters w.word) pending → TreatsPending setting number s pending (stopped halt) → IsOver letters word
       later number [] each treats = absurd (not_closed treats)
       later number (w ∷ ws) each treats = on (nat_le setting.budget.pairs (length s.treated)) treats
@@ -96,4 +93,6 @@ module _ (letters : ℕ) (setting : Setting) (generators : All (HasWords letters
       go zero before stops = absurd (not_some (sym (ended 0 None s.treated stops.result stops.ends) ∙ least))
       go (suc n) before stops =
           let are = states_rules letters setting (suc n) s generators before in
-          later (suc n) stops.pending (pending-all (λ (w : Waiting). IsOver letters w.word) setting.compare s.rules s.treated stops.pending stops.all_pending (λ w one. pending_over w one are)) stops.treats
+          later (suc n) stops.pending (pending-all (λ (w : Waiting). IsOver letters w.word) setting.compare s.rules s.treated stops.pending
+              stops.all_pending (λ w one. (subst (IsOver letters) (sym one.overlap)
+              (over_overlap_word letters setting.compare s.rules w.which are one.is)))) stops.treats

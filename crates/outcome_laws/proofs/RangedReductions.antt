@@ -40,6 +40,7 @@ quotient_in_range (negsuc a) d h =
 none_of : {A : Type 0} (o : Option Overflow) (r : Result A PolyFault) (v : A) → unless_overflow o r ≡ Ok v → o ≡ None
 none_of None r v ends = refl
 none_of {A} (Some x) r v ends = absurd (cc)
+
 -- rows
 abbrev pub HasNumber : Row → Type 0
 HasNumber row = IsCoefficient row.coef

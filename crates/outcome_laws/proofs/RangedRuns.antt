@@ -36,6 +36,7 @@ use Rattle.traced_completion.specs.Pending.{ambiguities_of}
 use Rattle.traced_completion.specs.Results.{and_then, halted, unless_overflow, each_in_turn}
 use Rattle.traced_completion.specs.Works.{Work, generator_rows, generator_work, First, first_of, first_rows, second_rows, rows_operations, second_rest, second_reduction, second_work, Goes, InTurn, InTwoPasses}
 use Rattle.traced_completion.specs.PlainRun.{Setting, RunState, went, closed, stopped, recorded, Ends, taken_count, IsTreated, TreatsFirst, TreatsPending, IsRound, IsRunState}
+use Rattle.outcome_laws.proofs.LaterRounds.{halted_value}
 use Rattle.outcome_laws.proofs.RunsKept.{no_value, same_value, went_on}
 use Rattle.outcome_laws.proofs.RangedReductions.{HasNumber, AreInRange, rows_times, normal_forms_are_ranged}
 use Rattle.outcome_laws.proofs.Results.{none_append}
@@ -127,12 +128,8 @@ module _ (compare : Compare) (steps : ℕ) where
   first_shaped rules a f ends =
       let one = went_on (halted (s_polynomial_of rules a)) (λ p. and_then (normal_form_of compare rules p steps) (λ s. Ok (record { rows = s_rows_of rules a; reduced = s }))) f ends in
       let two = went_on (normal_form_of compare rules one.value steps) (λ s. Ok (record { rows = s_rows_of rules a; reduced = s })) f one.rest in
-      let shaped = normal_forms_are_shaped compare rules one.value steps two.value (s_polynomials_are_shaped rules a one.value (whole (s_polynomial_of rules a) one.value one.given)) two.given in
+      let shaped = normal_forms_are_shaped compare rules one.value steps two.value (s_polynomials_are_shaped rules a one.value (halted_value (s_polynomial_of rules a) one.value one.given)) two.given in
       subst (λ (g : First). IsShaped g.reduced.rest) (same_value (record { rows = s_rows_of rules a; reduced = two.value }) f two.rest) shaped
-    where
-      whole : (r : Result (List Term) PolyFault) (p : List Term) → halted r ≡ Ok p → r ≡ Ok p
-      whole (Ok q) p is = ap Ok (same_value q p is)
-      whole (Err e) p is = absurd (no_value (halt_of e) p is)
 
   firsts_shaped : (rules : List Rule) (taken : List Ambiguity) (fs : List First) → each_in_turn (first_of compare steps rules) taken ≡ Ok fs → AllByRecursion (λ f. IsShaped f.reduced.rest) fs
   firsts_shaped rules [] fs ends = subst (AllByRecursion (λ (f : First). IsShaped f.reduced.rest)) (same_value [] fs ends) tt

@@ -31,7 +31,8 @@ use Rattle.rule_reduce.proofs.Chosen.{found}
 use Rattle.rule_reduce.proofs.Numbers.{rule_at-all}
 use Rattle.rule_reduce.proofs.Runs.{move_result-value}
 use Rattle.nc_polynomial.specs.Limits.{word_limit, term_limit}
-use Rattle.outcome_laws.proofs.Results.{same_ok, fits_first, none_append}
+use Rattle.outcome_laws.proofs.Results.{fits_first, none_append}
+use Rattle.outcome_laws.proofs.RunsKept.{same_value}
 use Rattle.outcome_laws.proofs.EvidenceRanges.{quotient_in_range}
 
 -- no word has more letters than the limit, and the integers are coefficients
@@ -95,17 +96,17 @@ module _ (P : State → Type 0) (compare : Compare) (rules : List Rule)
   fitting_reduction limit zero s t is before = go (choice_of compare (entries_of rules) s.rest) is
     where
       go : (o : Option Choice) → at_limit limit o s ≡ Ok t → P t
-      go None k = subst P (same_ok s t k) before
+      go None k = subst P (same_value s t k) before
       go (Some c) k = absurd (halts t (halt.Steps limit) k)
   fitting_reduction limit (suc n) s t is before = go (choice_of compare (entries_of rules) s.rest) refl is (fitting_reduction limit n)
     where
       go : (o : Option Choice) → choice_of compare (entries_of rules) s.rest ≡ o → one_step rules o s (reduction limit compare rules n) ≡ Ok t
           → ((u v : State) → reduction limit compare rules n u ≡ Ok v → P u → P v) → P t
-      go None none k more = subst P (same_ok s t k) before
+      go None none k more = subst P (same_value s t k) before
       go (Some c) chosen k more = stepped (rule_at rules c.number) refl (step_result rules c s) refl k
         where
           stepped : (g : Option Rule) → rule_at rules c.number ≡ g → (r : Result State PolyFault) → step_result rules c s ≡ r → then_next r (reduction limit compare rules n) ≡ Ok t → P t
-          stepped None has (Ok u) went j = more u t j (subst P (same_ok s u (sym (ap (λ o. step_by o c s) has) ∙ went)) before)
+          stepped None has (Ok u) went j = more u t j (subst P (same_value s u (sym (ap (λ o. step_by o c s) has) ∙ went)) before)
           stepped (Some g) has (Ok u) went j =
               let by : move_result (move_of c g) s ≡ Ok u = sym (ap (λ o. step_by o c s) has) ∙ went in
               more u t j (subst P (move_result-value (move_of c g) s u by) (keeps c g s chosen has (step_fits (move_of c g) s u by) before))

@@ -10,13 +10,6 @@ use Rattle.coef_int.specs.Range.{IsCoefficient, is_coefficient}
 use Rattle.coef_int.specs.Operations.{exact_value, first_overflow}
 use Rattle.nc_polynomial.proofs.Chains.{first-fits}
 
-module _ {A E : Type 0} where
-  pub same_ok : (x y : A) → ◌≡◌ {A = Result A E} (Ok x) (Ok y) → x ≡ y
-  same_ok x y same = cc
-
-  pub no_error : (x : A) (e : E) → ◌≡◌ {A = Result A E} (Err e) (Ok x) → ⊥
-  no_error x e same = cc
-
 -- what holds of each generator and of zero holds of the generator with any number
 pub generator_all : (P : List Term → Type 0) (ps : List (List Term)) → All P ps → P [] → (number : ℕ) → P (generator_at ps number)
 generator_all P ps each none zero = none

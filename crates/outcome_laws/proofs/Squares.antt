@@ -52,6 +52,7 @@ module _ (letters : List ℕ) where
   length_words (suc m) =
       length_flat_map (λ a. map (λ w. a ∷ w) (words m)) (length letters ^ m) (λ a. length-map (words m) (λ w. a ∷ w) ∙ length_words m) letters
       ∙ (omega arith) ∙ sym (pow-suc (length letters) m)
+
   member_words : (w : Word) → AllIn letters w → Member w (words (length w))
   member_words [] h = here []
   member_words (a ∷ w) h = member_flat_map (λ b. map (λ v. b ∷ v) (words (length w))) a (a ∷ w) letters h.0 (member_map (λ v. a ∷ v) w (words (length w)) (member_words w h.1))

@@ -120,6 +120,7 @@ module _ (compare : Compare) (rules : List Rule) (s : State) (shaped : IsShaped 
       ∙ ap₂ ◌+ℤ◌ (left_at w) (coefficient_of-multiple move.times (poly_between move.left g.poly.terms move.right) w)
       ∙ (omega (arith, ints))
       ∙ *ℤ_comm (coefficient_of s.rest w) move.by ∙ sym (coefficient_of-multiple move.by s.rest w)
+
   module _ (none : first_overflow (move_operations move s) ≡ None) where
     fits : {A : Type 0} (os : List Overflow) (x : A) → first_overflow os ≡ None → checked os x ≡ Ok x
     fits os x h = ap (λ o. unless_overflow o (Ok x)) h

@@ -31,6 +31,7 @@ is_pairs (cause.Overflow o) = false
 
 not_pairs : (c d : Cause) → is_pairs d ≡ false → c ≡ d → NotPairs c
 not_pairs c d other is spent same = cc (sym other ∙ ap is_pairs (sym is ∙ same))
+
 pub fault_not_pairs : (e : ReduceFault) (c : Cause) → IsCauseOf e c → NotPairs c
 fault_not_pairs (fault.Steps limit) c is = not_pairs c _ refl is
 fault_not_pairs (fault.Overflow o) c is = not_pairs c _ refl is

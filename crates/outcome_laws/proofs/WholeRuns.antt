@@ -35,6 +35,7 @@ pub record IsEnd (treated : List Ambiguity) (result : Result Recorded ReduceFaul
 pub ended : (number : ℕ) (least : Option (List ℕ)) (treated : List Ambiguity) (result : Result Recorded ReduceFault) (s : RunState) → Ends number least treated result (went s) → IsEnd treated result s
 ended number least treated (Ok r) s ends = record { value = r; given = refl; state = (cc) }
 ended number least treated (Err e) s given_up = absurd (cc (given_up.stops))
+
 -- the ambiguities that are taken are ambiguities of the rules
 pub taken_are : (compare : Compare) (rules : List Rule) (treated : List Ambiguity) (pending : List Waiting) (count : ℕ) → AreAllPending compare rules treated pending → All (IsAmbiguity rules) (ambiguities_of (take count pending))
 taken_are compare rules treated pending count all =
@@ -111,6 +112,7 @@ closed_is_nothing_pending setting n s round = go round.pending (λ w is. (round.
     go : (ws : List Waiting) → ((v : Waiting) → IsPending s.rules s.treated v → Contains ws v) → TreatsPending setting (suc n) s ws closed → NothingPending s.rules s.treated
     go (w ∷ ws) pending treats = absurd (by_pairs w ws (nat_le setting.budget.pairs (length s.treated)) treats)
     go [] pending treats = λ a is untreated. (omega (arith, (pending (record { which = a; word = overlap_word_of s.rules a }) (record { is = is; untreated = untreated; overlap = refl })).1))
+
 pub first_is_least_pending : FirstIsLeastPending
 first_is_least_pending letters compare rank rules treated w ws laws all a is untreated below = go ((all.members waiting).1 (record { is = is; untreated = untreated; overlap = refl }))
   where
@@ -119,6 +121,7 @@ first_is_least_pending letters compare rank rules treated w ws laws all a is unt
 
     not_itself : (u : List ℕ) → compare u u ≡ Less → ⊥
     not_itself u less = cc (sym (tied_itself laws.total u) ∙ less)
+
     not_above : IsWaitingBefore compare w waiting → ⊥
     not_above (inl less) = not_itself w.word (laws.total.trans w.word (overlap_word_of rules a) w.word less below.less)
     not_above (inr (same, later)) = not_itself w.word (subst (λ u. compare u w.word ≡ Less) (sym same) below.less)
