@@ -58,10 +58,9 @@ one_row_more m columns rows f g entries so_far small same = record {
         ∙ get_or-append-add entries last k 0 ∙ here k inside ∙ same k inside ∙ ap (λ n. f n k) (sym is)
 
 -- all rows of a matrix
-pub rows_of_matrix : (m rows columns : ℕ) (a : Matrix) (entries : List ℕ) → IsMatrix m a → a.rows ≡ rows → a.columns ≡ columns
+pub rows_of_matrix : {m rows columns : ℕ} {a : Matrix} {entries : List ℕ} → IsMatrix m a → a.rows ≡ rows → a.columns ≡ columns
     → AreRows m columns (entry_at a) rows entries → record { modulus = m; rows = rows; columns = columns; entries = entries } ≡ a
-rows_of_matrix m rows columns a entries is rows_are columns_are all =
-    same_matrix m made a (record {
+rows_of_matrix {m} {rows} {columns} {a} {entries} is rows_are columns_are all = same_matrix m made a (record {
       is_modulus = is.is_modulus;
       modulus_is = refl;
       shape = record {
