@@ -337,11 +337,7 @@ claim_reduced : IsReduced 4 word_cmp rules claim_terms (start_of claim_terms)
 claim_reduced = normal_forms_are_reduced 4 word_cmp (rank_of 4) rules claim_terms 0 (start_of claim_terms) laws are_rules claim_shaped claim_over refl
 
 outside : InRationalIdeal (polynomials_of rules) claim_terms → ⊥
-outside inside = clash (rests_of_ideal_are_zero 4 word_cmp (rank_of 4) rules claim_terms (start_of claim_terms) laws are_rules resolved inside
-    (record { at = words_with_coefficients (IsOver 4) claim_terms claim_over }) claim_reduced)
-  where
-    clash : IsZero claim_terms → ⊥
-    clash none = cc (none.at (2 ∷ []))
+outside inside = cc ((rests_of_ideal_are_zero 4 word_cmp (rank_of 4) rules claim_terms (start_of claim_terms) laws are_rules resolved inside (record { at = words_with_coefficients (IsOver 4) claim_terms claim_over }) claim_reduced).at (2 ∷ []))
 
 -- so x isn't zero in the category
 example : SharpMeans parts rules claim_terms

@@ -153,14 +153,11 @@ value_unique {x} {y} {a} {b} v w = cross_unique x y (cancel _ _ v.positive
 pub value_change : {x : Rational} {a c : ℤ} {b d : ℕ} → a ≡ c → b ≡ d → Value x a b → Value x c d
 value_change {x} {a} {d} e f v = subst (λ z. Value x z d) e (subst (λ z. Value x a z) f v)
 
-pos_times : {x y : ℕ} → 0 < x → 0 < y → 0 < x * y
-pos_times p q = grind arith
-
 -- enlarged
 pub value_times : {x : Rational} {a : ℤ} {b n : ℕ} → 0 < n → Value x a b → Value x (a *ℤ pos n) (b * n)
 value_times {x} {a} {b} {n} h v =
     record {
-      positive = pos_times v.positive h;
+      positive = grind arith;
       cross = sym (*ℤ_assoc x.top (pos b) (pos n)) ∙ ap (λ z. z *ℤ pos n) v.cross
           ∙ *ℤ_assoc a (pos x.bottom) (pos n) ∙ ap (λ z. a *ℤ z) (*ℤ_comm (pos x.bottom) (pos n)) ∙ sym (*ℤ_assoc a (pos n) (pos x.bottom));
     }
@@ -189,7 +186,7 @@ carry {x} {a} c {b} d v e = cancel _ _ v.positive
 pub plus_value : {x y : Rational} {a c : ℤ} {b d : ℕ} → Value x a b → Value y c d → Value (rational_plus x y) (a *ℤ pos d +ℤ c *ℤ pos b) (b * d)
 unfolding rational_plus
 plus_value {x} {y} {a} {c} {b} {d} v w = through
-    (over_value (x.top *ℤ pos y.bottom +ℤ y.top *ℤ pos x.bottom) (x.bottom * y.bottom) (pos_times x.lowest.positive y.lowest.positive))
+    (over_value (x.top *ℤ pos y.bottom +ℤ y.top *ℤ pos x.bottom) (x.bottom * y.bottom) (grind arith))
   where
     S : Rational
     S = over (x.top *ℤ pos y.bottom +ℤ y.top *ℤ pos x.bottom) (x.bottom * y.bottom)
@@ -210,7 +207,7 @@ plus_value {x} {y} {a} {c} {b} {d} v w = through
     through : Value S (x.top *ℤ pos y.bottom +ℤ y.top *ℤ pos x.bottom) (x.bottom * y.bottom) → Value S (a *ℤ pos d +ℤ c *ℤ pos b) (b * d)
     through u =
         record {
-          positive = pos_times v.positive w.positive;
+          positive = grind arith;
           cross = carry (a *ℤ pos d +ℤ c *ℤ pos b) (b * d) u same;
         }
 
@@ -218,8 +215,8 @@ pub times_value : {x y : Rational} {a c : ℤ} {b d : ℕ} → Value x a b → V
 unfolding rational_times
 times_value {x} {y} {a} {c} {b} {d} v w =
     record {
-      positive = pos_times v.positive w.positive;
-      cross = carry (a *ℤ c) (b * d) (over_value (x.top *ℤ y.top) (x.bottom * y.bottom) (pos_times x.lowest.positive y.lowest.positive))
+      positive = grind arith;
+      cross = carry (a *ℤ c) (b * d) (over_value (x.top *ℤ y.top) (x.bottom * y.bottom) (grind arith))
           (swap4 x.top y.top (pos b) (pos d) ∙ ap₂ (λ p q. p *ℤ q) v.cross w.cross ∙ swap4 a (pos x.bottom) c (pos y.bottom));
     }
 
@@ -278,7 +275,7 @@ plus_none x = value_unique (value_change (ap₂ ◌+ℤ◌ (times_one x.top) (ze
 plus_minus : (x : Rational) → rational_plus x (rational_minus x) ≡ rational_none
 plus_minus x = value_unique (value_change
     (ap (λ z. x.top *ℤ pos x.bottom +ℤ z) (neg_ℤ-*ℤ x.top (pos x.bottom)) ∙ +ℤ_invr (x.top *ℤ pos x.bottom)) refl
-    (plus_value (self_value x) (minus_value (self_value x)))) (none_value (pos_times x.lowest.positive x.lowest.positive))
+    (plus_value (self_value x) (minus_value (self_value x)))) (none_value (grind arith))
 
 times_assoc : (x y z : Rational) → rational_times (rational_times x y) z ≡ rational_times x (rational_times y z)
 times_assoc x y z = value_unique (times_value (times_value (self_value x) (self_value y)) (self_value z))

@@ -174,11 +174,7 @@ adjoint_reduced = normal_forms_are_reduced 3 word_cmp (rank_of 3) rules adjoint_
     adjoint_over refl
 
 outside : InRationalIdeal (polynomials_of rules) adjoint_terms → ⊥
-outside inside = clash (rests_of_ideal_are_zero 3 word_cmp (rank_of 3) rules adjoint_terms (start_of adjoint_terms) laws are_rules resolved inside
-    (record { at = words_with_coefficients (IsOver 3) adjoint_terms adjoint_over }) adjoint_reduced)
-  where
-    clash : IsZero adjoint_terms → ⊥
-    clash none = cc (none.at (2 ∷ []))
+outside inside = cc ((rests_of_ideal_are_zero 3 word_cmp (rank_of 3) rules adjoint_terms (start_of adjoint_terms) laws are_rules resolved inside (record { at = words_with_coefficients (IsOver 3) adjoint_terms adjoint_over }) adjoint_reduced).at (2 ∷ []))
 
 one_signature : (a : ℕ) → IsPath (quiver_of declared) 0 0 (a ∷ []) → HasSignature (quiver_of declared) ((pos 1, a ∷ []) ∷ [])
 one_signature a path = record { source = 0; target = 0; source_is_object = omega arith; target_is_object = omega arith; typed = one_typed a path }
