@@ -59,14 +59,11 @@ out_of_range fits = absurd (omega (arith, fits))
 even : (c : ℤ) → large ≡ c *ℤ pos 2 → ⊥
 even c same = absurd (omega (arith, ints, same))
 
-product_no_sum : (a b c d : ℤ) → sum_of a b ≡ product_of c d → ⊥
-product_no_sum a b c d same = cc (ap (λ (o : Overflow). o.product) same)
-
 no_sum : IsOfStep start (pos 2) large rule around (sum_of large (pos 2)) → ⊥
-no_sum (of_multiplier same) = product_no_sum large (pos 2) (pos 1) (pos 2) same
-no_sum (of_rest t listed same) = product_no_sum large (pos 2) t.0 (pos 2) same
-no_sum (of_taken row listed same) = product_no_sum large (pos 2) row.coef (pos 2) same
-no_sum (of_rule t listed same) = product_no_sum large (pos 2) large t.0 same
+no_sum (of_multiplier same) = cc (ap (λ (o : Overflow). o.product) same)
+no_sum (of_rest t listed same) = cc (ap (λ (o : Overflow). o.product) same)
+no_sum (of_taken row listed same) = cc (ap (λ (o : Overflow). o.product) same)
+no_sum (of_rule t listed same) = cc (ap (λ (o : Overflow). o.product) same)
 no_sum (of_difference w same) = even (coefficient_of start.rest w) (ap (λ (o : Overflow). o.left) same)
 
 -- By no rules nothing is taken away: neither rows that cancel one another nor 200,001 rows with the coefficient 0 are the record of a claim.

@@ -157,23 +157,14 @@ module _ (claim : ℕ) (made : List Made) (target : Made) where
   abbrev all : List Lemma
   all = lemmas_and_goal made target
 
-  no_fault : (c : LemmaCertificate) (e : GatherFault) → ◌≡◌ {A = Result LemmaCertificate GatherFault} (Ok c) (Err e) → ⊥
-  no_fault c e k = cc
-
-  same : (d e : GatherFault) → ◌≡◌ {A = Option GatherFault} (Some d) (Some e) → e ≡ d
-  same d e k = cc
-
-  none : (e : GatherFault) → ◌≡◌ {A = Option GatherFault} None (Some e) → ⊥
-  none e k = cc
-
   limit_stops : (e : GatherFault) → lemmas.limit_fault all ≡ Some e → GatheringStops made target e
   limit_stops e ends = go (nat_lt row_limit (row_count all)) refl (nat_lt letter_limit (lemmas.letter_count all)) refl ends
     where
       go : (b : Bool) → nat_lt row_limit (row_count all) ≡ b → (c : Bool) → nat_lt letter_limit (lemmas.letter_count all) ≡ c
           → cond b (Some (gather.Rows false)) (cond c (Some (gather.Rows true)) None) ≡ Some e → GatheringStops made target e
-      go true is c at k = too_many_lemma_rows false (same (gather.Rows false) e k) (of_lemmas (grind (arith, nat_tests)))
-      go false is true at k = too_many_lemma_rows true (same (gather.Rows true) e k) (of_lemmas (grind (arith, nat_tests)))
-      go false is false at k = absurd (none e k)
+      go true is c at k = too_many_lemma_rows false (cc) (of_lemmas (grind (arith, nat_tests)))
+      go false is true at k = too_many_lemma_rows true (cc) (of_lemmas (grind (arith, nat_tests)))
+      go false is false at k = absurd (cc)
 
   scale_stops : (e : GatherFault) → scale_fault (map (λ l. l.scale) all) ≡ Some e → GatheringStops made target e
   scale_stops e ends =
@@ -186,7 +177,7 @@ module _ (claim : ℕ) (made : List Made) (target : Made) where
     where
       second : (c : LemmaCertificate) → (scale_fault (map (λ l. l.scale) all) ≡ Some e) ⊎ ((scale_fault (map (λ l. l.scale) all) ≡ None) × (◌≡◌ {A = Result LemmaCertificate GatherFault} (Ok c) (Err e))) → GatheringStops made target e
       second c (inl at) = scale_stops e at
-      second c (inr both) = absurd (no_fault c e both.1)
+      second c (inr both) = absurd (cc (both.1))
 
       first : (c : LemmaCertificate) → (lemmas.limit_fault all ≡ Some e) ⊎ ((lemmas.limit_fault all ≡ None) × (unless (scale_fault (map (λ l. l.scale) all)) (Ok c) ≡ Err e)) → GatheringStops made target e
       first c (inl at) = limit_stops e at

@@ -34,9 +34,6 @@ module _ {X : Type 0} (R : X → X → Type 0) where
       (pairs_append xs ys (pairs_rest x xs left) right (λ z y at other. across z y (suc at.0, omega (arith, at.1), at.2) other))
 
 module _ (letters : ℕ) (compare : Compare) (rank : List ℕ → List ℕ) (laws : IsAdmissible letters compare rank) where
-  never_below : (u : List ℕ) → compare u u ≡ Less → ⊥
-  never_below u less = cc (sym (tied_itself laws.total u) ∙ less)
-
   not_before_itself : (a : Ambiguity) → IsBefore a a → ⊥
   not_before_itself a (inl less) = omega (arith, less)
   not_before_itself a (inr (_, inl less)) = omega (arith, less)
@@ -51,7 +48,7 @@ module _ (letters : ℕ) (compare : Compare) (rank : List ℕ → List ℕ) (law
       words = one ∙ ap (overlap_word_of rules) same ∙ sym other
 
       go : IsWaitingBefore compare v w → ⊥
-      go (inl less) = never_below w.word (subst (λ u. compare u w.word ≡ Less) words less)
+      go (inl less) = cc (sym (tied_itself laws.total w.word) ∙ (subst (λ u. compare u w.word ≡ Less) words less))
       go (inr (_, later)) = not_before_itself w.which (subst (λ a. IsBefore a w.which) same later)
 
   -- of a list of such, each before all later ones

@@ -89,15 +89,12 @@ step_fits m s t ends = go (first_overflow (move_operations m s)) refl ends
 -- what is kept by each step without a fault is kept by the whole reduction
 module _ (P : State → Type 0) (compare : Compare) (rules : List Rule)
     (keeps : (c : Choice) (g : Rule) (s : State) → choice_of compare (entries_of rules) s.rest ≡ Some c → rule_at rules c.number ≡ Some g → StepFits (move_of c g) s → P s → P (moved (move_of c g) s)) where
-  halts : (t : State) (e : ReduceFault) → ◌≡◌ {A = Result State ReduceFault} (Err e) (Ok t) → ⊥
-  halts t e same = cc
-
   pub fitting_reduction : (limit n : ℕ) (s t : State) → reduction limit compare rules n s ≡ Ok t → P s → P t
   fitting_reduction limit zero s t is before = go (choice_of compare (entries_of rules) s.rest) is
     where
       go : (o : Option Choice) → at_limit limit o s ≡ Ok t → P t
       go None k = subst P (same_value s t k) before
-      go (Some c) k = absurd (halts t (halt.Steps limit) k)
+      go (Some c) k = absurd (cc)
   fitting_reduction limit (suc n) s t is before = go (choice_of compare (entries_of rules) s.rest) refl is (fitting_reduction limit n)
     where
       go : (o : Option Choice) → choice_of compare (entries_of rules) s.rest ≡ o → one_step rules o s (reduction limit compare rules n) ≡ Ok t
@@ -110,8 +107,8 @@ module _ (P : State → Type 0) (compare : Compare) (rules : List Rule)
           stepped (Some g) has (Ok u) went j =
               let by : move_result (move_of c g) s ≡ Ok u = sym (ap (λ o. step_by o c s) has) ∙ went in
               more u t j (subst P (move_result-value (move_of c g) s u by) (keeps c g s chosen has (step_fits (move_of c g) s u by) before))
-          stepped None has (Err e) went j = absurd (halts t (halt_of e) j)
-          stepped (Some g) has (Err e) went j = absurd (halts t (halt_of e) j)
+          stepped None has (Err e) went j = absurd (cc)
+          stepped (Some g) has (Err e) went j = absurd (cc)
 
 -- a coefficient, and words of no more letters than the limit
 pub record IsShortRow (r : Row) : Type 0 where

@@ -86,12 +86,6 @@ module _ (letters : ℕ) (compare : Compare) (rank : List ℕ → List ℕ) (law
       size which is
       (record { earlier = suc gets.earlier; few = omega (arith, gets.few); now = gets.now; goes = record { after = t; step = step; later = gets.goes }; large = gets.large })
 
-  no_fault : (s : State) (e : ReduceFault) → ◌≡◌ {A = Result State ReduceFault} (Ok s) (Err e) → ⊥
-  no_fault s e k = cc
-
-  same_fault : (d e : ReduceFault) → ◌≡◌ {A = Result State ReduceFault} (Err d) (Err e) → e ≡ d
-  same_fault d e k = cc
-
   -- the step that is chosen
   module _ (s : State) (shaped : IsShaped s.rest) (c : Choice) (chosen : choice_of compare (entries_of rules) s.rest ≡ Some c) (g : Rule) (numbered : rule_at rules c.number ≡ Some g) where
     is : IsChoice compare rules s.rest c
@@ -150,27 +144,23 @@ module _ (letters : ℕ) (compare : Compare) (rank : List ℕ → List ℕ) (law
       one_earlier n (reduced_of s) (reduced_of t) h step.0 (later t step.1 k)
   by_result n s shaped c chosen h later (Err e) ends k =
       let is = is_choice s shaped c chosen in
-      stops_at s shaped c chosen is.rule is.numbered n e h (same_fault (halt_of e) h k) (move_stops (move_of c is.rule) s e (sym (ap (λ o. step_by o c s) is.numbered) ∙ ends))
+      stops_at s shaped c chosen is.rule is.numbered n e h (cc) (move_stops (move_of c is.rule) s e (sym (ap (λ o. step_by o c s) is.numbered) ∙ ends))
 
   stopped : (n : ℕ) (s : State) (e : ReduceFault) → IsShaped s.rest → reduction limit compare rules n s ≡ Err e → Stops compare rules limit n (reduced_of s) e
   stopped zero s e shaped ends = go (choice_of compare (entries_of rules) s.rest) refl ends
     where
       go : (o : Option Choice) → choice_of compare (entries_of rules) s.rest ≡ o → at_limit limit o s ≡ Err e → Stops compare rules limit 0 (reduced_of s) e
-      go None none k = absurd (no_fault s e k)
+      go None none k = absurd (cc)
       go (Some c) chosen k =
           let is = is_choice s shaped c chosen in
-          steps_spent (same_fault (halt.Steps limit) e k) (record { now = reduced_of s; goes = refl; next = next_step compare rules s shaped c is is.rule is.numbered })
+          steps_spent (cc) (record { now = reduced_of s; goes = refl; next = next_step compare rules s shaped c is is.rule is.numbered })
   stopped (suc n) s e shaped ends = go (choice_of compare (entries_of rules) s.rest) refl ends (λ t. stopped n t e)
     where
       go : (o : Option Choice) → choice_of compare (entries_of rules) s.rest ≡ o → one_step rules o s (reduction limit compare rules n) ≡ Err e
           → ((t : State) → IsShaped t.rest → reduction limit compare rules n t ≡ Err e → Stops compare rules limit n (reduced_of t) e)
           → Stops compare rules limit (suc n) (reduced_of s) e
-      go None none k later = absurd (no_fault s e k)
+      go None none k later = absurd (cc)
       go (Some c) chosen k later = by_result n s shaped c chosen e later (step_result rules c s) refl k
-
-  -- what is left where it doesn't stop
-  no_value : (e : ReduceFault) (t : State) → ◌≡◌ {A = Result State ReduceFault} (Err e) (Ok t) → ⊥
-  no_value e t k = cc
 
   same_value : (s t : State) → ◌≡◌ {A = Result State ReduceFault} (Ok s) (Ok t) → s ≡ t
   same_value s t k = cc
@@ -185,7 +175,7 @@ module _ (letters : ℕ) (compare : Compare) (rank : List ℕ → List ℕ) (law
     where
       go : (o : Option Choice) → choice_of compare (entries_of rules) s.rest ≡ o → at_limit limit o s ≡ Ok t → Leaves compare rules 0 (reduced_of s) (reduced_of t)
       go None none k = ended s t none k 0
-      go (Some c) chosen k = absurd (no_value (halt.Steps limit) t k)
+      go (Some c) chosen k = absurd (cc)
   finished (suc n) s t shaped ends = go (choice_of compare (entries_of rules) s.rest) refl ends (λ u. finished n u t)
     where
       go : (o : Option Choice) → choice_of compare (entries_of rules) s.rest ≡ o → one_step rules o s (reduction limit compare rules n) ≡ Ok t
@@ -195,7 +185,7 @@ module _ (letters : ℕ) (compare : Compare) (rank : List ℕ → List ℕ) (law
       go (Some c) chosen k later = by_step (step_result rules c s) refl k
         where
           by_step : (r : Result State PolyFault) → step_result rules c s ≡ r → then_next r (reduction limit compare rules n) ≡ Ok t → Leaves compare rules (suc n) (reduced_of s) (reduced_of t)
-          by_step (Err e) made j = absurd (no_value (halt_of e) t j)
+          by_step (Err e) made j = absurd (cc)
           by_step (Ok u) made j =
               let is = is_choice s shaped c chosen in
               let step = went s shaped c chosen is.rule is.numbered u (sym (ap (λ o. step_by o c s) is.numbered) ∙ made) in

@@ -119,13 +119,10 @@ first_is_least_pending letters compare rank rules treated w ws laws all a is unt
     waiting : Waiting
     waiting = record { which = a; word = overlap_word_of rules a }
 
-    not_itself : (u : List ℕ) → compare u u ≡ Less → ⊥
-    not_itself u less = cc (sym (tied_itself laws.total u) ∙ less)
-
     not_above : IsWaitingBefore compare w waiting → ⊥
-    not_above (inl less) = not_itself w.word (laws.total.trans w.word (overlap_word_of rules a) w.word less below.less)
-    not_above (inr (same, later)) = not_itself w.word (subst (λ u. compare u w.word ≡ Less) (sym same) below.less)
+    not_above (inl less) = cc (sym (tied_itself laws.total w.word) ∙ (laws.total.trans w.word (overlap_word_of rules a) w.word less below.less))
+    not_above (inr (same, later)) = cc (sym (tied_itself laws.total w.word) ∙ (subst (λ u. compare u w.word ≡ Less) (sym same) below.less))
 
     go : Contains (w ∷ ws) waiting → ⊥
-    go (zero, inside, here) = not_itself w.word (subst (λ u. compare u w.word ≡ Less) (sym (ap (λ (v : Waiting). v.word) here)) below.less)
+    go (zero, inside, here) = cc (sym (tied_itself laws.total w.word) ∙ (subst (λ u. compare u w.word ≡ Less) (sym (ap (λ (v : Waiting). v.word) here)) below.less))
     go (suc k, inside, here) = not_above (subst (IsWaitingBefore compare w) here (all.ascending 0 (suc k) waiting (omega arith) inside))
