@@ -69,9 +69,9 @@ module _ (k : Known) (is : IsKnown k) (g : LinearAssumption) (asked : IsAssumpti
   pub known_sides : {value : Matrix} → IsArrow (matrices s.modulus) (side_of m g.sig.source.0) (side_of m g.sig.target.0) value
       → All (HasSides value.rows value.columns) terms
   known_sides {value} ends = All-weaker Fit (HasSides value.rows value.columns) (λ t fit. record {
-        rows_are = fit.has_sides.rows_are ∙ sym ends.target;
-        columns_are = fit.has_sides.columns_are ∙ sym ends.source;
-      }) terms all_fit
+    rows_are = fit.has_sides.rows_are ∙ sym ends.target;
+    columns_are = fit.has_sides.columns_are ∙ sym ends.source;
+  }) terms all_fit
 
 -- the coefficients of an assumption
 module _ (k : Known) (is : IsKnown k) (place : ℕ) where

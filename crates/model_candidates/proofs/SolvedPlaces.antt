@@ -18,6 +18,7 @@ no_place p xs count all none =
     position_or_len_is p xs (length xs) 0 (omega arith) (λ k inside. none k (omega (arith, inside, all))) (λ inside. absurd (omega (arith, inside))) in
     ap (λ n. cond (ltb n (length xs)) (Some n) None) last ∙ ap (λ b. cond b (Some (length xs)) None) (le-ltb (length xs) (length xs)
     (omega arith))
+
 -- the letters before `to`, from a place on
 pub letters_from : (w : List ℕ) {place to : ℕ} → place < to → to ≤ length w → drop place (take to w) ≡ get_or w place 0 ∷ drop (place + 1) (take to w)
 letters_from w {place} {to} before within =

@@ -4,7 +4,7 @@ use Rattle.std.proofs.lemmas.List.{take_all}
 use Rattle.std.proofs.lemmas.Option.{same_Some}
 use Rattle.std.proofs.lemmas.List.FromFn.{length-map-range_with_len}
 use Rattle.definitions.specs.Quiver.{source, target, letters, leads}
-use Rattle.quiver.specs.Declarations.{letter_count, quiver_of}
+use Rattle.quiver.specs.Declarations.{letter_count}
 use Rattle.quiver.proofs.Counts.{letters-quiver_of}
 use Rattle.matrix_models.specs.Matrices.{matrices}
 use Rattle.representations.proofs.ValueLoop.{term_is_path}
