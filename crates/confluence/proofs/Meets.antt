@@ -256,8 +256,13 @@ module _ (o : Order) (g : Rules o) (q : Allowed o) where
       where
         by_number : (i ≡ j) ⊎ (i ≢ j) → Meets M l1 i r1 l2 j r2
         by_number (inl e) = absurd (differ e (sym (a ∙ ap (λ z. l1 ++ z)
-            (nil_from_length s (omega (arith, ap length (pe ∙ ap (λ z. s ++ ((g.rule z).lead ++ t)) (sym e)), length-append s
-            ((g.rule i).lead ++ t), length-append (g.rule i).lead t))) ∙ append-nil l1)))
+            (nil_from_length s (omega (
+              arith,
+              ap length (pe ∙ ap (λ z. s ++ ((g.rule z).lead ++ t)) (sym e)),
+              length-append s
+                  ((g.rule i).lead ++ t),
+              length-append (g.rule i).lead t,
+            ))) ∙ append-nil l1)))
         by_number (inr n) = meets_at M (l1 ++ ((g.rule i).lead ++ r1)) l1 (l1 ++ []) r1 r1 l2 (l1 ++ s) r2 (t ++ r1) i j (sym e1) (append-nil l1) refl (sym a) (sym b) (meets_shift l1 r1 (g.rule i).lead [] i [] s j t (subst o.Range e1 rm) (subst q.May e1 am) (res.inclusions i j s t hi hj n pe (o.factor l1 (g.rule i).lead r1 (subst o.Range e1 rm)) (may_factor l1 (g.rule i).lead r1 (subst o.Range e1 rm) (subst q.May e1 am))))
     meets M l1 i r1 l2 j r2 hi hj rm am e1 e2 differ (outside t nt qe a b) = by_number (g.same_number i j)
       where

@@ -37,8 +37,13 @@ empty_is_irreducible p rules are =
   where
     none : (g : Rule) → IsRule (letter_count p.quiver) (asked_cmp p.order) g → (place : ℕ) → OccursAt [] g.lead place → ⊥
     none g is place at =
-        absurd (omega (arith, ap length at.splits, length-append at.before (g.lead ++ at.after), length-append g.lead at.after,
-        (leading-all (λ t. 0 < length t.1) (asked_cmp p.order) g.poly.terms (g.leading, g.lead) is.leading is.nonempty)))
+        absurd (omega (
+          arith,
+          ap length at.splits,
+          length-append at.before (g.lead ++ at.after),
+          length-append g.lead at.after,
+          (leading-all (λ t. 0 < length t.1) (asked_cmp p.order) g.poly.terms (g.leading, g.lead) is.leading is.nonempty),
+        ))
 
 -- A word of a map is a normal word, and the other way.
 module _ (p : Parts) (rules : List Rule) (u v : ℕ) where
@@ -263,8 +268,10 @@ module _ (p : Parts) (rules : List Rule) (u v : ℕ) (here : (normal_forms p rul
 
       exactly : exact_terms ≡ terms
       exactly = form_unique rationals canonical exact_terms terms exact_sorted sorted
-          (record { at = (λ w. sym (read_raw (look rationals exact_terms w)) ∙ ap read (sym (fraction_raw exact_terms exact_sorted w) ∙ ap
-          (λ z. fraction_at z w) again ∙ same w ∙ sym (ap raw (look_is w) ∙ back w)) ∙ read_raw (look rationals terms w)) })
+          (record {
+            at = (λ w. sym (read_raw (look rationals exact_terms w)) ∙ ap read (sym (fraction_raw exact_terms exact_sorted w) ∙ ap
+                (λ z. fraction_at z w) again ∙ same w ∙ sym (ap raw (look_is w) ∙ back w)) ∙ read_raw (look rationals terms w));
+          })
 
   one_map : HasOneMap p rules u v f
   one_map = record { map = the_map; is_map = from_list p rules here there the_list; fractions = the_fractions; only = the_only }

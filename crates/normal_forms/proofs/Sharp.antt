@@ -323,9 +323,9 @@ module _ {K : Type 0} (k : Field K) (s : Ground k) where
 
             m_like : Like k s M.form ((k.times k.one (k.int t.0), t.1) ∷ [])
             m_like = cong_left k s.order s.rules (record {
-                  at = λ w. ap (λ z. look k (multiple S t.0 z).form w) is ∙ look-multiple t.0 (word_arrow u v t.1) w
-                      ∙ sym (sum-scaled k (λ u. hit k u w) (k.int t.0) (reduced k s W));
-                }) (cong_trans k s.order s.rules
+              at = λ w. ap (λ z. look k (multiple S t.0 z).form w) is ∙ look-multiple t.0 (word_arrow u v t.1) w
+                  ∙ sym (sum-scaled k (λ u. hit k u w) (k.int t.0) (reduced k s W));
+            }) (cong_trans k s.order s.rules
                 (cong_scaled k s.order s.rules (k.int t.0) (reduced_like k s facts (good_range k s facts u v t.1 good, tt)))
                 (cong_same k s.order s.rules (ap (λ z. (z, t.1) ∷ []) (k.times_comm (k.int t.0) k.one))))
 
