@@ -94,5 +94,5 @@ module _ (letters : ℕ) (setting : Setting) (generators : All (HasWords letters
       go (suc n) before stops =
           let are = states_rules letters setting (suc n) s generators before in
           later (suc n) stops.pending (pending-all (λ (w : Waiting). IsOver letters w.word) setting.compare s.rules s.treated stops.pending
-              stops.all_pending (λ w one. (subst (IsOver letters) (sym one.overlap)
-              (over_overlap_word letters setting.compare s.rules w.which are one.is)))) stops.treats
+          stops.all_pending (λ w one. (subst (IsOver letters) (sym one.overlap)
+          (over_overlap_word letters setting.compare s.rules w.which are one.is)))) stops.treats

@@ -64,7 +64,6 @@ move_stops m s e ends = go (first_overflow (move_operations m s)) refl ends
 pub data Stops (compare : Compare) (rules : List Rule) (limit steps : ℕ) (start : Reduced) (e : ReduceFault) : Type 0 where
   steps_spent : e ≡ halt.Steps limit → HasOneMore compare rules steps start → Stops compare rules limit steps start e
   overflow : (o : Overflow) → e ≡ halt.Overflow o → (IsCoefficient (exact_value o) → ⊥) → IsOfReduction compare rules steps start o → Stops compare rules limit steps start e
-
   size : (letters : Bool) → e ≡ halt_of (size_fault letters) → GetsTooLarge compare rules steps start letters → Stops compare rules limit steps start e
 
 module _ (letters : ℕ) (compare : Compare) (rank : List ℕ → List ℕ) (laws : IsAdmissible letters compare rank) (rules : List Rule) (limit : ℕ) where
