@@ -3,7 +3,7 @@ use Rattle.std.proofs.Common.{◌≡◌, ℕ, zero, suc, ℤ, pos, negsuc, Bool,
 use Rattle.std.proofs.lemmas.Bool.{false_from_ne_true}
 use Rattle.definitions.specs.Poly.{Poly}
 use Rattle.definitions.specs.Category.{Structure, IsArrow, PreadditiveLaws, InvolutionLaws}
-use Rattle.definitions.specs.Quiver.{Quiver, IsQuiver, source, target, star, leads, is_path}
+use Rattle.definitions.specs.Quiver.{Quiver, IsQuiver, source, star, leads, is_path}
 use Rattle.definitions.specs.Representation.{Representation, Represents, StarRepresents, Cancels, natural_multiple, multiple, path_value, word_value, value_at}
 use Rattle.definitions.specs.Generators.{adjoint_word, adjoint_poly}
 use Rattle.definitions.proofs.Paths.{step}

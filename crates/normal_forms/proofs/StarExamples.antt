@@ -1,6 +1,6 @@
 -- An object U, a map a of U, the rule a, and a starred statement that assumes nothing: the normal forms tell a' from zero, but have no involution,
 -- since a goes to zero. Both ways they have one.
-use Rattle.std.proofs.Common.{◌≡◌, ◌<◌, ℕ, zero, suc, pos, Bool, true, false, List, [], ◌∷◌, ◌++◌, length, Some, Option, refl, sym, ap, ◌∙◌, arith}
+use Rattle.std.proofs.Common.{◌≡◌, ◌<◌, ℕ, zero, suc, pos, Bool, true, false, List, [], ◌∷◌, length, Some, refl, sym, ap, ◌∙◌, arith}
 use Rattle.std.proofs.lemmas.Int.{ints}
 use Rattle.std.proofs.lemmas.List.{length-append}
 use Rattle.std.proofs.lemmas.List.Elements.{All-nil}
@@ -37,7 +37,7 @@ use Rattle.adjoint_rules.specs.declared.parts.Parts.{Parts}
 use Rattle.adjoint_rules.specs.Problem.{IsPosed, IsShape, IsSide, IsDeclaredMap, IsTypedOf, HasObjects, HasLettersInPlay, IsInPlay, is_in_play}
 use Rattle.adjoint_rules.proofs.Generators.{posed_quiver}
 use Rattle.confluence.specs.Typed.{IsTypedInPlay}
-use Rattle.confluence.specs.Reductions.{IsZero, IsReduced}
+use Rattle.confluence.specs.Reductions.{IsReduced}
 use Rattle.confluence.proofs.RestLaws.{normal_forms_are_reduced, rests_of_ideal_are_zero}
 use Rattle.confluence.proofs.WrittenTerms.{shaped_as_written}
 use Rattle.normal_forms.specs.Fractions.{Fraction}

@@ -1,8 +1,8 @@
 -- A claim of a starred statement that isn't zero isn't zero both ways: the generators have the adjoints of the assumptions.
-use Rattle.std.proofs.Common.{◌≡◌, ℕ, ◌<◌, ℤ, pos, negsuc, ◌*ℤ◌, Bool, true, false, cond, ◌||◌, List, [], ◌∷◌, refl, sym, ap, ◌∙◌, arith}
+use Rattle.std.proofs.Common.{◌≡◌, ℕ, ◌<◌, negsuc, Bool, true, false, cond, ◌||◌, List, [], ◌∷◌, refl, sym, ap, ◌∙◌, arith}
 use Rattle.std.proofs.lemmas.Int.{ints}
 use Rattle.std.specs.List.{AllByRecursion, flat_map}
-use Rattle.definitions.specs.Poly.{Poly, coefficient_of, SamePolynomial, poly_multiple, poly_eq}
+use Rattle.definitions.specs.Poly.{Poly, SamePolynomial, poly_multiple, poly_eq}
 use Rattle.definitions.specs.Category.{Structure, PreadditiveLaws}
 use Rattle.definitions.specs.Quiver.{Quiver, IsQuiver, IsTyped}
 use Rattle.definitions.specs.Representation.{Representation, Represents}

@@ -19,7 +19,6 @@ use Rattle.cofactor_trace.specs.declared.halt.Cause.{Cause}
 use Rattle.cofactor_trace.specs.declared.halt.Cause.TheVariants as cause
 use Rattle.cofactor_trace.specs.declared.halt.Place.{Place}
 use Rattle.cofactor_trace.specs.declared.halt.Place.TheVariants as place
-use Rattle.cofactor_trace.specs.declared.halt.Halt.{Halt}
 use Rattle.cofactor_trace.specs.Needed.{expansion_of}
 use Rattle.cofactor_trace.specs.Lemmas.{gathered_of}
 use Rattle.cofactor_trace.specs.Faults as expanding

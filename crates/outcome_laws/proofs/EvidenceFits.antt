@@ -16,7 +16,6 @@ use Rattle.traced_rows.specs.declared.evidence.Evidence.{Evidence}
 use Rattle.traced_rows.specs.declared.evidence.Evidence.TheVariants as evidence
 use Rattle.traced_rows.specs.declared.evidence.Format.{Format}
 use Rattle.traced_rows.specs.declared.evidence.Format.TheVariants as format
-use Rattle.cofactor_trace.specs.declared.halt.Halt.{Halt}
 use Rattle.cofactor_trace.specs.Laws.{NamesUpTo}
 use Rattle.cofactor_trace.specs.Needed.{IsRecord, expansion_of}
 use Rattle.cofactor_trace.specs.Lemmas.{gathered_of}

@@ -1,5 +1,5 @@
 -- The rules of each state of the run of a problem are made one after another, and its records are theirs.
-use Rattle.std.proofs.Common.{◌≡◌, ◌≤◌, ℕ, zero, suc, Bool, true, false, List, [], ◌∷◌, ◌++◌, map, length, take, nat_le, Option, Some, None, Result, Ok, Err, refl, sym, ap, subst, arith, append-nil}
+use Rattle.std.proofs.Common.{◌≡◌, ◌≤◌, ℕ, zero, suc, Bool, true, false, List, [], ◌∷◌, ◌++◌, map, length, take, nat_le, Some, None, Result, Ok, Err, refl, sym, ap, subst, arith, append-nil}
 use Rattle.std.specs.List.{All, AllByRecursion}
 use Rattle.std.proofs.lemmas.List.{length-map}
 use Rattle.std.proofs.lemmas.List.Elements.{All-head, All-tail}
@@ -10,7 +10,6 @@ use Rattle.word_orders.specs.Specified.{asked_cmp}
 use Rattle.word_orders.proofs.AskedOrders.{asked_rank}
 use Rattle.nc_polynomial.specs.Shape.{IsShaped}
 use Rattle.quiver.specs.Declarations.{letter_count, quiver_of}
-use Rattle.cofactor_trace.specs.declared.halt.Halt.{Halt}
 use Rattle.traced_rows.specs.declared.Row.{Row}
 use Rattle.rule_reduce.specs.declared.rule.Rule.{Rule}
 use Rattle.rule_reduce.specs.declared.state.State.{State}
@@ -18,18 +17,17 @@ use Rattle.rule_reduce.specs.declared.fault.ReduceFault.{ReduceFault}
 use Rattle.rule_reduce.specs.NormalForms.{normal_form_of}
 use Rattle.ambiguities.specs.declared.ambiguity.Ambiguity.{Ambiguity}
 use Rattle.ambiguities.specs.Ambiguities.{IsAmbiguity}
-use Rattle.ambiguities.specs.SPolynomials.{s_rows_of}
 use Rattle.ambiguities.proofs.Balance.{s_polynomials_balance}
 use Rattle.adjoint_rules.specs.declared.problem.Problem.{Problem}
 use Rattle.adjoint_rules.specs.Problem.{polynomials}
 use Rattle.confluence.proofs.ShapeLaws.{normal_forms_are_shaped, s_polynomials_are_shaped}
-use Rattle.rule_making.specs.Making.{Recorded, Rest, rest_with, Adds}
+use Rattle.rule_making.specs.Making.{Recorded, rest_with, Adds}
 use Rattle.traced_completion.specs.declared.budget.Budget.{Budget}
 use Rattle.ambiguities.specs.declared.waiting.Waiting.{Waiting}
 use Rattle.traced_completion.specs.Results.{each_in_turn}
 use Rattle.traced_completion.specs.Works.{First, first_of, generator_rows, generator_work, second_rows, second_rest, second_reduction, second_work, InTurn, InTwoPasses}
 use Rattle.traced_completion.specs.Pending.{AreAllPending, ambiguities_of}
-use Rattle.traced_completion.specs.PlainRun.{Setting, RunState, went, closed, stopped, recorded, taken_count, IsTreated, TreatsFirst, TreatsPending, IsRound, IsRunState, setting_of}
+use Rattle.traced_completion.specs.PlainRun.{Setting, RunState, went, recorded, taken_count, IsTreated, TreatsFirst, TreatsPending, IsRound, IsRunState, setting_of}
 use Rattle.outcome_laws.specs.ReductionSteps.{unreduced, Leaves}
 use Rattle.outcome_laws.specs.Causes.{IsFirstReduction, rows_less, from_generator, from_ambiguity, AreMade, no_rule, one_more}
 use Rattle.outcome_laws.proofs.LaterRounds.{second_value, BeginsWith, begins_with}

@@ -1,7 +1,6 @@
 -- The letters of outcomes and of last rules are letters of the quiver.
-use Rattle.std.proofs.Common.{◌≡◌, ◌<◌, ℕ, List, get_or, true, nat_lt, Option, Some, None, Ok, refl, sym, subst, arith}
+use Rattle.std.proofs.Common.{◌≡◌, ◌<◌, ℕ, List, get_or, Option, Some, None, Ok, refl, sym, subst, arith}
 use Rattle.std.specs.List.{All}
-use Rattle.std.proofs.lemmas.Bool.{and_parts}
 use Rattle.std.proofs.lemmas.Bool.Decides.{nat_tests}
 use Rattle.std.proofs.lemmas.List.Elements.{All-nil, All-append, All-map, All-pop, All-weaker}
 use Rattle.definitions.specs.Poly.{Term}

@@ -7,14 +7,13 @@ use Rattle.traced_rows.specs.declared.Row.{Row}
 use Rattle.traced_rows.specs.declared.Made.{Made}
 use Rattle.cofactor_trace.specs.declared.halt.Halt.{Halt}
 use Rattle.rule_reduce.specs.declared.fault.ReduceFault.{ReduceFault}
-use Rattle.rule_reduce.specs.RuleLists.{IsRule}
 use Rattle.ambiguities.specs.declared.ambiguity.Ambiguity.{Ambiguity}
 use Rattle.ambiguities.proofs.Bounds.{over_overlap_word}
 use Rattle.ambiguities.proofs.Words.{AreWords, words_over, normal_words, s_words}
 use Rattle.ambiguities.proofs.OverLetters.{IsOverRow, reduced_over, s_rows_over}
 use Rattle.ambiguities.specs.declared.waiting.Waiting.{Waiting}
 use Rattle.rule_making.specs.Making.{Recorded}
-use Rattle.traced_completion.specs.Pending.{IsPending, ambiguities_of}
+use Rattle.traced_completion.specs.Pending.{ambiguities_of}
 use Rattle.traced_completion.specs.RunLaws.{HasWords}
 use Rattle.traced_completion.specs.PlainRun.{Setting, RunState, went, closed, stopped, Ends, taken_count, TreatsFirst, TreatsPending, IsRound, IsRunState}
 use Rattle.traced_completion.proofs.RunStates.{states_rules}

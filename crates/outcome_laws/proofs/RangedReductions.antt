@@ -8,7 +8,6 @@ use Rattle.coef_int.specs.Range.{IsCoefficient}
 use Rattle.coef_int.specs.Operations.{product_of, first_overflow}
 use Rattle.definitions.specs.Poly.{Term}
 use Rattle.nc_polynomial.specs.declared.fault.PolyFault.{PolyFault}
-use Rattle.nc_polynomial.specs.declared.fault.PolyFault.TheVariants as fault
 use Rattle.nc_polynomial.specs.Terms.{multiplied, multiplications, negated, shifted, products, sums}
 use Rattle.nc_polynomial.specs.Faults.{unless_overflow, sized}
 use Rattle.nc_polynomial.proofs.Shapes.{in_range-added}
@@ -17,12 +16,10 @@ use Rattle.word_orders.specs.Admissible.{Compare}
 use Rattle.rule_reduce.specs.declared.rule.Rule.{Rule}
 use Rattle.rule_reduce.specs.declared.state.State.{State}
 use Rattle.rule_reduce.specs.declared.state.Choice.{Choice}
-use Rattle.rule_reduce.specs.declared.fault.ReduceFault.{ReduceFault}
-use Rattle.rule_reduce.specs.declared.fault.ReduceFault.TheVariants as halt
 use Rattle.rule_reduce.specs.RuleLists.{rule_at, entries_of}
 use Rattle.rule_reduce.specs.Choices.{choice_of}
 use Rattle.rule_reduce.specs.Steps.{Move, move_row, multiplied_row, row_operations, state_operations, less_operations, moved, move_operations, if_sized, move_result, move_of, step_by, step_result}
-use Rattle.rule_reduce.specs.NormalForms.{halt_of, then_next, at_limit, one_step, reduction, start_of, normal_form_of}
+use Rattle.rule_reduce.specs.NormalForms.{then_next, at_limit, one_step, reduction, start_of, normal_form_of}
 use Rattle.rule_reduce.proofs.Chosen.{found}
 use Rattle.rule_reduce.proofs.Runs.{move_result-value}
 use Rattle.outcome_laws.proofs.Results.{fits_first, none_append}

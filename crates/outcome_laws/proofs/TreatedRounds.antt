@@ -1,7 +1,6 @@
 -- What a round that was made whole took.
 use Rattle.std.proofs.Common.{◌≡◌, ◌<◌, ℕ, suc, Bool, true, false, List, [], ◌∷◌, ◌++◌, map, length, take, nat_le, Option, Some, None, Result, Ok, Err, refl, sym, ap, subst, append-nil}
 use Rattle.std.proofs.lemmas.Bool.{leb-false}
-use Rattle.cofactor_trace.specs.declared.halt.Halt.{Halt}
 use Rattle.word_orders.specs.Admissible.{Compare}
 use Rattle.rule_reduce.specs.declared.rule.Rule.{Rule}
 use Rattle.rule_reduce.specs.declared.fault.ReduceFault.{ReduceFault}
@@ -11,7 +10,7 @@ use Rattle.rule_making.specs.Making.{Recorded, Rest}
 use Rattle.traced_completion.specs.Results.{each_in_turn}
 use Rattle.traced_completion.specs.Works.{Work, First, first_of, second_work, Goes, InTurn, InTwoPasses}
 use Rattle.traced_completion.specs.Pending.{AreAllPending, ambiguities_of}
-use Rattle.traced_completion.specs.PlainRun.{Setting, RunState, went, closed, stopped, recorded, taken_count, IsTreated, TreatsFirst, TreatsPending, IsRound}
+use Rattle.traced_completion.specs.PlainRun.{Setting, RunState, went, recorded, taken_count, IsTreated, TreatsFirst, TreatsPending, IsRound}
 use Rattle.outcome_laws.proofs.RunsKept.{no_value, same_value}
 use Rattle.outcome_laws.proofs.LaterRounds.{BeginsWith, begins_with}
 use Rattle.outcome_laws.proofs.WholeRuns.{ended}

@@ -2,11 +2,10 @@
 use Rattle.std.proofs.Common.{◌≡◌, inl, inr, ◌≤◌, ℕ, zero, suc, Bool, true, false, List, [], ◌∷◌, ◌++◌, length, map, take, nat_le, Option, Some, None, Result, Ok, Err, Contains, refl, sym, ap, ◌∙◌, subst, arith, append-nil}
 use Rattle.std.specs.List.{All}
 use Rattle.std.proofs.lemmas.Cmp.{tied_itself}
-use Rattle.std.specs.declared.cmp.Ordering.TheVariants.{Less, Equal}
+use Rattle.std.specs.declared.cmp.Ordering.TheVariants.{Less}
 use Rattle.std.proofs.lemmas.List.Elements.{All-nil, All-map, All-take}
 use Rattle.definitions.specs.Quiver.{Quiver}
 use Rattle.word_orders.specs.Admissible.{Compare, IsAdmissible}
-use Rattle.cofactor_trace.specs.declared.halt.Halt.{Halt}
 use Rattle.rule_reduce.specs.declared.rule.Rule.{Rule}
 use Rattle.rule_reduce.specs.declared.fault.ReduceFault.{ReduceFault}
 use Rattle.ambiguities.specs.declared.ambiguity.Ambiguity.{Ambiguity}
@@ -20,7 +19,7 @@ use Rattle.traced_completion.specs.Results.{each_in_turn}
 use Rattle.traced_completion.specs.Works.{generator_work, First, first_of, InTurn, InTwoPasses}
 use Rattle.ambiguities.specs.Order.{IsWaitingBefore}
 use Rattle.traced_completion.specs.Pending.{IsPending, AreAllPending, ambiguities_of}
-use Rattle.traced_completion.specs.PlainRun.{Setting, RunState, went, closed, stopped, start, recorded, Ends, taken_count, IsTreated, TreatsFirst, TreatsPending, IsRound, IsRunState}
+use Rattle.traced_completion.specs.PlainRun.{Setting, RunState, went, closed, start, recorded, Ends, taken_count, IsTreated, TreatsFirst, TreatsPending, IsRound, IsRunState}
 use Rattle.traced_completion.proofs.StoreLemmas.{pending-all}
 use Rattle.outcome_laws.specs.KeptRuns.{IsGenerator, done_after, IsKeptState, RunsAreKept, ClosedIsNothingPending, FirstIsLeastPending}
 use Rattle.outcome_laws.proofs.RunsKept.{no_value, KeptNow, generators_in_turn}
